@@ -1,0 +1,55 @@
+-- What stands of a register after edits.
+use Rattle.std.specs.Prelude.{not, List, [], ◌∷◌, ◌++◌, map, filter, find, Option, Some, None, option_map, unwrap_or, if◌then◌else◌}
+use Rattle.intervals.specs.declared.operation.Op.{Op}
+use Rattle.intervals.specs.declared.operation.OpId.{OpId}
+use Rattle.intervals.specs.declared.operation.Act.{Act}
+use Rattle.intervals.specs.declared.operation.Act.TheVariants.{Read, Write}
+use Rattle.intervals.specs.declared.operation.Parts.{Parts}
+use Rattle.intervals.specs.declared.operation.Value.{Value}
+use Rattle.intervals.specs.declared.edit.Change.{Change}
+use Rattle.intervals.specs.declared.edit.Lent.{Lent}
+use Rattle.intervals.specs.declared.edit.Lent.TheVariants.{Answer, Amendment}
+use Rattle.intervals.specs.declared.edit.Edit.{Edit}
+use Rattle.intervals.specs.declared.edit.Edit.TheVariants.{Append, Amend, Withdraw}
+use Rattle.intervals.specs.Operation.{same_id}
+
+-- the act with another value
+abbrev pub act_with : Act → Option Value → Act
+act_with act None = act
+act_with (Read old) (Some new) = Read new
+act_with (Write old) (Some new) = Write new
+
+-- the texts with the change's text in its place
+abbrev pub parts_with : Parts → Lent → Parts
+parts_with parts (Answer text) = record parts { answer = Some text }
+parts_with parts (Amendment text) = record parts { amendment = Some text }
+
+-- each part that is given replaces the old one
+abbrev pub changed : Op → Change → Op
+changed op change = record op {
+  act = act_with op.act change.value;
+  begin = unwrap_or change.begin op.begin;
+  end = unwrap_or change.end op.end;
+  parts = parts_with op.parts change.lent;
+}
+
+-- the operation of that id
+abbrev pub op_of : List Op → OpId → Option Op
+op_of ops id = find (λ op. same_id op.id id) ops
+
+-- the operation, changed where it has that id
+abbrev pub amended : OpId → Change → Op → Op
+amended id change op = if same_id op.id id then changed op change else op
+
+-- what stands after an accepted edit: an append adds at the end, an amendment replaces in place, a
+-- withdrawal takes out
+abbrev pub edited : List Op → Edit → List Op
+edited ops (Append op) = ops ++ op ∷ []
+edited ops (Amend id change) = map (amended id change) ops
+edited ops (Withdraw id) = filter (λ op. not (same_id op.id id)) ops
+
+-- the new operation of an edit
+abbrev pub new_op : List Op → Edit → Option Op
+new_op ops (Append op) = Some op
+new_op ops (Amend id change) = option_map (λ op. changed op change) (op_of ops id)
+new_op ops (Withdraw id) = None

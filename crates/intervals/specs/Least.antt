@@ -1,0 +1,19 @@
+-- The least operation among those that pass a test.
+use Rattle.std.specs.Prelude.{ℕ, Bool, true, ◌&&◌, nat_lt, List, [], ◌∷◌, Option, Some, None, if◌then◌else◌}
+use Rattle.intervals.specs.declared.operation.Op.{Op}
+
+-- nothing was found so far, or something with a greater key
+abbrev pub is_less : (Op → ℕ) → Op → Option Op → Bool
+is_less key op None = true
+is_less key op (Some found) = nat_lt (key op) (key found)
+
+abbrev pub less_of : (Op → ℕ) → (Op → Bool) → Option Op → Op → Option Op
+less_of key test found op = if test op && is_less key op found then Some op else found
+
+-- the one of least key among the found one and those of the list that pass, the first of equal ones
+abbrev pub least_from : (Op → ℕ) → (Op → Bool) → Option Op → List Op → Option Op
+least_from key test found [] = found
+least_from key test found (op ∷ ops) = least_from key test (less_of key test found op) ops
+
+abbrev pub least_by : (Op → ℕ) → (Op → Bool) → List Op → Option Op
+least_by key test ops = least_from key test None ops

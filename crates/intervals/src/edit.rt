@@ -1,0 +1,68 @@
+ghost use Rattle.std.specs.Prelude.{◌≡◌};
+ghost use Rattle.intervals.specs.Edit.{changed as after_change, act_with, parts_with};
+
+use crate::{Act, Moment, Op, OpId, Parts, Value};
+
+/// The element that a change was read from, and the part of the operation that it becomes.
+#[derive(Clone, Copy, Debug)]
+pub enum Lent<'t> {
+    Answer(&'t [u8]),
+    Amendment(&'t [u8]),
+}
+
+/// What an amendment gives: each part that is there replaces the old one. An end of `Some(None)`
+/// reopens the operation.
+#[derive(Clone, Copy, Debug)]
+pub struct Change<'t> {
+    pub value: Option<Value>,
+    pub begin: Option<Moment>,
+    pub end: Option<Option<Moment>>,
+    pub lent: Lent<'t>,
+}
+
+/// One change of a register's operations.
+#[derive(Clone, Copy, Debug)]
+pub enum Edit<'t> {
+    Append(Op<'t>),
+    Amend(OpId, Change<'t>),
+    Withdraw(OpId),
+}
+
+/// The operation after the change.
+pub fn changed<'t>(op: &Op<'t>, change: &Change<'t>) -> Op<'t>
+    ensures { result ≡ after_change op.now change.now }
+{
+    Op {
+        id: op.id,
+        process: op.process,
+        act: with_value(op.act, change.value),
+        begin: change.begin.unwrap_or(op.begin),
+        end: change.end.unwrap_or(op.end),
+        parts: with_part(op.parts, change.lent),
+    }
+}
+
+fn with_value(act: Act, value: Option<Value>) -> Act
+    ensures { result ≡ act_with act value }
+{
+    match (act, value) {
+        (act, None) => act,
+        (Act::Read(_), Some(new)) => Act::Read(new),
+        (Act::Write(_), Some(new)) => Act::Write(new),
+    }
+}
+
+fn with_part<'t>(parts: Parts<'t>, lent: Lent<'t>) -> Parts<'t>
+    ensures { result ≡ parts_with parts.entry lent.entry }
+{
+    match lent {
+        Lent::Answer(text) => Parts {
+            answer: Some(text),
+            ..parts
+        },
+        Lent::Amendment(text) => Parts {
+            amendment: Some(text),
+            ..parts
+        },
+    }
+}

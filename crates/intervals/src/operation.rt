@@ -1,0 +1,89 @@
+ghost use Rattle.std.specs.Prelude.{◌≡◌, ◌↔◌, IsTrue};
+ghost use Rattle.intervals.specs.Operation.{Precedes, Overlaps, precedes as does_precede, overlaps as does_overlap};
+
+use std::alloc::{AllocError, AllocFailed};
+use thiserror::Error;
+
+/// No memory was left for a growth.
+#[derive(Clone, Copy, Debug, PartialEq, Eq, Error)]
+#[error("out of memory")]
+pub struct Memory;
+
+impl From<AllocError> for Memory {
+    fn from(_e: AllocError) -> Memory {
+        Memory
+    }
+}
+
+impl<T: Drop> From<AllocFailed<T>> for Memory {
+    fn from(_e: AllocFailed<T>) -> Memory {
+        Memory
+    }
+}
+
+/// A point of the one clock that all operations are timed by.
+#[derive(Clone, Copy, Debug, PartialEq, Eq)]
+pub struct Moment(pub u64);
+
+/// What a register holds.
+#[derive(Clone, Copy, Debug, PartialEq, Eq)]
+pub enum Value {
+    Nil,
+    Int(i64),
+}
+
+/// A register's number in its tower, from 0 in file order.
+#[derive(Clone, Copy, Debug, PartialEq, Eq)]
+pub struct RegId(pub u32);
+
+/// An operation's name: its trace, and the place of its invocation there.
+#[derive(Clone, Copy, Debug, PartialEq, Eq)]
+pub struct OpId {
+    pub feeder: u32,
+    pub event: u64,
+}
+
+/// What an operation does. A read that has not been answered carries `Nil`.
+#[derive(Clone, Copy, Debug, PartialEq, Eq)]
+pub enum Act {
+    Read(Value),
+    Write(Value),
+}
+
+/// The elements of the trace that an operation was read from, tags included.
+#[derive(Clone, Copy, Debug)]
+pub struct Parts<'t> {
+    pub invocation: &'t [u8],
+    pub answer: Option<&'t [u8]>,
+    pub amendment: Option<&'t [u8]>,
+}
+
+/// A read or a write of one register: an interval of the clock. With no end it is unfinished.
+#[derive(Clone, Copy, Debug)]
+pub struct Op<'t> {
+    pub id: OpId,
+    pub process: i64,
+    pub act: Act,
+    pub begin: Moment,
+    pub end: Option<Moment>,
+    pub parts: Parts<'t>,
+}
+
+/// Whether the first operation ended before the second began.
+pub fn precedes(a: &Op, b: &Op) -> bool
+    ensures precedes { IsTrue result ↔ Precedes a.now b.now }
+    ensures test { result ≡ does_precede a.now b.now }
+{
+    match a.end {
+        Some(end) => end.0 < b.begin.0,
+        None => false,
+    }
+}
+
+/// Whether neither operation ended before the other began.
+pub fn overlaps(a: &Op, b: &Op) -> bool
+    ensures overlaps { IsTrue result ↔ Overlaps a.now b.now }
+    ensures test { result ≡ does_overlap a.now b.now }
+{
+    !precedes(a, b) && !precedes(b, a)
+}
