@@ -1,12 +1,11 @@
 -- What each kind of register promises (Lamport 1986).
-use Rattle.std.specs.Prelude.{◌≡◌, ◌≤◌, ◌⊎◌, List, [], ◌∷◌, Vec, Option, Some, None, All, Any, Contains, IsPermutation}
+use Rattle.std.specs.Prelude.{◌≡◌, ◌≤◌, ◌⊎◌, List, [], ◌∷◌, Option, Some, None, All, Any, Contains, IsPermutation}
 use Rattle.std.specs.List.{AllByRecursion}
-use Rattle.std.specs.declared.alloc.Global.{Global}
 use Rattle.intervals.specs.declared.operation.Op.{Op}
 use Rattle.intervals.specs.declared.operation.Value.{Value}
 use Rattle.intervals.specs.declared.operation.Act.{Act}
 use Rattle.intervals.specs.declared.operation.Act.TheVariants.{Read, Write}
-use Rattle.intervals.specs.declared.claim.Claim.{Claim}
+use Rattle.intervals.specs.Terms.{Terms}
 use Rattle.intervals.specs.declared.claim.Kind.{Kind}
 use Rattle.intervals.specs.declared.claim.Kind.TheVariants.{Safe, Regular, Atomic}
 use Rattle.intervals.specs.Operation.{Precedes, Overlaps, IsWrite, IsJudgedRead, value_of, judged}
@@ -29,33 +28,33 @@ abbrev pub OverlapsWrite : List Op → Op → Type 0
 OverlapsWrite ops r = Any (λ w. IsWrite w × Overlaps w r) ops
 
 -- one of the domain, or the initial value; any value where no domain is given
-abbrev pub IsAllowed : Option (Vec Value Global) → Value → Value → Type 0
+abbrev pub IsAllowed : Option (List Value) → Value → Value → Type 0
 IsAllowed None initial value = Unit {0}
-IsAllowed (Some values) initial value = Contains values.items value ⊎ (value ≡ initial)
+IsAllowed (Some values) initial value = Contains values value ⊎ (value ≡ initial)
 
-abbrev pub IsInValueSet : Claim → Value → Type 0
+abbrev pub IsInValueSet : Terms → Value → Type 0
 IsInValueSet claim value = IsAllowed claim.domain claim.initial value
 
 -- a read that overlaps no write returns the value of the last write that precedes it, or the initial
 -- value where none does; any other returns a value of the value set
-abbrev pub IsSafeRead : Claim → List Op → Op → Type 0
+abbrev pub IsSafeRead : Terms → List Op → Op → Type 0
 IsSafeRead claim ops r =
     (¬ OverlapsWrite ops r → ReturnsLast claim.initial ops r)
     × (OverlapsWrite ops r → IsInValueSet claim (value_of r.act))
 
 -- a safe register: each judged read is one of those
-abbrev pub IsSafe : Claim → List Op → Type 0
+abbrev pub IsSafe : Terms → List Op → Type 0
 IsSafe claim ops = All (λ r. IsJudgedRead r → IsSafeRead claim ops r) ops
 
 -- the value of some write that it overlaps, or of the last write that precedes it, or the initial
 -- value where none precedes it
-abbrev pub IsRegularRead : Claim → List Op → Op → Type 0
+abbrev pub IsRegularRead : Terms → List Op → Op → Type 0
 IsRegularRead claim ops r =
     Any (λ w. IsWrite w × Overlaps w r × (value_of r.act ≡ value_of w.act)) ops
     ⊎ ReturnsLast claim.initial ops r
 
 -- a regular register
-abbrev pub IsRegular : Claim → List Op → Type 0
+abbrev pub IsRegular : Terms → List Op → Type 0
 IsRegular claim ops = All (λ r. IsJudgedRead r → IsRegularRead claim ops r) ops
 
 -- none of the later ones precedes an earlier one
@@ -80,20 +79,20 @@ ReadsNearest value (a ∷ later) = Finds value a.act × ReadsNearest (value_afte
 
 -- an arrangement of the judged operations, each once, that keeps precedence, and in which each read
 -- returns the value of the nearest write before it
-pub record Arranges (claim : Claim) (ops order : List Op) : Type 0 where
+pub record Arranges (claim : Terms) (ops order : List Op) : Type 0 where
   pub each_once : IsPermutation (judged ops) order
   pub keeps : KeepsPrecedence order
   pub reads : ReadsNearest claim.initial order
 
 -- an atomic register (linearizable): there is such an arrangement
-abbrev pub IsAtomic : Claim → List Op → Type 0
+abbrev pub IsAtomic : Terms → List Op → Type 0
 IsAtomic claim ops = (order : List Op) × Arranges claim ops order
 
 -- the verdict of the claimed kind
-abbrev pub Keeps : Kind → Claim → List Op → Type 0
+abbrev pub Keeps : Kind → Terms → List Op → Type 0
 Keeps Safe claim ops = IsSafe claim ops
 Keeps Regular claim ops = IsRegular claim ops
 Keeps Atomic claim ops = IsAtomic claim ops
 
-abbrev pub Holds : Claim → List Op → Type 0
+abbrev pub Holds : Terms → List Op → Type 0
 Holds claim ops = Keeps claim.kind claim ops

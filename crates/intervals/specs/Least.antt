@@ -1,5 +1,5 @@
 -- The least operation among those that pass a test.
-use Rattle.std.specs.Prelude.{ℕ, Bool, true, ◌&&◌, nat_lt, List, [], ◌∷◌, Option, Some, None, if◌then◌else◌}
+use Rattle.std.specs.Prelude.{ℕ, ◌≤◌, Bool, true, ◌&&◌, nat_lt, All, Contains, IsTrue, List, [], ◌∷◌, Option, Some, None, if◌then◌else◌}
 use Rattle.intervals.specs.declared.operation.Op.{Op}
 
 -- nothing was found so far, or something with a greater key
@@ -17,3 +17,9 @@ least_from key test found (op ∷ ops) = least_from key test (less_of key test f
 
 abbrev pub least_by : (Op → ℕ) → (Op → Bool) → List Op → Option Op
 least_by key test ops = least_from key test None ops
+
+-- it stands, it passes, and none that passes has a smaller key
+pub record IsLeast (key : Op → ℕ) (test : Op → Bool) (ops : List Op) (op : Op) : Type 0 where
+  pub stands : Contains ops op
+  pub passes : IsTrue (test op)
+  pub least : All (λ other. IsTrue (test other) → key op ≤ key other) ops

@@ -1,19 +1,16 @@
 -- The reply to an edit: the first refusal whose condition holds of the operations that stand.
-use Rattle.std.specs.Prelude.{ℤ, Bool, true, false, not, ◌&&◌, ◌||◌, ◌==◌, nat_lt, nat_le, List, [], ◌∷◌, find, Option, Some, None, option_map, is_some, Result, Ok, Err, Vec, if◌then◌else◌}
+use Rattle.std.specs.Prelude.{ℤ, Bool, true, false, not, ◌&&◌, ◌||◌, ◌==◌, nat_lt, nat_le, List, [], ◌∷◌, find, Option, Some, None, option_map, is_some, Result, Ok, Err, if◌then◌else◌}
 use Rattle.std.specs.List.{list_any}
 use Rattle.std.specs.Ordering.{int_eq}
-use Rattle.std.specs.declared.alloc.Global.{Global}
 use Rattle.intervals.specs.declared.operation.Op.{Op}
 use Rattle.intervals.specs.declared.operation.OpId.{OpId}
 use Rattle.intervals.specs.declared.operation.Moment.{Moment}
 use Rattle.intervals.specs.declared.operation.Value.{Value}
 use Rattle.intervals.specs.declared.edit.Edit.{Edit}
 use Rattle.intervals.specs.declared.edit.Edit.TheVariants.{Append, Amend, Withdraw}
-use Rattle.intervals.specs.declared.claim.Claim.{Claim}
+use Rattle.intervals.specs.Terms.{Terms}
 use Rattle.intervals.specs.declared.claim.Kind.{Kind}
 use Rattle.intervals.specs.declared.claim.Kind.TheVariants.{Safe, Regular, Atomic}
-use Rattle.intervals.specs.declared.claim.Writers.{Writers}
-use Rattle.intervals.specs.declared.claim.Writers.TheVariants.{Any, Listed}
 use Rattle.intervals.specs.declared.claim.Holder.TheVariants as holders
 use Rattle.intervals.specs.declared.refusal.Refusal.{Refusal}
 use Rattle.intervals.specs.declared.refusal.Refusal.TheVariants.{UnknownOp, OpTaken, EndNotAfterBegin, MomentTaken, MomentTooLarge, NotAWriter, WritesOverlap, ValueTaken, OutOfDomain}
@@ -91,14 +88,14 @@ first_refusal ops (Amend id change) = amendment_refusal ops (new_op ops (Amend i
 first_refusal ops (Withdraw id) = if is_some (op_of ops id) then None else Some UnknownOp
 
 -- the process is a writer of the register
-abbrev pub may_write : Writers → ℤ → Bool
-may_write Any process = true
-may_write (Listed processes) process = list_any (λ p. int_eq p process) processes.items
+abbrev pub may_write : Option (List ℤ) → ℤ → Bool
+may_write None process = true
+may_write (Some processes) process = list_any (λ p. int_eq p process) processes
 
 -- the value is in the domain, or none is given
-abbrev pub is_in_domain : Option (Vec Value Global) → Value → Bool
+abbrev pub is_in_domain : Option (List Value) → Value → Bool
 is_in_domain None value = true
-is_in_domain (Some values) value = list_any (λ v. same_value v value) values.items
+is_in_domain (Some values) value = list_any (λ v. same_value v value) values
 
 -- another write that overlaps this one
 abbrev pub is_overlapped : Op → Op → Bool
@@ -109,20 +106,20 @@ abbrev pub overlap_refusal : List Op → Op → Option Refusal
 overlap_refusal ops op = option_map (λ other. WritesOverlap other.id) (least_by (λ other. other.begin.0) (is_overlapped op) ops)
 
 -- X8: the holder of the write's value
-abbrev pub value_refusal : Claim → List Op → Op → Option Refusal
+abbrev pub value_refusal : Terms → List Op → Op → Option Refusal
 value_refusal claim ops op =
     if same_value claim.initial (value_of op.act)
     then Some (ValueTaken holders.Initial)
     else option_map (λ other. ValueTaken (holders.Op other.id)) (find (λ other. not (same_id other.id op.id) && is_write other && same_value (value_of other.act) (value_of op.act)) ops)
 
 -- X7 of one writer's registers, X8 of many writers'
-abbrev pub kind_refusal : Kind → Claim → List Op → Op → Option Refusal
+abbrev pub kind_refusal : Kind → Terms → List Op → Op → Option Refusal
 kind_refusal Safe claim ops op = overlap_refusal ops op
 kind_refusal Regular claim ops op = overlap_refusal ops op
 kind_refusal Atomic claim ops op = value_refusal claim ops op
 
 -- X6 to X9 of a new operation: a write alone meets them
-abbrev pub write_refusal : Claim → List Op → Op → Option Refusal
+abbrev pub write_refusal : Terms → List Op → Op → Option Refusal
 write_refusal claim ops op =
     if is_write op
     then first_of (
@@ -132,19 +129,19 @@ write_refusal claim ops op =
     ∷ [])
     else None
 
-abbrev pub new_write_refusal : Claim → List Op → Option Op → Option Refusal
+abbrev pub new_write_refusal : Terms → List Op → Option Op → Option Refusal
 new_write_refusal claim ops None = None
 new_write_refusal claim ops (Some op) = write_refusal claim ops op
 
 -- the refusal of an edit, None where it is accepted
-abbrev pub reply_to : Claim → List Op → Edit → Option Refusal
+abbrev pub reply_to : Terms → List Op → Edit → Option Refusal
 reply_to claim ops edit = first_of (first_refusal ops edit ∷ new_write_refusal claim ops (new_op ops edit) ∷ [])
 
 -- what stands after one edit, accepted or not
-abbrev pub after_edit : Claim → List Op → Edit → List Op
+abbrev pub after_edit : Terms → List Op → Edit → List Op
 after_edit claim ops edit = if is_some (reply_to claim ops edit) then ops else edited ops edit
 
 -- what stands of a register after a list of edits
-abbrev pub standing : Claim → List Op → List Edit → List Op
+abbrev pub standing : Terms → List Op → List Edit → List Op
 standing claim ops [] = ops
 standing claim ops (edit ∷ edits) = standing claim (after_edit claim ops edit) edits

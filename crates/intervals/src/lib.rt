@@ -5,6 +5,7 @@
 mod book;
 mod claim;
 mod edit;
+pub mod laws;
 mod operation;
 mod refusal;
 
@@ -13,3 +14,6 @@ pub use claim::{Claim, Holder, Kind, Writers};
 pub use edit::{Change, Edit, Lent, changed};
 pub use operation::{Act, Memory, Moment, Op, OpId, Parts, RegId, Value, overlaps, precedes};
 pub use refusal::Refusal;
+
+#[cfg(test)]
+mod tests;

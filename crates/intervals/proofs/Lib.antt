@@ -1,0 +1,3 @@
+mod Agreement
+mod LeastOf
+pub mod Verdicts

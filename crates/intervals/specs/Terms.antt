@@ -1,0 +1,28 @@
+-- What a claim says, apart from where its lists lie in memory.
+use Rattle.std.specs.Prelude.{ℤ, List, Option, Some, None, option_map, Vec}
+use Rattle.std.specs.declared.alloc.Global.{Global}
+use Rattle.intervals.specs.declared.operation.Value.{Value}
+use Rattle.intervals.specs.declared.claim.Claim.{Claim}
+use Rattle.intervals.specs.declared.claim.Kind.{Kind}
+use Rattle.intervals.specs.declared.claim.Writers.{Writers}
+use Rattle.intervals.specs.declared.claim.Writers.TheVariants.{Any, Listed}
+
+-- the claimed kind, the writers (none listed: any process), the value before any write, and the
+-- value set (none given: every value)
+pub record Terms : Type 0 where
+  pub kind : Kind
+  pub writers : Option (List ℤ)
+  pub initial : Value
+  pub domain : Option (List Value)
+
+abbrev pub writers_of : Writers → Option (List ℤ)
+writers_of Any = None
+writers_of (Listed processes) = Some processes.items
+
+abbrev pub terms_of : Claim → Terms
+terms_of claim = record {
+  kind = claim.kind;
+  writers = writers_of claim.writers;
+  initial = claim.initial;
+  domain = option_map (λ (values : Vec Value Global). values.items) claim.domain;
+}

@@ -1,0 +1,55 @@
+//! Laws of the definitions. Each is the contract of a function that does nothing.
+
+ghost use Rattle.std.specs.Prelude.{◌≡◌, ◌↔◌, List, None, Some, Contains};
+ghost use Rattle.intervals.specs.declared.operation.Op.{Op};
+ghost use Rattle.intervals.specs.declared.operation.Value.{Value};
+ghost use Rattle.intervals.specs.Terms.{Terms};
+ghost use Rattle.intervals.specs.declared.claim.Kind.TheVariants.{Safe, Regular, Atomic};
+ghost use Rattle.intervals.specs.declared.operation.Value.TheVariants.{Nil};
+ghost use Rattle.intervals.specs.Least.{IsLeast};
+ghost use Rattle.intervals.specs.Kind.{IsSafe, IsRegular, Arranges};
+ghost use Rattle.intervals.specs.Judging.{first_wrong, is_wrong_read, end_number};
+ghost use Rattle.intervals.specs.Histories.{number, claim_of, read_after_write, read_within_write, digits, new_before_old, older_of_two, old_before_new, unfinished_write, write_between};
+
+/// A register keeps Lamport's sentence for safe registers exactly when no read is wrong by the test.
+pub fn safe_without_wrong_reads()
+    ensures { (claim : Terms) (ops : List Op) → claim.kind ≡ Safe
+        → (first_wrong claim ops ≡ None) ↔ IsSafe claim ops }
+{}
+
+/// The same of regular registers.
+pub fn regular_without_wrong_reads()
+    ensures { (claim : Terms) (ops : List Op) → claim.kind ≡ Regular
+        → (first_wrong claim ops ≡ None) ↔ IsRegular claim ops }
+{}
+
+/// The first wrong read stands, is wrong, and no other wrong read ended before it.
+pub fn first_wrong_read_ended_first()
+    ensures { (claim : Terms) (ops : List Op) (r : Op) → first_wrong claim ops ≡ Some r
+        → IsLeast end_number (is_wrong_read claim ops) ops r }
+{}
+
+/// Safe registers: which reads are right after a write, and within one.
+pub fn safe_histories()
+    ensures newest { IsSafe (claim_of Safe (number 0) None) (read_after_write (number 1)) }
+    ensures stale { ¬ IsSafe (claim_of Safe (number 0) None) (read_after_write (number 0)) }
+    ensures anything { IsSafe (claim_of Safe (number 0) None) (read_within_write (number 7)) }
+    ensures in_domain { IsSafe (claim_of Safe (number 0) (Some digits)) (read_within_write (number 7)) }
+    ensures out_of_domain { ¬ IsSafe (claim_of Safe (number 0) (Some digits)) (read_within_write (number 12)) }
+{}
+
+/// Regular registers: within a write both values are right, in any order, and of two overlapped
+/// writes the older one's value too.
+pub fn regular_histories()
+    ensures new_before_old { IsRegular (claim_of Regular Nil None) new_before_old }
+    ensures older_of_two { IsRegular (claim_of Regular (number 0) None) older_of_two }
+    ensures stale { ¬ IsRegular (claim_of Regular (number 0) None) (read_after_write (number 0)) }
+{}
+
+/// Atomic registers: orders that are an arrangement, and orders that are none.
+pub fn atomic_histories()
+    ensures write_after_read { Arranges (claim_of Atomic Nil None) unfinished_write write_between }
+    ensures by_beginning { ¬ Arranges (claim_of Atomic Nil None) unfinished_write unfinished_write }
+    ensures new_before_old { ¬ Arranges (claim_of Atomic Nil None) new_before_old new_before_old }
+    ensures old_before_new { ¬ Arranges (claim_of Atomic Nil None) old_before_new old_before_new }
+{}
