@@ -1,0 +1,154 @@
+ghost use Rattle.std.specs.Prelude.{◌&&◌, not, Vec, ◌≡◌, ◌≢◌, ◌↔◌, ◌++◌, ◌∷◌, [], IfOk, OnOk, OnErr, IsNone, option_map};
+ghost use Rattle.intervals.specs.Operation.{IsWrite, IsJudgedRead, is_write as writes, same_id};
+ghost use Rattle.intervals.specs.Terms.{terms_of, writers_of};
+ghost use Rattle.intervals.specs.Kind.{IsSafe, IsRegular};
+ghost use Rattle.intervals.specs.Refusal.{write_refusal, ok_unless};
+ghost use Rattle.intervals.specs.Judging.{first_wrong as first_wrong_of};
+ghost use Rattle.std.specs.declared.alloc.Global.{Global};
+ghost use Rattle.intervals.specs.declared.operation.Value.{Value};
+ghost use Rattle.safe_regular.specs.Judge.{without_write, without_read};
+
+use crate::reads::{first_wrong, is_write};
+use crate::writes::check_write;
+use intervals::laws::{regular_without_wrong_reads, safe_without_wrong_reads};
+use intervals::{Claim, Kind, Memory, Op, OpId, Refusal, Value, Writers};
+use std::alloc::Global;
+use std::marker::Model;
+
+/// The writes and the ended reads of one register that claims to be safe or regular.
+#[derive(Drop)]
+pub struct SingleWriterJudge<'t> {
+    claim: Claim,
+    ops: Vec<Op<'t>>,
+}
+
+impl<'t> Model for SingleWriterJudge<'t> {
+    ghost use Rattle.std.specs.Prelude.{◌≢◌};
+    ghost use Rattle.intervals.specs.Terms.{terms_of, writers_of};
+    ghost use Rattle.intervals.specs.declared.claim.Kind.TheVariants.{Atomic};
+    ghost use Rattle.safe_regular.specs.Judge.{Judged};
+
+    ghost Value = { Judged };
+
+    ghost view = { λ j. record { claim = terms_of j.claim; ops = j.ops.items } };
+
+    ghost invariant = { λ j. j.claim.kind ≢ Atomic };
+}
+
+impl<'t> SingleWriterJudge<'t> {
+    /// A judge of no operations.
+    pub fn new(alloc: Global, claim: &Claim) -> Result<Self, Memory>
+        requires { claim.now.kind ≢ Kind.Atomic }
+        ensures { IfOk result (λ judge. judge ≡ record { claim = terms_of claim.now; ops = [] }) }
+    {
+        Ok(SingleWriterJudge {
+            claim: copy_of(alloc, claim)?,
+            ops: Vec::new(alloc),
+        })
+    }
+
+    /// The first of `NotAWriter`, `WritesOverlap` and `OutOfDomain` that holds of the write. An
+    /// operation of its own id is no other write.
+    pub fn check_write(&self, op: &Op) -> Result<(), Refusal>
+        ensures { result ≡ ok_unless (write_refusal self.now.claim self.now.ops op.now) }
+    {
+        check_write(&self.claim, self.ops.as_slice(), op)
+    }
+
+    pub fn admit_write(&mut self, op: &Op<'t>) -> Result<(), Memory>
+        requires { IsWrite op.now }
+        ensures ok { OnOk result (self.new ≡ record self.old { ops = self.old.ops ++ op.now ∷ [] }) }
+        ensures err { OnErr result (self.new ≡ self.old) }
+    {
+        self.ops.push(*op)?;
+        Ok(())
+    }
+
+    pub fn admit_read(&mut self, op: &Op<'t>) -> Result<(), Memory>
+        requires { IsJudgedRead op.now }
+        ensures ok { OnOk result (self.new ≡ record self.old { ops = self.old.ops ++ op.now ∷ [] }) }
+        ensures err { OnErr result (self.new ≡ self.old) }
+    {
+        self.ops.push(*op)?;
+        Ok(())
+    }
+
+    pub fn drop_write(&mut self, id: OpId)
+        ensures { self.new ≡ record self.old { ops = without_write self.old.ops id } }
+    {
+        drop_write(&mut self.ops, id);
+    }
+
+    pub fn drop_read(&mut self, id: OpId)
+        ensures { self.new ≡ record self.old { ops = without_read self.old.ops id } }
+    {
+        drop_read(&mut self.ops, id);
+    }
+
+    /// Of the reads that break the sentence of the claimed kind the one that ended first.
+    pub fn first_fault(&self) -> Option<OpId>
+        ensures fault { result ≡ option_map (λ op. op.id) (first_wrong_of self.now.claim self.now.ops) }
+        ensures safe { self.now.claim.kind ≡ Kind.Safe → (IsNone result ↔ IsSafe self.now.claim self.now.ops) }
+        ensures regular { self.now.claim.kind ≡ Kind.Regular → (IsNone result ↔ IsRegular self.now.claim self.now.ops) }
+    {
+        safe_without_wrong_reads();
+        regular_without_wrong_reads();
+        first_wrong(&self.claim, self.ops.as_slice()).map(|op| op.id)
+    }
+}
+
+fn drop_write(ops: &mut Vec<Op>, id: OpId)
+    ensures { ops.new.items ≡ without_write ops.old.items id }
+{
+    ops.retain(|op| !is_write_of(op, id));
+}
+
+fn drop_read(ops: &mut Vec<Op>, id: OpId)
+    ensures { ops.new.items ≡ without_read ops.old.items id }
+{
+    ops.retain(|op| !is_read_of(op, id));
+}
+
+fn is_write_of(op: &Op, id: OpId) -> bool
+    ensures { result ≡ (writes op.now && same_id op.now.id id) }
+{
+    is_write(op) && op.id == id
+}
+
+fn is_read_of(op: &Op, id: OpId) -> bool
+    ensures { result ≡ (not (writes op.now) && same_id op.now.id id) }
+{
+    !is_write(op) && op.id == id
+}
+
+/// Another claim that says the same.
+fn copy_of(alloc: Global, claim: &Claim) -> Result<Claim, Memory>
+    ensures { IfOk result (λ copy. terms_of copy ≡ terms_of claim.now) }
+{
+    Ok(Claim {
+        kind: claim.kind,
+        writers: copy_of_writers(alloc, &claim.writers)?,
+        initial: claim.initial,
+        domain: copy_of_domain(alloc, &claim.domain)?,
+    })
+}
+
+fn copy_of_writers(alloc: Global, writers: &Writers) -> Result<Writers, Memory>
+    ensures { IfOk result (λ copy. writers_of copy ≡ writers_of writers.now) }
+{
+    match writers {
+        Writers::Any => Ok(Writers::Any),
+        Writers::Listed(processes) => {
+            Ok(Writers::Listed(Vec::from_slice(alloc, processes.as_slice())?))
+        }
+    }
+}
+
+fn copy_of_domain(alloc: Global, domain: &Option<Vec<Value>>) -> Result<Option<Vec<Value>>, Memory>
+    ensures { IfOk result (λ copy. option_map (λ (values : Vec Value Global). values.items) copy ≡ option_map (λ (values : Vec Value Global). values.items) domain.now) }
+{
+    match domain {
+        None => Ok(None),
+        Some(values) => Ok(Some(Vec::from_slice(alloc, values.as_slice())?)),
+    }
+}
