@@ -1,3 +1,4 @@
 mod Agreement
 mod LeastOf
+mod JudgedAlone
 pub mod Verdicts

@@ -1,15 +1,16 @@
 -- No read is wrong exactly when the register keeps the sentence of its kind.
-use Rattle.std.proofs.Common.{◌≡◌, ◌↔◌, ◌⊎◌, inl, inr, Bool, true, false, not, ◌&&◌, List, None, Decides, refl, sym, ◌∙◌}
+use Rattle.std.proofs.Common.{◌≡◌, ◌↔◌, ◌⊎◌, inl, inr, Option, Bool, true, false, not, ◌&&◌, List, None, Decides, refl, sym, ◌∙◌}
 use Rattle.std.specs.Prelude.{All, IsTrue, slice_index_or}
 use Rattle.std.proofs.lemmas.Bool.{cases_Bool}
 use Rattle.std.proofs.lemmas.Bool.Decides.{Decides-and, Decides-not, not_from_Decides}
 use Rattle.intervals.specs.declared.operation.Op.{Op}
 use Rattle.intervals.specs.Terms.{Terms}
 use Rattle.intervals.specs.declared.claim.Kind.TheVariants.{Safe, Regular}
-use Rattle.intervals.specs.Operation.{is_judged_read, IsJudgedRead}
+use Rattle.intervals.specs.Operation.{is_judged_read, IsJudgedRead, judged}
 use Rattle.intervals.specs.Kind.{IsSafe, IsRegular, IsSafeRead, IsRegularRead}
 use Rattle.intervals.specs.Judging.{is_safe_read, is_regular_read, is_wrong_read, end_number, first_wrong}
 use Rattle.intervals.proofs.Agreement.{Decides-IsTrue, Decides-is_safe_read, Decides-is_regular_read}
+use Rattle.intervals.proofs.JudgedAlone.{first_wrong-judged}
 use Rattle.intervals.proofs.LeastOf.{least_from-None, least_from-none}
 
 -- by a test of each read
@@ -54,3 +55,23 @@ first_wrong-regular claim ops e = (
       (none_passes _ (is_wrong_read claim ops) ops (λ r. sym (wrong_by_regular claim ops e r))
       (all_right (is_regular_read claim ops) (IsRegularRead claim ops) (Decides-is_regular_read claim ops) ops regular))),
 )
+
+pub Decides-wrong_safe : (claim : Terms) (ops : List Op) (r : Op) → claim.kind ≡ Safe → IsTrue (is_wrong_read claim ops r) ↔ (IsJudgedRead r × ¬ IsSafeRead claim ops r)
+Decides-wrong_safe claim ops r e = rw (wrong_by_kind claim ops e r) (Decides-wrong (is_safe_read claim ops) (IsSafeRead claim ops) (Decides-is_safe_read claim ops) r)
+
+pub Decides-wrong_regular : (claim : Terms) (ops : List Op) (r : Op) → claim.kind ≡ Regular → IsTrue (is_wrong_read claim ops r) ↔ (IsJudgedRead r × ¬ IsRegularRead claim ops r)
+Decides-wrong_regular claim ops r e = rw (wrong_by_regular claim ops e r) (Decides-wrong (is_regular_read claim ops) (IsRegularRead claim ops) (Decides-is_regular_read claim ops) r)
+
+-- both ways along an equation of two tests for nothing
+same_none : (P Q : Type 0) (a b : Option Op) → a ≡ b → (a ≡ None) ↔ P → (b ≡ None) ↔ Q → P ↔ Q
+same_none P Q a b e p q = (λ x. q.0 (sym e ∙ p.1 x), λ y. p.0 (e ∙ q.1 y))
+
+pub IsSafe-judged : (claim : Terms) (ops : List Op) → IsSafe claim (judged ops) ↔ IsSafe claim ops
+IsSafe-judged claim ops =
+  let safe : Terms = record claim { kind = Safe } in
+  same_none (IsSafe claim (judged ops)) (IsSafe claim ops) _ _ (first_wrong-judged safe ops) (first_wrong-safe safe (judged ops) refl) (first_wrong-safe safe ops refl)
+
+pub IsRegular-judged : (claim : Terms) (ops : List Op) → IsRegular claim (judged ops) ↔ IsRegular claim ops
+IsRegular-judged claim ops =
+  let regular : Terms = record claim { kind = Regular } in
+  same_none (IsRegular claim (judged ops)) (IsRegular claim ops) _ _ (first_wrong-judged regular ops) (first_wrong-regular regular (judged ops) refl) (first_wrong-regular regular ops refl)

@@ -1,13 +1,15 @@
 //! Laws of the definitions. Each is the contract of a function that does nothing.
 
-ghost use Rattle.std.specs.Prelude.{◌≡◌, ◌↔◌, List, None, Some, Contains};
+ghost use Rattle.std.specs.Prelude.{◌≡◌, ◌≢◌, ◌↔◌, IsTrue, List, None, Some};
 ghost use Rattle.intervals.specs.declared.operation.Op.{Op};
 ghost use Rattle.intervals.specs.declared.operation.Value.{Value};
 ghost use Rattle.intervals.specs.Terms.{Terms};
 ghost use Rattle.intervals.specs.declared.claim.Kind.TheVariants.{Safe, Regular, Atomic};
 ghost use Rattle.intervals.specs.declared.operation.Value.TheVariants.{Nil};
+ghost use Rattle.intervals.specs.Operation.{IsJudgedRead, judged};
+ghost use Rattle.intervals.specs.Refusal.{write_refusal};
 ghost use Rattle.intervals.specs.Least.{IsLeast};
-ghost use Rattle.intervals.specs.Kind.{IsSafe, IsRegular, Arranges};
+ghost use Rattle.intervals.specs.Kind.{IsSafe, IsRegular, IsSafeRead, IsRegularRead, Arranges};
 ghost use Rattle.intervals.specs.Judging.{first_wrong, is_wrong_read, end_number};
 ghost use Rattle.intervals.specs.Histories.{number, claim_of, read_after_write, read_within_write, digits, new_before_old, older_of_two, old_before_new, unfinished_write, write_between};
 
@@ -28,6 +30,25 @@ pub fn first_wrong_read_ended_first()
     ensures { (claim : Terms) (ops : List Op) (r : Op) → first_wrong claim ops ≡ Some r
         → IsLeast end_number (is_wrong_read claim ops) ops r }
 {}
+
+/// A read is wrong exactly when it is judged and breaks the sentence of its register's kind.
+pub fn wrong_reads_break_their_sentence()
+    ensures safe { (claim : Terms) (ops : List Op) (r : Op) → claim.kind ≡ Safe
+        → IsTrue (is_wrong_read claim ops r) ↔ (IsJudgedRead r × ¬ IsSafeRead claim ops r) }
+    ensures regular { (claim : Terms) (ops : List Op) (r : Op) → claim.kind ≡ Regular
+        → IsTrue (is_wrong_read claim ops r) ↔ (IsJudgedRead r × ¬ IsRegularRead claim ops r) }
+{
+}
+
+/// Reads without an end change no verdict and no refusal of a write.
+pub fn judged_operations_alone_count()
+    ensures fault { (claim : Terms) (ops : List Op) → first_wrong claim (judged ops) ≡ first_wrong claim ops }
+    ensures safe { (claim : Terms) (ops : List Op) → IsSafe claim (judged ops) ↔ IsSafe claim ops }
+    ensures regular { (claim : Terms) (ops : List Op) → IsRegular claim (judged ops) ↔ IsRegular claim ops }
+    ensures refusal { (claim : Terms) (ops : List Op) (op : Op) → claim.kind ≢ Atomic
+        → write_refusal claim (judged ops) op ≡ write_refusal claim ops op }
+{
+}
 
 /// Safe registers: which reads are right after a write, and within one.
 pub fn safe_histories()

@@ -1,5 +1,5 @@
 ghost use Rattle.std.specs.Prelude.{◌≡◌, ◌↔◌, IsTrue};
-ghost use Rattle.intervals.specs.Operation.{Precedes, Overlaps, precedes as does_precede, overlaps as does_overlap};
+ghost use Rattle.intervals.specs.Operation.{Precedes, Overlaps, is_write as writes, value_of, precedes as does_precede, overlaps as does_overlap};
 
 use std::alloc::{AllocError, AllocFailed};
 use thiserror::Error;
@@ -67,6 +67,27 @@ pub struct Op<'t> {
     pub begin: Moment,
     pub end: Option<Moment>,
     pub parts: Parts<'t>,
+}
+
+impl Op<'_> {
+    pub fn is_write(&self) -> bool
+        ensures { result ≡ writes self.now }
+    {
+        match self.act {
+            Act::Write(_) => true,
+            Act::Read(_) => false,
+        }
+    }
+
+    /// The value that is read or written.
+    pub fn value(&self) -> Value
+        ensures { result ≡ value_of self.now.act }
+    {
+        match self.act {
+            Act::Write(value) => value,
+            Act::Read(value) => value,
+        }
+    }
 }
 
 /// Whether the first operation ended before the second began.

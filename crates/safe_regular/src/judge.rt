@@ -8,7 +8,7 @@ ghost use Rattle.std.specs.declared.alloc.Global.{Global};
 ghost use Rattle.intervals.specs.declared.operation.Value.{Value};
 ghost use Rattle.safe_regular.specs.Judge.{without_write, without_read};
 
-use crate::reads::{first_wrong, is_write};
+use crate::reads::first_wrong;
 use crate::writes::check_write;
 use intervals::laws::{regular_without_wrong_reads, safe_without_wrong_reads};
 use intervals::{Claim, Kind, Memory, Op, OpId, Refusal, Value, Writers};
@@ -112,13 +112,13 @@ fn drop_read(ops: &mut Vec<Op>, id: OpId)
 fn is_write_of(op: &Op, id: OpId) -> bool
     ensures { result ≡ (writes op.now && same_id op.now.id id) }
 {
-    is_write(op) && op.id == id
+    op.is_write() && op.id == id
 }
 
 fn is_read_of(op: &Op, id: OpId) -> bool
     ensures { result ≡ (not (writes op.now) && same_id op.now.id id) }
 {
-    !is_write(op) && op.id == id
+    !op.is_write() && op.id == id
 }
 
 /// Another claim that says the same.

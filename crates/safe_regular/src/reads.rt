@@ -2,47 +2,23 @@
 
 ghost use Rattle.std.specs.Prelude.{◌≡◌, ◌&&◌, not};
 ghost use Rattle.std.specs.List.{list_any};
-ghost use Rattle.intervals.specs.Operation.{is_write as writes, is_judged_read as judged_read, value_of as value_in, same_value};
+ghost use Rattle.intervals.specs.Operation.{is_judged_read as judged_read, same_value};
 ghost use Rattle.intervals.specs.Terms.{terms_of};
 ghost use Rattle.intervals.specs.Least.{less_of};
 ghost use Rattle.intervals.specs.Judging.{is_write_before as write_before, later_of as later_one, last_before as last_one_before, is_returned_at as returned_at, returns_last as returns_the_last, is_write_over as write_over, overlaps_write as overlaps_some, is_allowed as allowed, is_safe_read as safe_read, is_returned_over as returned_over, is_regular_read as regular_read, is_right_read as right_read, is_wrong_read as wrong_read, end_number as end_of, first_wrong as first_wrong_of};
 
-use intervals::{Act, Claim, Kind, Moment, Op, Value, overlaps, precedes};
-
-pub fn is_write(op: &Op) -> bool
-    ensures { result ≡ writes op.now }
-{
-    match op.act {
-        Act::Write(_) => true,
-        Act::Read(_) => false,
-    }
-}
-
-pub fn value_of(op: &Op) -> Value
-    ensures { result ≡ value_in op.now.act }
-{
-    match op.act {
-        Act::Write(value) => value,
-        Act::Read(value) => value,
-    }
-}
+use intervals::{Claim, Kind, Moment, Op, Value, overlaps, precedes};
 
 fn is_judged_read(op: &Op) -> bool
     ensures { result ≡ judged_read op.now }
 {
-    !is_write(op) && op.end.is_some()
+    !op.is_write() && op.end.is_some()
 }
 
-/// The derived comparison of values.
 pub fn is_same(a: Value, b: Value) -> bool
     ensures { result ≡ same_value a b }
 {
-    match (a, b) {
-        (Value::Nil, Value::Nil) => true,
-        (Value::Int(x), Value::Int(y)) => x == y,
-        (Value::Nil, Value::Int(_)) => false,
-        (Value::Int(_), Value::Nil) => false,
-    }
+    a == b
 }
 
 /// The first wrong read to end.
@@ -99,7 +75,7 @@ fn is_safe_read(claim: &Claim, ops: &[Op], read: &Op) -> bool
     ensures { result ≡ safe_read (terms_of claim.now) ops.now read.now }
 {
     if overlaps_write(ops, read) {
-        is_allowed(claim, value_of(read))
+        is_allowed(claim, read.value())
     } else {
         returns_last(claim.initial, ops, read)
     }
@@ -126,13 +102,13 @@ fn overlaps_write(ops: &[Op], read: &Op) -> bool
 fn is_write_over(read: &Op, op: &Op) -> bool
     ensures { result ≡ write_over read.now op.now }
 {
-    is_write(op) && overlaps(op, read)
+    op.is_write() && overlaps(op, read)
 }
 
 fn is_returned_over(read: &Op, op: &Op) -> bool
     ensures { result ≡ returned_over read.now op.now }
 {
-    is_write_over(read, op) && is_same(value_of(op), value_of(read))
+    is_write_over(read, op) && is_same(op.value(), read.value())
 }
 
 fn is_allowed(claim: &Claim, value: Value) -> bool
@@ -154,7 +130,7 @@ fn returns_last(initial: Value, ops: &[Op], read: &Op) -> bool
     ensures { result ≡ returns_the_last initial ops.now read.now }
 {
     match last_before(ops, read) {
-        None => is_same(initial, value_of(read)),
+        None => is_same(initial, read.value()),
         Some(begin) => returns_at(ops, read, begin),
     }
 }
@@ -168,13 +144,13 @@ fn returns_at(ops: &[Op], read: &Op, begin: Moment) -> bool
 fn is_returned_at(read: &Op, begin: Moment, op: &Op) -> bool
     ensures { result ≡ returned_at read.now begin op.now }
 {
-    is_write_before(read, op) && op.begin.0 == begin.0 && is_same(value_of(op), value_of(read))
+    is_write_before(read, op) && op.begin.0 == begin.0 && is_same(op.value(), read.value())
 }
 
 fn is_write_before(read: &Op, op: &Op) -> bool
     ensures { result ≡ write_before read.now op.now }
 {
-    is_write(op) && precedes(op, read)
+    op.is_write() && precedes(op, read)
 }
 
 /// The beginning of the last write before the read.

@@ -8,14 +8,14 @@ ghost use Rattle.intervals.specs.Terms.{terms_of, writers_of};
 ghost use Rattle.intervals.specs.Least.{less_of, least_by};
 ghost use Rattle.intervals.specs.Refusal.{write_refusal, ok_unless, may_write as allows, is_in_domain as in_domain, is_overlapped as overlapped};
 
-use crate::reads::{is_among, is_write, value_of};
+use crate::reads::is_among;
 use intervals::{Claim, Kind, Op, Refusal, Value, Writers, overlaps};
 
 pub fn check_write(claim: &Claim, ops: &[Op], op: &Op) -> Result<(), Refusal>
     requires { claim.now.kind ≢ Kind.Atomic }
     ensures { result ≡ ok_unless (write_refusal (terms_of claim.now) ops.now op.now) }
 {
-    if !is_write(op) {
+    if !op.is_write() {
         return Ok(());
     }
     if !may_write(&claim.writers, op.process) {
@@ -24,7 +24,7 @@ pub fn check_write(claim: &Claim, ops: &[Op], op: &Op) -> Result<(), Refusal>
     if let Some(other) = first_overlapped(ops, op) {
         return Err(Refusal::WritesOverlap(other.id));
     }
-    if !is_in_domain(claim, value_of(op)) {
+    if !is_in_domain(claim, op.value()) {
         return Err(Refusal::OutOfDomain);
     }
     Ok(())
@@ -88,5 +88,5 @@ fn first_of<'t>(op: &Op, found: Option<Op<'t>>, other: &Op<'t>) -> Option<Op<'t>
 fn is_overlapped(op: &Op, other: &Op) -> bool
     ensures { result ≡ overlapped op.now other.now }
 {
-    other.id != op.id && is_write(other) && overlaps(other, op)
+    other.id != op.id && other.is_write() && overlaps(other, op)
 }

@@ -1,0 +1,4 @@
+pub mod Register
+pub mod Pairing
+pub mod Trace
+pub mod Session

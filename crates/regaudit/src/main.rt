@@ -1,0 +1,9 @@
+//! Judges a trace of one safe register.
+#![tactic(auto)]
+
+mod event;
+mod pairing;
+mod register;
+mod session;
+
+fn main(_rt: HostRuntime) {}
