@@ -1,4 +1,6 @@
 pub mod Register
 pub mod Pairing
+pub mod Item
+pub mod Form
 pub mod Trace
 pub mod Session

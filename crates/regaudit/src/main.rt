@@ -2,6 +2,7 @@
 #![tactic(auto)]
 
 mod event;
+mod form;
 mod pairing;
 mod register;
 mod session;

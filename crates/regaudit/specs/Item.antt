@@ -1,0 +1,189 @@
+-- The item of an element: its fields are looked at in one order, and the first refusal is the answer.
+use Rattle.std.specs.Prelude.{◌≡◌, ℕ, ◌^◌, ℤ, pos, negsuc, nat_lt, Bool, true, false, ◌&&◌, ◌||◌, List, [], ◌∷◌, Option, Some, None, Result, Ok, Err, codes, if◌then◌else◌}
+use Rattle.std.specs.Str.{bytes_eq}
+use Rattle.std.specs.Borrow.{Bor}
+use Rattle.intervals.specs.declared.operation.Moment.{Moment}
+use Rattle.intervals.specs.declared.operation.Value.{Value}
+use Rattle.intervals.specs.declared.operation.Value.TheVariants.{Nil, Int}
+use Rattle.edn_reader.specs.declared.field.Field.{Field}
+use Rattle.edn_reader.specs.declared.field.Field.TheVariants.{Absent, Once, Twice}
+use Rattle.edn_reader.specs.Grammar.{Piece, piece_of}
+use Rattle.edn_reader.specs.Pairs.{is_atom, is_keyword, values_of, HasPairs}
+use Rattle.edn_reader.specs.Integer.{integer_of}
+use Rattle.regaudit.specs.declared.event.Event.{Event}
+use Rattle.regaudit.specs.declared.event.Action.{Action}
+use Rattle.regaudit.specs.declared.event.Action.TheVariants.{Read, Write}
+use Rattle.regaudit.specs.declared.event.Stage.{Stage}
+use Rattle.regaudit.specs.declared.event.Stage.TheVariants as stages
+use Rattle.regaudit.specs.declared.event.Item.{Item}
+use Rattle.regaudit.specs.declared.event.Item.TheVariants as items
+use Rattle.regaudit.specs.declared.event.FormField.{FormField}
+use Rattle.regaudit.specs.declared.event.FormField.TheVariants as fields
+use Rattle.regaudit.specs.declared.event.FormFault.{FormFault}
+use Rattle.regaudit.specs.declared.event.FormFault.TheVariants.{NotAMap, MissingField, DuplicateField, BadType, UnsupportedF, BadValue, BadMoment}
+use Rattle.regaudit.specs.declared.form.Progress.{Progress}
+use Rattle.regaudit.specs.declared.form.Progress.TheVariants as progress
+
+-- what a map has under a key: nothing, one value, or more
+pub data Given : Type 0 where
+  Missing : Given
+  One : (value : Piece) → Given
+  Many : Given
+
+abbrev pub given : List Piece → Given
+given [] = Missing
+given (value ∷ []) = One value
+given (value ∷ other ∷ values) = Many
+
+-- what the program's field is
+abbrev pub seen : Field → Given
+seen Absent = Missing
+seen (Once element) = One (piece_of element)
+seen Twice = Many
+
+abbrev pub is_there : Given → Bool
+is_there Missing = false
+is_there (One value) = true
+is_there Many = true
+
+-- the fields of a map that are read
+pub record Fields : Type 0 where
+  pub edit : Given
+  pub ask : Given
+  pub process : Given
+  pub stage : Given
+  pub action : Given
+  pub value : Given
+  pub moment : Given
+
+abbrev pub fields_of : List (Piece × Piece) → Fields
+fields_of pairs = record {
+  edit = given (values_of (codes ":edit") pairs);
+  ask = given (values_of (codes ":ask") pairs);
+  process = given (values_of (codes ":process") pairs);
+  stage = given (values_of (codes ":type") pairs);
+  action = given (values_of (codes ":f") pairs);
+  value = given (values_of (codes ":value") pairs);
+  moment = given (values_of (codes ":index") pairs);
+}
+
+infixl 10 ◌>>=◌
+-- one step after another, up to the first fault
+abbrev pub ◌>>=◌ : {A B : Type 0} → Result A FormFault → (A → Result B FormFault) → Result B FormFault
+(Ok x) >>= f = f x
+(Err e) >>= f = Err e
+
+-- what a function answered, seen by view, is what is to be answered
+abbrev pub Gives : {X Y : Type 0} → (X → Y) → Result X FormFault → Result Y FormFault → Type 0
+Gives view (Ok x) wanted = wanted ≡ Ok (view x)
+Gives view (Err e) wanted = wanted ≡ Err e
+
+-- a field that must be there once
+abbrev pub needed : FormField → Given → Result Piece FormFault
+needed field Missing = Err (MissingField field)
+needed field (One value) = Ok value
+needed field Many = Err (DuplicateField field)
+
+-- the keyword with these bytes
+abbrev pub is_word : List ℕ → Piece → Bool
+is_word word piece = is_keyword piece && bytes_eq piece.text word
+
+-- a number of 64 bits with a sign
+abbrev pub fitting : Option ℤ → Option ℤ
+fitting None = None
+fitting (Some (pos n)) = if nat_lt n (2 ^ 63) then Some (pos n) else None
+fitting (Some (negsuc n)) = if nat_lt n (2 ^ 63) then Some (negsuc n) else None
+
+-- the integer that an element is, where it fits
+abbrev pub int_of : Piece → Option ℤ
+int_of piece = if is_atom piece.kind then fitting (integer_of piece.text) else None
+
+-- the word nil
+abbrev pub is_nil : Piece → Bool
+is_nil piece = is_atom piece.kind && bytes_eq piece.text (codes "nil")
+
+abbrev pub int_value : Option ℤ → Result Value FormFault
+int_value None = Err BadValue
+int_value (Some z) = Ok (Int z)
+
+abbrev pub int_moment : Option ℤ → Result Moment FormFault
+int_moment None = Err BadMoment
+int_moment (Some (pos n)) = Ok (record { 0 = n })
+int_moment (Some (negsuc n)) = Err BadMoment
+
+-- nil, or an integer that fits
+abbrev pub value_of : Piece → Result Value FormFault
+value_of piece = if is_nil piece then Ok Nil else int_value (int_of piece)
+
+-- an integer from 0 on that fits
+abbrev pub moment_of : Piece → Result Moment FormFault
+moment_of piece = int_moment (int_of piece)
+
+abbrev pub action_of : Piece → Result Action FormFault
+action_of piece =
+  if is_word (codes ":read") piece then Ok Read
+  else if is_word (codes ":write") piece then Ok Write
+  else Err UnsupportedF
+
+abbrev pub progress_of : Piece → Result Progress FormFault
+progress_of piece =
+  if is_word (codes ":invoke") piece then Ok progress.Invoked
+  else if is_word (codes ":ok") piece then Ok progress.Answered
+  else if is_word (codes ":fail") piece then Ok progress.Failed
+  else if is_word (codes ":info") piece then Ok progress.Crashed
+  else Err BadType
+
+-- the value of an answer or of a write; a missing one is nil
+abbrev pub value_given : Given → Result Value FormFault
+value_given Missing = Ok Nil
+value_given (One piece) = value_of piece
+value_given Many = Err (DuplicateField fields.Value)
+
+-- an invoked read has no value yet, whatever stands there once
+abbrev pub value_ignored : Given → Result Value FormFault
+value_ignored Missing = Ok Nil
+value_ignored (One piece) = Ok Nil
+value_ignored Many = Err (DuplicateField fields.Value)
+
+abbrev pub invoked_value : Action → Given → Result Value FormFault
+invoked_value Read given = value_ignored given
+invoked_value Write given = value_given given
+
+abbrev pub moment_given : Given → Result Moment FormFault
+moment_given given = needed fields.Moment given >>= moment_of
+
+-- the value, and then the moment
+abbrev pub timed : (Value → Moment → Stage) → Result Value FormFault → Given → Result Stage FormFault
+timed stage value moment = value >>= (λ v. moment_given moment >>= (λ m. Ok (stage v m)))
+
+-- the stage: its value and moment where it is an invocation or an answer
+abbrev pub stage_of : Progress → Action → Fields → Result Stage FormFault
+stage_of progress.Invoked action given = timed stages.Invoke (invoked_value action given.value) given.moment
+stage_of progress.Answered action given = timed stages.Ok (value_given given.value) given.moment
+stage_of progress.Failed action given = Ok stages.Fail
+stage_of progress.Crashed action given = Ok stages.Info
+
+-- the event of a process: its type, what it does, and then its value and moment
+abbrev pub event_of : Fields → Bor (List ℕ) → ℤ → Result Item FormFault
+event_of given text process =
+  (needed fields.Stage given.stage >>= progress_of) >>= (λ reached.
+    (needed fields.Action given.action >>= action_of) >>= (λ action.
+      stage_of reached action given >>= (λ stage.
+        Ok (items.Event (record { process = process; action = action; stage = stage; text = text })))))
+
+-- where the process is no integer the event is skipped
+abbrev pub by_process : Fields → Bor (List ℕ) → Option ℤ → Result Item FormFault
+by_process given text None = Ok items.Skipped
+by_process given text (Some process) = event_of given text process
+
+-- edits and questions are not read yet
+abbrev pub item_of : Fields → Bor (List ℕ) → Result Item FormFault
+item_of given text =
+  if is_there given.edit || is_there given.ask then Err BadType
+  else needed fields.Process given.process >>= (λ piece. by_process given text (int_of piece))
+
+-- the item of an element: none of an element that is no map, else that of its pairs
+pub data IsItem : Piece → Result Item FormFault → Type 0 where
+  no_map : {piece : Piece} → ((pairs : List (Piece × Piece)) → HasPairs piece pairs → ⊥) → IsItem piece (Err NotAMap)
+  of_map : {piece : Piece} (pairs : List (Piece × Piece)) (text : Bor (List ℕ)) → HasPairs piece pairs → text.now ≡ piece.text
+    → IsItem piece (item_of (fields_of pairs) text)

@@ -1,0 +1,219 @@
+//! From an element to an item.
+
+ghost use Rattle.std.specs.Prelude.{◌≡◌, List};
+ghost use Rattle.edn_reader.specs.Grammar.{Piece, piece_of, IsElement};
+ghost use Rattle.edn_reader.specs.Pairs.{PairsLeft};
+ghost use Rattle.regaudit.specs.Item.{IsItem, Gives, seen, is_there as is_some_given, fields_of, needed as needed_of, is_word as is_that_word, int_of as integer_in, value_of as value_in, moment_of as moment_in, action_of as action_in, progress_of as progress_in, value_given, value_ignored, invoked_value as value_invoked, moment_given, stage_of as stage_in, event_of as event_in, item_of as item_in};
+ghost use Rattle.regaudit.specs.Form.{seen_all};
+
+use crate::event::{Action, Event, FormFault, FormField, Item, Stage};
+use edn_reader::{Element, Field, MapView, pairs_of_map};
+use intervals::{Moment, Value};
+
+/// How far an operation has come, as its type says.
+#[derive(Clone, Copy, Debug, PartialEq, Eq)]
+pub enum Progress {
+    Invoked,
+    Answered,
+    Failed,
+    Crashed,
+}
+
+/// What a map has under the keys that are read.
+#[derive(Clone, Copy)]
+pub struct Form<'t> {
+    edit: Field<'t>,
+    ask: Field<'t>,
+    process: Field<'t>,
+    stage: Field<'t>,
+    action: Field<'t>,
+    value: Field<'t>,
+    moment: Field<'t>,
+}
+
+/// The item of an element, or why it is none.
+pub fn read_item<'t>(element: &Element<'t>) -> Result<Item<'t>, FormFault>
+    ensures { IsElement (piece_of element.now) → IsItem (piece_of element.now) result }
+{
+    pairs_of_map();
+    match element.as_map() {
+        Some(map) => item_of(&form_of(&map), element.text()),
+        None => Err(FormFault::NotAMap),
+    }
+}
+
+fn form_of<'t>(map: &MapView<'t>) -> Form<'t>
+    ensures { (pairs : List (Piece × Piece)) → PairsLeft map.now pairs → seen_all result ≡ fields_of pairs }
+{
+    Form {
+        edit: map.field(b":edit"),
+        ask: map.field(b":ask"),
+        process: map.field(b":process"),
+        stage: map.field(b":type"),
+        action: map.field(b":f"),
+        value: map.field(b":value"),
+        moment: map.field(b":index"),
+    }
+}
+
+fn item_of<'t>(form: &Form<'t>, text: &'t [u8]) -> Result<Item<'t>, FormFault>
+    ensures { result ≡ item_in (seen_all form.now) text.entry }
+{
+    if is_given(&form.edit) || is_given(&form.ask) {
+        return Err(FormFault::BadType);
+    }
+    let process = needed(&form.process, FormField::Process)?;
+    match int_of(&process) {
+        Some(process) => event_of(form, text, process),
+        None => Ok(Item::Skipped),
+    }
+}
+
+fn event_of<'t>(form: &Form<'t>, text: &'t [u8], process: i64) -> Result<Item<'t>, FormFault>
+    ensures { result ≡ event_in (seen_all form.now) text.entry process }
+{
+    let progress = progress_of(&needed(&form.stage, FormField::Stage)?)?;
+    let action = action_of(&needed(&form.action, FormField::Action)?)?;
+    let stage = stage_of(form, progress, action)?;
+    Ok(Item::Event(Event {
+        process,
+        action,
+        stage,
+        text,
+    }))
+}
+
+fn stage_of(form: &Form, progress: Progress, action: Action) -> Result<Stage, FormFault>
+    ensures { result ≡ stage_in progress action (seen_all form.now) }
+{
+    match progress {
+        Progress::Invoked => {
+            let value = invoked_value(action, &form.value)?;
+            Ok(Stage::Invoke(value, moment_of(&form.moment)?))
+        }
+        Progress::Answered => {
+            let value = value_of(&form.value)?;
+            Ok(Stage::Ok(value, moment_of(&form.moment)?))
+        }
+        Progress::Failed => Ok(Stage::Fail),
+        Progress::Crashed => Ok(Stage::Info),
+    }
+}
+
+fn is_given(field: &Field) -> bool
+    ensures { result ≡ is_some_given (seen field.now) }
+{
+    match field {
+        Field::Absent => false,
+        Field::Once(_) | Field::Twice => true,
+    }
+}
+
+fn needed<'t>(field: &Field<'t>, name: FormField) -> Result<Element<'t>, FormFault>
+    ensures { Gives piece_of result (needed_of name (seen field.now)) }
+{
+    match field {
+        Field::Absent => Err(FormFault::MissingField(name)),
+        Field::Once(element) => Ok(*element),
+        Field::Twice => Err(FormFault::DuplicateField(name)),
+    }
+}
+
+fn progress_of(element: &Element) -> Result<Progress, FormFault>
+    ensures { result ≡ progress_in (piece_of element.now) }
+{
+    if is_word(element, b":invoke") {
+        Ok(Progress::Invoked)
+    } else if is_word(element, b":ok") {
+        Ok(Progress::Answered)
+    } else if is_word(element, b":fail") {
+        Ok(Progress::Failed)
+    } else if is_word(element, b":info") {
+        Ok(Progress::Crashed)
+    } else {
+        Err(FormFault::BadType)
+    }
+}
+
+fn action_of(element: &Element) -> Result<Action, FormFault>
+    ensures { result ≡ action_in (piece_of element.now) }
+{
+    if is_word(element, b":read") {
+        Ok(Action::Read)
+    } else if is_word(element, b":write") {
+        Ok(Action::Write)
+    } else {
+        Err(FormFault::UnsupportedF)
+    }
+}
+
+fn is_word(element: &Element, word: &[u8]) -> bool
+    ensures { result ≡ is_that_word word.now (piece_of element.now) }
+{
+    match element.as_keyword() {
+        Some(text) => text == word,
+        None => false,
+    }
+}
+
+fn invoked_value(action: Action, field: &Field) -> Result<Value, FormFault>
+    ensures { result ≡ value_invoked action (seen field.now) }
+{
+    match action {
+        Action::Read => ignored_value(field),
+        Action::Write => value_of(field),
+    }
+}
+
+/// The value of an invoked read: none yet.
+fn ignored_value(field: &Field) -> Result<Value, FormFault>
+    ensures { result ≡ value_ignored (seen field.now) }
+{
+    match field {
+        Field::Absent | Field::Once(_) => Ok(Value::Nil),
+        Field::Twice => Err(FormFault::DuplicateField(FormField::Value)),
+    }
+}
+
+fn value_of(field: &Field) -> Result<Value, FormFault>
+    ensures { result ≡ value_given (seen field.now) }
+{
+    match field {
+        Field::Absent => Ok(Value::Nil),
+        Field::Once(element) => read_value(element),
+        Field::Twice => Err(FormFault::DuplicateField(FormField::Value)),
+    }
+}
+
+fn read_value(element: &Element) -> Result<Value, FormFault>
+    ensures { result ≡ value_in (piece_of element.now) }
+{
+    if element.is_nil() {
+        return Ok(Value::Nil);
+    }
+    match int_of(element) {
+        Some(number) => Ok(Value::Int(number)),
+        None => Err(FormFault::BadValue),
+    }
+}
+
+fn moment_of(field: &Field) -> Result<Moment, FormFault>
+    ensures { result ≡ moment_given (seen field.now) }
+{
+    read_moment(&needed(field, FormField::Moment)?)
+}
+
+fn read_moment(element: &Element) -> Result<Moment, FormFault>
+    ensures { result ≡ moment_in (piece_of element.now) }
+{
+    match int_of(element) {
+        Some(number) if number >= 0 => Ok(Moment(number as u64)),
+        _ => Err(FormFault::BadMoment),
+    }
+}
+
+fn int_of(element: &Element) -> Option<i64>
+    ensures { result ≡ integer_in (piece_of element.now) }
+{
+    element.as_int()
+}
