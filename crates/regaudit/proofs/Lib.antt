@@ -1,3 +1,5 @@
 pub mod Refusals
 pub mod Sessions
 pub mod Fields
+pub mod SoFar
+pub mod Audits

@@ -4,3 +4,5 @@ pub mod Item
 pub mod Form
 pub mod Trace
 pub mod Session
+pub mod Audit
+pub mod Input

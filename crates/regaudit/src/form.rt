@@ -7,7 +7,8 @@ ghost use Rattle.regaudit.specs.Item.{IsItem, Gives, seen, is_there as is_some_g
 ghost use Rattle.regaudit.specs.Form.{seen_all};
 
 use crate::event::{Action, Event, FormFault, FormField, Item, Stage};
-use edn_reader::{Element, Field, MapView, pairs_of_map};
+use edn_reader::laws::pairs_of_map;
+use edn_reader::{Element, Field, MapView};
 use intervals::{Moment, Value};
 
 /// How far an operation has come, as its type says.

@@ -1,0 +1,9 @@
+pub mod Places
+pub mod Steps
+pub mod Machine
+pub mod Tokens
+pub mod Viable
+pub mod Unique
+pub mod Reading
+pub mod Views
+pub mod Integers

@@ -1,0 +1,5 @@
+use Rattle.edn_reader.proofs.Viable as viable
+use Rattle.edn_reader.proofs.laws.one_fault.Goals as goal
+
+pub returns : goal.returns
+returns c = viable.one_fault

@@ -1,0 +1,41 @@
+-- The classes of bytes, as docs/FORMATS.md lists them (this project's profile of the EDN format).
+use Rattle.std.specs.Prelude.{◌≡◌, ℕ, nat_le, ◌==◌, ◌&&◌, ◌||◌, if◌then◌else◌, Bool, true, false, List, [], ◌∷◌}
+use Rattle.edn_reader.specs.declared.bytes.ByteClass.{ByteClass}
+use Rattle.edn_reader.specs.declared.bytes.ByteClass.TheVariants.{White, Plain, Hash, Backslash, Semicolon, Quote, Opens, Closes}
+use Rattle.edn_reader.specs.declared.bytes.Bracket.TheVariants.{Round, Square, Curly}
+
+-- The class of a byte: white is 9 to 13, the space and the comma; what has no sign of its own is plain.
+unfoldable pub class_of : ℕ → ByteClass
+class_of b =
+    if nat_le 9 b && nat_le b 13 || b == 32 || b == 44 then White
+    else if b == 35 then Hash
+    else if b == 92 then Backslash
+    else if b == 59 then Semicolon
+    else if b == 34 then Quote
+    else if b == 40 then Opens Round
+    else if b == 91 then Opens Square
+    else if b == 123 then Opens Curly
+    else if b == 41 then Closes Round
+    else if b == 93 then Closes Square
+    else if b == 125 then Closes Curly
+    else Plain
+
+-- The classes that make up a run: all but the delimiters.
+abbrev pub is_run_class : ByteClass → Bool
+is_run_class Plain = true
+is_run_class Hash = true
+is_run_class Backslash = true
+is_run_class White = false
+is_run_class Semicolon = false
+is_run_class Quote = false
+is_run_class (Opens bracket) = false
+is_run_class (Closes bracket) = false
+
+-- A run byte is every byte that is no delimiter.
+abbrev pub is_run : ℕ → Bool
+is_run b = is_run_class (class_of b)
+
+-- A run ends before a delimiter or at the end.
+abbrev pub EndsRun : List ℕ → Type 0
+EndsRun [] = Unit {0}
+EndsRun (b ∷ bytes) = is_run b ≡ false

@@ -1,0 +1,46 @@
+-- Integers: an optional sign, then 0 or digits that do not begin with 0, then an optional N (the EDN format).
+use Rattle.std.specs.Prelude.{◌≡◌, ℕ, zero, suc, ◌+◌, ◌-◌, ◌*◌, nat_le, ◌==◌, ◌&&◌, if◌then◌else◌, Bool, true, false, not, List, [], ◌∷◌, ℤ, pos, negsuc, Option, Some, None}
+use Rattle.std.specs.Option.{option_map}
+use Rattle.edn_reader.specs.declared.element.ElementKind.TheVariants.{Atom}
+use Rattle.edn_reader.specs.Grammar.{Piece}
+
+-- A decimal digit.
+abbrev pub is_digit : ℕ → Bool
+is_digit b = nat_le 48 b && nat_le b 57
+
+-- What may follow the digits: nothing, or the N of a long integer.
+abbrev pub is_suffix : List ℕ → Bool
+is_suffix [] = true
+is_suffix (b ∷ []) = b == 78
+is_suffix (b ∷ c ∷ bytes) = false
+
+-- The number of more decimal digits after a number.
+unfoldable pub digits_after : ℕ → List ℕ → Option ℕ
+digits_after value [] = Some value
+digits_after value (b ∷ bytes) =
+    if is_digit b then digits_after (10 * value + (b - 48)) bytes
+    else if is_suffix (b ∷ bytes) then Some value else None
+
+-- A number without a sign. No 0 stands before another digit.
+unfoldable pub natural_of : List ℕ → Option ℕ
+natural_of [] = None
+natural_of (b ∷ bytes) =
+    if b == 48 && not (is_suffix bytes) then None
+    else if is_digit b then digits_after 0 (b ∷ bytes) else None
+
+-- Minus a number.
+abbrev pub minus : ℕ → ℤ
+minus zero = pos 0
+minus (suc n) = negsuc n
+
+-- The integer that bytes spell, of any size.
+unfoldable pub integer_of : List ℕ → Option ℤ
+integer_of [] = None
+integer_of (b ∷ bytes) =
+    if b == 45 then option_map minus (natural_of bytes)
+    else if b == 43 then option_map pos (natural_of bytes)
+    else option_map pos (natural_of (b ∷ bytes))
+
+-- An element is an integer: an Atom whose bytes spell it.
+abbrev pub IsInteger : Piece → ℤ → Type 0
+IsInteger piece z = (piece.kind ≡ Atom) × (integer_of piece.text ≡ Some z)

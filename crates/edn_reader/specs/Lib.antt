@@ -1,0 +1,9 @@
+pub mod Bytes
+pub mod Grammar
+pub mod Text
+pub mod Fault
+pub mod Integer
+pub mod Pairs
+pub mod Reading
+pub mod Token
+pub mod Standing

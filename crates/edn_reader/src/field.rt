@@ -1,0 +1,34 @@
+//! What a map has under a key.
+
+ghost use Rattle.std.specs.Prelude.{◌≡◌, ◌&&◌, ◌++◌, List, [], ◌∷◌};
+ghost use Rattle.std.specs.Str.{bytes_eq};
+ghost use Rattle.edn_reader.specs.Grammar.{Piece, piece_of};
+ghost use Rattle.edn_reader.specs.Pairs.{is_keyword, IsField};
+
+use crate::element::Element;
+
+/// What a map has under a key: no pair, one with this value, or two and more.
+#[derive(Clone, Copy)]
+pub enum Field<'t> {
+    Absent,
+    Once(Element<'t>),
+    Twice,
+}
+
+pub fn is_key(name: &Element, key: &[u8]) -> bool
+    ensures { result ≡ (is_keyword (piece_of name.now) && bytes_eq (piece_of name.now).text key.now) }
+{
+    match name.as_keyword() {
+        Some(text) => text == key,
+        None => false,
+    }
+}
+
+pub fn one_more<'t>(found: Field<'t>, value: Element<'t>) -> Field<'t>
+    ensures { (values : List Piece) → IsField found.entry values → IsField result (values ++ piece_of value.entry ∷ []) }
+{
+    match found {
+        Field::Absent => Field::Once(value),
+        Field::Once(_) | Field::Twice => Field::Twice,
+    }
+}

@@ -1,0 +1,38 @@
+//! Laws of the format. Each is proved, and does nothing.
+
+ghost use Rattle.std.specs.Prelude.{◌≡◌, ◌⊎◌, ℕ, List};
+ghost use Rattle.std.specs.List.{AllByRecursion};
+ghost use Rattle.edn_reader.specs.declared.fault.EdnFault.{EdnFault};
+ghost use Rattle.edn_reader.specs.declared.element.ElementKind.TheVariants.{Map};
+ghost use Rattle.edn_reader.specs.Grammar.{Piece, IsElement};
+ghost use Rattle.edn_reader.specs.Text.{IsFront, IsText};
+ghost use Rattle.edn_reader.specs.Fault.{FaultOf};
+ghost use Rattle.edn_reader.specs.Pairs.{HasPairs};
+
+/// A text has one division into elements.
+pub fn one_division()
+    ensures { (input : List ℕ) (firsts seconds : List Piece) → IsText input firsts → IsText input seconds → firsts ≡ seconds }
+{}
+
+/// An input has one first fault.
+pub fn one_fault()
+    ensures { (input : List ℕ) (first second : EdnFault) → FaultOf input first → FaultOf input second → first ≡ second }
+{}
+
+/// An input is a text or has a fault, and not both.
+pub fn text_or_fault()
+    ensures one { (input : List ℕ) → ((pieces : List Piece) × IsText input pieces) ⊎ ((fault : EdnFault) × FaultOf input fault) }
+    ensures not_both { (input : List ℕ) (pieces : List Piece) (fault : EdnFault) → IsText input pieces → FaultOf input fault → ⊥ }
+{}
+
+/// Each element of a front is an element on its own.
+pub fn each_is_element()
+    ensures { (input : List ℕ) (pieces : List Piece) (at : ℕ) → IsFront input pieces at → AllByRecursion IsElement pieces }
+{}
+
+/// A map has one list of pairs, of elements.
+pub fn pairs_of_map()
+    ensures some { (piece : Piece) → IsElement piece → piece.kind ≡ Map → (pairs : List (Piece × Piece)) × HasPairs piece pairs }
+    ensures one { (piece : Piece) (firsts seconds : List (Piece × Piece)) → HasPairs piece firsts → HasPairs piece seconds → firsts ≡ seconds }
+    ensures elements { (piece : Piece) (pairs : List (Piece × Piece)) → HasPairs piece pairs → AllByRecursion (λ pair. IsElement pair.0 × IsElement pair.1) pairs }
+{}

@@ -1,0 +1,110 @@
+//! The reader: one pass over the input, which lends its elements.
+
+ghost use Rattle.std.specs.Prelude.{◌≡◌, ◌++◌, ◌≤◌, ◌<◌, ◌∷◌, ◌⊎◌, List, [], length, take, drop, None, Some, Ok, Err, IsNone, IfErr, OnErr, OnOk, IfOk, IfSome, OnSome};
+ghost use Rattle.edn_reader.specs.Token.{Reads};
+
+use crate::element::Element;
+use crate::fault::EdnFault;
+use crate::nesting::Nesting;
+use crate::step::{Span, Step, read_step};
+use std::alloc::Global;
+use std::marker::Model;
+
+/// Lends the elements of an input, one after another. A fault that it met it answers for good.
+#[derive(Drop)]
+pub struct Reader<'t> {
+    input: &'t [u8],
+    at: usize,
+    nesting: Nesting,
+    fault: Option<EdnFault>,
+}
+
+impl<'t> Model for Reader<'t> {
+    ghost use Rattle.edn_reader.specs.Reading.{Reading};
+
+    ghost Value = { Reading };
+
+    ghost use Rattle.edn_reader.specs.Standing.{IsStanding};
+
+    ghost view = { λ a. record { input = a.input.now; at = a.at; fault = a.fault } };
+
+    ghost invariant = { λ a. IsStanding a.input.now a.at a.nesting a.fault };
+}
+
+/// Reads up to the end of the next outermost element.
+#[tactic(auto, using(crate::proofs::Reading::stands_begin, crate::proofs::Reading::stands_on, crate::proofs::Reading::goes_forward))]
+fn read_element(input: &[u8], from: usize, nesting: &mut Nesting) -> Result<Option<Span>, EdnFault>
+    requires at { from ≤ length input.now }
+    requires none_open { nesting.old ≡ [] }
+    ensures { Reads input.now from result nesting.new }
+{
+    let mut at = from;
+    while at < input.len() {
+        match read_step(input, at, nesting) {
+            Ok(Step::On(place)) => at = place,
+            Ok(Step::Ended(span)) => return Ok(Some(span)),
+            Err(fault) => return Err(fault),
+        }
+    }
+    if nesting.len() == 0 {
+        Ok(None)
+    } else {
+        Err(EdnFault::Truncated(at))
+    }
+}
+
+impl<'t> Reader<'t> {
+    ghost use Rattle.edn_reader.specs.Grammar.{Piece, piece_of, IsElement};
+    ghost use Rattle.edn_reader.specs.Text.{IsFront, IsText};
+    ghost use Rattle.edn_reader.specs.Fault.{FaultOf, IsMemory, AreElementsBefore};
+
+    /// Takes no memory. The allocator is kept for the maps that will stand open.
+    pub fn new(alloc: Global, input: &'t [u8]) -> Reader<'t>
+        ensures state { result ≡ record { input = input.entry.now; at = 0; fault = None } }
+        ensures begins { IsFront input.entry.now [] 0 }
+    {
+        Reader {
+            input,
+            at: 0,
+            nesting: Nesting::new(alloc),
+            fault: None,
+        }
+    }
+
+    /// The next outermost element; none at the end of the input.
+    #[tactic(auto, using(crate::proofs::Views::last_is_element))]
+    pub fn next(&mut self) -> Result<Option<Element<'t>>, EdnFault>
+        ensures input { self.new.input ≡ self.old.input }
+        ensures element { IfOk result (λ found. IfSome found (λ element.
+            (pieces : List Piece) → IsFront self.old.input pieces self.old.at → IsFront self.old.input (pieces ++ piece_of element ∷ []) self.new.at)) }
+        ensures text { IfOk result (λ found. IfSome found (λ element.
+            (piece_of element).text ≡ take (length (piece_of element).text) (drop (piece_of element).start self.old.input))) }
+        ensures forward { IfOk result (λ found. IfSome found (λ element.
+            (self.old.at < self.new.at) × (self.new.at ≤ length self.old.input))) }
+        ensures whole { IfOk result (λ found. IfSome found (λ element. IsElement (piece_of element))) }
+        ensures end { IfOk result (λ found. IsNone found → (self.new ≡ self.old)
+            × ((pieces : List Piece) → IsFront self.old.input pieces self.old.at → IsText self.old.input pieces)) }
+        ensures fault { IfErr result (λ fault. IsMemory fault ⊎ (FaultOf self.old.input fault
+            × ((pieces : List Piece) → IsFront self.old.input pieces self.old.at → AreElementsBefore self.old.input pieces))) }
+        ensures kept { OnErr result (self.new.at ≡ self.old.at) }
+        ensures remembered { IfErr result (λ fault. self.new.fault ≡ Some fault) }
+        ensures none_yet { OnOk result (self.new.fault ≡ None) }
+        ensures again { IfSome self.old.fault (λ fault. (result ≡ Err fault) × (self.new ≡ self.old)) }
+    {
+        if let Some(fault) = self.fault {
+            return Err(fault);
+        }
+        match read_element(self.input, self.at, &mut self.nesting) {
+            Ok(Some(span)) => {
+                let text = &self.input[span.start..span.end];
+                self.at = span.end;
+                Ok(Some(Element::new(text, span.start, span.kind)))
+            }
+            Ok(None) => Ok(None),
+            Err(fault) => {
+                self.fault = Some(fault);
+                Err(fault)
+            }
+        }
+    }
+}

@@ -1,0 +1,61 @@
+-- One more element of an audit, and its end.
+use Rattle.std.proofs.Common.{◌≡◌, ◌↔◌, ℕ, Bool, List, [], ◌∷◌, ◌++◌, length, Option, Some, None, Result, refl, sym, ap, subst, ◌∙◌}
+use Rattle.std.specs.Prelude.{IsTrue}
+use Rattle.edn_reader.specs.declared.fault.EdnFault.{EdnFault}
+use Rattle.edn_reader.specs.Grammar.{Piece}
+use Rattle.edn_reader.specs.Text.{IsFront, IsText}
+use Rattle.intervals.specs.declared.claim.Kind.TheVariants.{Safe}
+use Rattle.intervals.specs.Kind.{IsSafe}
+use Rattle.regaudit.specs.declared.event.Item.{Item}
+use Rattle.regaudit.specs.declared.event.FormFault.{FormFault}
+use Rattle.regaudit.specs.declared.session.Session.{Session}
+use Rattle.regaudit.specs.declared.audit.Audit.{Audit}
+use Rattle.regaudit.specs.Register.{Registered}
+use Rattle.regaudit.specs.Item.{IsItem}
+use Rattle.regaudit.specs.Trace.{Paired, with_item, paired_after, paired, safe_register, standing_of}
+use Rattle.regaudit.specs.Session.{StandsFor}
+use Rattle.regaudit.specs.Audit.{AreItems, AreElements, IsTrace, IsVerdict, IsAudit}
+use Rattle.regaudit.proofs.SoFar.{IsSoFar}
+
+paired_after-push : (so_far : Paired) (items : List (Result Item FormFault)) (item : Result Item FormFault) → paired_after so_far (items ++ item ∷ []) ≡ with_item (paired_after so_far items) item
+paired_after-push so_far [] item = refl
+paired_after-push so_far (first ∷ items) item = paired_after-push (with_item so_far first) items item
+
+items_push : (pieces : List Piece) (items : List (Result Item FormFault)) (piece : Piece) (item : Result Item FormFault) → AreItems pieces items → IsItem piece item → AreItems (pieces ++ piece ∷ []) (items ++ item ∷ [])
+items_push [] [] piece item h is = (is, tt)
+items_push [] (i ∷ items) piece item h is = absurd h
+items_push (p ∷ pieces) [] piece item h is = absurd h
+items_push (p ∷ pieces) (i ∷ items) piece item h is = (h.0, items_push pieces items piece item h.1 is)
+
+pub so_far_begins : (input : List ℕ) (session : Session) → IsFront input [] 0 → StandsFor session (paired []) → IsSoFar input 0 session
+so_far_begins input session front stands = record { pieces = []; front = front; items = []; read = tt; stands = stands }
+
+pub so_far_on : (input : List ℕ) (at to : ℕ) (old new : Session) (piece : Piece) (item : Result Item FormFault) → IsSoFar input at old → ((pieces : List Piece) → IsFront input pieces at → IsFront input (pieces ++ piece ∷ []) to) → IsItem piece item → ((trace : Paired) → StandsFor old trace → StandsFor new (with_item trace item)) → IsSoFar input to new
+so_far_on input at to old new piece item so_far goes is taken = record {
+  pieces = so_far.pieces ++ piece ∷ [];
+  front = goes so_far.pieces so_far.front;
+  items = so_far.items ++ item ∷ [];
+  read = items_push so_far.pieces so_far.items piece item so_far.read is;
+  stands = subst (StandsFor new) (sym (paired_after-push _ so_far.items item)) (taken (paired so_far.items) so_far.stands);
+}
+
+pub verdict_of : (session : Session) (trace : Paired) (holds : Bool) (operations : ℕ) → (session.register.claim.kind ≡ Safe → IsTrue holds ↔ IsSafe session.register.claim session.register.ops) → operations ≡ length session.register.ops → StandsFor session trace → IsVerdict trace holds session.refused operations
+verdict_of session trace holds operations judged count h =
+  let is_safe = subst (λ (r : Registered). r.claim.kind ≡ Safe → IsTrue holds ↔ IsSafe r.claim r.ops) h.register judged in
+  record {
+    verdict = is_safe refl;
+    count = count ∙ ap (λ (r : Registered). length r.ops) h.register;
+    refusals = h.refused;
+  }
+
+pub audit_ends : (input : List ℕ) (at : ℕ) (session : Session) (fault : Option EdnFault) (audit : Audit) → IsSoFar input at session → ((pieces : List Piece) → IsFront input pieces at → AreElements input fault pieces) → audit.fault ≡ fault → ((trace : Paired) → StandsFor session trace → IsVerdict trace audit.holds audit.refused audit.operations) → IsAudit input audit
+audit_ends input at session fault audit so_far elements same verdict = (
+  paired so_far.items,
+  record {
+    pieces = so_far.pieces;
+    elements = subst (λ (f : Option EdnFault). AreElements input f so_far.pieces) (sym same) (elements so_far.pieces so_far.front);
+    items = so_far.items;
+    read = so_far.read;
+    is = refl;
+  },
+  verdict (paired so_far.items) so_far.stands)
