@@ -1,10 +1,12 @@
 -- One more element of an audit, and its end.
-use Rattle.std.proofs.Common.{◌≡◌, ◌↔◌, ℕ, Bool, List, [], ◌∷◌, ◌++◌, length, Option, Some, None, Result, refl, sym, ap, subst, ◌∙◌}
-use Rattle.std.specs.Prelude.{IsTrue}
+use Rattle.std.proofs.Common.{◌≡◌, ◌↔◌, ◌⊎◌, inl, inr, ℕ, Bool, List, [], ◌∷◌, ◌++◌, length, Option, Some, Result, Ok, Err, rules, refl, sym, ap, subst, ◌∙◌}
+use Rattle.std.specs.Prelude.{IsTrue, IfOk}
 use Rattle.edn_reader.specs.declared.fault.EdnFault.{EdnFault}
 use Rattle.edn_reader.specs.Grammar.{Piece}
-use Rattle.edn_reader.specs.Text.{IsFront, IsText}
+use Rattle.edn_reader.specs.Text.{IsFront}
+use Rattle.edn_reader.specs.Fault.{IsMemory, FaultOf, AreElementsBefore}
 use Rattle.intervals.specs.declared.claim.Kind.TheVariants.{Safe}
+use Rattle.intervals.specs.declared.operation.Memory.{Memory}
 use Rattle.intervals.specs.Kind.{IsSafe}
 use Rattle.regaudit.specs.declared.event.Item.{Item}
 use Rattle.regaudit.specs.declared.event.FormFault.{FormFault}
@@ -12,9 +14,9 @@ use Rattle.regaudit.specs.declared.session.Session.{Session}
 use Rattle.regaudit.specs.declared.audit.Audit.{Audit}
 use Rattle.regaudit.specs.Register.{Registered}
 use Rattle.regaudit.specs.Item.{IsItem}
-use Rattle.regaudit.specs.Trace.{Paired, with_item, paired_after, paired, safe_register, standing_of}
+use Rattle.regaudit.specs.Trace.{Paired, with_item, paired_after, paired}
 use Rattle.regaudit.specs.Session.{StandsFor}
-use Rattle.regaudit.specs.Audit.{AreItems, AreElements, IsTrace, IsVerdict, IsAudit}
+use Rattle.regaudit.specs.Audit.{AreItems, AreElements, IsVerdict, IsAudit}
 use Rattle.regaudit.proofs.SoFar.{IsSoFar}
 
 paired_after-push : (so_far : Paired) (items : List (Result Item FormFault)) (item : Result Item FormFault) → paired_after so_far (items ++ item ∷ []) ≡ with_item (paired_after so_far items) item
@@ -41,12 +43,12 @@ so_far_on input at to old new piece item so_far goes is taken = record {
 
 pub verdict_of : (session : Session) (trace : Paired) (holds : Bool) (operations : ℕ) → (session.register.claim.kind ≡ Safe → IsTrue holds ↔ IsSafe session.register.claim session.register.ops) → operations ≡ length session.register.ops → StandsFor session trace → IsVerdict trace holds session.refused operations
 verdict_of session trace holds operations judged count h =
-  let is_safe = subst (λ (r : Registered). r.claim.kind ≡ Safe → IsTrue holds ↔ IsSafe r.claim r.ops) h.register judged in
-  record {
-    verdict = is_safe refl;
-    count = count ∙ ap (λ (r : Registered). length r.ops) h.register;
-    refusals = h.refused;
-  }
+    let is_safe = subst (λ (r : Registered). r.claim.kind ≡ Safe → IsTrue holds ↔ IsSafe r.claim r.ops) h.register judged in
+    record {
+      verdict = is_safe refl;
+      count = count ∙ ap (λ (r : Registered). length r.ops) h.register;
+      refusals = h.refused;
+    }
 
 pub audit_ends : (input : List ℕ) (at : ℕ) (session : Session) (fault : Option EdnFault) (audit : Audit) → IsSoFar input at session → ((pieces : List Piece) → IsFront input pieces at → AreElements input fault pieces) → audit.fault ≡ fault → ((trace : Paired) → StandsFor session trace → IsVerdict trace audit.holds audit.refused audit.operations) → IsAudit input audit
 audit_ends input at session fault audit so_far elements same verdict = (
@@ -58,4 +60,14 @@ audit_ends input at session fault audit so_far elements same verdict = (
     read = so_far.read;
     is = refl;
   },
-  verdict (paired so_far.items) so_far.stands)
+  verdict (paired so_far.items) so_far.stands,
+)
+
+pub closes : (input : List ℕ) (at : ℕ) (session : Session) (fault : Option EdnFault) (result : Result Audit Memory) → IsSoFar input at session → ((pieces : List Piece) → IsFront input pieces at → AreElements input fault pieces) → IfOk result (λ audit. audit.fault ≡ fault) → IfOk result (λ audit. (trace : Paired) → StandsFor session trace → IsVerdict trace audit.holds audit.refused audit.operations) → IfOk result (λ audit. IsAudit input audit)
+closes input at session fault (Ok audit) so_far elements same verdict = audit_ends input at session fault audit so_far elements same verdict
+closes input at session fault (Err e) so_far elements same verdict = search rules
+
+-- a fault that is not want of memory is the input's
+pub broken : (input : List ℕ) (at : ℕ) (fault : EdnFault) → ¬ IsMemory fault → IsMemory fault ⊎ (FaultOf input fault × ((pieces : List Piece) → IsFront input pieces at → AreElementsBefore input pieces)) → (pieces : List Piece) → IsFront input pieces at → AreElements input (Some fault) pieces
+broken input at fault other (inl memory) pieces front = absurd (other memory)
+broken input at fault other (inr met) pieces front = (met.0, met.1 pieces front)

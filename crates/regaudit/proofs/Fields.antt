@@ -1,14 +1,14 @@
 -- The fields that are seen are those of the pairs, and the integers those that fit.
-use Rattle.std.proofs.Common.{◌≡◌, ℕ, ◌<◌, ◌≤◌, ◌^◌, ℤ, pos, negsuc, Bool, true, false, ◌&&◌, List, [], ◌∷◌, length, Option, Some, None, refl, sym, ap, ◌∙◌, arith, ltb, cond}
-use Rattle.std.specs.Prelude.{FitsSigned, MatchOption, nat_lt, if◌then◌else◌}
+use Rattle.std.proofs.Common.{◌≡◌, ℕ, ◌<◌, ◌≤◌, ◌^◌, ℤ, pos, negsuc, Bool, true, false, List, [], ◌∷◌, length, Option, Some, None, refl, sym, arith, ltb, cond}
+use Rattle.std.specs.Prelude.{FitsSigned, MatchOption, if◌then◌else◌}
 use Rattle.std.specs.Int.{w64}
-use Rattle.std.proofs.lemmas.Bool.{lt-ltb, cases_Bool}
-use Rattle.std.proofs.lemmas.Bool.Decides.{Decides-ltb, not_from_Decides, nat_tests}
+use Rattle.std.proofs.lemmas.Bool.{lt-ltb}
+use Rattle.std.proofs.lemmas.Bool.Decides.{Decides-ltb}
 use Rattle.edn_reader.specs.declared.element.ElementKind.{ElementKind}
 use Rattle.edn_reader.specs.declared.element.ElementKind.TheVariants as kinds
 use Rattle.edn_reader.specs.declared.field.Field.{Field}
 use Rattle.edn_reader.specs.declared.field.Field.TheVariants.{Absent, Once, Twice}
-use Rattle.edn_reader.specs.Grammar.{Piece, piece_of}
+use Rattle.edn_reader.specs.Grammar.{Piece}
 use Rattle.edn_reader.specs.Pairs.{is_atom, IsField}
 use Rattle.edn_reader.specs.Integer.{integer_of, IsInteger}
 use Rattle.regaudit.specs.Item.{given, seen, fitting, int_of}

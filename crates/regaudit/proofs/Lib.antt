@@ -3,3 +3,4 @@ pub mod Sessions
 pub mod Fields
 pub mod SoFar
 pub mod Audits
+pub mod Endings

@@ -1,10 +1,8 @@
 -- One more item: the state of the audit goes on to stand for the longer trace.
-use Rattle.std.proofs.Common.{◌≡◌, ◌≢◌, ℕ, ◌+◌, ℤ, Bool, true, false, ◌||◌, List, [], ◌∷◌, ◌++◌, Option, Some, None, Result, Ok, Err, refl, sym, ap, subst, ◌∙◌, cond, append-nil}
+use Rattle.std.proofs.Common.{◌≡◌, ℕ, ◌+◌, ℤ, Bool, true, false, ◌||◌, List, [], ◌∷◌, ◌++◌, Option, Some, None, Ok, refl, sym, ap, ◌∙◌, cond, append-nil}
 use Rattle.std.specs.Prelude.{is_some, if◌then◌else◌}
-use Rattle.std.specs.Option.{option_to_list}
 use Rattle.std.specs.Ordering.{int_eq, int_cmp}
 use Rattle.std.specs.BTreeMap.{get}
-use Rattle.std.proofs.lemmas.Bool.{cases_Bool}
 use Rattle.intervals.specs.declared.operation.Op.{Op}
 use Rattle.intervals.specs.declared.edit.Edit.{Edit}
 use Rattle.intervals.specs.Terms.{Terms}
@@ -12,19 +10,18 @@ use Rattle.intervals.specs.Refusal.{reply_to, after_edit, standing}
 use Rattle.regaudit.specs.declared.event.Event.{Event}
 use Rattle.regaudit.specs.declared.pairing.Open.{Open}
 use Rattle.regaudit.specs.declared.pairing.Pairing.{Pairing}
-use Rattle.regaudit.specs.declared.pairing.PairFault.{PairFault}
 use Rattle.regaudit.specs.declared.session.Session.{Session}
 use Rattle.regaudit.specs.Register.{Registered}
 use Rattle.regaudit.specs.Pairing.{Accepted, later_or, last_of, left_open, opening_of, open_of, step_of, StandsAfter}
-use Rattle.regaudit.specs.Trace.{Paired, feeder, with_fault, with_step, any_refused, safe_register, standing_of, is_refused}
+use Rattle.regaudit.specs.Trace.{Paired, feeder, with_fault, with_step, any_refused, safe_register, standing_of}
 use Rattle.regaudit.specs.Session.{StandsFor}
 
 -- the last event of a process, behind one more event
 last_of-push : (accepted : List Accepted) (one : Accepted) (process : ℤ) → last_of (accepted ++ one ∷ []) process ≡ cond (int_eq process one.event.process) (Some one) (last_of accepted process)
 last_of-push [] one process = refl
 last_of-push (first ∷ accepted) one process =
-  ap (λ (later : Option Accepted). later_or later first process) (last_of-push accepted one process)
-  ∙ by_cases (int_eq process one.event.process)
+    ap (λ (later : Option Accepted). later_or later first process) (last_of-push accepted one process)
+    ∙ by_cases (int_eq process one.event.process)
   where
     by_cases : (b : Bool) → later_or (cond b (Some one) (last_of accepted process)) first process ≡ cond b (Some one) (later_or (last_of accepted process) first process)
     by_cases true = refl
@@ -40,9 +37,9 @@ open_of-push accepted one process = ap left_open (last_of-push accepted one proc
 -- a pairing that took an event
 pub pairing_on : (old new : Pairing) (accepted : List Accepted) (place : ℕ) (event : Event) → StandsAfter old accepted → ((process : ℤ) → get int_cmp new.open process ≡ (if int_eq process event.process then opening_of place event else get int_cmp old.open process)) → StandsAfter new (accepted ++ record { place = place; event = event } ∷ [])
 pairing_on old new accepted place event stands is process =
-  is process
-  ∙ ap (λ (o : Option Open). if int_eq process event.process then opening_of place event else o) (stands process)
-  ∙ sym (open_of-push accepted (record { place = place; event = event }) process)
+    is process
+    ∙ ap (λ (o : Option Open). if int_eq process event.process then opening_of place event else o) (stands process)
+    ∙ sym (open_of-push accepted (record { place = place; event = event }) process)
 
 pub pairing_same : (old new : Pairing) (accepted : List Accepted) → StandsAfter old accepted → ((process : ℤ) → get int_cmp new.open process ≡ get int_cmp old.open process) → StandsAfter new accepted
 pairing_same old new accepted stands is process = is process ∙ stands process
@@ -63,8 +60,8 @@ or_assoc false b c = refl
 any_refused-push : (claim : Terms) (ops : List Op) (edits : List Edit) (edit : Edit) → any_refused claim ops (edits ++ edit ∷ []) ≡ (any_refused claim ops edits || is_some (reply_to claim (standing claim ops edits) edit))
 any_refused-push claim ops [] edit = or_false (is_some (reply_to claim ops edit))
 any_refused-push claim ops (first ∷ edits) edit =
-  ap (λ (b : Bool). is_some (reply_to claim ops first) || b) (any_refused-push claim (after_edit claim ops first) edits edit)
-  ∙ sym (or_assoc (is_some (reply_to claim ops first)) (any_refused claim (after_edit claim ops first) edits) (is_some (reply_to claim (standing claim (after_edit claim ops first) edits) edit)))
+    ap (λ (b : Bool). is_some (reply_to claim ops first) || b) (any_refused-push claim (after_edit claim ops first) edits edit)
+    ∙ sym (or_assoc (is_some (reply_to claim ops first)) (any_refused claim (after_edit claim ops first) edits) (is_some (reply_to claim (standing claim (after_edit claim ops first) edits) edit)))
 
 -- the step that the pairing found is the trace's
 pub same_step : (session : Session) (trace : Paired) (event : Event) → StandsFor session trace → step_of session.pairing.feeder (get int_cmp session.pairing.open event.process) session.place event ≡ step_of feeder (open_of trace.accepted event.process) trace.count event
@@ -118,13 +115,13 @@ stands_with_edit session trace pairing event edit register refused h f is after 
   feeder_is = f ∙ h.feeder_is;
   pairing = paired_place session trace pairing event h is;
   register =
-    after
-    ∙ ap (λ (r : Registered). record { claim = r.claim; ops = after_edit r.claim r.ops edit }) h.register
-    ∙ ap (λ (ops : List Op). record { claim = safe_register; ops = ops }) (sym (standing-push safe_register [] trace.edits edit));
+      after
+      ∙ ap (λ (r : Registered). record { claim = r.claim; ops = after_edit r.claim r.ops edit }) h.register
+      ∙ ap (λ (ops : List Op). record { claim = safe_register; ops = ops }) (sym (standing-push safe_register [] trace.edits edit));
   refused =
-    reply
-    ∙ ap (λ (r : Registered). session.refused || is_some (reply_to r.claim r.ops edit)) h.register
-    ∙ ap (λ (b : Bool). b || is_some (reply_to safe_register (standing_of trace) edit)) h.refused
-    ∙ or_assoc trace.is_faulty (any_refused safe_register [] trace.edits) (is_some (reply_to safe_register (standing_of trace) edit))
-    ∙ ap (λ (b : Bool). trace.is_faulty || b) (sym (any_refused-push safe_register [] trace.edits edit));
+      reply
+      ∙ ap (λ (r : Registered). session.refused || is_some (reply_to r.claim r.ops edit)) h.register
+      ∙ ap (λ (b : Bool). b || is_some (reply_to safe_register (standing_of trace) edit)) h.refused
+      ∙ or_assoc trace.is_faulty (any_refused safe_register [] trace.edits) (is_some (reply_to safe_register (standing_of trace) edit))
+      ∙ ap (λ (b : Bool). trace.is_faulty || b) (sym (any_refused-push safe_register [] trace.edits edit));
 }

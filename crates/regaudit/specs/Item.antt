@@ -10,7 +10,6 @@ use Rattle.edn_reader.specs.declared.field.Field.TheVariants.{Absent, Once, Twic
 use Rattle.edn_reader.specs.Grammar.{Piece, piece_of}
 use Rattle.edn_reader.specs.Pairs.{is_atom, is_keyword, values_of, HasPairs}
 use Rattle.edn_reader.specs.Integer.{integer_of}
-use Rattle.regaudit.specs.declared.event.Event.{Event}
 use Rattle.regaudit.specs.declared.event.Action.{Action}
 use Rattle.regaudit.specs.declared.event.Action.TheVariants.{Read, Write}
 use Rattle.regaudit.specs.declared.event.Stage.{Stage}
@@ -121,17 +120,17 @@ moment_of piece = int_moment (int_of piece)
 
 abbrev pub action_of : Piece → Result Action FormFault
 action_of piece =
-  if is_word (codes ":read") piece then Ok Read
-  else if is_word (codes ":write") piece then Ok Write
-  else Err UnsupportedF
+    if is_word (codes ":read") piece then Ok Read
+    else if is_word (codes ":write") piece then Ok Write
+    else Err UnsupportedF
 
 abbrev pub progress_of : Piece → Result Progress FormFault
 progress_of piece =
-  if is_word (codes ":invoke") piece then Ok progress.Invoked
-  else if is_word (codes ":ok") piece then Ok progress.Answered
-  else if is_word (codes ":fail") piece then Ok progress.Failed
-  else if is_word (codes ":info") piece then Ok progress.Crashed
-  else Err BadType
+    if is_word (codes ":invoke") piece then Ok progress.Invoked
+    else if is_word (codes ":ok") piece then Ok progress.Answered
+    else if is_word (codes ":fail") piece then Ok progress.Failed
+    else if is_word (codes ":info") piece then Ok progress.Crashed
+    else Err BadType
 
 -- the value of an answer or of a write; a missing one is nil
 abbrev pub value_given : Given → Result Value FormFault
@@ -166,10 +165,10 @@ stage_of progress.Crashed action given = Ok stages.Info
 -- the event of a process: its type, what it does, and then its value and moment
 abbrev pub event_of : Fields → Bor (List ℕ) → ℤ → Result Item FormFault
 event_of given text process =
-  (needed fields.Stage given.stage >>= progress_of) >>= (λ reached.
+    (needed fields.Stage given.stage >>= progress_of) >>= (λ reached.
     (needed fields.Action given.action >>= action_of) >>= (λ action.
-      stage_of reached action given >>= (λ stage.
-        Ok (items.Event (record { process = process; action = action; stage = stage; text = text })))))
+    stage_of reached action given >>= (λ stage.
+    Ok (items.Event (record { process = process; action = action; stage = stage; text = text })))))
 
 -- where the process is no integer the event is skipped
 abbrev pub by_process : Fields → Bor (List ℕ) → Option ℤ → Result Item FormFault
@@ -179,11 +178,11 @@ by_process given text (Some process) = event_of given text process
 -- edits and questions are not read yet
 abbrev pub item_of : Fields → Bor (List ℕ) → Result Item FormFault
 item_of given text =
-  if is_there given.edit || is_there given.ask then Err BadType
-  else needed fields.Process given.process >>= (λ piece. by_process given text (int_of piece))
+    if is_there given.edit || is_there given.ask then Err BadType
+    else needed fields.Process given.process >>= (λ piece. by_process given text (int_of piece))
 
 -- the item of an element: none of an element that is no map, else that of its pairs
 pub data IsItem : Piece → Result Item FormFault → Type 0 where
   no_map : {piece : Piece} → ((pairs : List (Piece × Piece)) → HasPairs piece pairs → ⊥) → IsItem piece (Err NotAMap)
   of_map : {piece : Piece} (pairs : List (Piece × Piece)) (text : Bor (List ℕ)) → HasPairs piece pairs → text.now ≡ piece.text
-    → IsItem piece (item_of (fields_of pairs) text)
+      → IsItem piece (item_of (fields_of pairs) text)

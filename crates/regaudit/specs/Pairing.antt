@@ -1,5 +1,5 @@
 -- How answers find their invocations: by looking back over the events that were accepted.
-use Rattle.std.specs.Prelude.{◌≡◌, ℕ, ℤ, Bool, true, false, List, [], ◌∷◌, ◌++◌, Option, Some, None, Result, Ok, Err, if◌then◌else◌}
+use Rattle.std.specs.Prelude.{◌≡◌, ℕ, ℤ, Bool, true, false, List, [], ◌∷◌, Option, Some, None, Result, Ok, Err, if◌then◌else◌}
 use Rattle.std.specs.Ordering.{int_eq, int_cmp}
 use Rattle.std.specs.BTreeMap.{get}
 use Rattle.intervals.specs.declared.operation.Act.{Act}
@@ -101,7 +101,7 @@ step feeder None place event (stages.Invoke value moment) = Ok (Some (append_of 
 step feeder (Some invocation) place event (stages.Invoke value moment) = Err ProcessBusy
 step feeder None place event (stages.Ok value moment) = Err NoInvocation
 step feeder (Some invocation) place event (stages.Ok value moment) =
-  if answers invocation event.action value then Ok (Some (amendment_of feeder invocation event value moment)) else Err AnswerMismatch
+    if answers invocation event.action value then Ok (Some (amendment_of feeder invocation event value moment)) else Err AnswerMismatch
 step feeder None place event stages.Fail = Err NoInvocation
 step feeder (Some invocation) place event stages.Fail = Ok (Some (Withdraw (id_of feeder invocation.place)))
 step feeder None place event stages.Info = Err NoInvocation

@@ -54,11 +54,7 @@ impl Pairing {
     }
 
     /// The edit that an event gives, or why it is not taken.
-    pub fn take<'t>(
-        &mut self,
-        event: &Event<'t>,
-        place: u64,
-    ) -> Result<Option<Edit<'t>>, PairFault>
+    pub fn take<'t>(&mut self, event: &Event<'t>, place: u64) -> Result<Option<Edit<'t>>, PairFault>
         ensures feeder { self.new.feeder ≡ self.old.feeder }
         ensures step { result ≢ Err PairFault.Memory
             → result ≡ step_of self.old.feeder (get int_cmp self.old.open event.now.process) place event.now }

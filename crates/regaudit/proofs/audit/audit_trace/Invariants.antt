@@ -1,5 +1,5 @@
 -- the state stands for the elements up to the reader's place
-use Rattle.std.proofs.Common.{◌≡◌, ◌≤◌, ◌-◌, length, None}
+use Rattle.std.proofs.Common.{◌≡◌, ◌≤◌, ◌-◌, length}
 use Rattle.regaudit.proofs.SoFar.{IsSoFar}
 use Rattle.regaudit.proofs.audit.audit_trace.Given as goal
 
