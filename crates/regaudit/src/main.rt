@@ -9,6 +9,8 @@ mod pairing;
 mod register;
 mod run;
 mod session;
+#[cfg(test)]
+mod tests;
 
 use std::process::ExitCode;
 use std::rt::Env;

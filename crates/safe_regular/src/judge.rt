@@ -55,21 +55,21 @@ impl<'t> SingleWriterJudge<'t> {
         check_write(&self.claim, self.ops.as_slice(), op)
     }
 
-    pub fn admit_write(&mut self, op: &Op<'t>) -> Result<(), Memory>
-        requires { IsWrite op.now }
-        ensures ok { OnOk result (self.new ≡ record self.old { ops = self.old.ops ++ op.now ∷ [] }) }
+    pub fn admit_write(&mut self, write: &Op<'t>) -> Result<(), Memory>
+        requires { IsWrite write.now }
+        ensures ok { OnOk result (self.new ≡ record self.old { ops = self.old.ops ++ write.now ∷ [] }) }
         ensures err { OnErr result (self.new ≡ self.old) }
     {
-        self.ops.push(*op)?;
+        self.ops.push(*write)?;
         Ok(())
     }
 
-    pub fn admit_read(&mut self, op: &Op<'t>) -> Result<(), Memory>
-        requires { IsJudgedRead op.now }
-        ensures ok { OnOk result (self.new ≡ record self.old { ops = self.old.ops ++ op.now ∷ [] }) }
+    pub fn admit_read(&mut self, read: &Op<'t>) -> Result<(), Memory>
+        requires { IsJudgedRead read.now }
+        ensures ok { OnOk result (self.new ≡ record self.old { ops = self.old.ops ++ read.now ∷ [] }) }
         ensures err { OnErr result (self.new ≡ self.old) }
     {
-        self.ops.push(*op)?;
+        self.ops.push(*read)?;
         Ok(())
     }
 

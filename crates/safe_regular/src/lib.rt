@@ -7,3 +7,6 @@ mod reads;
 mod writes;
 
 pub use judge::SingleWriterJudge;
+
+#[cfg(test)]
+mod tests;
