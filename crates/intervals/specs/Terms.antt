@@ -1,6 +1,7 @@
 -- What a claim says, apart from where its lists lie in memory.
 use Rattle.std.specs.Prelude.{ℤ, List, Option, Some, None, option_map, Vec}
 use Rattle.std.specs.declared.alloc.Global.{Global}
+use Rattle.intervals.specs.declared.operation.Op.{Op}
 use Rattle.intervals.specs.declared.operation.Value.{Value}
 use Rattle.intervals.specs.declared.claim.Claim.{Claim}
 use Rattle.intervals.specs.declared.claim.Kind.{Kind}
@@ -26,3 +27,8 @@ terms_of claim = record {
   initial = claim.initial;
   domain = option_map (λ (values : Vec Value Global). values.items) claim.domain;
 }
+
+-- a claim, and the operations that are held under it
+pub record Claimed : Type 0 where
+  pub claim : Terms
+  pub ops : List Op

@@ -1,13 +1,15 @@
 //! Laws of the definitions. Each is the contract of a function that does nothing.
 
-ghost use Rattle.std.specs.Prelude.{◌≡◌, ◌≢◌, ◌↔◌, IsTrue, List, None, Some};
+ghost use Rattle.std.specs.Prelude.{◌≡◌, ◌≢◌, ◌↔◌, All, IsTrue, List, None, Some};
 ghost use Rattle.intervals.specs.declared.operation.Op.{Op};
+ghost use Rattle.intervals.specs.declared.operation.OpId.{OpId};
+ghost use Rattle.intervals.specs.declared.refusal.Refusal.TheVariants.{WritesOverlap};
 ghost use Rattle.intervals.specs.declared.operation.Value.{Value};
 ghost use Rattle.intervals.specs.Terms.{Terms};
 ghost use Rattle.intervals.specs.declared.claim.Kind.TheVariants.{Safe, Regular, Atomic};
 ghost use Rattle.intervals.specs.declared.operation.Value.TheVariants.{Nil};
 ghost use Rattle.intervals.specs.Operation.{IsJudgedRead, judged};
-ghost use Rattle.intervals.specs.Refusal.{write_refusal};
+ghost use Rattle.intervals.specs.Refusal.{write_refusal, overlap_refusal, is_overlapped};
 ghost use Rattle.intervals.specs.Least.{IsLeast};
 ghost use Rattle.intervals.specs.Kind.{IsSafe, IsRegular, IsSafeRead, IsRegularRead, Arranges};
 ghost use Rattle.intervals.specs.Judging.{first_wrong, is_wrong_read, end_number};
@@ -37,6 +39,15 @@ pub fn wrong_reads_break_their_sentence()
         → IsTrue (is_wrong_read claim ops r) ↔ (IsJudgedRead r × ¬ IsSafeRead claim ops r) }
     ensures regular { (claim : Terms) (ops : List Op) (r : Op) → claim.kind ≡ Regular
         → IsTrue (is_wrong_read claim ops r) ↔ (IsJudgedRead r × ¬ IsRegularRead claim ops r) }
+{
+}
+
+/// The write that an overlap names stands, overlaps the new one, and of all those began first; and
+/// none is named exactly where none overlaps.
+pub fn first_overlapped_write_began_first()
+    ensures named { (ops : List Op) (op : Op) (id : OpId) → overlap_refusal ops op ≡ Some (WritesOverlap id)
+        → (other : Op) × (other.id ≡ id) × IsLeast (λ o. o.begin.0) (is_overlapped op) ops other }
+    ensures none { (ops : List Op) (op : Op) → (overlap_refusal ops op ≡ None) ↔ All (λ other. ¬ IsTrue (is_overlapped op other)) ops }
 {
 }
 

@@ -22,7 +22,7 @@ pub enum Refusal {
     /// It is a write, and its process is no writer of the register.
     #[error("X6 NotAWriter")]
     NotAWriter,
-    /// Safe or regular: it is a write that overlaps another, of which this one begins first.
+    /// Safe or regular: it is a write that overlaps others; this one of them begins first.
     #[error("X7 WritesOverlap")]
     WritesOverlap(OpId),
     /// Atomic: it is a write of a value that another write, or the register at first, has.

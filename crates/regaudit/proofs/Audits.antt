@@ -12,7 +12,7 @@ use Rattle.regaudit.specs.declared.event.Item.{Item}
 use Rattle.regaudit.specs.declared.event.FormFault.{FormFault}
 use Rattle.regaudit.specs.declared.session.Session.{Session}
 use Rattle.regaudit.specs.declared.audit.Audit.{Audit}
-use Rattle.regaudit.specs.Register.{Registered}
+use Rattle.intervals.specs.Terms.{Claimed}
 use Rattle.regaudit.specs.Item.{IsItem}
 use Rattle.regaudit.specs.Trace.{Paired, with_item, paired_after, paired}
 use Rattle.regaudit.specs.Session.{StandsFor}
@@ -43,10 +43,10 @@ so_far_on input at to old new piece item so_far goes is taken = record {
 
 pub verdict_of : (session : Session) (trace : Paired) (holds : Bool) (operations : ℕ) → (session.register.claim.kind ≡ Safe → IsTrue holds ↔ IsSafe session.register.claim session.register.ops) → operations ≡ length session.register.ops → StandsFor session trace → IsVerdict trace holds session.refused operations
 verdict_of session trace holds operations judged count h =
-    let is_safe = subst (λ (r : Registered). r.claim.kind ≡ Safe → IsTrue holds ↔ IsSafe r.claim r.ops) h.register judged in
+    let is_safe = subst (λ (r : Claimed). r.claim.kind ≡ Safe → IsTrue holds ↔ IsSafe r.claim r.ops) h.register judged in
     record {
       verdict = is_safe refl;
-      count = count ∙ ap (λ (r : Registered). length r.ops) h.register;
+      count = count ∙ ap (λ (r : Claimed). length r.ops) h.register;
       refusals = h.refused;
     }
 

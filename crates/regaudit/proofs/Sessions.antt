@@ -11,7 +11,7 @@ use Rattle.regaudit.specs.declared.event.Event.{Event}
 use Rattle.regaudit.specs.declared.pairing.Open.{Open}
 use Rattle.regaudit.specs.declared.pairing.Pairing.{Pairing}
 use Rattle.regaudit.specs.declared.session.Session.{Session}
-use Rattle.regaudit.specs.Register.{Registered}
+use Rattle.intervals.specs.Terms.{Claimed}
 use Rattle.regaudit.specs.Pairing.{Accepted, later_or, last_of, left_open, opening_of, open_of, step_of, StandsAfter}
 use Rattle.regaudit.specs.Trace.{Paired, feeder, with_fault, with_step, any_refused, safe_register, standing_of}
 use Rattle.regaudit.specs.Session.{StandsFor}
@@ -109,18 +109,18 @@ stands_without_edit session trace pairing event h f is = record {
 }
 
 -- behind an event that gives an edit
-pub stands_with_edit : (session : Session) (trace : Paired) (pairing : Pairing) (event : Event) (edit : Edit) (register : Registered) (refused : Bool) → StandsFor session trace → pairing.feeder ≡ session.pairing.feeder → ((process : ℤ) → get int_cmp pairing.open process ≡ (if int_eq process event.process then opening_of session.place event else get int_cmp session.pairing.open process)) → register ≡ record session.register { ops = after_edit session.register.claim session.register.ops edit } → refused ≡ (session.refused || is_some (reply_to session.register.claim session.register.ops edit)) → StandsFor (record { place = session.place + 1; pairing = pairing; register = register; refused = refused }) (with_step trace event (Ok (Some edit)))
+pub stands_with_edit : (session : Session) (trace : Paired) (pairing : Pairing) (event : Event) (edit : Edit) (register : Claimed) (refused : Bool) → StandsFor session trace → pairing.feeder ≡ session.pairing.feeder → ((process : ℤ) → get int_cmp pairing.open process ≡ (if int_eq process event.process then opening_of session.place event else get int_cmp session.pairing.open process)) → register ≡ record session.register { ops = after_edit session.register.claim session.register.ops edit } → refused ≡ (session.refused || is_some (reply_to session.register.claim session.register.ops edit)) → StandsFor (record { place = session.place + 1; pairing = pairing; register = register; refused = refused }) (with_step trace event (Ok (Some edit)))
 stands_with_edit session trace pairing event edit register refused h f is after reply = record {
   place = ap (λ n. n + 1) h.place;
   feeder_is = f ∙ h.feeder_is;
   pairing = paired_place session trace pairing event h is;
   register =
       after
-      ∙ ap (λ (r : Registered). record { claim = r.claim; ops = after_edit r.claim r.ops edit }) h.register
+      ∙ ap (λ (r : Claimed). record { claim = r.claim; ops = after_edit r.claim r.ops edit }) h.register
       ∙ ap (λ (ops : List Op). record { claim = safe_register; ops = ops }) (sym (standing-push safe_register [] trace.edits edit));
   refused =
       reply
-      ∙ ap (λ (r : Registered). session.refused || is_some (reply_to r.claim r.ops edit)) h.register
+      ∙ ap (λ (r : Claimed). session.refused || is_some (reply_to r.claim r.ops edit)) h.register
       ∙ ap (λ (b : Bool). b || is_some (reply_to safe_register (standing_of trace) edit)) h.refused
       ∙ or_assoc trace.is_faulty (any_refused safe_register [] trace.edits) (is_some (reply_to safe_register (standing_of trace) edit))
       ∙ ap (λ (b : Bool). trace.is_faulty || b) (sym (any_refused-push safe_register [] trace.edits edit));

@@ -1,4 +1,3 @@
-pub mod Register
 pub mod Pairing
 pub mod Item
 pub mod Form

@@ -62,20 +62,21 @@ fn read_more<R: Read>(
     chunk: &mut [u8],
     bytes: &mut Vec<u8>,
 ) -> Result<Turn, InputFault>
-    requires { 0 < length chunk.old }
+    requires room { 0 < length chunk.old }
+    requires within { vec_len bytes.old ≤ BYTE_LIMIT }
     ensures more { result ≡ Ok Turn.More → TakesOn (R.remaining input.old) (R.remaining input.new) bytes.old.items bytes.new.items }
-    ensures limit { result ≡ Ok Turn.More → vec_len bytes.old ≤ BYTE_LIMIT → vec_len bytes.new ≤ BYTE_LIMIT }
+    ensures limit { result ≡ Ok Turn.More → vec_len bytes.new ≤ BYTE_LIMIT }
     ensures end { result ≡ Ok Turn.End → IsAtEnd (R.remaining input.old) }
     ensures all { result ≡ Ok Turn.End → bytes.new.items ≡ bytes.old.items }
 {
     match input.read(chunk) {
         Ok(0) => Ok(Turn::End),
         Ok(count) => {
+            if count > BYTE_LIMIT - bytes.len() {
+                return Err(InputFault::Unreadable);
+            }
             if bytes.extend_from_slice(&chunk[..count]).is_err() {
                 return Err(InputFault::Memory);
-            }
-            if bytes.len() > BYTE_LIMIT {
-                return Err(InputFault::Unreadable);
             }
             Ok(Turn::More)
         }

@@ -19,8 +19,10 @@ use std::{env, io};
 fn main(rt: HostRuntime) -> ExitCode {
     let status = match is_safe_command(&rt) {
         Ok(true) => run::run_safe(&rt, &mut rt.stdin(), &mut rt.stdout(), &mut rt.stderr()),
-        Ok(false) => run::complain(&mut rt.stderr(), "usage"),
-        Err(_) => run::complain(&mut rt.stderr(), "out of memory"),
+        Err(error) if error.kind() == io::ErrorKind::OutOfMemory => {
+            run::complain(&mut rt.stderr(), "out of memory")
+        }
+        Ok(false) | Err(_) => run::complain(&mut rt.stderr(), "usage"),
     };
     ExitCode::from(status)
 }

@@ -1,6 +1,6 @@
 //! Pairs each answer with its invocation.
 
-ghost use Rattle.std.specs.Prelude.{◌≡◌, ◌≢◌, ℕ, ℤ, OnOk, OnErr, Err, None, if◌then◌else◌};
+ghost use Rattle.std.specs.Prelude.{◌≡◌, ◌≢◌, ℕ, ℤ, OnOk, OnErr, IsSome, Err, None, if◌then◌else◌};
 ghost use Rattle.std.specs.Ordering.{int_cmp, int_eq};
 ghost use Rattle.std.specs.BTreeMap.{get};
 ghost use Rattle.regaudit.specs.Pairing.{step_of, opening_of, answers, append_of, amendment_of, id_of};
@@ -58,6 +58,7 @@ impl Pairing {
         ensures feeder { self.new.feeder ≡ self.old.feeder }
         ensures step { result ≢ Err PairFault.Memory
             → result ≡ step_of self.old.feeder (get int_cmp self.old.open event.now.process) place event.now }
+        ensures memory { result ≡ Err PairFault.Memory → IsSome (opening_of place event.now) × (get int_cmp self.old.open event.now.process ≡ None) }
         ensures ok { OnOk result ((process : ℤ) → get int_cmp self.new.open process
             ≡ (if int_eq process event.now.process then opening_of place event.now else get int_cmp self.old.open process)) }
         ensures err { OnErr result ((process : ℤ) → get int_cmp self.new.open process ≡ get int_cmp self.old.open process) }
@@ -87,6 +88,7 @@ impl Pairing {
         ensures feeder { self.new.feeder ≡ self.old.feeder }
         ensures step { result ≢ Err PairFault.Memory
             → result ≡ step_of self.old.feeder (get int_cmp self.old.open event.now.process) place event.now }
+        ensures memory { result ≡ Err PairFault.Memory → get int_cmp self.old.open event.now.process ≡ None }
         ensures ok { OnOk result ((process : ℤ) → get int_cmp self.new.open process
             ≡ (if int_eq process event.now.process then opening_of place event.now else get int_cmp self.old.open process)) }
         ensures err { OnErr result ((process : ℤ) → get int_cmp self.new.open process ≡ get int_cmp self.old.open process) }
@@ -114,6 +116,7 @@ impl Pairing {
         requires { event.now.stage ≡ Stage.Ok value moment }
         ensures feeder { self.new.feeder ≡ self.old.feeder }
         ensures step { (place : ℕ) → result ≡ step_of self.old.feeder (get int_cmp self.old.open event.now.process) place event.now }
+        ensures memory { result ≢ Err PairFault.Memory }
         ensures ok { OnOk result ((process : ℤ) → get int_cmp self.new.open process
             ≡ (if int_eq process event.now.process then None else get int_cmp self.old.open process)) }
         ensures err { OnErr result ((process : ℤ) → get int_cmp self.new.open process ≡ get int_cmp self.old.open process) }

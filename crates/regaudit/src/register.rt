@@ -5,7 +5,7 @@ ghost use Rattle.intervals.specs.Operation.{judged};
 ghost use Rattle.intervals.specs.Terms.{terms_of};
 ghost use Rattle.intervals.specs.Edit.{op_of, new_op as new_one, changed as after_change};
 ghost use Rattle.intervals.specs.Refusal.{reply_to, after_edit, first_refusal, new_write_refusal, write_refusal};
-ghost use Rattle.intervals.specs.Kind.{IsSafe};
+ghost use Rattle.intervals.specs.Kind.{IsSafe, IsRegular};
 
 use intervals::laws::judged_operations_alone_count;
 use intervals::{Change, Claim, Edit, Kind, Memory, Op, OpBook, OpId, Refusal, changed};
@@ -24,9 +24,9 @@ impl<'t> Model for Register<'t> {
     ghost use Rattle.std.specs.Prelude.{◌≢◌};
     ghost use Rattle.intervals.specs.Terms.{terms_of};
     ghost use Rattle.intervals.specs.declared.claim.Kind.TheVariants.{Atomic};
-    ghost use Rattle.regaudit.specs.Register.{Registered};
+    ghost use Rattle.intervals.specs.Terms.{Claimed};
 
-    ghost Value = { Registered };
+    ghost Value = { Claimed };
 
     ghost view = { λ r. record { claim = terms_of r.claim; ops = r.book } };
 
@@ -70,21 +70,23 @@ impl<'t> Register<'t> {
 
     /// Whether the register keeps the sentence of its kind.
     pub fn holds(&self, alloc: Global) -> Result<bool, Memory>
-        ensures { IfOk result (λ holds. self.now.claim.kind ≡ Kind.Safe → IsTrue holds ↔ IsSafe self.now.claim self.now.ops) }
+        ensures safe { IfOk result (λ holds. self.now.claim.kind ≡ Kind.Safe → IsTrue holds ↔ IsSafe self.now.claim self.now.ops) }
+        ensures regular { IfOk result (λ holds. self.now.claim.kind ≡ Kind.Regular → IsTrue holds ↔ IsRegular self.now.claim self.now.ops) }
     {
         judged_operations_alone_count();
         let judge = judge_of(alloc, &self.claim, self.book.operations())?;
-        Ok(is_safe(&judge))
+        Ok(is_right(&judge))
     }
 }
 
-fn is_safe(judge: &SingleWriterJudge) -> bool
-    ensures { judge.now.claim.kind ≡ Kind.Safe → IsTrue result ↔ IsSafe judge.now.claim judge.now.ops }
+fn is_right(judge: &SingleWriterJudge) -> bool
+    ensures safe { judge.now.claim.kind ≡ Kind.Safe → IsTrue result ↔ IsSafe judge.now.claim judge.now.ops }
+    ensures regular { judge.now.claim.kind ≡ Kind.Regular → IsTrue result ↔ IsRegular judge.now.claim judge.now.ops }
 {
     judge.first_fault().is_none()
 }
 
-/// The new operation of an edit that names a standing one.
+/// The new operation of an edit, where it names one that stands.
 fn new_op<'t>(book: &OpBook<'t>, edit: &Edit<'t>) -> Option<Op<'t>>
     ensures { result ≡ new_one book.now edit.now }
 {

@@ -1,7 +1,7 @@
 //! The command `regaudit safe` over any reader and two writers.
 
 ghost use Rattle.std.specs.Prelude.{◌≡◌, ◌≢◌, OnOk, IfSome, MatchOption};
-ghost use Rattle.std.specs.Io.KnownBytes.{Appends};
+ghost use Rattle.std.specs.Io.KnownBytes.{Appends, Keeps};
 ghost use Rattle.regaudit.specs.Audit.{IsAudited, register_line, status_of};
 
 use crate::audit::{Audit, audit_trace};
@@ -22,7 +22,8 @@ pub fn run_safe<A: AllocGlobal, R: Read, W: Write, E: Write>(
     out: &mut W,
     err: &mut E,
 ) -> u8
-    ensures { result ≢ BROKEN → IfSome (R.remaining input.old) (λ bytes. IsAudited bytes result (W.contents out.old) (W.contents out.new)) }
+    ensures line { result ≢ BROKEN → IfSome (R.remaining input.old) (λ bytes. IsAudited bytes result (W.contents out.old) (W.contents out.new)) }
+    ensures silent { result ≢ BROKEN → Keeps (E.contents err.old) (E.contents err.new) }
 {
     let bytes = match read_whole(rt.alloc(), input) {
         Ok(bytes) => bytes,

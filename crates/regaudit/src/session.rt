@@ -36,7 +36,8 @@ impl<'t> Session<'t> {
         })
     }
 
-    /// Takes the next element, as it was read.
+    /// Takes the next element, as it was read. Where memory is refused the audit is over: the state
+    /// then stands for no trace.
     pub fn take(&mut self, alloc: Global, item: Result<Item<'t>, FormFault>) -> Result<(), Memory>
         requires { self.old.place + 1 < 2 ^ 64 }
         ensures place { OnOk result (self.new.place ≡ self.old.place + 1) }

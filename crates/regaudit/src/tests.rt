@@ -196,3 +196,109 @@ fn want_of_memory_is_told(rt: HostRuntime) -> Result<(), Fail> {
     }
     Ok(())
 }
+
+/// Traces that are each answered so.
+fn refused<R: AllocGlobal + Abort>(
+    rt: &R,
+    elements: &[&[u8]],
+    out: &str,
+    status: u8,
+) -> Result<(), Fail> {
+    for element in elements {
+        judged(rt, element, out, status)?;
+    }
+    Ok(())
+}
+
+#[test]
+fn each_refusal_of_a_form_has_status_three(rt: HostRuntime) -> Result<(), Fail> {
+    refused(
+        &rt,
+        &[
+            b"5".as_slice(),
+            b"{}",
+            b"{:process 0 :process 1}",
+            b"{:process :a :process :b}",
+            b"{:process 0 :type :done}",
+            b"{:process 0 :type :invoke :f :cas :value 1 :index 0}",
+            b"{:process 0 :type :invoke :f :write :value 1.5 :index 0}",
+            b"{:process 0 :type :invoke :f :write :value 1 :index -1}",
+            b"{:process 0 :type :invoke :f :read :value 1 :value 1 :index 0}",
+            b"{:edit :withdraw :of 0}",
+            b"{:ask r :ask r}",
+        ],
+        "register r safe holds 0\n",
+        3,
+    )?;
+    judged(
+        &rt,
+        b"{:process :nemesis :type 4} {:process 99999999999999999999}",
+        "register r safe holds 0\n",
+        0,
+    )
+}
+
+#[test]
+fn each_refusal_of_a_pairing_has_status_three(rt: HostRuntime) -> Result<(), Fail> {
+    refused(
+        &rt,
+        &[
+            b"{:process 0 :type :invoke :f :write :value 1 :index 0} {:process 0 :type :invoke :f :write :value 2 :index 1}".as_slice(),
+            b"{:process 0 :type :invoke :f :write :value 1 :index 0} {:process 1 :type :ok :f :write :value 1 :index 1}",
+            b"{:process 0 :type :invoke :f :write :value 1 :index 0} {:process 0 :type :ok :f :write :value 2 :index 1}",
+            b"{:process 0 :type :invoke :f :write :value 1 :index 0} {:process 0 :type :ok :f :read :value 1 :index 1}",
+        ],
+        "register r safe holds 1\n",
+        3,
+    )
+}
+
+#[test]
+fn a_failed_operation_is_withdrawn_and_a_crashed_one_stays(rt: HostRuntime) -> Result<(), Fail> {
+    judged(
+        &rt,
+        b"{:process 0 :type :invoke :f :write :value 1 :index 0} {:process 0 :type :fail :f :write}",
+        "register r safe holds 0\n",
+        0,
+    )?;
+    judged(
+        &rt,
+        b"{:process 1 :type :invoke :f :read :index 0} {:process 1 :type :info :f :read}
+          {:process 1 :type :invoke :f :read :index 2} {:process 1 :type :ok :f :read :value 0 :index 3}",
+        "register r safe holds 2\n",
+        0,
+    )
+}
+
+#[test]
+fn each_refusal_of_the_register_has_status_three(rt: HostRuntime) -> Result<(), Fail> {
+    refused(
+        &rt,
+        &[
+            b"{:process 1 :type :invoke :f :read :index 4} {:process 1 :type :ok :f :read :value 0 :index 4}".as_slice(),
+            b"{:process 1 :type :invoke :f :read :index 4} {:process 2 :type :invoke :f :read :index 4}",
+            b"{:process 1 :type :invoke :f :read :index 4} {:process 2 :type :invoke :f :read :index 4611686018427387904}",
+            b"{:process 1 :type :invoke :f :read :index 4} {:process 2 :type :invoke :f :write :value 0 :index 5} {:process 2 :type :ok :f :write :value 0 :index 6}",
+        ],
+        "register r safe holds 1\n",
+        3,
+    )
+}
+
+#[test]
+fn a_failing_register_comes_before_a_refusal_and_after_a_break(
+    rt: HostRuntime,
+) -> Result<(), Fail> {
+    judged(
+        &rt,
+        b"5 {:process 1 :type :invoke :f :read :index 0} {:process 1 :type :ok :f :read :value 9 :index 1}",
+        "register r safe fails 1\n",
+        1,
+    )?;
+    judged(
+        &rt,
+        b"5 {:process 1 :type :invoke :f :read :index 0} {:process 1 :type :ok :f :read :value 9 :index 1} {",
+        "register r safe fails 1\n",
+        2,
+    )
+}

@@ -1,14 +1,8 @@
--- What a judge of one writer's register holds.
+-- What a judge of one writer's register lets go.
 use Rattle.std.specs.Prelude.{List, not, ◌&&◌, filter}
 use Rattle.intervals.specs.declared.operation.Op.{Op}
 use Rattle.intervals.specs.declared.operation.OpId.{OpId}
 use Rattle.intervals.specs.Operation.{is_write, same_id}
-use Rattle.intervals.specs.Terms.{Terms}
-
--- the claim, and the writes and the ended reads that were admitted and not dropped
-pub record Judged : Type 0 where
-  pub claim : Terms
-  pub ops : List Op
 
 -- without the write, or without the read, of that id
 abbrev pub without_write : List Op → OpId → List Op

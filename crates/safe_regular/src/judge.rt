@@ -26,9 +26,9 @@ impl<'t> Model for SingleWriterJudge<'t> {
     ghost use Rattle.std.specs.Prelude.{◌≢◌};
     ghost use Rattle.intervals.specs.Terms.{terms_of, writers_of};
     ghost use Rattle.intervals.specs.declared.claim.Kind.TheVariants.{Atomic};
-    ghost use Rattle.safe_regular.specs.Judge.{Judged};
+    ghost use Rattle.intervals.specs.Terms.{Claimed};
 
-    ghost Value = { Judged };
+    ghost Value = { Claimed };
 
     ghost view = { λ j. record { claim = terms_of j.claim; ops = j.ops.items } };
 
