@@ -18,7 +18,7 @@ pub record Piece : Type 0 where
 abbrev pub piece_of : Element → Piece
 piece_of element = record { kind = element.kind; start = element.start; text = element.text.now }
 
--- A gap: white bytes alone (the EDN format; comments and discards are not in it yet).
+-- A gap: white bytes alone (this project's profile of the EDN format).
 pub data IsGap : ℕ → List ℕ → ℕ → List ℕ → Type 0 where
   nothing : {place : ℕ} {bytes : List ℕ} → IsGap place bytes place bytes
   white : {b place after : ℕ} {bytes rest : List ℕ} → class_of b ≡ White → IsGap (suc place) bytes after rest

@@ -6,6 +6,7 @@ use Rattle.edn_reader.specs.Grammar.{Piece}
 use Rattle.edn_reader.specs.Text.{IsFront}
 use Rattle.edn_reader.specs.Fault.{FaultOf, IsMemory, AreElementsBefore}
 
+-- What holds of the fields of a reader.
 pub record IsStanding (input : List ℕ) (at : ℕ) (open_maps : List OpenMap) (fault : Option EdnFault) : Type 0 where
   pub within : at ≤ length input
   pub front : (pieces : List Piece) × IsFront input pieces at

@@ -1,6 +1,6 @@
 -- The verdict on reads and the refusals of writes depend on the judged operations alone.
-use Rattle.std.proofs.Common.{◌≡◌, ◌≢◌, ℕ, ◌⊎◌, inl, inr, Bool, true, false, not, ◌&&◌, ◌||◌, List, [], ◌∷◌, Option, Some, None, refl, sym, ap, ◌∙◌, cond}
-use Rattle.std.specs.Prelude.{filter, is_some, option_map}
+use Rattle.std.proofs.Common.{◌≡◌, ◌≢◌, ℕ, Bool, true, false, not, ◌&&◌, ◌||◌, List, [], ◌∷◌, Option, Some, None, refl, sym, ap, ◌∙◌, cond}
+use Rattle.std.specs.Prelude.{is_some}
 use Rattle.std.specs.List.{list_any}
 use Rattle.intervals.specs.declared.operation.Op.{Op}
 use Rattle.intervals.specs.declared.operation.Moment.{Moment}
@@ -8,10 +8,10 @@ use Rattle.intervals.specs.declared.operation.Value.{Value}
 use Rattle.intervals.specs.declared.claim.Kind.{Kind}
 use Rattle.intervals.specs.declared.claim.Kind.TheVariants.{Safe, Regular, Atomic}
 use Rattle.intervals.specs.Terms.{Terms}
-use Rattle.intervals.specs.Operation.{is_write, precedes, overlaps, is_judged_read, same_id, same_value, value_of, judged}
+use Rattle.intervals.specs.Operation.{is_write, overlaps, is_judged_read, same_id, judged}
 use Rattle.intervals.specs.Least.{less_of, least_from}
 use Rattle.intervals.specs.Refusal.{is_overlapped, overlap_refusal, write_refusal, kind_refusal}
-use Rattle.intervals.specs.Judging.{is_write_before, is_later, later_of, last_from, is_returned_at, returns_of, returns_last, is_write_over, overlaps_write, is_safe_read, is_returned_over, is_regular_read, is_right_read, is_wrong_read, end_number, first_wrong}
+use Rattle.intervals.specs.Judging.{later_of, last_from, is_returned_at, returns_of, returns_last, is_write_over, is_safe_read, is_returned_over, is_regular_read, is_right_read, is_wrong_read, end_number, first_wrong}
 
 -- an operation that a verdict speaks of
 abbrev pub is_judged : Op → Bool
@@ -73,11 +73,11 @@ returns_judged initial ops r = ap (returns_of initial (judged ops) r) (last_judg
 
 safe_judged : (claim : Terms) (ops : List Op) (r : Op) → is_safe_read claim (judged ops) r ≡ is_safe_read claim ops r
 safe_judged claim ops r =
-  rw (any_judged (is_write_over r) (λ op e. rw (not_write op e) refl) ops, returns_judged claim.initial ops r) refl
+    rw (any_judged (is_write_over r) (λ op e. rw (not_write op e) refl) ops, returns_judged claim.initial ops r) refl
 
 regular_judged : (claim : Terms) (ops : List Op) (r : Op) → is_regular_read claim (judged ops) r ≡ is_regular_read claim ops r
 regular_judged claim ops r =
-  rw (any_judged (is_returned_over r) (λ op e. rw (not_write op e) refl) ops, returns_judged claim.initial ops r) refl
+    rw (any_judged (is_returned_over r) (λ op e. rw (not_write op e) refl) ops, returns_judged claim.initial ops r) refl
 
 right_judged : (kind : Kind) (claim : Terms) (ops : List Op) (r : Op) → is_right_read kind claim (judged ops) r ≡ is_right_read kind claim ops r
 right_judged Safe claim ops r = safe_judged claim ops r
@@ -89,8 +89,8 @@ wrong_only_judged claim ops op e = rw (not_write op e, not_ended op e) refl
 
 pub first_wrong-judged : (claim : Terms) (ops : List Op) → first_wrong claim (judged ops) ≡ first_wrong claim ops
 first_wrong-judged claim ops =
-  least_same end_number (is_wrong_read claim (judged ops)) (is_wrong_read claim ops) (λ r. ap (λ (b : Bool). is_judged_read r && not b) (right_judged claim.kind claim ops r)) None (judged ops)
-  ∙ least_judged end_number (is_wrong_read claim ops) (wrong_only_judged claim ops) None ops
+    least_same end_number (is_wrong_read claim (judged ops)) (is_wrong_read claim ops) (λ r. ap (λ (b : Bool). is_judged_read r && not b) (right_judged claim.kind claim ops r)) None (judged ops)
+    ∙ least_judged end_number (is_wrong_read claim ops) (wrong_only_judged claim ops) None ops
 
 overlap_judged : (ops : List Op) (op : Op) → overlap_refusal (judged ops) op ≡ overlap_refusal ops op
 overlap_judged ops op = rw (least_judged (λ other. other.begin.0) (is_overlapped op) (λ other e. by_cases (same_id other.id op.id) other e) None ops) refl

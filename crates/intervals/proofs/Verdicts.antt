@@ -68,10 +68,10 @@ same_none P Q a b e p q = (λ x. q.0 (sym e ∙ p.1 x), λ y. p.0 (e ∙ q.1 y))
 
 pub IsSafe-judged : (claim : Terms) (ops : List Op) → IsSafe claim (judged ops) ↔ IsSafe claim ops
 IsSafe-judged claim ops =
-  let safe : Terms = record claim { kind = Safe } in
-  same_none (IsSafe claim (judged ops)) (IsSafe claim ops) _ _ (first_wrong-judged safe ops) (first_wrong-safe safe (judged ops) refl) (first_wrong-safe safe ops refl)
+    let safe : Terms = record claim { kind = Safe } in
+    same_none (IsSafe claim (judged ops)) (IsSafe claim ops) _ _ (first_wrong-judged safe ops) (first_wrong-safe safe (judged ops) refl) (first_wrong-safe safe ops refl)
 
 pub IsRegular-judged : (claim : Terms) (ops : List Op) → IsRegular claim (judged ops) ↔ IsRegular claim ops
 IsRegular-judged claim ops =
-  let regular : Terms = record claim { kind = Regular } in
-  same_none (IsRegular claim (judged ops)) (IsRegular claim ops) _ _ (first_wrong-judged regular ops) (first_wrong-regular regular (judged ops) refl) (first_wrong-regular regular ops refl)
+    let regular : Terms = record claim { kind = Regular } in
+    same_none (IsRegular claim (judged ops)) (IsRegular claim ops) _ _ (first_wrong-judged regular ops) (first_wrong-regular regular (judged ops) refl) (first_wrong-regular regular ops refl)

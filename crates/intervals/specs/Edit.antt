@@ -1,5 +1,5 @@
 -- What stands of a register after edits.
-use Rattle.std.specs.Prelude.{not, List, [], ◌∷◌, ◌++◌, map, filter, find, Option, Some, None, option_map, unwrap_or, if◌then◌else◌}
+use Rattle.std.specs.Prelude.{Bool, true, false, not, List, [], ◌∷◌, ◌++◌, map, filter, find, Option, Some, None, option_map, unwrap_or, if◌then◌else◌}
 use Rattle.intervals.specs.declared.operation.Op.{Op}
 use Rattle.intervals.specs.declared.operation.OpId.{OpId}
 use Rattle.intervals.specs.declared.operation.Act.{Act}
@@ -53,3 +53,9 @@ abbrev pub new_op : List Op → Edit → Option Op
 new_op ops (Append op) = Some op
 new_op ops (Amend id change) = option_map (λ op. changed op change) (op_of ops id)
 new_op ops (Withdraw id) = None
+
+-- the edit adds an operation
+abbrev pub is_append : Edit → Bool
+is_append (Append op) = true
+is_append (Amend id change) = false
+is_append (Withdraw id) = false

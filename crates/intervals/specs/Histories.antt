@@ -10,12 +10,15 @@ use Rattle.intervals.specs.declared.operation.Value.TheVariants.{Nil, Int}
 use Rattle.intervals.specs.Terms.{Terms}
 use Rattle.intervals.specs.declared.claim.Kind.{Kind}
 
+-- an empty text
 abbrev pub text : Bor (List ℕ)
 text = record { ref_ptr = (0, 0); now = [] }
 
+-- an integer as a value
 abbrev pub number : ℕ → Value
 number n = Int (pos n)
 
+-- an operation of that place in its trace, process 0, from one moment to the end that is given
 abbrev pub op : ℕ → Act → ℕ → Option Moment → Op
 op place act begin end = record {
   id = record { feeder = 0; event = place };
@@ -30,6 +33,7 @@ op place act begin end = record {
 abbrev pub from_to : ℕ → Act → ℕ → ℕ → Op
 from_to place act begin end = op place act begin (Some (record { 0 = end }))
 
+-- a claim of any process
 abbrev pub claim_of : Kind → Value → Option (List Value) → Terms
 claim_of kind initial domain = record { kind = kind; writers = None; initial = initial; domain = domain }
 
@@ -41,6 +45,7 @@ read_after_write returned = from_to 0 (Write (number 1)) 0 1 ∷ from_to 2 (Read
 abbrev pub read_within_write : Value → List Op
 read_within_write returned = from_to 0 (Write (number 1)) 0 3 ∷ from_to 1 (Read returned) 1 2 ∷ []
 
+-- the values from 0 to 9
 abbrev pub digits : List Value
 digits = number 0 ∷ number 1 ∷ number 2 ∷ number 3 ∷ number 4 ∷ number 5 ∷ number 6 ∷ number 7 ∷ number 8 ∷ number 9 ∷ []
 
@@ -62,12 +67,15 @@ old_before_new =
     from_to 0 (Write (number 1)) 0 1 ∷ from_to 2 (Write (number 2)) 2 3
     ∷ from_to 4 (Read (number 1)) 4 5 ∷ from_to 6 (Read (number 2)) 6 7 ∷ []
 
+-- a write of 1 that has no end
 abbrev pub unfinished : Op
 unfinished = op 0 (Write (number 1)) 0 None
 
+-- a read of the value at first
 abbrev pub before_it : Op
 before_it = from_to 2 (Read Nil) 2 3
 
+-- a read of 1, later
 abbrev pub after_it : Op
 after_it = from_to 4 (Read (number 1)) 5 6
 

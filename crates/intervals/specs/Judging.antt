@@ -20,6 +20,7 @@ abbrev pub is_later : Op → Option Moment → Bool
 is_later w None = true
 is_later w (Some found) = nat_lt found.0 w.begin.0
 
+-- the later of what was found and w, where w is a write before r
 abbrev pub later_of : Op → Option Moment → Op → Option Moment
 later_of r found w = if is_write_before r w && is_later w found then Some w.begin else found
 
@@ -28,6 +29,7 @@ abbrev pub last_from : Op → Option Moment → List Op → Option Moment
 last_from r found [] = found
 last_from r found (w ∷ ops) = last_from r (later_of r found w) ops
 
+-- the beginning of the last write that precedes r
 abbrev pub last_before : List Op → Op → Option Moment
 last_before ops r = last_from r None ops
 
@@ -35,6 +37,7 @@ last_before ops r = last_from r None ops
 abbrev pub is_returned_at : Op → Moment → Op → Bool
 is_returned_at r begin w = is_write_before r w && ((w.begin.0 == begin.0) && same_value (value_of w.act) (value_of r.act))
 
+-- r returns the value of the write that was found, or the initial value where none was
 abbrev pub returns_of : Value → List Op → Op → Option Moment → Bool
 returns_of initial ops r None = same_value initial (value_of r.act)
 returns_of initial ops r (Some begin) = list_any (is_returned_at r begin) ops
@@ -47,6 +50,7 @@ returns_last initial ops r = returns_of initial ops r (last_before ops r)
 abbrev pub is_write_over : Op → Op → Bool
 is_write_over r w = is_write w && overlaps w r
 
+-- some write overlaps r
 abbrev pub overlaps_write : List Op → Op → Bool
 overlaps_write ops r = list_any (is_write_over r) ops
 
@@ -55,6 +59,7 @@ abbrev pub is_allowed : Option (List Value) → Value → Value → Bool
 is_allowed None initial value = true
 is_allowed (Some values) initial value = list_any (λ v. same_value v value) values || same_value initial value
 
+-- the sentence of safe registers, of one read
 abbrev pub is_safe_read : Terms → List Op → Op → Bool
 is_safe_read claim ops r =
     if overlaps_write ops r
@@ -65,6 +70,7 @@ is_safe_read claim ops r =
 abbrev pub is_returned_over : Op → Op → Bool
 is_returned_over r w = is_write_over r w && same_value (value_of w.act) (value_of r.act)
 
+-- the sentence of regular registers, of one read
 abbrev pub is_regular_read : Terms → List Op → Op → Bool
 is_regular_read claim ops r = list_any (is_returned_over r) ops || returns_last claim.initial ops r
 

@@ -32,6 +32,7 @@ abbrev pub IsAllowed : Option (List Value) → Value → Value → Type 0
 IsAllowed None initial value = Unit {0}
 IsAllowed (Some values) initial value = Contains values value ⊎ (value ≡ initial)
 
+-- a value of the value set of the claim
 abbrev pub IsInValueSet : Terms → Value → Type 0
 IsInValueSet claim value = IsAllowed claim.domain claim.initial value
 
@@ -94,5 +95,6 @@ Keeps Safe claim ops = IsSafe claim ops
 Keeps Regular claim ops = IsRegular claim ops
 Keeps Atomic claim ops = IsAtomic claim ops
 
+-- the register keeps what it claims
 abbrev pub Holds : Terms → List Op → Type 0
 Holds claim ops = Keeps claim.kind claim ops

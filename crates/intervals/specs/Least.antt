@@ -7,6 +7,7 @@ abbrev pub is_less : (Op → ℕ) → Op → Option Op → Bool
 is_less key op None = true
 is_less key op (Some found) = nat_lt (key op) (key found)
 
+-- what is found after one more operation
 abbrev pub less_of : (Op → ℕ) → (Op → Bool) → Option Op → Op → Option Op
 less_of key test found op = if test op && is_less key op found then Some op else found
 
@@ -15,6 +16,7 @@ abbrev pub least_from : (Op → ℕ) → (Op → Bool) → Option Op → List Op
 least_from key test found [] = found
 least_from key test found (op ∷ ops) = least_from key test (less_of key test found op) ops
 
+-- of those that pass the one of least key, the first of equal ones
 abbrev pub least_by : (Op → ℕ) → (Op → Bool) → List Op → Option Op
 least_by key test ops = least_from key test None ops
 

@@ -27,9 +27,11 @@ abbrev pub ends_before : Option Moment → Moment → Bool
 ends_before None moment = false
 ends_before (Some end) moment = nat_lt end.0 moment.0
 
+-- the test for Precedes
 abbrev pub precedes : Op → Op → Bool
 precedes a b = ends_before a.end b.begin
 
+-- the test for Overlaps
 abbrev pub overlaps : Op → Op → Bool
 overlaps a b = not (precedes a b) && not (precedes b a)
 
@@ -38,9 +40,11 @@ abbrev pub is_write_act : Act → Bool
 is_write_act (Read v) = false
 is_write_act (Write v) = true
 
+-- the operation is a write
 abbrev pub is_write : Op → Bool
 is_write a = is_write_act a.act
 
+-- the same as a fact
 abbrev pub IsWrite : Op → Type 0
 IsWrite a = IsTrue (is_write a)
 
@@ -49,12 +53,14 @@ abbrev pub value_of : Act → Value
 value_of (Read v) = v
 value_of (Write v) = v
 
+-- two values are one
 abbrev pub same_value : Value → Value → Bool
 same_value Nil Nil = true
 same_value Nil (Int y) = false
 same_value (Int x) Nil = false
 same_value (Int x) (Int y) = int_eq x y
 
+-- two ids are one
 abbrev pub same_id : OpId → OpId → Bool
 same_id a b = (a.feeder == b.feeder) && (a.event == b.event)
 
@@ -62,6 +68,7 @@ same_id a b = (a.feeder == b.feeder) && (a.event == b.event)
 abbrev pub is_judged_read : Op → Bool
 is_judged_read a = not (is_write a) && is_some a.end
 
+-- the same as a fact
 abbrev pub IsJudgedRead : Op → Type 0
 IsJudgedRead a = IsTrue (is_judged_read a)
 

@@ -33,6 +33,7 @@ ok_unless (Some refusal) = Err refusal
 abbrev pub refused_if : Bool → Refusal → Option Refusal
 refused_if test refusal = if test then Some refusal else None
 
+-- the end is there and not after the beginning
 abbrev pub ends_by : Option Moment → Moment → Bool
 ends_by None begin = false
 ends_by (Some end) begin = nat_le end.0 begin.0
@@ -41,6 +42,7 @@ ends_by (Some end) begin = nat_le end.0 begin.0
 abbrev pub has_early_end : Op → Bool
 has_early_end op = ends_by op.end op.begin
 
+-- the end is there and is the moment
 abbrev pub is_at : Option Moment → Moment → Bool
 is_at None moment = false
 is_at (Some end) moment = end.0 == moment.0
@@ -53,13 +55,16 @@ is_moment_of op moment = (op.begin.0 == moment.0) || is_at op.end moment
 abbrev pub find_other_with : List Op → OpId → Moment → Option Op
 find_other_with ops id moment = find (λ op. not (same_id op.id id) && is_moment_of op moment) ops
 
+-- X4 of one moment of an operation: which moment, and which other operation has it
 abbrev pub moment_taken : List Op → OpId → Option Moment → Option Refusal
 moment_taken ops id None = None
 moment_taken ops id (Some moment) = option_map (λ other. MomentTaken moment other.id) (find_other_with ops id moment)
 
+-- a moment past the greatest
 abbrev pub is_past : Moment → Bool
 is_past moment = nat_lt 4611686018427387903 moment.0
 
+-- the same of an end, where there is one
 abbrev pub is_past_end : Option Moment → Bool
 is_past_end None = false
 is_past_end (Some end) = is_past end
@@ -77,6 +82,7 @@ moments_refusal ops op = first_of (
     ∷ refused_if (has_large_moment op) MomentTooLarge
     ∷ [])
 
+-- of an amendment: X1 where nothing stands by its id, else X3 to X5 of the changed operation
 abbrev pub amendment_refusal : List Op → Option Op → Option Refusal
 amendment_refusal ops None = Some UnknownOp
 amendment_refusal ops (Some op) = moments_refusal ops op
@@ -129,6 +135,7 @@ write_refusal claim ops op =
     ∷ [])
     else None
 
+-- the same of the new operation of an edit, where there is one
 abbrev pub new_write_refusal : Terms → List Op → Option Op → Option Refusal
 new_write_refusal claim ops None = None
 new_write_refusal claim ops (Some op) = write_refusal claim ops op

@@ -16,10 +16,12 @@ pub record Terms : Type 0 where
   pub initial : Value
   pub domain : Option (List Value)
 
+-- the listed writers, or none where any process may write
 abbrev pub writers_of : Writers → Option (List ℤ)
 writers_of Any = None
 writers_of (Listed processes) = Some processes.items
 
+-- what a claim of the program says
 abbrev pub terms_of : Claim → Terms
 terms_of claim = record {
   kind = claim.kind;

@@ -1,5 +1,5 @@
 ghost use Rattle.std.specs.Prelude.{◌≡◌, ◌↔◌, ◌&&◌, not, [], List, length, None, OnOk, OnErr, IsTrue, option_copied};
-ghost use Rattle.intervals.specs.Edit.{op_of, edited, amended as op_amended};
+ghost use Rattle.intervals.specs.Edit.{op_of, edited, is_append, amended as op_amended};
 ghost use Rattle.intervals.specs.Operation.{same_id};
 ghost use Rattle.intervals.specs.Refusal.{first_refusal, moments_refusal, ok_unless, has_early_end, has_large_moment, is_moment_of, find_other_with};
 
@@ -71,11 +71,12 @@ impl<'t> OpBook<'t> {
         }
     }
 
-    /// Carries out an edit that `check` accepts.
+    /// Carries out an edit that `check` accepts. An append alone takes memory.
     pub fn admit(&mut self, edit: Edit<'t>) -> Result<(), Memory>
         requires { first_refusal self.old edit ≡ None }
         ensures ok { OnOk result (self.new ≡ edited self.old edit.entry) }
         ensures err { OnErr result (self.new ≡ self.old) }
+        ensures memory { OnErr result (IsTrue (is_append edit.entry)) }
     {
         match edit {
             Edit::Append(op) => self.ops.push(op)?,

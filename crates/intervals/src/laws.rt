@@ -39,8 +39,7 @@ pub fn wrong_reads_break_their_sentence()
         → IsTrue (is_wrong_read claim ops r) ↔ (IsJudgedRead r × ¬ IsSafeRead claim ops r) }
     ensures regular { (claim : Terms) (ops : List Op) (r : Op) → claim.kind ≡ Regular
         → IsTrue (is_wrong_read claim ops r) ↔ (IsJudgedRead r × ¬ IsRegularRead claim ops r) }
-{
-}
+{}
 
 /// The write that an overlap names stands, overlaps the new one, and of all those began first; and
 /// none is named exactly where none overlaps.
@@ -48,8 +47,7 @@ pub fn first_overlapped_write_began_first()
     ensures named { (ops : List Op) (op : Op) (id : OpId) → overlap_refusal ops op ≡ Some (WritesOverlap id)
         → (other : Op) × (other.id ≡ id) × IsLeast (λ o. o.begin.0) (is_overlapped op) ops other }
     ensures none { (ops : List Op) (op : Op) → (overlap_refusal ops op ≡ None) ↔ All (λ other. ¬ IsTrue (is_overlapped op other)) ops }
-{
-}
+{}
 
 /// Reads without an end change no verdict and no refusal of a write.
 pub fn judged_operations_alone_count()
@@ -58,8 +56,7 @@ pub fn judged_operations_alone_count()
     ensures regular { (claim : Terms) (ops : List Op) → IsRegular claim (judged ops) ↔ IsRegular claim ops }
     ensures refusal { (claim : Terms) (ops : List Op) (op : Op) → claim.kind ≢ Atomic
         → write_refusal claim (judged ops) op ≡ write_refusal claim ops op }
-{
-}
+{}
 
 /// Safe registers: which reads are right after a write, and within one.
 pub fn safe_histories()

@@ -39,9 +39,11 @@ pub record IsVerdict (trace : Paired) (holds refused : Bool) (operations : ℕ) 
   pub count : operations ≡ length (standing_of trace)
   pub refusals : refused ≡ is_refused trace
 
+-- an audit says the verdict on the trace that its input makes
 abbrev pub IsAudit : List ℕ → Audit → Type 0
 IsAudit input audit = (trace : Paired) × IsTrace input audit.fault trace × IsVerdict trace audit.holds audit.refused audit.operations
 
+-- the word of a verdict
 abbrev pub verdict_word : Bool → List ℕ
 verdict_word holds = if holds then codes "holds" else codes "fails"
 

@@ -2,6 +2,7 @@
 use Rattle.regaudit.specs.declared.form.Form.{Form}
 use Rattle.regaudit.specs.Item.{Fields, seen}
 
+-- each field as it was found
 abbrev pub seen_all : Form → Fields
 seen_all form = record {
   edit = seen form.edit;

@@ -29,6 +29,7 @@ pub data Given : Type 0 where
   One : (value : Piece) → Given
   Many : Given
 
+-- how many values there are
 abbrev pub given : List Piece → Given
 given [] = Missing
 given (value ∷ []) = One value
@@ -40,6 +41,7 @@ seen Absent = Missing
 seen (Once element) = One (piece_of element)
 seen Twice = Many
 
+-- there is at least one value
 abbrev pub is_there : Given → Bool
 is_there Missing = false
 is_there (One value) = true
@@ -55,6 +57,7 @@ pub record Fields : Type 0 where
   pub value : Given
   pub moment : Given
 
+-- the fields of a map of these pairs, by their keywords
 abbrev pub fields_of : List (Piece × Piece) → Fields
 fields_of pairs = record {
   edit = given (values_of (codes ":edit") pairs);
@@ -101,10 +104,12 @@ int_of piece = if is_atom piece.kind then fitting (integer_of piece.text) else N
 abbrev pub is_nil : Piece → Bool
 is_nil piece = is_atom piece.kind && bytes_eq piece.text (codes "nil")
 
+-- the value that an integer is
 abbrev pub int_value : Option ℤ → Result Value FormFault
 int_value None = Err BadValue
 int_value (Some z) = Ok (Int z)
 
+-- the moment that an integer from 0 on is
 abbrev pub int_moment : Option ℤ → Result Moment FormFault
 int_moment None = Err BadMoment
 int_moment (Some (pos n)) = Ok (record { 0 = n })
@@ -118,12 +123,14 @@ value_of piece = if is_nil piece then Ok Nil else int_value (int_of piece)
 abbrev pub moment_of : Piece → Result Moment FormFault
 moment_of piece = int_moment (int_of piece)
 
+-- what an operation does, as its :f says
 abbrev pub action_of : Piece → Result Action FormFault
 action_of piece =
     if is_word (codes ":read") piece then Ok Read
     else if is_word (codes ":write") piece then Ok Write
     else Err UnsupportedF
 
+-- how far an operation has come, as its :type says
 abbrev pub progress_of : Piece → Result Progress FormFault
 progress_of piece =
     if is_word (codes ":invoke") piece then Ok progress.Invoked
@@ -144,10 +151,12 @@ value_ignored Missing = Ok Nil
 value_ignored (One piece) = Ok Nil
 value_ignored Many = Err (DuplicateField fields.Value)
 
+-- the value of an invocation
 abbrev pub invoked_value : Action → Given → Result Value FormFault
 invoked_value Read given = value_ignored given
 invoked_value Write given = value_given given
 
+-- the moment that must be there
 abbrev pub moment_given : Given → Result Moment FormFault
 moment_given given = needed fields.Moment given >>= moment_of
 

@@ -43,9 +43,11 @@ opening place action (stages.Ok value moment) = None
 opening place action stages.Fail = None
 opening place action stages.Info = None
 
+-- what an event leaves open
 abbrev pub opening_of : ℕ → Event → Option Open
 opening_of place event = opening place event.action event.stage
 
+-- what the last event of a process left open
 abbrev pub left_open : Option Accepted → Option Open
 left_open None = None
 left_open (Some last) = opening_of last.place last.event
@@ -54,6 +56,7 @@ left_open (Some last) = opening_of last.place last.event
 abbrev pub open_of : List Accepted → ℤ → Option Open
 open_of accepted process = left_open (last_of accepted process)
 
+-- the same action, and of a write the same value
 abbrev pub same_act : Action → Action → Value → Value → Bool
 same_act Read Read invoked answered = true
 same_act Read Write invoked answered = false
@@ -64,9 +67,11 @@ same_act Write Write invoked answered = same_value invoked answered
 abbrev pub answers : Open → Action → Value → Bool
 answers invocation action value = same_act invocation.action action invocation.value value
 
+-- the id of the operation that was invoked at that place
 abbrev pub id_of : ℕ → ℕ → OpId
 id_of feeder place = record { feeder = feeder; event = place }
 
+-- the act of an action with its value
 abbrev pub act_of : Action → Value → Act
 act_of Read value = acts.Read value
 act_of Write value = acts.Write value
@@ -82,6 +87,7 @@ append_of feeder place event value moment = Append (record {
   parts = record { invocation = event.text; answer = None; amendment = None };
 })
 
+-- a read takes the value of its answer
 abbrev pub value_read : Action → Value → Option Value
 value_read Read value = Some value
 value_read Write value = None
@@ -107,6 +113,7 @@ step feeder (Some invocation) place event stages.Fail = Ok (Some (Withdraw (id_o
 step feeder None place event stages.Info = Err NoInvocation
 step feeder (Some invocation) place event stages.Info = Ok None
 
+-- the step of an event, by its stage
 abbrev pub step_of : ℕ → Option Open → ℕ → Event → Result (Option Edit) PairFault
 step_of feeder invocation place event = step feeder invocation place event event.stage
 

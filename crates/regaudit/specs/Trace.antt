@@ -39,11 +39,13 @@ with_step so_far event (Ok edit) = record so_far {
   edits = so_far.edits ++ option_to_list edit;
 }
 
+-- one more item: refused by its form, skipped, or an event
 abbrev pub with_item : Paired → Result Item FormFault → Paired
 with_item so_far (Err fault) = with_fault so_far
 with_item so_far (Ok items.Skipped) = record so_far { count = so_far.count + 1 }
 with_item so_far (Ok (items.Event event)) = with_step so_far event (step_of feeder (open_of so_far.accepted event.process) so_far.count event)
 
+-- the items of a list, one after another
 abbrev pub paired_after : Paired → List (Result Item FormFault) → Paired
 paired_after so_far [] = so_far
 paired_after so_far (item ∷ items) = paired_after (with_item so_far item) items

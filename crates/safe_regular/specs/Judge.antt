@@ -4,9 +4,10 @@ use Rattle.intervals.specs.declared.operation.Op.{Op}
 use Rattle.intervals.specs.declared.operation.OpId.{OpId}
 use Rattle.intervals.specs.Operation.{is_write, same_id}
 
--- without the write, or without the read, of that id
+-- without the write of that id
 abbrev pub without_write : List Op → OpId → List Op
 without_write ops id = filter (λ op. not (is_write op && same_id op.id id)) ops
 
+-- without the read of that id
 abbrev pub without_read : List Op → OpId → List Op
 without_read ops id = filter (λ op. not (not (is_write op) && same_id op.id id)) ops

@@ -1,11 +1,11 @@
-use Rattle.std.proofs.Common.{◌≡◌, ◌↔◌, ℕ, List, Option, Some, None, refl, ap, subst}
-use Rattle.std.specs.Prelude.{All, IsTrue, option_map}
+use Rattle.std.proofs.Common.{◌≡◌, ℕ, List, Option, Some, None, refl, ap}
+use Rattle.std.specs.Prelude.{option_map}
 use Rattle.intervals.specs.declared.operation.Op.{Op}
 use Rattle.intervals.specs.declared.operation.OpId.{OpId}
 use Rattle.intervals.specs.declared.refusal.Refusal.{Refusal}
 use Rattle.intervals.specs.declared.refusal.Refusal.TheVariants.{WritesOverlap}
 use Rattle.intervals.specs.Least.{least_by, IsLeast}
-use Rattle.intervals.specs.Refusal.{is_overlapped, overlap_refusal}
+use Rattle.intervals.specs.Refusal.{is_overlapped}
 use Rattle.intervals.proofs.LeastOf.{least_by-IsLeast, least_from-None, least_from-none}
 use Rattle.intervals.proofs.laws.first_overlapped_write_began_first.Goals as goal
 
@@ -28,5 +28,6 @@ returns c = record {
   named = λ ops op id h. named_by ops op id (least_by beginning (is_overlapped op) ops) refl h;
   none = λ ops op. (
     (λ h. (least_from-None beginning (is_overlapped op) None ops (none_by (least_by beginning (is_overlapped op) ops) h)).1),
-    (λ all. ap refusal_of (least_from-none beginning (is_overlapped op) None ops all)));
+    (λ all. ap refusal_of (least_from-none beginning (is_overlapped op) None ops all)),
+  );
 }
