@@ -2,7 +2,7 @@
 use Rattle.std.proofs.Common.{◌≡◌, ℕ, ◌+◌, ◌-◌, ◌*◌, ◌<◌, ◌≤◌, Bool, true, false, cond, List, [], ◌∷◌, length, drop, get_or, Option, Some, None, refl, sym, ap, ◌∙◌, arith}
 use Rattle.std.proofs.Math.ListN.{drop_of_length-le}
 use Rattle.edn_reader.specs.Integer.{is_digit, is_suffix, digits_after}
-use Rattle.edn_reader.proofs.Tokens.{drop_here}
+use Rattle.edn_reader.proofs.Stretches.{drop_here}
 
 pub digits_go : (xs : List ℕ) (i value : ℕ) → i < length xs → is_digit (get_or xs i 0) ≡ true → digits_after value (drop i xs) ≡ digits_after (10 * value + (get_or xs i 0 - 48)) (drop (i + 1) xs)
 unfolding digits_after

@@ -1,9 +1,13 @@
+pub mod Tables
+pub mod Stretches
+pub mod Lexing
 pub mod Places
 pub mod Steps
-pub mod Machine
-pub mod Tokens
-pub mod Viable
+pub mod Runs
 pub mod Unique
+pub mod Ended
+pub mod Viable
 pub mod Reading
+pub mod Skipping
 pub mod Views
 pub mod Integers

@@ -1,10 +1,18 @@
--- A derivation leads over the bytes in front of what it leaves, and over the same bytes in front of anything else.
-use Rattle.std.proofs.Common.{◌≡◌, ℕ, suc, ◌+◌, List, [], ◌∷◌, ◌++◌, length, refl, sym, ap, subst, ◌∙◌, append_assoc, arith, length-append}
+-- A derivation leads over the bytes in front of what it leaves, and over the same bytes in front of anything else
+-- that goes on as little with what stands there.
+use Rattle.std.proofs.Common.{◌≡◌, ℕ, zero, suc, ◌+◌, ◌<◌, ◌≤◌, Bool, List, [], ◌∷◌, ◌++◌, length, refl, sym, ap, subst, ◌∙◌, append_assoc, arith, length-append}
 use Rattle.edn_reader.specs.declared.element.ElementKind.{ElementKind}
-use Rattle.edn_reader.specs.declared.nesting.OpenMap.{OpenMap}
-use Rattle.edn_reader.specs.Bytes.{EndsRun}
-use Rattle.edn_reader.specs.Grammar.{Piece, IsGap, nothing, white, IsRun, ended, more, IsElementAt, run, hashed, map, IsElements, none, next}
-use Rattle.edn_reader.specs.Text.{StandsOpen, outermost, within}
+use Rattle.edn_reader.specs.declared.element.Core.{Core}
+use Rattle.edn_reader.specs.declared.nesting.Open.{Open}
+use Rattle.edn_reader.specs.declared.token.Token.{Token}
+use Rattle.edn_reader.specs.declared.token.Token.TheVariants.{Gap, Leaf, Opens, Closes, Unfinished}
+use Rattle.edn_reader.specs.Bytes.{is_run, is_in_comment, Ends}
+use Rattle.edn_reader.specs.Grammar.{Piece, IsStretch, ended, more, IsQuoted, closing, taken, other, IsTag, IsToken, white, comment, run, hashed, character, text, hash_text, opening, set, discard, tag, close, IsGap, nothing, skipped, discarded, IsElementAt, leaf, bracketed, tagged, IsElements, none, next}
+use Rattle.edn_reader.specs.Text.{StandsOpen, outermost, within, waiting}
+
+-- What the one list goes on with, the other goes on with too: a run, a comment, or neither; and a # makes a tag before both.
+abbrev pub Follows : List ℕ → List ℕ → Type 0
+Follows b e = (Ends is_run b → Ends is_run e) × (Ends is_in_comment b → Ends is_in_comment e) × (IsTag b → IsTag e)
 
 -- From place p to place q, with the bytes before and after, and those before and after once the rest is replaced.
 pub record Replaced (p : ℕ) (bytes : List ℕ) (q : ℕ) (rest : List ℕ) (others : List ℕ) (other_rest : List ℕ) : Type 0 where
@@ -30,12 +38,17 @@ replaced_then {c = c} {f = f} x y = record {
 pub replaced_more : (x : ℕ) {p q : ℕ} {a b d e : List ℕ} → Replaced (suc p) a q b d e → Replaced p (x ∷ a) q b (x ∷ d) e
 replaced_more x {p} {q} {a} {b} {d} {e} y = replaced_then (replaced_one x p a d) y
 
-ends_at : (front a b : List ℕ) → (EndsRun a → EndsRun b) → EndsRun (front ++ a) → EndsRun (front ++ b)
-ends_at [] a b h e = h e
-ends_at (x ∷ front) a b h e = e
+follows_front : (front a b : List ℕ) → Follows a b → Follows (front ++ a) (front ++ b)
+follows_front [] a b f = f
+follows_front (x ∷ front) a b f = (λ h. h, λ h. h, λ h. h)
 
-pub ends_after : {p q : ℕ} {a b d e : List ℕ} → Replaced p a q b d e → (EndsRun b → EndsRun e) → EndsRun a → EndsRun d
-ends_after {b = b} {e = e} x h k = subst EndsRun (sym x.there) (ends_at x.front b e h (subst EndsRun x.here k))
+-- In front of what follows alike, the same bytes follow alike.
+pub follows_before : {p q : ℕ} {a b d e : List ℕ} → Replaced p a q b d e → Follows b e → Follows a d
+follows_before {a = a} {b = b} {d = d} {e = e} x f =
+    subst (λ (s : List ℕ). Follows s d) (sym x.here) (subst (λ (s : List ℕ). Follows (x.front ++ b) s) (sym x.there) (follows_front x.front b e f))
+
+pub follows_same : (x : ℕ) (a b : List ℕ) → Follows (x ∷ a) (x ∷ b)
+follows_same x a b = (λ h. h, λ h. h, λ h. h)
 
 -- cancels what stands at the end of two lists
 pub cancel_end : (a b c : List ℕ) → a ++ c ≡ b ++ c → a ≡ b
@@ -48,50 +61,203 @@ cancel_end (x ∷ a) (y ∷ b) c e =
     let same = cancel_end a b c tails in
     cc
 
-pub moved_gap : {p q : ℕ} {a b : List ℕ} → IsGap p a q b → (e : List ℕ) → (d : List ℕ) × IsGap p d q e × Replaced p a q b d e
-moved_gap {p} {q} {a} {b} nothing e = (e, nothing, replaced_none p a e)
-moved_gap (white {b = x} w g) e =
-    let m = moved_gap g e in (x ∷ m.0, white w m.1, replaced_more x m.2)
+moved_stretch : {test : ℕ → Bool} {p q : ℕ} {a b : List ℕ} → IsStretch test p a q b → (e : List ℕ) → (Ends test b → Ends test e)
+    → (d : List ℕ) × IsStretch test p d q e × Replaced p a q b d e
+moved_stretch {p = p} {b = b} (ended h) e k = (e, ended (k h), replaced_none p b e)
+moved_stretch (more {b = x} w g) e k =
+    let m = moved_stretch g e k in (x ∷ m.0, more w m.1, replaced_more x m.2)
 
-pub moved_run : {p q : ℕ} {a b : List ℕ} → IsRun p a q b → (e : List ℕ) → EndsRun e → (d : List ℕ) × IsRun p d q e × Replaced p a q b d e
-moved_run {p} {q} {a} {b} (ended h) e k = (e, ended k, replaced_none p a e)
-moved_run (more {b = x} w g) e k =
-    let m = moved_run g e k in (x ∷ m.0, more w m.1, replaced_more x m.2)
+moved_quoted : {p q : ℕ} {a b : List ℕ} → IsQuoted p a q b → (e : List ℕ) → (d : List ℕ) × IsQuoted p d q e × Replaced p a q b d e
+moved_quoted {p = p} {b = b} (closing {b = x} h) e = (x ∷ e, closing h, replaced_one x p b e)
+moved_quoted (taken {b = x} {c = y} h g) e =
+    let m = moved_quoted g e in (x ∷ y ∷ m.0, taken h m.1, replaced_more x (replaced_more y m.2))
+moved_quoted (other {b = x} h k g) e =
+    let m = moved_quoted g e in (x ∷ m.0, other h k m.1, replaced_more x m.2)
 
-pub run_ends : {p q : ℕ} {a b : List ℕ} → IsRun p a q b → EndsRun b
-run_ends (ended h) = h
-run_ends (more w g) = run_ends g
+-- What a token asks of what replaces the rest.
+abbrev pub Needs : Token → List ℕ → List ℕ → Type 0
+Needs Gap b e = Ends is_in_comment b → Ends is_in_comment e
+Needs (Leaf kind) b e = Ends is_run b → Ends is_run e
+Needs (Opens opener) b e = Follows b e
+Needs (Closes bracket) b e = Unit {0}
+Needs Unfinished b e = Unit {0}
+
+pub needed : (t : Token) (b e : List ℕ) → Follows b e → Needs t b e
+needed Gap b e f = f.1
+needed (Leaf kind) b e f = f.0
+needed (Opens opener) b e f = f
+needed (Closes bracket) b e f = tt
+needed Unfinished b e f = tt
+
+-- A token begins with the same byte.
+pub record MovedToken (t : Token) (p : ℕ) (a : List ℕ) (q : ℕ) (b : List ℕ) (e : List ℕ) : Type 0 where
+  pub bytes : List ℕ
+  pub token : IsToken t p bytes q e
+  pub place : Replaced p a q b bytes e
+  pub begins : Follows a bytes
+  pub some : p < q
+
+stretch_forward : {test : ℕ → Bool} {p q : ℕ} {a b : List ℕ} → IsStretch test p a q b → p ≤ q
+stretch_forward (ended h) = omega arith
+stretch_forward (more w g) = omega (arith, stretch_forward g)
+
+quoted_forward : {p q : ℕ} {a b : List ℕ} → IsQuoted p a q b → p ≤ q
+quoted_forward (closing h) = omega arith
+quoted_forward (taken h g) = omega (arith, quoted_forward g)
+quoted_forward (other h k g) = omega (arith, quoted_forward g)
+
+tag_named : {p q : ℕ} {a b d e : List ℕ} → Replaced p a q b d e → (IsTag b → IsTag e) → IsTag a → IsTag d
+tag_named {a = a} {b = b} {d = d} {e = e} x f h = subst IsTag (sym x.there) (named x.front (subst IsTag x.here h)) where
+  named : (front : List ℕ) → IsTag (front ++ b) → IsTag (front ++ e)
+  named [] k = f k
+  named (y ∷ front) k = k
+
+pub moved_token : {t : Token} {p q : ℕ} {a b : List ℕ} → IsToken t p a q b → (e : List ℕ) → Needs t b e → MovedToken t p a q b e
+moved_token {p = p} {b = b} (white {b = x} w) e f =
+    record { bytes = x ∷ e; token = white w; place = replaced_one x p b e; begins = follows_same x b e; some = omega arith }
+moved_token (comment {b = x} {bytes = a} w g) e f =
+    let m = moved_stretch g e f in
+    record { bytes = x ∷ m.0; token = comment w m.1; place = replaced_more x m.2; begins = follows_same x a m.0; some = omega (arith, stretch_forward g) }
+moved_token (run {b = x} {bytes = a} w g) e f =
+    let m = moved_stretch g e f in
+    record { bytes = x ∷ m.0; token = run w m.1; place = replaced_more x m.2; begins = follows_same x a m.0; some = omega (arith, stretch_forward g) }
+moved_token (hashed {b = x} {c = y} {bytes = a} v w g) e f =
+    let m = moved_stretch g e f in
+    record { bytes = x ∷ y ∷ m.0; token = hashed v w m.1; place = replaced_more x (replaced_more y m.2); begins = follows_same x (y ∷ a) (y ∷ m.0); some = omega (arith, stretch_forward g) }
+moved_token (character {b = x} {c = y} {bytes = a} v g) e f =
+    let m = moved_stretch g e f in
+    record { bytes = x ∷ y ∷ m.0; token = character v m.1; place = replaced_more x (replaced_more y m.2); begins = follows_same x (y ∷ a) (y ∷ m.0); some = omega (arith, stretch_forward g) }
+moved_token (text {b = x} {bytes = a} w g) e f =
+    let m = moved_quoted g e in
+    record { bytes = x ∷ m.0; token = text w m.1; place = replaced_more x m.2; begins = follows_same x a m.0; some = omega (arith, quoted_forward g) }
+moved_token (hash_text {b = x} {c = y} {bytes = a} v w g) e f =
+    let m = moved_quoted g e in
+    record { bytes = x ∷ y ∷ m.0; token = hash_text v w m.1; place = replaced_more x (replaced_more y m.2); begins = follows_same x (y ∷ a) (y ∷ m.0); some = omega (arith, quoted_forward g) }
+moved_token {p = p} {b = b} (opening {b = x} w) e f =
+    record { bytes = x ∷ e; token = opening w; place = replaced_one x p b e; begins = follows_same x b e; some = omega arith }
+moved_token {p = p} {b = b} (set {b = x} {c = y} v w) e f =
+    record { bytes = x ∷ y ∷ e; token = set v w; place = replaced_more x (replaced_one y (suc p) b e); begins = follows_same x (y ∷ b) (y ∷ e); some = omega arith }
+moved_token {p = p} {b = b} (discard {b = x} {c = y} v w) e f =
+    record { bytes = x ∷ y ∷ e; token = discard v w; place = replaced_more x (replaced_one y (suc p) b e); begins = follows_same x (y ∷ b) (y ∷ e); some = omega arith }
+moved_token (tag {b = x} {bytes = a} v n g) e f =
+    let m = moved_stretch g e f.0 in
+    record { bytes = x ∷ m.0; token = tag v (tag_named m.2 f.2 n) m.1; place = replaced_more x m.2; begins = follows_same x a m.0; some = omega (arith, stretch_forward g) }
+moved_token {p = p} {b = b} (close {b = x} w) e f =
+    record { bytes = x ∷ e; token = close w; place = replaced_one x p b e; begins = follows_same x b e; some = omega arith }
+
+-- ---- gaps and elements
+
+pub record MovedElement (room : ℕ) (kind : ElementKind) (core : Core) (p : ℕ) (a : List ℕ) (q : ℕ) (b : List ℕ) (e : List ℕ) : Type 0 where
+  pub bytes : List ℕ
+  pub element : IsElementAt room kind core p bytes q e
+  pub place : Replaced p a q b bytes e
+  pub begins : Follows a bytes
 
 mutual
-  pub moved_element : {room p q : ℕ} {kind : ElementKind} {a b : List ℕ} → IsElementAt room kind p a q b → (e : List ℕ) → (EndsRun b → EndsRun e)
-      → (d : List ℕ) × IsElementAt room kind p d q e × Replaced p a q b d e
-  moved_element (run {b = x} w g) e k =
-      let m = moved_run g e (k (run_ends g)) in (x ∷ m.0, run w m.1, replaced_more x m.2)
-  moved_element (hashed {b = x} {c = y} v w g) e k =
-      let m = moved_run g e (k (run_ends g)) in (x ∷ y ∷ m.0, hashed v w m.1, replaced_more x (replaced_more y m.2))
-  moved_element (map {b = x} {c = y} {after = after} {rest = rest} v els gap w even) e k =
-      let g = moved_gap gap (y ∷ e) in
-      let m = moved_elements els g.0 (ends_after g.2 (λ h. h)) in
-      (x ∷ m.0, map v m.1 g.1 w even, replaced_more x (replaced_then m.2 (replaced_then g.2 (replaced_one y after rest e))))
+  pub moved_gap : {room p q : ℕ} {a b : List ℕ} → IsGap room p a q b → (e : List ℕ) → Follows b e
+      → (d : List ℕ) × IsGap room p d q e × Replaced p a q b d e
+  moved_gap {p = p} {b = b} nothing e f = (e, nothing, replaced_none p b e)
+  moved_gap (skipped token gap) e f =
+      let g = moved_gap gap e f in
+      let t = moved_token token g.0 (follows_before g.2 f).1 in
+      (t.bytes, skipped t.token g.1, replaced_then t.place g.2)
+  moved_gap (discarded token before element gap) e f =
+      let g = moved_gap gap e f in
+      let m = moved_element element g.0 (follows_before g.2 f).0 in
+      let h = moved_gap before m.bytes m.begins in
+      let t = moved_token token h.0 (follows_before h.2 m.begins) in
+      (t.bytes, discarded t.token h.1 m.element g.1, replaced_then t.place (replaced_then h.2 (replaced_then m.place g.2)))
 
-  pub moved_elements : {room p q : ℕ} {pieces : List Piece} {a b : List ℕ} → IsElements room p a pieces q b → (e : List ℕ) → (EndsRun b → EndsRun e)
+  pub moved_element : {room p q : ℕ} {kind : ElementKind} {core : Core} {a b : List ℕ} → IsElementAt room kind core p a q b → (e : List ℕ)
+      → (Ends is_run b → Ends is_run e) → MovedElement room kind core p a q b e
+  moved_element (leaf token) e f =
+      let t = moved_token token e f in
+      record { bytes = t.bytes; element = leaf t.token; place = t.place; begins = t.begins }
+  moved_element (bracketed token els gap last fit even) e f =
+      let c = moved_token last e tt in
+      let g = moved_gap gap c.bytes c.begins in
+      let m = moved_elements els g.0 (follows_before g.2 c.begins) in
+      let t = moved_token token m.0 (follows_before m.2 (follows_before g.2 c.begins)) in
+      record {
+        bytes = t.bytes;
+        element = bracketed t.token m.1 g.1 c.token fit even;
+        place = replaced_then t.place (replaced_then m.2 (replaced_then g.2 c.place));
+        begins = t.begins;
+      }
+  moved_element (tagged token before element) e f =
+      let m = moved_element element e f in
+      let h = moved_gap before m.bytes m.begins in
+      let t = moved_token token h.0 (follows_before h.2 m.begins) in
+      record { bytes = t.bytes; element = tagged t.token h.1 m.element; place = replaced_then t.place (replaced_then h.2 m.place); begins = t.begins }
+
+  pub moved_elements : {room p q : ℕ} {pieces : List Piece} {a b : List ℕ} → IsElements room p a pieces q b → (e : List ℕ) → Follows b e
       → (d : List ℕ) × IsElements room p d pieces q e × Replaced p a q b d e
-  moved_elements {p = p} {a = a} none e k = (e, none, replaced_none p a e)
-  moved_elements (next {beyond = beyond} {piece = piece} gap el whole els) e k =
-      let m = moved_elements els e k in
-      let n = moved_element el m.0 (ends_after m.2 k) in
-      let g = moved_gap gap n.0 in
-      let same : n.2.front ≡ piece.text = cancel_end n.2.front piece.text beyond (sym n.2.here ∙ whole) in
-      (g.0, next g.1 n.1 (n.2.there ∙ ap (λ (s : List ℕ). s ++ m.0) same) m.1, replaced_then g.2 (replaced_then n.2 m.2))
+  moved_elements {p = p} {b = b} none e f = (e, none, replaced_none p b e)
+  moved_elements (next {beyond = beyond} {piece = piece} gap element whole els) e f =
+      let m = moved_elements els e f in
+      let n = moved_element element m.0 (follows_before m.2 f).0 in
+      let g = moved_gap gap n.bytes n.begins in
+      let same : n.place.front ≡ piece.text = cancel_end n.place.front piece.text beyond (sym n.place.here ∙ whole) in
+      (g.0, next g.1 n.element (n.place.there ∙ ap (λ (s : List ℕ). s ++ m.0) same) m.1, replaced_then g.2 (replaced_then n.place m.2))
 
-pub moved_stands : {input : List ℕ} {pieces : List Piece} {open_maps : List OpenMap} {q : ℕ} {b : List ℕ} → StandsOpen input pieces open_maps q b → (e : List ℕ) → (EndsRun b → EndsRun e)
-    → (other : List ℕ) × StandsOpen other pieces open_maps q e × Replaced 0 input q b other e
-moved_stands (outermost els gap) e k =
-    let g = moved_gap gap e in
-    let m = moved_elements els g.0 (ends_after g.2 k) in
+pub moved_stands : {input : List ℕ} {pieces : List Piece} {opens : List Open} {q : ℕ} {b : List ℕ} → StandsOpen input pieces opens q b → (e : List ℕ) → Follows b e
+    → (others : List ℕ) × StandsOpen others pieces opens q e × Replaced 0 input q b others e
+moved_stands (outermost els gap) e f =
+    let g = moved_gap gap e f in
+    let m = moved_elements els g.0 (follows_before g.2 f) in
     (m.0, outermost m.1 g.1, replaced_then m.2 g.2)
-moved_stands (within {b = x} {place = place} s w room els gap) e k =
-    let g = moved_gap gap e in
-    let m = moved_elements els g.0 (ends_after g.2 k) in
-    let t = moved_stands s (x ∷ m.0) (λ h. h) in
-    (t.0, within t.1 w room m.1 g.1, replaced_then t.2 (replaced_more x (replaced_then m.2 g.2)))
+moved_stands (within stands token bracket room els gap) e f =
+    let g = moved_gap gap e f in
+    let m = moved_elements els g.0 (follows_before g.2 f) in
+    let t = moved_token token m.0 (follows_before m.2 (follows_before g.2 f)) in
+    let s = moved_stands stands t.bytes t.begins in
+    (s.0, within s.1 t.token bracket room m.1 g.1, replaced_then s.2 (replaced_then t.place (replaced_then m.2 g.2)))
+moved_stands (waiting stands token bracket room gap) e f =
+    let g = moved_gap gap e f in
+    let t = moved_token token g.0 (follows_before g.2 f) in
+    let s = moved_stands stands t.bytes t.begins in
+    (s.0, waiting s.1 t.token bracket room g.1, replaced_then s.2 (replaced_then t.place g.2))
+
+-- ---- room
+
+mutual
+  pub wider_gap : {room p q : ℕ} {a b : List ℕ} → IsGap room p a q b → IsGap (suc room) p a q b
+  wider_gap nothing = nothing
+  wider_gap (skipped token gap) = skipped token (wider_gap gap)
+  wider_gap (discarded token before element gap) = discarded token (wider_gap before) (wider_one element) (wider_gap gap)
+
+  pub wider_one : {room p q : ℕ} {kind : ElementKind} {core : Core} {a b : List ℕ} → IsElementAt room kind core p a q b → IsElementAt (suc room) kind core p a q b
+  wider_one (leaf token) = leaf token
+  wider_one (bracketed token els gap last fit even) = bracketed token (wider_elements els) (wider_gap gap) last fit even
+  wider_one (tagged token before element) = tagged token (wider_gap before) (wider_one element)
+
+  pub wider_elements : {room p q : ℕ} {pieces : List Piece} {a b : List ℕ} → IsElements room p a pieces q b → IsElements (suc room) p a pieces q b
+  wider_elements none = none
+  wider_elements (next gap element whole els) = next (wider_gap gap) (wider_one element) whole (wider_elements els)
+
+pub wider_element : {room p q : ℕ} {kind : ElementKind} {core : Core} {a b : List ℕ} (n : ℕ) → IsElementAt room kind core p a q b → IsElementAt (n + room) kind core p a q b
+wider_element {room} {p} {q} {kind} {core} {a} {b} zero element =
+    let same : room ≡ 0 + room = omega arith in subst (λ (m : ℕ). IsElementAt m kind core p a q b) same element
+wider_element {room} {p} {q} {kind} {core} {a} {b} (suc n) element =
+    let same : suc (n + room) ≡ suc n + room = omega arith in subst (λ (m : ℕ). IsElementAt m kind core p a q b) same (wider_one (wider_element n element))
+
+-- ---- the core of an element
+
+gap_forward : {room p q : ℕ} {a b : List ℕ} → IsGap room p a q b → p ≤ q
+gap_forward {b = b} gap = let m = moved_gap gap b (λ h. h, λ h. h, λ h. h) in omega (arith, m.2.place)
+
+token_forward : {t : Token} {p q : ℕ} {a b : List ℕ} → IsToken t p a q b → p < q
+token_forward {t = t} {b = b} token = (moved_token token b (needed t b b (λ h. h, λ h. h, λ h. h))).some
+
+element_forward : {room p q : ℕ} {kind : ElementKind} {core : Core} {a b : List ℕ} → IsElementAt room kind core p a q b → p ≤ q
+element_forward {b = b} element = let m = moved_element element b (λ h. h) in omega (arith, m.place.place)
+
+elements_forward : {room p q : ℕ} {pieces : List Piece} {a b : List ℕ} → IsElements room p a pieces q b → p ≤ q
+elements_forward {b = b} els = let m = moved_elements els b (λ h. h, λ h. h, λ h. h) in omega (arith, m.2.place)
+
+pub core_within : {room p q : ℕ} {kind : ElementKind} {core : Core} {a b : List ℕ} → IsElementAt room kind core p a q b → (p ≤ core.start) × (core.start < q)
+core_within (leaf token) = (omega arith, token_forward token)
+core_within (bracketed token els gap last fit even) =
+    (omega arith, omega (arith, token_forward token, elements_forward els, gap_forward gap, token_forward last))
+core_within (tagged token before element) =
+    let inner = core_within element in (omega (arith, token_forward token, gap_forward before, inner.0), inner.1)

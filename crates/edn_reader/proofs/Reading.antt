@@ -1,315 +1,343 @@
--- What a token says of the input, where these maps stand open.
-use Rattle.std.proofs.Common.{◌≡◌, ◌≢◌, ℕ, zero, suc, ◌+◌, ◌-◌, ◌<◌, ◌≤◌, Bool, true, false, cond, eqb, List, [], ◌∷◌, ◌++◌, length, take, drop, get_or, Some, None, Ok, Err, ◌⊎◌, refl, sym, ap, subst, ◌∙◌, arith, length-append, add-one, inl, inr}
-use Rattle.std.proofs.Math.Seq.{take-append_seam}
+-- What each token says of the input, and so what reading an element says.
+use Rattle.std.proofs.Common.{◌≡◌, ◌≢◌, ◌⊎◌, inl, inr, ℕ, zero, suc, ◌+◌, ◌<◌, ◌≤◌, Bool, true, false, cond, eqb, ◌&&◌, List, [], ◌∷◌, ◌++◌, length, drop, length-drop, Option, Some, None, Ok, Err, refl, sym, ap, subst, ◌∙◌, arith, length-append}
 use Rattle.std.proofs.lemmas.Bool.Decides.{nat_tests}
 use Rattle.std.proofs.Math.ListN.{drop_of_length-le}
-use Rattle.std.proofs.lemmas.Bool.{cases_lt}
-use Rattle.edn_reader.specs.declared.bytes.ByteClass.{ByteClass}
-use Rattle.edn_reader.specs.declared.bytes.ByteClass.TheVariants.{White, Plain, Hash, Backslash, Semicolon, Quote, Opens, Closes}
+use Rattle.edn_reader.specs.declared.bytes.ByteClass.TheVariants.{Plain, Hash, Quote, Opens, Closes}
 use Rattle.edn_reader.specs.declared.bytes.Bracket.{Bracket}
 use Rattle.edn_reader.specs.declared.bytes.Bracket.TheVariants.{Round, Square, Curly}
-use Rattle.edn_reader.specs.declared.element.ElementKind.{ElementKind}
-use Rattle.edn_reader.specs.declared.element.ElementKind.TheVariants.{Atom, Map}
 use Rattle.edn_reader.specs.declared.fault.EdnFault.{EdnFault}
 use Rattle.edn_reader.specs.declared.fault.EdnFault.TheVariants as faults
-use Rattle.edn_reader.specs.declared.nesting.OpenMap.{OpenMap}
+use Rattle.edn_reader.specs.declared.nesting.Open.{Open}
 use Rattle.edn_reader.specs.declared.step.Span.{Span}
-use Rattle.edn_reader.specs.Bytes.{class_of, is_run}
-use Rattle.edn_reader.specs.Grammar.{Piece, nothing, IsRun, ended as run_ended, more, IsElementAt, run, hashed, IsElements, none}
+use Rattle.edn_reader.specs.declared.token.Found.{Found}
+use Rattle.edn_reader.specs.declared.token.Token.{Token}
+use Rattle.edn_reader.specs.declared.token.Token.TheVariants as tokens
+use Rattle.edn_reader.specs.declared.token.Opener.{Opener}
+use Rattle.edn_reader.specs.declared.token.Opener.TheVariants as openers
+use Rattle.edn_reader.specs.Bytes.{class_of}
+use Rattle.edn_reader.specs.Grammar.{Piece, IsToken, opening, set, discard, tag, close, nothing, skipped, IsElementAt, leaf, IsElements, none, waits, fits, is_paired, kind_of}
 use Rattle.edn_reader.specs.Text.{IsFront, IsText, StandsOpen, outermost}
-use Rattle.edn_reader.specs.Fault.{IsNotYet, Refuses, not_yet, not_yet_hash, too_deep, stray_close, wrong_close, odd_map, FaultOf, AreElementsBefore}
-use Rattle.edn_reader.specs.Token.{run_length, one_more, Token, on, ends, fails, ended, close_at, hash_at, after_hash, at_class, token_at, GivesFault, Reads}
-use Rattle.edn_reader.proofs.Places.{moved_element, moved_elements}
-use Rattle.edn_reader.proofs.Steps.{stands_white, stands_opened, stands_inside, stands_outermost, stands_closed}
-use Rattle.edn_reader.proofs.Machine.{Outcome, faulty, outcome, start, outcome_stands, outcome_refused, count_of, front_counts}
-use Rattle.edn_reader.proofs.Viable.{elements_left, stands_left, stands_text, stands_room, fault_refused, fault_open_end, outcome_open_end, fault_hash_end, outcome_hash_end}
-use Rattle.edn_reader.proofs.Unique.{agree}
-use Rattle.edn_reader.proofs.Tokens.{drop_here}
+use Rattle.edn_reader.specs.Fault.{Refuses, too_deep, too_deep_hash, stray_close, wrong_close, no_element, odd_map, FaultOf, IsMemory, AreElementsBefore, innermost}
+use Rattle.edn_reader.specs.Token.{found_at, lexed}
+use Rattle.edn_reader.specs.Taking.{Taken, on, ends, fails, one_more, is_tag, behind_tag, completed, EndsOne, plain_span, fault_before, closed, taken, piece_in, Reads}
+use Rattle.edn_reader.proofs.Lexing.{token_lexed, lexed_some, unfinished_long, finishing}
+use Rattle.edn_reader.proofs.Places.{moved_elements}
+use Rattle.edn_reader.proofs.Steps.{stands_gap, stands_opened, stands_closed}
+use Rattle.edn_reader.proofs.Runs.{goes, settled, settles, front_taken}
+use Rattle.edn_reader.proofs.Unique.{Ending, ending_stands, ending_end, front_fewer, agree}
+use Rattle.edn_reader.proofs.Ended.{elements_left, stands_left, stands_room, stands_text, Stands, stands_completed}
+use Rattle.edn_reader.proofs.Viable.{fault_refused, ending_refused, fault_open_end, fault_unfinished}
 
--- The run at the front of the bytes.
-run_either : (p b : ℕ) (bytes : List ℕ) (t : Bool) → is_run b ≡ t → IsRun (suc p) bytes (suc p + run_length bytes) (drop (run_length bytes) bytes)
-    → IsRun p (b ∷ bytes) (p + cond t (run_length bytes + 1) 0) (drop (cond t (run_length bytes + 1) 0) (b ∷ bytes))
-run_either p b bytes true e r =
-    let place : suc p + run_length bytes ≡ p + (run_length bytes + 1) = omega arith in
-    let left : drop (run_length bytes) bytes ≡ drop (run_length bytes + 1) (b ∷ bytes) = ap (λ (n : ℕ). drop n (b ∷ bytes)) (sym (add-one (run_length bytes))) in
-    subst (λ (rest : List ℕ). IsRun p (b ∷ bytes) (p + (run_length bytes + 1)) rest) left (subst (λ (q : ℕ). IsRun p (b ∷ bytes) q (drop (run_length bytes) bytes)) place (more e r))
-run_either p b bytes false e r =
-    let place : p ≡ p + 0 = omega arith in
-    subst (λ (q : ℕ). IsRun p (b ∷ bytes) q (b ∷ bytes)) place (run_ended e)
+-- ---- one token
 
-pub run_here : (p : ℕ) (bytes : List ℕ) → IsRun p bytes (p + run_length bytes) (drop (run_length bytes) bytes)
-unfolding run_length
-run_here p [] = let e : p ≡ p + 0 = omega arith in subst (λ (q : ℕ). IsRun p [] q []) e (run_ended tt)
-run_here p (b ∷ bytes) = run_either p b bytes (is_run b) refl (run_here (suc p) bytes)
+-- A fault of the input, and the run up to it.
+pub record Fails (input : List ℕ) (pieces : List Piece) (fault : EdnFault) : Type 0 where
+  pub met : FaultOf input fault
+  pub place : ℕ
+  pub bytes : List ℕ
+  pub opens : List Open
+  pub ending : Ending input place bytes opens pieces
 
--- What each token says.
-abbrev pub Says : List ℕ → List Piece → ℕ → Token → Type 0
-Says input pieces at (on q open_maps) = StandsOpen input pieces open_maps q (drop q input)
-Says input pieces at (ends kind start_place after) =
-    (start_place ≤ after) × IsElements 64 0 input (pieces ++ record { kind = kind; start = start_place; text = take (after - start_place) (drop start_place input) } ∷ []) after (drop after input)
-Says input pieces at (fails fault) = FaultOf input fault × (outcome start input ≡ faulty fault (length pieces))
+abbrev pub Says : List ℕ → List Piece → ℕ → List ℕ → Taken → Type 0
+Says input pieces q b (on opens) = StandsOpen input pieces opens q b
+Says input pieces q b (ends span) =
+    (span.start ≤ span.core.start) × (span.core.start < span.end) × (span.end ≡ q) × IsElements 64 0 input (pieces ++ piece_in input span ∷ []) q b
+Says input pieces q b (fails fault) = Fails input pieces fault
 
-says_on : (input : List ℕ) (pieces : List Piece) (at q : ℕ) (rest : List ℕ) (open_maps : List OpenMap) → StandsOpen input pieces open_maps q rest → Says input pieces at (on q open_maps)
-says_on input pieces at q rest open_maps s = subst (λ (r : List ℕ). StandsOpen input pieces open_maps q r) (stands_left s) s
+says_refused : {p at : ℕ} {input a : List ℕ} {pieces : List Piece} {opens : List Open} {fault : EdnFault} → StandsOpen input pieces opens p a → Refuses opens p a at fault → Fails input pieces fault
+says_refused {p} {a = a} {opens = opens} s r = record { met = fault_refused s r; place = p; bytes = a; opens = opens; ending = ending_refused s r }
 
-says_ended : {p q : ℕ} {input a b : List ℕ} {pieces : List Piece} (at : ℕ) (kind : ElementKind) (open_maps : List OpenMap) → StandsOpen input pieces open_maps p a
-    → ((room : ℕ) → room + length open_maps ≡ 64 → IsElementAt room kind p a q b) → Says input pieces at (ended kind p q open_maps)
-says_ended {p} {q} {input} {a} {b} {pieces} at kind [] s el =
-    let m = moved_element (el 64 refl) b (λ h. h) in
-    let els = stands_outermost kind m.2.front s (el 64 refl) m.2.here in
-    let long : q - p ≡ length m.2.front = omega (arith, m.2.place) in
-    let text : m.2.front ≡ take (q - p) (drop p input) =
-    sym (ap (take (q - p)) (sym (stands_left s)) ∙ ap (take (q - p)) m.2.here ∙ ap (λ (n : ℕ). take n (m.2.front ++ b)) long ∙ take-append_seam m.2.front b) in
-    let named = subst (λ (t : List ℕ). IsElements 64 0 input (pieces ++ record { kind = kind; start = p; text = t } ∷ []) q b) text els in
-    (omega (arith, m.2.place), subst (λ (r : List ℕ). IsElements 64 0 input (pieces ++ record { kind = kind; start = p; text = take (q - p) (drop p input) } ∷ []) q r) (elements_left els) named)
-says_ended {p} {q} {input} {a} {b} {pieces} at kind (innermost ∷ open_maps) s el =
-    let m = moved_element (el (64 - suc (length open_maps)) (omega (arith, stands_room s))) b (λ h. h) in
-    says_on input pieces at q b (one_more (innermost ∷ open_maps)) (stands_inside kind m.2.front s el m.2.here)
+-- What was completed never fails.
+never_fails : (span : Span) (opens : List Open) (fault : EdnFault) → completed span opens ≡ fails fault → ⊥
+never_fails span opens fault e = let both : Some (settled span opens) ≡ None = sym (settles span opens) ∙ ap goes e in absurd cc
 
-says_refused : {at there : ℕ} {input bytes : List ℕ} {pieces : List Piece} {open_maps : List OpenMap} {fault : EdnFault} → StandsOpen input pieces open_maps at bytes → Refuses open_maps at bytes there fault
-    → FaultOf input fault × (outcome start input ≡ faulty fault (length pieces))
-says_refused {pieces = pieces} s r = (fault_refused s r, outcome_stands s ∙ outcome_refused (length pieces) r)
+says_stands : (input : List ℕ) (pieces : List Piece) (q : ℕ) (b : List ℕ) (t : Taken) → ((fault : EdnFault) → t ≡ fails fault → ⊥) → Stands input pieces q b t → Says input pieces q b t
+says_stands input pieces q b (on opens) h s = s
+says_stands input pieces q b (ends span) h s = s
+says_stands input pieces q b (fails fault) h s = absurd (h fault refl)
 
-says_run : {b at : ℕ} {input bytes : List ℕ} {pieces : List Piece} (open_maps : List OpenMap) → StandsOpen input pieces open_maps at (b ∷ bytes) → class_of b ≡ Plain
-    → Says input pieces at (ended Atom at (at + 1 + run_length bytes) open_maps)
-says_run {at = at} {input = input} {bytes = bytes} {pieces = pieces} open_maps s e =
-    let place : suc at + run_length bytes ≡ at + 1 + run_length bytes = omega arith in
-    subst (λ (q : ℕ). Says input pieces at (ended Atom at q open_maps)) place (says_ended at Atom open_maps s (λ room fits. run e (run_here (suc at) bytes)))
+says_completed : {input b : List ℕ} {pieces : List Piece} (opens : List Open) (span : Span) (a : List ℕ) → StandsOpen input pieces opens span.start a
+    → ((room : ℕ) → room + length opens ≡ 64 → IsElementAt room span.kind span.core span.start a span.end b) → Says input pieces span.end b (completed span opens)
+says_completed {input} {b} {pieces} opens span a s element =
+    says_stands input pieces span.end b (completed span opens) (never_fails span opens) (stands_completed opens span a s element)
 
-says_after_hash : {b c at : ℕ} {input bytes : List ℕ} {pieces : List Piece} (open_maps : List OpenMap) (k : ByteClass) → StandsOpen input pieces open_maps at (b ∷ c ∷ bytes) → class_of b ≡ Hash → class_of c ≡ k
-    → Says input pieces at (after_hash k at bytes open_maps)
-says_after_hash {at = at} {input = input} {bytes = bytes} {pieces = pieces} open_maps Hash s e k =
-    let place : suc (suc at) + run_length bytes ≡ at + 2 + run_length bytes = omega arith in
-    subst (λ (q : ℕ). Says input pieces at (ended Atom at q open_maps)) place (says_ended at Atom open_maps s (λ room fits. hashed e k (run_here (suc (suc at)) bytes)))
-says_after_hash open_maps White s e k = says_refused s (not_yet_hash e (λ h. let both : White ≡ Hash = sym k ∙ h in cc))
-says_after_hash open_maps Plain s e k = says_refused s (not_yet_hash e (λ h. let both : Plain ≡ Hash = sym k ∙ h in cc))
-says_after_hash open_maps Backslash s e k = says_refused s (not_yet_hash e (λ h. let both : Backslash ≡ Hash = sym k ∙ h in cc))
-says_after_hash open_maps Semicolon s e k = says_refused s (not_yet_hash e (λ h. let both : Semicolon ≡ Hash = sym k ∙ h in cc))
-says_after_hash open_maps Quote s e k = says_refused s (not_yet_hash e (λ h. let both : Quote ≡ Hash = sym k ∙ h in cc))
-says_after_hash open_maps (Opens bracket) s e k = says_refused s (not_yet_hash e (λ h. let both : Opens bracket ≡ Hash = sym k ∙ h in cc))
-says_after_hash open_maps (Closes bracket) s e k = says_refused s (not_yet_hash e (λ h. let both : Closes bracket ≡ Hash = sym k ∙ h in cc))
+-- What opens while 64 are open.
+deep_refused : {opener : Opener} {p q : ℕ} {a b : List ℕ} {opens : List Open} → IsToken (tokens.Opens opener) p a q b → length opens ≡ 64
+    → (at : ℕ) × Refuses opens p a at (faults.TooDeep p)
+unfolding class_of
+deep_refused {p = p} (opening e) full = (p, too_deep e full)
+deep_refused {p = p} (set v w) full = (suc p, too_deep_hash v (λ h. let both : Opens Curly ≡ Hash = sym w ∙ h in cc) (λ h. let both : Opens Curly ≡ Quote = sym w ∙ h in cc) full)
+deep_refused {p = p} (discard {c = c} v w) full =
+    let plain : class_of c ≡ Plain = ap class_of w in
+    (suc p, too_deep_hash v (λ h. let both : Plain ≡ Hash = sym plain ∙ h in cc) (λ h. let both : Plain ≡ Quote = sym plain ∙ h in cc) full)
+deep_refused {p = p} (tag {bytes = []} v n g) full = absurd n
+deep_refused {p = p} (tag {bytes = c ∷ bytes} v n g) full = (suc p, too_deep_hash v n.0 n.1 full)
 
-says_hash : {b at : ℕ} {input : List ℕ} {pieces : List Piece} (bytes : List ℕ) (open_maps : List OpenMap) → StandsOpen input pieces open_maps at (b ∷ bytes) → class_of b ≡ Hash
-    → Says input pieces at (hash_at at bytes open_maps)
-unfolding hash_at
-says_hash {at = at} {input = input} {pieces = pieces} [] open_maps s e =
-    subst (λ (p : ℕ). Says input pieces at (fails (faults.Truncated p))) (sym (add-one at)) (fault_hash_end s e, outcome_hash_end s e)
-says_hash (c ∷ bytes) open_maps s e = says_after_hash open_maps (class_of c) s e refl
+says_opened : {p q : ℕ} {input a b : List ℕ} {pieces : List Piece} (opener : Opener) (opens : List Open) (t : Bool) → eqb (length opens) 64 ≡ t → StandsOpen input pieces opens p a → IsToken (tokens.Opens opener) p a q b
+    → Says input pieces q b (cond t (fails (faults.TooDeep p)) (on (record { place = p; opener = opener; odd = false } ∷ opens)))
+says_opened opener opens true e s token =
+    let full : length opens ≡ 64 = grind (arith, nat_tests) in says_refused s (deep_refused token full).1
+says_opened opener opens false e s token =
+    let most = stands_room opens s in
+    let room : length opens < 64 = grind (arith, nat_tests) in
+    stands_opened opener (waits opener) refl s token room
 
-says_open : {b at : ℕ} {input bytes : List ℕ} {pieces : List Piece} (open_maps : List OpenMap) (t : Bool) → eqb (length open_maps) 64 ≡ t → StandsOpen input pieces open_maps at (b ∷ bytes) → class_of b ≡ Opens Curly
-    → length open_maps ≤ 64 → Says input pieces at (cond t (fails (faults.TooDeep at)) (on (at + 1) (record { place = at; odd = false } ∷ open_maps)))
-says_open open_maps true t s e le =
-    let full : length open_maps ≡ 64 = grind (arith, nat_tests) in
-    says_refused s (too_deep e full)
-says_open {at = at} {input = input} {bytes = bytes} {pieces = pieces} open_maps false t s e le =
-    let room : length open_maps < 64 = grind (arith, nat_tests) in
-    says_on input pieces at (at + 1) bytes (record { place = at; odd = false } ∷ open_maps)
-    (subst (λ (q : ℕ). StandsOpen input pieces (record { place = at; odd = false } ∷ open_maps) q bytes) (sym (add-one at)) (stands_opened s e room))
+-- ---- a closing bracket
 
-at_most : {q : ℕ} {pieces : List Piece} (open_maps : List OpenMap) {input rest : List ℕ} → StandsOpen input pieces open_maps q rest → length open_maps ≤ 64
-at_most [] s = omega arith
-at_most (innermost ∷ open_maps) s = omega (arith, stands_room s)
+-- What holds pairs is closed by a brace.
+paired_curly : (opener : Opener) (bracket : Bracket) → is_paired opener ≡ true → fits opener bracket ≡ true → bracket ≡ Curly
+paired_curly openers.List bracket m f = absurd cc
+paired_curly openers.Vector bracket m f = absurd cc
+paired_curly openers.Map Round m f = absurd cc
+paired_curly openers.Map Square m f = absurd cc
+paired_curly openers.Map Curly m f = refl
+paired_curly openers.Set bracket m f = absurd cc
+paired_curly openers.Tag bracket m f = absurd cc
+paired_curly openers.Discard bracket m f = absurd cc
 
-says_map : {c at : ℕ} {input bytes : List ℕ} {pieces : List Piece} (innermost : OpenMap) (open_maps : List OpenMap) (t : Bool) → innermost.odd ≡ t → StandsOpen input pieces (innermost ∷ open_maps) at (c ∷ bytes) → class_of c ≡ Closes Curly
-    → Says input pieces at (cond t (fails (faults.OddMap at)) (ended Map innermost.place (at + 1) open_maps))
-says_map innermost open_maps true t s e = says_refused s (odd_map e t)
-says_map {at = at} {input = input} {pieces = pieces} innermost open_maps false t s e =
-    let closed = stands_closed s e t in
-    subst (λ (q : ℕ). Says input pieces at (ended Map innermost.place q open_maps)) (sym (add-one at)) (says_ended at Map open_maps closed.before closed.element)
+record Closing (bracket : Bracket) (p : ℕ) (a : List ℕ) (q : ℕ) (b : List ℕ) : Type 0 where
+  byte : ℕ
+  is : class_of byte ≡ Closes bracket
+  bytes : a ≡ byte ∷ b
 
-says_close : {c at : ℕ} {input bytes : List ℕ} {pieces : List Piece} (bracket : Bracket) (open_maps : List OpenMap) → StandsOpen input pieces open_maps at (c ∷ bytes) → class_of c ≡ Closes bracket
-    → Says input pieces at (close_at at bracket open_maps)
-unfolding close_at
-says_close bracket [] s e = says_refused s (stray_close e)
-says_close Round (innermost ∷ open_maps) s e = says_refused s (wrong_close e (λ h. cc))
-says_close Square (innermost ∷ open_maps) s e = says_refused s (wrong_close e (λ h. cc))
-says_close Curly (innermost ∷ open_maps) s e = says_map innermost open_maps innermost.odd refl s e
+closing_of : {bracket : Bracket} {p q : ℕ} {a b : List ℕ} → IsToken (tokens.Closes bracket) p a q b → Closing bracket p a q b
+closing_of (close {b = x} e) = record { byte = x; is = e; bytes = refl }
 
-says_not_yet : {b at : ℕ} {input bytes : List ℕ} {pieces : List Piece} (open_maps : List OpenMap) (k : ByteClass) → StandsOpen input pieces open_maps at (b ∷ bytes) → class_of b ≡ k → IsNotYet k
-    → Says input pieces at (fails (faults.NotYet at))
-says_not_yet open_maps k s e h = says_refused s (not_yet (subst IsNotYet (sym e) h))
+both_true : (x y : Bool) → x && y ≡ true → (x ≡ true) × (y ≡ true)
+both_true true y e = (refl, e)
+both_true false y e = absurd cc
 
-says_class : {b at : ℕ} {input bytes : List ℕ} {pieces : List Piece} (open_maps : List OpenMap) (k : ByteClass) → StandsOpen input pieces open_maps at (b ∷ bytes) → class_of b ≡ k
-    → Says input pieces at (at_class k at bytes open_maps)
-says_class {at = at} {input = input} {bytes = bytes} {pieces = pieces} open_maps White s e =
-    says_on input pieces at (at + 1) bytes open_maps (subst (λ (q : ℕ). StandsOpen input pieces open_maps q bytes) (sym (add-one at)) (stands_white s e))
-says_class open_maps Plain s e = says_run open_maps s e
-says_class {bytes = bytes} open_maps Hash s e = says_hash bytes open_maps s e
-says_class open_maps Backslash s e = says_not_yet open_maps Backslash s e tt
-says_class open_maps Semicolon s e = says_not_yet open_maps Semicolon s e tt
-says_class open_maps Quote s e = says_not_yet open_maps Quote s e tt
-says_class open_maps (Opens Round) s e = says_not_yet open_maps (Opens Round) s e tt
-says_class open_maps (Opens Square) s e = says_not_yet open_maps (Opens Square) s e tt
-says_class open_maps (Opens Curly) s e = says_open open_maps (eqb (length open_maps) 64) refl s e (at_most open_maps s)
-says_class open_maps (Closes bracket) s e = says_close bracket open_maps s e
+odd_at : {p byte : ℕ} {b : List ℕ} {bracket : Bracket} (item : Open) (opens : List Open) → class_of byte ≡ Closes bracket → (is_paired item.opener ≡ true) × (item.odd ≡ true) → fits item.opener bracket ≡ true
+    → Refuses (item ∷ opens) p (byte ∷ b) p (faults.OddMap p)
+odd_at {bracket = bracket} item opens e m f = odd_map (e ∙ ap Closes (paired_curly item.opener bracket m.0 f)) m.0 m.1
 
-pub says : (input : List ℕ) (pieces : List Piece) (open_maps : List OpenMap) (at : ℕ) → at < length input → StandsOpen input pieces open_maps at (drop at input)
-    → Says input pieces at (token_at at (drop at input) open_maps)
-unfolding token_at
-says input pieces open_maps at lt s =
-    let e = drop_here input at lt in
-    subst (λ (bytes : List ℕ). Says input pieces at (token_at at bytes open_maps)) (sym e)
-    (says_class open_maps (class_of (get_or input at 0)) (subst (λ (bytes : List ℕ). StandsOpen input pieces open_maps at bytes) e s) refl)
+refuses_at : {p at : ℕ} {a b : List ℕ} {opens : List Open} {fault : EdnFault} → a ≡ b → Refuses opens p b at fault → Refuses opens p a at fault
+refuses_at {p} {at} {opens = opens} {fault = fault} e r = subst (λ (x : List ℕ). Refuses opens p x at fault) (sym e) r
 
--- ---- each step goes forward
+says_before : {p q : ℕ} {input a b : List ℕ} {pieces : List Piece} {bracket : Bracket} (item inner : Open) (opens : List Open) (t : Bool) → fits inner.opener bracket ≡ t → waits item.opener ≡ true → innermost opens ≡ Some inner
+    → StandsOpen input pieces (item ∷ opens) p a → Closing bracket p a q b → Fails input pieces (cond t (faults.TagWithoutElement item.place) (faults.WrongClose p))
+says_before item inner opens true f w e s c = says_refused s (refuses_at c.bytes (no_element c.is w e f))
+says_before item inner opens false f w e s c = says_refused s (refuses_at c.bytes (wrong_close {inner = inner} c.is (rw w e) f))
 
-abbrev Grows : ℕ → Token → Type 0
-Grows at (on q open_maps) = at < q
-Grows at (ends kind start_place after) = at < after
-Grows at (fails fault) = Unit {0}
+says_waiting : {p q : ℕ} {input a b : List ℕ} {pieces : List Piece} {bracket : Bracket} (item : Open) (opens : List Open) (o : Option Open) → innermost opens ≡ o → waits item.opener ≡ true
+    → StandsOpen input pieces (item ∷ opens) p a → Closing bracket p a q b → Fails input pieces (fault_before p bracket item o)
+says_waiting item opens None e w s c = says_refused s (refuses_at c.bytes (stray_close c.is (rw w e)))
+says_waiting {bracket = bracket} item opens (Some inner) e w s c = says_before item inner opens (fits inner.opener bracket) refl w e s c
 
-grows_ended : (at : ℕ) (kind : ElementKind) (p q : ℕ) (open_maps : List OpenMap) → at < q → Grows at (ended kind p q open_maps)
-grows_ended at kind p q [] lt = lt
-grows_ended at kind p q (innermost ∷ open_maps) lt = lt
+says_paired : {p q : ℕ} {input a b : List ℕ} {pieces : List Piece} {bracket : Bracket} (item : Open) (opens : List Open) (t : Bool) → is_paired item.opener && item.odd ≡ t → waits item.opener ≡ false → fits item.opener bracket ≡ true
+    → StandsOpen input pieces (item ∷ opens) p a → IsToken (tokens.Closes bracket) p a q b → Says input pieces q b (cond t (fails (faults.OddMap p)) (completed (plain_span (kind_of item.opener) item.place q) opens))
+says_paired item opens true e w f s token = let c = closing_of token in says_refused s (refuses_at c.bytes (odd_at item opens c.is (both_true (is_paired item.opener) item.odd e) f))
+says_paired {q = q} item opens false e w f s token =
+    let c = stands_closed w s token f e in
+    says_completed opens (plain_span (kind_of item.opener) item.place q) c.bytes c.before c.element
 
-grows_after_hash : (at : ℕ) (bytes : List ℕ) (open_maps : List OpenMap) (k : ByteClass) → Grows at (after_hash k at bytes open_maps)
-grows_after_hash at bytes open_maps Hash = grows_ended at Atom at (at + 2 + run_length bytes) open_maps (omega arith)
-grows_after_hash at bytes open_maps White = tt
-grows_after_hash at bytes open_maps Plain = tt
-grows_after_hash at bytes open_maps Backslash = tt
-grows_after_hash at bytes open_maps Semicolon = tt
-grows_after_hash at bytes open_maps Quote = tt
-grows_after_hash at bytes open_maps (Opens bracket) = tt
-grows_after_hash at bytes open_maps (Closes bracket) = tt
+says_closed_by : {p q : ℕ} {input a b : List ℕ} {pieces : List Piece} {bracket : Bracket} (item : Open) (opens : List Open) (w f : Bool) → waits item.opener ≡ w → fits item.opener bracket ≡ f
+    → StandsOpen input pieces (item ∷ opens) p a → IsToken (tokens.Closes bracket) p a q b
+    → Says input pieces q b (cond w (fails (fault_before p bracket item (innermost opens)))
+    (cond f (cond (is_paired item.opener && item.odd) (fails (faults.OddMap p)) (completed (plain_span (kind_of item.opener) item.place q) opens)) (fails (faults.WrongClose p))))
+says_closed_by item opens true f w g s token = says_waiting item opens (innermost opens) refl w s (closing_of token)
+says_closed_by item opens false true w g s token = says_paired item opens (is_paired item.opener && item.odd) refl w g s token
+says_closed_by item opens false false w g s token = let c = closing_of token in says_refused s (refuses_at c.bytes (wrong_close {inner = item} c.is (rw w refl) g))
 
-grows_hash : (at : ℕ) (bytes : List ℕ) (open_maps : List OpenMap) → Grows at (hash_at at bytes open_maps)
-unfolding hash_at
-grows_hash at [] open_maps = tt
-grows_hash at (c ∷ bytes) open_maps = grows_after_hash at bytes open_maps (class_of c)
+says_closed : {p q : ℕ} {input a b : List ℕ} {pieces : List Piece} (bracket : Bracket) (opens : List Open) → StandsOpen input pieces opens p a → IsToken (tokens.Closes bracket) p a q b
+    → Says input pieces q b (closed p q bracket opens)
+unfolding closed
+says_closed bracket [] s token = let c = closing_of token in says_refused s (refuses_at c.bytes (stray_close c.is refl))
+says_closed bracket (item ∷ opens) s token = says_closed_by item opens (waits item.opener) (fits item.opener bracket) refl refl s token
 
-grows_test : (at : ℕ) (t : Bool) (x y : Token) → Grows at x → Grows at y → Grows at (cond t x y)
-grows_test at true x y h k = h
-grows_test at false x y h k = k
+-- ---- each token
 
-grows_close : (at : ℕ) (bracket : Bracket) (open_maps : List OpenMap) → Grows at (close_at at bracket open_maps)
-unfolding close_at
-grows_close at bracket [] = tt
-grows_close at Round (innermost ∷ open_maps) = tt
-grows_close at Square (innermost ∷ open_maps) = tt
-grows_close at Curly (innermost ∷ open_maps) =
-    grows_test at innermost.odd (fails (faults.OddMap at)) (ended Map innermost.place (at + 1) open_maps) tt (grows_ended at Map innermost.place (at + 1) open_maps (omega arith))
+says_unfinished : {p : ℕ} {input a : List ℕ} {pieces : List Piece} (opens : List Open) → StandsOpen input pieces opens p a → 0 < length a → (lexed a).0 ≡ tokens.Unfinished
+    → Fails input pieces (faults.Truncated (p + (lexed a).1))
+unfolding taken
+says_unfinished {p} {input} {a} {pieces} opens s some e =
+    let stuck : goes (front_taken p a opens) ≡ None = ap (λ (t : Token). goes (taken t p (p + (lexed a).1) opens)) e in
+    let met = fault_unfinished s some (finishing a some e) stuck in
+    let long : p + length a ≡ p + (lexed a).1 = ap (λ (n : ℕ). p + n) (sym (unfinished_long a e)) in
+    record { met = subst (λ (n : ℕ). FaultOf input (faults.Truncated n)) long met; place = p; bytes = a; opens = opens; ending = ending_stands s stuck }
 
-grows_class : (at : ℕ) (bytes : List ℕ) (open_maps : List OpenMap) (k : ByteClass) → Grows at (at_class k at bytes open_maps)
-grows_class at bytes open_maps White = omega arith
-grows_class at bytes open_maps Plain = grows_ended at Atom at (at + 1 + run_length bytes) open_maps (omega arith)
-grows_class at bytes open_maps Hash = grows_hash at bytes open_maps
-grows_class at bytes open_maps Backslash = tt
-grows_class at bytes open_maps Semicolon = tt
-grows_class at bytes open_maps Quote = tt
-grows_class at bytes open_maps (Opens Round) = tt
-grows_class at bytes open_maps (Opens Square) = tt
-grows_class at bytes open_maps (Opens Curly) =
-    grows_test at (eqb (length open_maps) 64) (fails (faults.TooDeep at)) (on (at + 1) (record { place = at; odd = false } ∷ open_maps)) tt (omega arith)
-grows_class at bytes open_maps (Closes bracket) = grows_close at bracket open_maps
+token_by : (input : List ℕ) (pieces : List Piece) (opens : List Open) (p : ℕ) (a : List ℕ) (t : Token) → (lexed a).0 ≡ t → StandsOpen input pieces opens p a → 0 < length a
+    → Says input pieces (p + (lexed a).1) (drop (lexed a).1 a) (taken t p (p + (lexed a).1) opens)
+unfolding taken
+token_by input pieces opens p a tokens.Gap e s some = let token = token_lexed p a tokens.Gap e (λ h. cc) in stands_gap s (λ room fit. skipped token nothing)
+token_by input pieces opens p a (tokens.Leaf kind) e s some =
+    let token = token_lexed p a (tokens.Leaf kind) e (λ h. cc) in
+    says_completed opens (plain_span kind p (p + (lexed a).1)) a s (λ room fit. leaf token)
+token_by input pieces opens p a (tokens.Opens opener) e s some =
+    says_opened opener opens (eqb (length opens) 64) refl s (token_lexed p a (tokens.Opens opener) e (λ h. cc))
+token_by input pieces opens p a (tokens.Closes bracket) e s some =
+    says_closed bracket opens s (token_lexed p a (tokens.Closes bracket) e (λ h. cc))
+token_by input pieces opens p a tokens.Unfinished e s some = says_unfinished opens s some e
 
-grows_token : (at : ℕ) (bytes : List ℕ) (open_maps : List OpenMap) → Grows at (token_at at bytes open_maps)
-unfolding token_at
-grows_token at [] open_maps = tt
-grows_token at (b ∷ bytes) open_maps = grows_class at bytes open_maps (class_of b)
-
-pub goes_forward : (at q : ℕ) (bytes : List ℕ) (open_maps after : List OpenMap) → token_at at bytes open_maps ≡ on q after → at < q
-goes_forward at q bytes open_maps after e = subst (Grows at) e (grows_token at bytes open_maps)
+pub says : (input : List ℕ) (pieces : List Piece) (opens : List Open) (p : ℕ) (a : List ℕ) → StandsOpen input pieces opens p a → 0 < length a
+    → Says input pieces (p + (lexed a).1) (drop (lexed a).1 a) (front_taken p a opens)
+says input pieces opens p a s some = token_by input pieces opens p a (lexed a).0 refl s some
 
 -- ---- what reading an element says
 
 -- What stands open after the bytes read so far, whatever elements came before.
-abbrev pub Stands : List ℕ → ℕ → List OpenMap → ℕ → Type 0
-Stands input from open_maps at = (pieces : List Piece) → IsFront input pieces from → StandsOpen input pieces open_maps at (drop at input)
+abbrev pub StandsFrom : List ℕ → ℕ → List Open → ℕ → Type 0
+StandsFrom input from opens at = (pieces : List Piece) → IsFront input pieces from → StandsOpen input pieces opens at (drop at input)
 
-pub stands_begin : (input : List ℕ) (from : ℕ) (open_maps : List OpenMap) → open_maps ≡ [] → Stands input from open_maps from
-stands_begin input from open_maps e pieces front = subst (λ (ms : List OpenMap). StandsOpen input pieces ms from (drop from input)) (sym e) (outermost front nothing)
+pub stands_begin : (input : List ℕ) (from : ℕ) (opens : List Open) → opens ≡ [] → StandsFrom input from opens from
+stands_begin input from opens e pieces front = subst (λ (o : List Open). StandsOpen input pieces o from (drop from input)) (sym e) (outermost front nothing)
 
-pub stands_on : (input : List ℕ) (from at q : ℕ) (open_maps after : List OpenMap) → at < length input → Stands input from open_maps at → token_at at (drop at input) open_maps ≡ on q after
-    → Stands input from after q
-stands_on input from at q open_maps after lt s e pieces front = subst (Says input pieces at) e (says input pieces open_maps at lt (s pieces front))
+some_left : (input : List ℕ) (at : ℕ) → at < length input → 0 < length (drop at input)
+some_left input at lt = omega (arith, length-drop at input, lt)
+
+-- The token that was found is the one at the front.
+found_front : (input : List ℕ) (at : ℕ) (found : Found) (opens : List Open) → found ≡ found_at at (lexed (drop at input)) → taken found.token at found.end opens ≡ front_taken at (drop at input) opens
+found_front input at found opens e = ap (λ (f : Found). taken f.token at f.end opens) e
+
+said : (input : List ℕ) (from at : ℕ) (found : Found) (opens : List Open) (t : Taken) → at < length input → StandsFrom input from opens at → found ≡ found_at at (lexed (drop at input))
+    → taken found.token at found.end opens ≡ t → (pieces : List Piece) → IsFront input pieces from → Says input pieces (at + (lexed (drop at input)).1) (drop (lexed (drop at input)).1 (drop at input)) t
+said input from at found opens t lt s e f pieces front =
+    subst (Says input pieces (at + (lexed (drop at input)).1) (drop (lexed (drop at input)).1 (drop at input))) (sym (found_front input at found opens e) ∙ f)
+    (says input pieces opens at (drop at input) (s pieces front) (some_left input at lt))
+
+pub stands_on : (input : List ℕ) (from at : ℕ) (found : Found) (opens after : List Open) → at < length input → StandsFrom input from opens at → found ≡ found_at at (lexed (drop at input))
+    → taken found.token at found.end opens ≡ on after → StandsFrom input from after found.end
+stands_on input from at found opens after lt s e f pieces front =
+    let now = said input from at found opens (on after) lt s e f pieces front in
+    let place : at + (lexed (drop at input)).1 ≡ found.end = sym (ap (λ (x : Found). x.end) e) in
+    let rest : drop (lexed (drop at input)).1 (drop at input) ≡ drop found.end input = stands_left now ∙ ap (λ (n : ℕ). drop n input) place in
+    subst (λ (n : ℕ). StandsOpen input pieces after n (drop found.end input)) place (subst (λ (b : List ℕ). StandsOpen input pieces after (at + (lexed (drop at input)).1) b) rest now)
 
 elements_within : {q : ℕ} {pieces : List Piece} {input rest : List ℕ} → IsElements 64 0 input pieces q rest → q ≤ length input
-elements_within {rest = rest} els = let m = moved_elements els rest (λ h. h) in omega (arith, m.2.place, ap length m.2.here, length-append m.2.front rest)
+elements_within {rest = rest} els = let m = moved_elements els rest (λ h. h, λ h. h, λ h. h) in omega (arith, m.2.place, ap length m.2.here, length-append m.2.front rest)
 
-ends_forward : (at : ℕ) (kind : ElementKind) (p q : ℕ) (bytes : List ℕ) (open_maps : List OpenMap) → token_at at bytes open_maps ≡ ends kind p q → at < q
-ends_forward at kind p q bytes open_maps e = subst (Grows at) e (grows_token at bytes open_maps)
+-- An element ends where its last token ends.
+ends_by : (t w : Bool) (x : Taken) (y z : List Open) (s : Span) (n : ℕ) → (x ≡ ends s → s.end ≡ n) → cond t x (cond w (on y) (on z)) ≡ ends s → s.end ≡ n
+ends_by true w x y z s n h e = h e
+ends_by false true x y z s n h e = absurd cc
+ends_by false false x y z s n h e = absurd cc
 
-pub reads_element : (input : List ℕ) (from at : ℕ) (span : Span) (open_maps after : List OpenMap) → from ≤ at → at < length input → Stands input from open_maps at
-    → token_at at (drop at input) open_maps ≡ ends span.kind span.start span.end → after ≡ [] → Reads input from (Ok (Some span)) after
-reads_element input from at span open_maps after le lt s e empty = (
+completed_ends : (opens : List Open) (span s : Span) → completed span opens ≡ ends s → s.end ≡ span.end
+unfolding completed
+completed_ends [] span s e = let same : span ≡ s = cc in ap (λ (x : Span). x.end) (sym same)
+completed_ends (item ∷ opens) span s e =
+    ends_by (is_tag item.opener) (waits item.opener) (completed (behind_tag item span) opens) opens (one_more item ∷ opens) s span.end (completed_ends opens (behind_tag item span) s) e
+
+closed_by : (w f o : Bool) (x : Taken) (a b c : EdnFault) (s : Span) (n : ℕ) → (x ≡ ends s → s.end ≡ n) → cond w (fails a) (cond f (cond o (fails b) x) (fails c)) ≡ ends s → s.end ≡ n
+closed_by true f o x a b c s n h e = absurd cc
+closed_by false true true x a b c s n h e = absurd cc
+closed_by false true false x a b c s n h e = h e
+closed_by false false o x a b c s n h e = absurd cc
+
+closed_ends : (p q : ℕ) (bracket : Bracket) (opens : List Open) (s : Span) → closed p q bracket opens ≡ ends s → s.end ≡ q
+unfolding closed
+closed_ends p q bracket [] s e = absurd cc
+closed_ends p q bracket (item ∷ opens) s e =
+    closed_by (waits item.opener) (fits item.opener bracket) (is_paired item.opener && item.odd) _ _ _ _ s q (completed_ends opens (plain_span (kind_of item.opener) item.place q) s) e
+
+opened_never : (t : Bool) (f : EdnFault) (opens : List Open) (s : Span) → cond t (fails f) (on opens) ≡ ends s → ⊥
+opened_never true f opens s e = cc
+opened_never false f opens s e = cc
+
+taken_ends : (t : Token) (p q : ℕ) (opens : List Open) (s : Span) → taken t p q opens ≡ ends s → s.end ≡ q
+unfolding taken
+taken_ends tokens.Gap p q opens s e = absurd cc
+taken_ends (tokens.Leaf kind) p q opens s e = completed_ends opens (plain_span kind p q) s e
+taken_ends (tokens.Opens opener) p q opens s e = absurd (opened_never (eqb (length opens) 64) _ _ s e)
+taken_ends (tokens.Closes bracket) p q opens s e = closed_ends p q bracket opens s e
+taken_ends tokens.Unfinished p q opens s e = absurd cc
+
+pub reads_element : (input : List ℕ) (from at : ℕ) (found : Found) (span : Span) (opens after : List Open) → from ≤ at → at < found.end → at < length input → StandsFrom input from opens at
+    → found ≡ found_at at (lexed (drop at input)) → taken found.token at found.end opens ≡ ends span → after ≡ [] → Reads input from (Ok (Some span)) after
+reads_element input from at found span opens after le more lt s e f empty = (
   empty,
-  (let forward = ends_forward at span.kind span.start span.end (drop at input) open_maps e in omega arith),
+  omega (arith, le, more, taken_ends found.token at found.end opens span f),
   λ pieces front.
-      let said = subst (Says input pieces at) e (says input pieces open_maps at lt (s pieces front)) in
-      (said.0, elements_within said.1, said.1),
+      let now = said input from at found opens (ends span) lt s e f pieces front in
+      let there : IsElements 64 0 input (pieces ++ piece_in input span ∷ []) span.end (drop (lexed (drop at input)).1 (drop at input)) =
+      subst (λ (n : ℕ). IsElements 64 0 input (pieces ++ piece_in input span ∷ []) n (drop (lexed (drop at input)).1 (drop at input))) (sym now.2) now.3 in
+      (now.0, now.1, elements_within there, subst (λ (b : List ℕ). IsElements 64 0 input (pieces ++ piece_in input span ∷ []) span.end b) (elements_left there) there),
 )
 
-before_fault : (input : List ℕ) (from : ℕ) (pieces : List Piece) (fault : EdnFault) → IsFront input pieces from → outcome start input ≡ faulty fault (length pieces) → AreElementsBefore input pieces
-before_fault input from pieces fault front e = (
-  from,
-  front,
-  λ others there h.
-      let few : length others ≤ length pieces = subst (λ (o : Outcome). length others ≤ count_of o) e (front_counts h) in
-      agree others pieces h front few,
+before_fault : (input : List ℕ) (from : ℕ) (pieces : List Piece) (fault : EdnFault) → IsFront input pieces from → Fails input pieces fault → FaultOf input fault × AreElementsBefore input pieces
+before_fault input from pieces fault front f = (
+  f.met,
+  (from, front, λ others there h. agree others pieces (omega arith) (omega arith) h front (front_fewer (omega arith) h f.ending)),
 )
 
-pub reads_fault : (input : List ℕ) (from at : ℕ) (fault : EdnFault) (open_maps after : List OpenMap) → at < length input → Stands input from open_maps at
-    → token_at at (drop at input) open_maps ≡ fails fault → Reads input from (Err fault) after
-reads_fault input from at fault open_maps after lt s e = inr (λ pieces front.
-    let said = subst (Says input pieces at) e (says input pieces open_maps at lt (s pieces front)) in
-    (said.0, before_fault input from pieces fault front said.1))
-
-pub reads_step_fault : (input : List ℕ) (from at : ℕ) (fault : EdnFault) (open_maps after : List OpenMap) → at < length input → Stands input from open_maps at
-    → GivesFault fault (token_at at (drop at input) open_maps) → Reads input from (Err fault) after
-reads_step_fault input from at (faults.Memory p) open_maps after lt s e = inl tt
-reads_step_fault input from at (faults.NotYet p) open_maps after lt s e = reads_fault input from at (faults.NotYet p) open_maps after lt s e
-reads_step_fault input from at (faults.Truncated p) open_maps after lt s e = reads_fault input from at (faults.Truncated p) open_maps after lt s e
-reads_step_fault input from at (faults.StrayClose p) open_maps after lt s e = reads_fault input from at (faults.StrayClose p) open_maps after lt s e
-reads_step_fault input from at (faults.WrongClose p) open_maps after lt s e = reads_fault input from at (faults.WrongClose p) open_maps after lt s e
-reads_step_fault input from at (faults.TooDeep p) open_maps after lt s e = reads_fault input from at (faults.TooDeep p) open_maps after lt s e
-reads_step_fault input from at (faults.OddMap p) open_maps after lt s e = reads_fault input from at (faults.OddMap p) open_maps after lt s e
+pub reads_fault : (input : List ℕ) (from at : ℕ) (found : Found) (fault : EdnFault) (opens after : List Open) → at < length input → StandsFrom input from opens at
+    → found ≡ found_at at (lexed (drop at input)) → IsMemory fault ⊎ (taken found.token at found.end opens ≡ fails fault) → Reads input from (Err fault) after
+reads_fault input from at found fault opens after lt s e (inl memory) = inl memory
+reads_fault input from at found fault opens after lt s e (inr f) =
+    inr (λ pieces front. before_fault input from pieces fault front (said input from at found opens (fails fault) lt s e f pieces front))
 
 nothing_left : (at : ℕ) (input : List ℕ) → length input ≤ at → drop at input ≡ []
 nothing_left at input le = drop_of_length-le input le
 
-pub reads_end : (input : List ℕ) (from at : ℕ) (open_maps : List OpenMap) → length input ≤ at → Stands input from open_maps at → length open_maps ≡ 0 → Reads input from (Ok None) open_maps
+pub reads_end : (input : List ℕ) (from at : ℕ) (opens : List Open) → length input ≤ at → StandsFrom input from opens at → length opens ≡ 0 → Reads input from (Ok None) opens
 reads_end input from at [] le s e = (refl, λ pieces front. stands_text (subst (λ (r : List ℕ). StandsOpen input pieces [] at r) (nothing_left at input le) (s pieces front)))
-reads_end input from at (innermost ∷ open_maps) le s e = absurd (omega arith)
+reads_end input from at (item ∷ opens) le s e = absurd (omega arith)
 
-pub reads_open_end : (input : List ℕ) (from at : ℕ) (open_maps : List OpenMap) → length input ≤ at → Stands input from open_maps at → length open_maps ≢ 0 → Reads input from (Err (faults.Truncated at)) open_maps
+fails_open : {p : ℕ} {input : List ℕ} {pieces : List Piece} {item : Open} {opens : List Open} → StandsOpen input pieces (item ∷ opens) p [] → Fails input pieces (faults.Truncated p)
+fails_open {p} {item = item} {opens = opens} s = record { met = fault_open_end s; place = p; bytes = []; opens = item ∷ opens; ending = ending_end s }
+
+pub reads_open_end : (input : List ℕ) (from at : ℕ) (opens : List Open) → length input ≤ at → StandsFrom input from opens at → length opens ≢ 0 → Reads input from (Err (faults.Truncated at)) opens
 reads_open_end input from at [] le s h = absurd (h refl)
-reads_open_end input from at (innermost ∷ open_maps) le s h = inr (λ pieces front.
-    let end = subst (λ (r : List ℕ). StandsOpen input pieces (innermost ∷ open_maps) at r) (nothing_left at input le) (s pieces front) in
-    (fault_open_end end, before_fault input from pieces (faults.Truncated at) front (outcome_open_end end)))
+reads_open_end input from at (item ∷ opens) le s h =
+    inr (λ pieces front. before_fault input from pieces (faults.Truncated at) front (fails_open (subst (λ (r : List ℕ). StandsOpen input pieces (item ∷ opens) at r) (nothing_left at input le) (s pieces front))))
 
 -- ---- every input is a text or has a fault
-
-pub goes_on_after : (at : ℕ) (kind : ElementKind) (from after : ℕ) (bytes : List ℕ) (open_maps : List OpenMap) → token_at at bytes open_maps ≡ ends kind from after → at < after
-goes_on_after at kind from after bytes open_maps e = subst (Grows at) e (grows_token at bytes open_maps)
 
 abbrev pub Settled : List ℕ → Type 0
 Settled input = ((pieces : List Piece) × IsText input pieces) ⊎ ((fault : EdnFault) × FaultOf input fault)
 
 abbrev Later : List ℕ → ℕ → Type 0
-Later input fuel =
-    (pieces : List Piece) (open_maps : List OpenMap) (at : ℕ) → length input - at ≤ fuel → StandsOpen input pieces open_maps at (drop at input) → Settled input
+Later input fuel = (pieces : List Piece) (opens : List Open) (p : ℕ) (a : List ℕ) → length a ≤ fuel → StandsOpen input pieces opens p a → Settled input
 
-settle_token : (fuel : ℕ) (input : List ℕ) (pieces : List Piece) (open_maps : List OpenMap) (at : ℕ) → at < length input → length input - at ≤ suc fuel → Later input fuel
-    → (t : Token) → token_at at (drop at input) open_maps ≡ t → Says input pieces at t → Settled input
-settle_token fuel input pieces open_maps at lt le later (on q after) e said =
-    let further = goes_forward at q (drop at input) open_maps after e in
-    later pieces after q (omega arith) said
-settle_token fuel input pieces open_maps at lt le later (ends kind from after) e said =
-    let further = goes_on_after at kind from after (drop at input) open_maps e in
-    later (pieces ++ record { kind = kind; start = from; text = take (after - from) (drop from input) } ∷ []) [] after (omega arith) (outermost said.1 nothing)
-settle_token fuel input pieces open_maps at lt le later (fails fault) e said = inr (fault, said.0)
+settle_token : (fuel : ℕ) (input : List ℕ) (pieces : List Piece) (q : ℕ) (b : List ℕ) → length b ≤ fuel → Later input fuel → (t : Taken) → Says input pieces q b t → Settled input
+settle_token fuel input pieces q b le later (on opens) s = later pieces opens q b le s
+settle_token fuel input pieces q b le later (ends span) s = later (pieces ++ piece_in input span ∷ []) [] q b le (outermost s.3 nothing)
+settle_token fuel input pieces q b le later (fails fault) s = inr (fault, s.met)
 
-settle_end : (input : List ℕ) (pieces : List Piece) (open_maps : List OpenMap) (at : ℕ) → StandsOpen input pieces open_maps at [] → Settled input
-settle_end input pieces [] at s = inl (pieces, stands_text s)
-settle_end input pieces (innermost ∷ open_maps) at s = inr (faults.Truncated at, fault_open_end s)
+settle_end : (input : List ℕ) (pieces : List Piece) (opens : List Open) (p : ℕ) → StandsOpen input pieces opens p [] → Settled input
+settle_end input pieces [] p s = inl (pieces, stands_text s)
+settle_end input pieces (item ∷ opens) p s = inr (faults.Truncated p, fault_open_end s)
 
 settle : (input : List ℕ) (fuel : ℕ) → Later input fuel
-settle input zero pieces open_maps at le s = settle_end input pieces open_maps at (subst (StandsOpen input pieces open_maps at) (nothing_left at input (omega arith)) s)
-settle input (suc fuel) pieces open_maps at le s =
-    elim (cases_lt at (length input)) [
-      | inl lt ↦ settle_token fuel input pieces open_maps at lt le (settle input fuel) (token_at at (drop at input) open_maps) refl (says input pieces open_maps at lt s)
-      | inr ge ↦ settle_end input pieces open_maps at (subst (StandsOpen input pieces open_maps at) (nothing_left at input ge) s)
-    ]
+settle input fuel pieces opens p [] le s = settle_end input pieces opens p s
+settle input zero pieces opens p (x ∷ a) le s = absurd (omega arith)
+settle input (suc fuel) pieces opens p (x ∷ a) le s =
+    let shorter : length (drop (lexed (x ∷ a)).1 (x ∷ a)) ≤ fuel = omega (arith, length-drop (lexed (x ∷ a)).1 (x ∷ a), lexed_some (x ∷ a) (omega arith), le) in
+    settle_token fuel input pieces (p + (lexed (x ∷ a)).1) (drop (lexed (x ∷ a)).1 (x ∷ a)) shorter (settle input fuel) (front_taken p (x ∷ a) opens) (says input pieces opens p (x ∷ a) s (omega arith))
 
-pub settled : (input : List ℕ) → Settled input
-settled input = settle input (length input) [] [] 0 (omega arith) (outermost none nothing)
+pub settled_text : (input : List ℕ) → Settled input
+settled_text input = settle input (length input) [] [] 0 input (omega arith) (outermost none nothing)
+
+-- ---- an element that ended
+
+completed_tag : (span : Span) (item : Open) (opens : List Open) → item.opener ≡ openers.Tag → completed span (item ∷ opens) ≡ completed (behind_tag item span) opens
+unfolding completed
+completed_tag span item opens e = rw e refl
+
+no_tag_by : (opener : Opener) (x : Taken) (y z : List Open) → (opener ≡ openers.Tag → ⊥) → cond (is_tag opener) x (cond (waits opener) (on y) (on z)) ≡ on (cond (waits opener) y z)
+no_tag_by openers.List x y z h = refl
+no_tag_by openers.Vector x y z h = refl
+no_tag_by openers.Map x y z h = refl
+no_tag_by openers.Set x y z h = refl
+no_tag_by openers.Tag x y z h = absurd (h refl)
+no_tag_by openers.Discard x y z h = refl
+
+completed_one : (span : Span) (item : Open) (opens : List Open) → (item.opener ≡ openers.Tag → ⊥) → completed span (item ∷ opens) ≡ on (cond (waits item.opener) opens (one_more item ∷ opens))
+unfolding completed
+completed_one span item opens h = no_tag_by item.opener (completed (behind_tag item span) opens) opens (one_more item ∷ opens) h
+
+pub tag_ended : (span : Span) (item : Open) (before after : List Open) → EndsOne (Some item) before after → item.opener ≡ openers.Tag → completed span before ≡ completed (behind_tag item span) after
+tag_ended span item before after (others, whole, rest) e =
+    ap (completed span) whole ∙ completed_tag span item others e ∙ ap (completed (behind_tag item span)) (sym (rest ∙ ap (λ (o : Opener). cond (waits o) others (one_more item ∷ others)) e))
+
+pub one_ended : (span : Span) (item : Open) (before after : List Open) → EndsOne (Some item) before after → (item.opener ≡ openers.Tag → ⊥) → completed span before ≡ on after
+one_ended span item before after (others, whole, rest) h = ap (completed span) whole ∙ completed_one span item others h ∙ ap on (sym rest)
+
+pub none_ended : (span : Span) (before after : List Open) → EndsOne None before after → completed span before ≡ ends span
+unfolding completed
+none_ended span before after (empty, also) = ap (completed span) empty
+
+pub ends_shorter : (item : Open) (before after : List Open) → EndsOne (Some item) before after → item.opener ≡ openers.Tag → length after < length before
+ends_shorter item before after (others, whole, rest) e =
+    let left : after ≡ others = rest ∙ ap (λ (o : Opener). cond (waits o) others (one_more item ∷ others)) e in
+    omega (arith, ap length whole, ap length left)

@@ -1,66 +1,98 @@
--- What stands open after one more byte, element or bracket.
-use Rattle.std.proofs.Common.{◌≡◌, ℕ, suc, ◌+◌, ◌-◌, ◌<◌, Bool, false, not, List, [], ◌∷◌, ◌++◌, length, refl, ap, subst, arith}
-use Rattle.edn_reader.specs.declared.bytes.ByteClass.TheVariants.{White, Opens, Closes}
-use Rattle.edn_reader.specs.declared.bytes.Bracket.TheVariants.{Curly}
+-- What stands open behind one more gap, bracket, tag, discard or element.
+use Rattle.std.proofs.Common.{◌≡◌, ℕ, suc, ◌+◌, ◌-◌, ◌<◌, Bool, true, false, not, ◌&&◌, List, [], ◌∷◌, ◌++◌, length, refl, ap, subst, arith}
+use Rattle.edn_reader.specs.declared.bytes.Bracket.{Bracket}
 use Rattle.edn_reader.specs.declared.element.ElementKind.{ElementKind}
-use Rattle.edn_reader.specs.declared.element.ElementKind.TheVariants.{Map}
-use Rattle.edn_reader.specs.declared.nesting.OpenMap.{OpenMap}
-use Rattle.edn_reader.specs.Bytes.{class_of}
-use Rattle.edn_reader.specs.Grammar.{Piece, IsGap, nothing, white, IsElementAt, map, IsElements, none, next, is_odd}
-use Rattle.edn_reader.specs.Text.{StandsOpen, outermost, within}
-use Rattle.edn_reader.specs.Token.{one_more}
+use Rattle.edn_reader.specs.declared.element.Core.{Core}
+use Rattle.edn_reader.specs.declared.nesting.Open.{Open}
+use Rattle.edn_reader.specs.declared.token.Opener.{Opener}
+use Rattle.edn_reader.specs.declared.token.Token.TheVariants.{Opens, Closes}
+use Rattle.edn_reader.specs.Grammar.{Piece, IsToken, IsGap, nothing, skipped, discarded, IsElementAt, bracketed, IsElements, none, next, is_odd, waits, fits, is_paired, kind_of}
+use Rattle.edn_reader.specs.Text.{StandsOpen, outermost, within, waiting}
 
-pub gap_white : {b p q : ℕ} {a rest : List ℕ} → IsGap p a q (b ∷ rest) → class_of b ≡ White → IsGap p a (suc q) rest
-gap_white nothing w = white w nothing
-gap_white (white v g) w = white v (gap_white g w)
+pub gap_then : {room p q r : ℕ} {a b c : List ℕ} → IsGap room p a q b → IsGap room q b r c → IsGap room p a r c
+gap_then nothing more = more
+gap_then (skipped token gap) more = skipped token (gap_then gap more)
+gap_then (discarded token before element gap) more = discarded token before element (gap_then gap more)
 
 pub elements_more : {room p q ended : ℕ} {a b left beyond : List ℕ} {pieces : List Piece} (piece : Piece) → IsElements room p a pieces q b
-    → IsGap q b piece.start left → IsElementAt room piece.kind piece.start left ended beyond → left ≡ piece.text ++ beyond
+    → IsGap room q b piece.start left → IsElementAt room piece.kind piece.core piece.start left ended beyond → left ≡ piece.text ++ beyond
     → IsElements room p a (pieces ++ piece ∷ []) ended beyond
-elements_more piece none gap el whole = next gap el whole none
-elements_more piece (next g e w els) gap el whole = next g e w (elements_more piece els gap el whole)
+elements_more piece none gap element whole = next gap element whole none
+elements_more piece (next g e w els) gap element whole = next g e w (elements_more piece els gap element whole)
 
 pub is_odd-more : (pieces : List Piece) (piece : Piece) → is_odd (pieces ++ piece ∷ []) ≡ not (is_odd pieces)
 is_odd-more [] piece = refl
 is_odd-more (x ∷ pieces) piece = ap not (is_odd-more pieces piece)
 
-pub stands_white : {b p : ℕ} {input rest : List ℕ} {pieces : List Piece} {open_maps : List OpenMap} → StandsOpen input pieces open_maps p (b ∷ rest) → class_of b ≡ White
-    → StandsOpen input pieces open_maps (suc p) rest
-stands_white (outermost els gap) w = outermost els (gap_white gap w)
-stands_white (within s o room els gap) w = within s o room els (gap_white gap w)
+-- One more gap.
+pub stands_gap : {p q : ℕ} {input a b : List ℕ} {pieces : List Piece} {opens : List Open} → StandsOpen input pieces opens p a
+    → ((room : ℕ) → room + length opens ≡ 64 → IsGap room p a q b) → StandsOpen input pieces opens q b
+stands_gap (outermost els gap) more = outermost els (gap_then gap (more 64 refl))
+stands_gap (within {room = room} stands token bracket full els gap) more = within stands token bracket full els (gap_then gap (more room full))
+stands_gap (waiting {room = room} stands token bracket full gap) more = waiting stands token bracket full (gap_then gap (more room full))
 
-pub stands_opened : {b p : ℕ} {input rest : List ℕ} {pieces : List Piece} {open_maps : List OpenMap} → StandsOpen input pieces open_maps p (b ∷ rest) → class_of b ≡ Opens Curly
-    → length open_maps < 64 → StandsOpen input pieces (record { place = p; odd = false } ∷ open_maps) (suc p) rest
-stands_opened {open_maps = open_maps} s o room = within {room = 63 - length open_maps} s o (omega arith) none nothing
+-- One more bracket, tag or discard that opens.
+pub stands_opened : {p q : ℕ} {input a b : List ℕ} {pieces : List Piece} {opens : List Open} (opener : Opener) (w : Bool) → waits opener ≡ w → StandsOpen input pieces opens p a
+    → IsToken (Opens opener) p a q b → length opens < 64 → StandsOpen input pieces (record { place = p; opener = opener; odd = false } ∷ opens) q b
+stands_opened {opens = opens} opener true w stands token room = waiting {room = 63 - length opens} stands token w (omega arith) nothing
+stands_opened {opens = opens} opener false w stands token room = within {room = 63 - length opens} stands token w (omega arith) none nothing
 
--- An element of the innermost map.
-pub stands_inside : {p q : ℕ} {input a b : List ℕ} {pieces : List Piece} {innermost : OpenMap} {open_maps : List OpenMap} (kind : ElementKind) (text : List ℕ)
-    → StandsOpen input pieces (innermost ∷ open_maps) p a → ((room : ℕ) → room + suc (length open_maps) ≡ 64 → IsElementAt room kind p a q b)
-    → a ≡ text ++ b → StandsOpen input pieces (one_more (innermost ∷ open_maps)) q b
-stands_inside {p} {q} {input} {a} {b} {pieces} {innermost} {open_maps} kind text (within {room = room} {place = place} {inside = inside} s o full els gap) el whole =
-    let piece : Piece = record { kind = kind; start = p; text = text } in
-    let longer = elements_more piece els gap (el room full) whole in
-    subst (λ (odd : Bool). StandsOpen input pieces (record { place = place; odd = odd } ∷ open_maps) q b) (is_odd-more inside piece) (within s o full longer nothing)
+-- One more element of the innermost bracket.
+pub stands_inside : {p q : ℕ} {input a b : List ℕ} {pieces : List Piece} {innermost : Open} {opens : List Open} (kind : ElementKind) (core : Core) (text : List ℕ)
+    → waits innermost.opener ≡ false → StandsOpen input pieces (innermost ∷ opens) p a → ((room : ℕ) → room + suc (length opens) ≡ 64 → IsElementAt room kind core p a q b)
+    → a ≡ text ++ b → StandsOpen input pieces (record { place = innermost.place; opener = innermost.opener; odd = not innermost.odd } ∷ opens) q b
+stands_inside {p} {q} {input} {a} {b} {pieces} {innermost} {opens} kind core text w (within {room = room} {place = place} {inside = inside} {opener = opener} stands token bracket full els gap) element whole =
+    let piece : Piece = record { kind = kind; start = p; text = text; core = core } in
+    let longer = elements_more piece els gap (element room full) whole in
+    subst (λ (odd : Bool). StandsOpen input pieces (record { place = place; opener = opener; odd = odd } ∷ opens) q b) (is_odd-more inside piece) (within stands token bracket full longer nothing)
+stands_inside kind core text w (waiting stands token bracket full gap) element whole = absurd cc
 
--- An outermost element.
-pub stands_outermost : {p q : ℕ} {input a b : List ℕ} {pieces : List Piece} (kind : ElementKind) (text : List ℕ)
-    → StandsOpen input pieces [] p a → IsElementAt 64 kind p a q b → a ≡ text ++ b
-    → IsElements 64 0 input (pieces ++ record { kind = kind; start = p; text = text } ∷ []) q b
-stands_outermost {p} kind text (outermost els gap) el whole = elements_more (record { kind = kind; start = p; text = text }) els gap el whole
+-- One more outermost element.
+pub stands_outermost : {p q : ℕ} {input a b : List ℕ} {pieces : List Piece} (kind : ElementKind) (core : Core) (text : List ℕ)
+    → StandsOpen input pieces [] p a → IsElementAt 64 kind core p a q b → a ≡ text ++ b
+    → IsElements 64 0 input (pieces ++ record { kind = kind; start = p; text = text; core = core } ∷ []) q b
+stands_outermost {p} kind core text (outermost els gap) element whole = elements_more (record { kind = kind; start = p; text = text; core = core }) els gap element whole
 
--- The map that a bracket closes.
-pub record Closed (input : List ℕ) (pieces : List Piece) (innermost : OpenMap) (open_maps : List OpenMap) (q : ℕ) (rest : List ℕ) : Type 0 where
+-- What a bracket closes.
+pub record Closed (input : List ℕ) (pieces : List Piece) (innermost : Open) (opens : List Open) (q : ℕ) (rest : List ℕ) : Type 0 where
   pub bytes : List ℕ
-  pub before : StandsOpen input pieces open_maps innermost.place bytes
-  pub element : (room : ℕ) → room + length open_maps ≡ 64 → IsElementAt room Map innermost.place bytes q rest
+  pub before : StandsOpen input pieces opens innermost.place bytes
+  pub element : (room : ℕ) → room + length opens ≡ 64 → IsElementAt room (kind_of innermost.opener) (record { kind = kind_of innermost.opener; start = innermost.place }) innermost.place bytes q rest
 
-pub stands_closed : {c p : ℕ} {input rest : List ℕ} {pieces : List Piece} {innermost : OpenMap} {open_maps : List OpenMap}
-    → StandsOpen input pieces (innermost ∷ open_maps) p (c ∷ rest) → class_of c ≡ Closes Curly → innermost.odd ≡ false
-    → Closed input pieces innermost open_maps (suc p) rest
-stands_closed {p = p} {rest = rest} {open_maps = open_maps} (within {b = b} {room = inner_room} {place = place} {bytes = bytes} s o full els gap) c even = record {
-  bytes = b ∷ bytes;
-  before = s;
-  element = λ room fits.
+pub stands_closed : {p q : ℕ} {input a b : List ℕ} {pieces : List Piece} {innermost : Open} {opens : List Open} {bracket : Bracket}
+    → waits innermost.opener ≡ false → StandsOpen input pieces (innermost ∷ opens) p a → IsToken (Closes bracket) p a q b
+    → fits innermost.opener bracket ≡ true → is_paired innermost.opener && innermost.odd ≡ false
+    → Closed input pieces innermost opens q b
+stands_closed {q = q} {b = b} {opens = opens} w (within {room = inner_room} {place = place} {bytes = bytes} {opener = opener} stands token square full els gap) last fit even = record {
+  bytes = bytes;
+  before = stands;
+  element = λ room enough.
       let same : suc inner_room ≡ room = omega arith in
-      subst (λ (n : ℕ). IsElementAt n Map place (b ∷ bytes) (suc p) rest) same (map o els gap c even);
+      subst (λ (n : ℕ). IsElementAt n (kind_of opener) (record { kind = kind_of opener; start = place }) place bytes q b) same (bracketed token els gap last fit even);
+}
+stands_closed w (waiting stands token square full gap) last fit even = absurd cc
+
+-- What a tag or a discard that waits stands behind.
+pub record Waited (input : List ℕ) (pieces : List Piece) (innermost : Open) (opens : List Open) (p : ℕ) (a : List ℕ) : Type 0 where
+  pub bytes : List ℕ
+  pub before : StandsOpen input pieces opens innermost.place bytes
+  pub room : ℕ
+  pub full : room + suc (length opens) ≡ 64
+  pub inner : ℕ
+  pub left : List ℕ
+  pub token : IsToken (Opens innermost.opener) innermost.place bytes inner left
+  pub gap : IsGap room inner left p a
+
+pub stands_waited : {p : ℕ} {input a : List ℕ} {pieces : List Piece} {innermost : Open} {opens : List Open} → waits innermost.opener ≡ true → StandsOpen input pieces (innermost ∷ opens) p a
+    → Waited input pieces innermost opens p a
+stands_waited w (within stands token bracket full els gap) = absurd cc
+stands_waited w (waiting {room = room} {inner = inner} {bytes = bytes} {left = left} stands token bracket full gap) = record {
+  bytes = bytes;
+  before = stands;
+  room = room;
+  full = full;
+  inner = inner;
+  left = left;
+  token = token;
+  gap = gap;
 }

@@ -1,225 +1,266 @@
--- What an element is, and where it ends, follows from the bytes: so a text has one division.
-use Rattle.std.proofs.Common.{◌≡◌, ℕ, suc, ◌+◌, ◌<◌, ◌≤◌, Bool, true, false, cond, eqb, List, [], ◌∷◌, ◌++◌, length, take, drop, Option, Some, None, refl, sym, ap, subst, ◌∙◌, arith, length-append}
-use Rattle.std.proofs.Math.Seq.{take-append_seam, drop-append_seam}
+-- One run from one place: so what an element is and where it ends follows from the bytes, and a text has one division.
+use Rattle.std.proofs.Common.{◌≡◌, ◌≢◌, inl, inr, ℕ, ◌+◌, ◌-◌, ◌≤◌, Bool, true, false, cond, eqb, List, [], ◌∷◌, ◌++◌, length, drop, Option, Some, None, refl, sym, ap, subst, ◌∙◌, arith, length-append}
+use Rattle.std.proofs.Math.Seq.{drop-append_seam}
 use Rattle.std.proofs.lemmas.Bool.Decides.{nat_tests}
 use Rattle.std.proofs.lemmas.List.{append-nil}
 use Rattle.edn_reader.specs.declared.bytes.ByteClass.{ByteClass}
 use Rattle.edn_reader.specs.declared.bytes.ByteClass.TheVariants.{White, Plain, Hash, Backslash, Semicolon, Quote, Opens, Closes}
 use Rattle.edn_reader.specs.declared.bytes.Bracket.{Bracket}
-use Rattle.edn_reader.specs.declared.bytes.Bracket.TheVariants.{Curly}
+use Rattle.edn_reader.specs.declared.bytes.Bracket.TheVariants.{Round, Square, Curly}
 use Rattle.edn_reader.specs.declared.element.ElementKind.{ElementKind}
-use Rattle.edn_reader.specs.declared.element.ElementKind.TheVariants.{Atom, Map}
-use Rattle.edn_reader.specs.Bytes.{class_of, is_run, is_run_class, EndsRun}
-use Rattle.edn_reader.specs.Grammar.{Piece, IsGap, nothing, white, IsRun, ended, more, IsElementAt, run, hashed, map, IsElements, none, next}
-use Rattle.edn_reader.specs.Text.{IsText}
-use Rattle.edn_reader.specs.Fault.{IsBeginning}
-use Rattle.edn_reader.specs.Token.{run_length, gap_length, closing_length, first_kind, first_length, first_of, front_of, deeper, is_white_class, opens_map}
-use Rattle.edn_reader.proofs.Places.{Replaced, moved_gap, moved_element, cancel_end}
-use Rattle.edn_reader.proofs.Machine.{whole, outcome_text}
-
--- ---- brackets
-
-deeper_run : (c : ByteClass) (depth : ℕ) → is_run_class c ≡ true → deeper c depth ≡ depth
-deeper_run Plain depth e = refl
-deeper_run Hash depth e = refl
-deeper_run Backslash depth e = refl
-deeper_run White depth e = absurd cc
-deeper_run Semicolon depth e = absurd cc
-deeper_run Quote depth e = absurd cc
-deeper_run (Opens bracket) depth e = absurd cc
-deeper_run (Closes bracket) depth e = absurd cc
-
-closing_same : (b depth : ℕ) (bytes : List ℕ) → deeper (class_of b) (suc depth) ≡ suc depth → closing_length (suc depth) (b ∷ bytes) ≡ suc (closing_length (suc depth) bytes)
-unfolding closing_length
-closing_same b depth bytes e = rw e (omega arith)
-
-closing_gap : {p q : ℕ} {a b : List ℕ} (depth : ℕ) → IsGap p a q b → p + closing_length (suc depth) a ≡ q + closing_length (suc depth) b
-closing_gap depth nothing = refl
-closing_gap depth (white {b = b} {bytes = bytes} w g) =
-    let one = closing_same b depth bytes (ap (λ c. deeper c (suc depth)) w) in omega (arith, one, closing_gap depth g)
-
-closing_run : {p q : ℕ} {a b : List ℕ} (depth : ℕ) → IsRun p a q b → p + closing_length (suc depth) a ≡ q + closing_length (suc depth) b
-closing_run depth (ended h) = refl
-closing_run depth (more {b = b} {bytes = bytes} w g) =
-    let one = closing_same b depth bytes (deeper_run (class_of b) (suc depth) w) in omega (arith, one, closing_run depth g)
-
-closing_opens : (b depth : ℕ) (bytes : List ℕ) → class_of b ≡ Opens Curly → closing_length (suc depth) (b ∷ bytes) ≡ suc (closing_length (suc (suc depth)) bytes)
-unfolding closing_length
-closing_opens b depth bytes e = rw e (omega arith)
-
-closing_closes : (b depth : ℕ) (bytes : List ℕ) → class_of b ≡ Closes Curly → closing_length (suc depth) (b ∷ bytes) ≡ suc (closing_length depth bytes)
-unfolding closing_length
-closing_closes b depth bytes e = rw e (omega arith)
-
-mutual
-  closing_element : {room p q : ℕ} {kind : ElementKind} {a b : List ℕ} (depth : ℕ) → IsElementAt room kind p a q b → p + closing_length (suc depth) a ≡ q + closing_length (suc depth) b
-  closing_element depth (run {b = b} {bytes = bytes} w g) =
-      let one = closing_same b depth bytes (ap (λ c. deeper c (suc depth)) w) in omega (arith, one, closing_run depth g)
-  closing_element depth (hashed {b = b} {c = c} {bytes = bytes} v w g) =
-      let one = closing_same b depth (c ∷ bytes) (ap (λ x. deeper x (suc depth)) v) in
-      let two = closing_same c depth bytes (ap (λ x. deeper x (suc depth)) w) in
-      omega (arith, one, two, closing_run depth g)
-  closing_element depth (map {b = b} {c = c} {bytes = bytes} {rest = rest} v els gap w even) =
-      let one = closing_opens b depth bytes v in
-      let two = closing_closes c (suc depth) rest w in
-      omega (arith, one, two, closing_elements (suc depth) els, closing_gap (suc depth) gap)
-
-  closing_elements : {room p q : ℕ} {pieces : List Piece} {a b : List ℕ} (depth : ℕ) → IsElements room p a pieces q b → p + closing_length (suc depth) a ≡ q + closing_length (suc depth) b
-  closing_elements depth none = refl
-  closing_elements depth (next gap el text els) = omega (arith, closing_gap depth gap, closing_element depth el, closing_elements depth els)
+use Rattle.edn_reader.specs.declared.element.Core.{Core}
+use Rattle.edn_reader.specs.declared.fault.EdnFault.{EdnFault}
+use Rattle.edn_reader.specs.declared.fault.EdnFault.TheVariants as faults
+use Rattle.edn_reader.specs.declared.nesting.Open.{Open}
+use Rattle.edn_reader.specs.declared.step.Span.{Span}
+use Rattle.edn_reader.specs.declared.token.Token.{Token}
+use Rattle.edn_reader.specs.declared.token.Token.TheVariants as tokens
+use Rattle.edn_reader.specs.declared.token.Opener.{Opener}
+use Rattle.edn_reader.specs.declared.token.Opener.TheVariants as openers
+use Rattle.edn_reader.specs.Bytes.{class_of}
+use Rattle.edn_reader.specs.Grammar.{Piece, IsToken, IsGap, IsElementAt, IsElements, none, next, opener_of, waits, fits, is_paired}
+use Rattle.edn_reader.specs.Text.{StandsOpen}
+use Rattle.edn_reader.specs.Fault.{Refuses, too_deep, too_deep_hash, stray_close, wrong_close, no_element, odd_map, IsBeginning, innermost}
+use Rattle.edn_reader.specs.Token.{lexed, class_token, hash_token, after_hash, tag_token}
+use Rattle.edn_reader.specs.Taking.{Taken, fails, on, closed, taken, fault_before}
+use Rattle.edn_reader.proofs.Places.{Replaced, replaced_then, cancel_end, moved_gap, moved_element}
+use Rattle.edn_reader.proofs.Lexing.{lexed_token}
+use Rattle.edn_reader.proofs.Runs.{Leads, leads_then, one_run, given_more, run_ends, goes, front_taken, span_at, leads_gap, leads_outermost_element, leads_outermost, leads_stands}
 
 -- ---- the first element
 
-run_none : (a : List ℕ) → EndsRun a → run_length a ≡ 0
-unfolding run_length
-run_none [] h = refl
-run_none (b ∷ bytes) h = rw h refl
+-- The bytes that a derivation leaves.
+left_of : {p q : ℕ} {a b d e : List ℕ} → Replaced p a q b d e → b ≡ drop (q - p) a
+left_of {p} {q} {a} {b} m =
+    let long : q - p ≡ length m.front = omega (arith, m.place) in
+    sym (ap (λ (n : ℕ). drop n a) long ∙ ap (drop (length m.front)) m.here ∙ drop-append_seam m.front b)
 
-run_one : (b : ℕ) (bytes : List ℕ) → is_run b ≡ true → run_length (b ∷ bytes) ≡ suc (run_length bytes)
-unfolding run_length
-run_one b bytes h = rw h (omega arith)
+left_of_gap : {room p q : ℕ} {a b : List ℕ} → IsGap room p a q b → b ≡ drop (q - p) a
+left_of_gap {b = b} gap = left_of (moved_gap gap b (λ h. h, λ h. h, λ h. h)).2
 
-run_is_long : {p q : ℕ} {a b : List ℕ} → IsRun p a q b → p + run_length a ≡ q
-run_is_long {a = a} (ended h) = omega (arith, run_none a h)
-run_is_long (more {b = b} {bytes = bytes} w g) = omega (arith, run_one b bytes w, run_is_long g)
+left_of_element : {room other p s q : ℕ} {kind : ElementKind} {core : Core} {a left b : List ℕ} → IsGap room p a s left → IsElementAt other kind core s left q b → b ≡ drop (q - p) a
+left_of_element {b = b} gap element =
+    let m = moved_element element b (λ h. h) in
+    left_of (replaced_then (moved_gap gap m.bytes m.begins).2 m.place)
 
--- Where a run begins there is an Atom.
-first_run : (b : ℕ) (bytes : List ℕ) → opens_map (class_of b) ≡ false → first_length (b ∷ bytes) ≡ run_length (b ∷ bytes)
-unfolding first_length
-first_run b bytes e = rw e refl
+span_head : {x y : Span} {more : List Span} → y ∷ [] ≡ (x ∷ []) ++ more → x ≡ y
+span_head e = cc
 
-kind_run : (b : ℕ) (bytes : List ℕ) → opens_map (class_of b) ≡ false → first_kind (b ∷ bytes) ≡ Atom
-unfolding first_kind
-kind_run b bytes e = rw e refl
+same_span : {p q r : ℕ} {a b d : List ℕ} (x y : Span) → Leads p a [] [] q b [] (x ∷ []) → Leads p a [] [] r d [] (y ∷ []) → x ≡ y
+same_span x y run other =
+    elim (one_run run other) [
+      | inl more ↦ (let m = given_more more in span_head m.1)
+      | inr more ↦ (let m = given_more more in sym (span_head m.1))
+    ]
 
-first_map : (b : ℕ) (bytes : List ℕ) → class_of b ≡ Opens Curly → first_length (b ∷ bytes) ≡ suc (closing_length 1 bytes)
-unfolding first_length
-first_map b bytes e = rw e (omega arith)
+same_piece : (x y : Piece) → x.kind ≡ y.kind → x.start ≡ y.start → x.text ≡ y.text → x.core ≡ y.core → x ≡ y
+same_piece x y k s t c =
+    ap (λ (v : ElementKind). record { kind = v; start = x.start; text = x.text; core = x.core }) k
+    ∙ ap (λ (v : ℕ). record { kind = y.kind; start = v; text = x.text; core = x.core }) s
+    ∙ ap (λ (v : List ℕ). record { kind = y.kind; start = y.start; text = v; core = x.core }) t
+    ∙ ap (λ (v : Core). record { kind = y.kind; start = y.start; text = y.text; core = v }) c
 
-kind_map : (b : ℕ) (bytes : List ℕ) → class_of b ≡ Opens Curly → first_kind (b ∷ bytes) ≡ Map
-unfolding first_kind
-kind_map b bytes e = rw e refl
+-- What stands first behind a gap is one element, at one place.
+pub same_first : {room other p q r : ℕ} {a left b others d : List ℕ} (piece second : Piece) → room ≤ 64 → other ≤ 64
+    → IsGap room p a piece.start left → IsElementAt room piece.kind piece.core piece.start left q b → left ≡ piece.text ++ b
+    → IsGap other p a second.start others → IsElementAt other second.kind second.core second.start others r d → others ≡ second.text ++ d
+    → (piece ≡ second) × (q ≡ r) × (b ≡ d)
+same_first {p = p} {q = q} {r = r} {a = a} {left = left} {b = b} {others = others} {d = d} piece second le ge gap element whole before found all =
+    let spans = same_span (span_at piece.kind piece.core piece.start q) (span_at second.kind second.core second.start r)
+    (leads_then (leads_gap gap [] [] (omega arith)) (leads_outermost_element element [] le)) (leads_then (leads_gap before [] [] (omega arith)) (leads_outermost_element found [] ge)) in
+    let start : piece.start ≡ second.start = ap (λ (s : Span). s.start) spans in
+    let behind : q ≡ r = ap (λ (s : Span). s.end) spans in
+    let rest : b ≡ d = left_of_element gap element ∙ ap (λ (n : ℕ). drop (n - p) a) behind ∙ sym (left_of_element before found) in
+    let front : left ≡ others = left_of_gap gap ∙ ap (λ (n : ℕ). drop (n - p) a) start ∙ sym (left_of_gap before) in
+    let text : piece.text ≡ second.text = cancel_end piece.text second.text d (ap (λ (x : List ℕ). piece.text ++ x) (sym rest) ∙ sym whole ∙ front ∙ all) in
+    (same_piece piece second (ap (λ (s : Span). s.kind) spans) start text (ap (λ (s : Span). s.core) spans), behind, rest)
 
-closing_zero : (bytes : List ℕ) → closing_length 0 bytes ≡ 0
-unfolding closing_length
-closing_zero [] = refl
-closing_zero (b ∷ bytes) = refl
+-- ---- what fails
 
-gap_none : (b : ℕ) (bytes : List ℕ) → is_white_class (class_of b) ≡ false → gap_length (b ∷ bytes) ≡ 0
-unfolding gap_length
-gap_none b bytes e = rw e refl
+lexed_of : (b : ℕ) (bytes : List ℕ) (k : ByteClass) → class_of b ≡ k → lexed (b ∷ bytes) ≡ class_token k bytes
+unfolding lexed
+lexed_of b bytes k e = ap (λ (c : ByteClass). class_token c bytes) e
 
-gap_one : (b : ℕ) (bytes : List ℕ) → class_of b ≡ White → gap_length (b ∷ bytes) ≡ suc (gap_length bytes)
-unfolding gap_length
-gap_one b bytes e = rw e (omega arith)
+taken_of : (p : ℕ) (a : List ℕ) (opens : List Open) (x : Token × ℕ) → lexed a ≡ x → front_taken p a opens ≡ taken x.0 p (p + x.1) opens
+taken_of p a opens x e = ap (λ (y : Token × ℕ). taken y.0 p (p + y.1) opens) e
 
-record First (kind : ElementKind) (p : ℕ) (a : List ℕ) (q : ℕ) : Type 0 where
-  long : p + first_length a ≡ q
-  some : 0 < first_length a
-  same : first_kind a ≡ kind
-  front : gap_length a ≡ 0
+full_opens : (opener : Opener) (p q : ℕ) (opens : List Open) → length opens ≡ 64 → taken (tokens.Opens opener) p q opens ≡ fails (faults.TooDeep p)
+unfolding taken
+full_opens opener p q opens full =
+    let test : eqb (length opens) 64 ≡ true = grind (arith, nat_tests) in
+    ap (λ (t : Bool). cond t (fails (faults.TooDeep p)) (on (record { place = p; opener = opener; odd = false } ∷ opens))) test
 
-first_is : {room p q : ℕ} {kind : ElementKind} {a b : List ℕ} → IsElementAt room kind p a q b → First kind p a q
-first_is (run {b = b} {bytes = bytes} w g) =
-    let one = first_run b bytes (ap opens_map w) in
-    let two = run_one b bytes (ap is_run_class w) in
-    record { long = omega (arith, one, two, run_is_long g); some = omega (arith, one, two); same = kind_run b bytes (ap opens_map w); front = gap_none b bytes (ap is_white_class w) }
-first_is (hashed {b = b} {c = c} {bytes = bytes} v w g) =
-    let one = first_run b (c ∷ bytes) (ap opens_map v) in
-    let two = run_one b (c ∷ bytes) (ap is_run_class v) in
-    let three = run_one c bytes (ap is_run_class w) in
-    record { long = omega (arith, one, two, three, run_is_long g); some = omega (arith, one, two); same = kind_run b (c ∷ bytes) (ap opens_map v); front = gap_none b (c ∷ bytes) (ap is_white_class v) }
-first_is (map {b = b} {c = c} {bytes = bytes} {rest = rest} v els gap w even) =
-    let one = first_map b bytes v in
-    let two = closing_closes c 0 rest w in
-    record {
-      long = omega (arith, one, two, closing_elements 0 els, closing_gap 0 gap, closing_zero rest);
-      some = omega (arith, one);
-      same = kind_map b bytes v;
-      front = gap_none b bytes (ap is_white_class v);
-    }
+record OpensSome (x : Token × ℕ) : Type 0 where
+  opener : Opener
+  is : x.0 ≡ tokens.Opens opener
 
-gap_is_long : {p q : ℕ} {a b : List ℕ} → IsGap p a q b → gap_length b ≡ 0 → p + gap_length a ≡ q
-gap_is_long nothing e = omega arith
-gap_is_long (white {b = b} {bytes = bytes} w g) e = omega (arith, gap_one b bytes w, gap_is_long g e)
+either_opens : (t : Bool) (x y : Token × ℕ) → OpensSome x → OpensSome y → OpensSome (cond t x y)
+either_opens true x y h k = h
+either_opens false x y h k = k
 
--- The part of the bytes that a derivation leads over.
-part_of : {p q : ℕ} {a b d e : List ℕ} → Replaced p a q b d e → (n : ℕ) → p + n ≡ q → (take n a ≡ (take n a)) × (drop n a ≡ b)
-part_of {a = a} {b = b} m n k =
-    let l : n ≡ length m.front = omega (arith, m.place, k) in
-    (refl, ap (drop n) m.here ∙ ap (λ (i : ℕ). drop i (m.front ++ b)) l ∙ drop-append_seam m.front b)
+tag_opens : (bytes : List ℕ) → OpensSome (tag_token bytes)
+tag_opens bytes = record { opener = openers.Tag; is = refl }
 
-first_some : (p : ℕ) (a : List ℕ) → 0 < first_length a
-    → first_of p a ≡ Some (record { kind = first_kind a; start = p; text = take (first_length a) a }, p + first_length a, drop (first_length a) a)
-first_some p a some =
-    let test : eqb (first_length a) 0 ≡ false = grind (arith, nat_tests) in
-    ap (λ (t : Bool). cond t None (Some (record { kind = first_kind a; start = p; text = take (first_length a) a }, p + first_length a, drop (first_length a) a))) test
+hash_opens : (k : ByteClass) (c : ℕ) (bytes : List ℕ) → k ≢ Hash → k ≢ Quote → OpensSome (hash_token k c bytes)
+hash_opens Hash c bytes h q = absurd (h refl)
+hash_opens Quote c bytes h q = absurd (q refl)
+hash_opens (Opens Curly) c bytes h q = record { opener = openers.Set; is = refl }
+hash_opens (Opens Round) c bytes h q = tag_opens (c ∷ bytes)
+hash_opens (Opens Square) c bytes h q = tag_opens (c ∷ bytes)
+hash_opens (Closes bracket) c bytes h q = tag_opens (c ∷ bytes)
+hash_opens White c bytes h q = tag_opens (c ∷ bytes)
+hash_opens Semicolon c bytes h q = tag_opens (c ∷ bytes)
+hash_opens Backslash c bytes h q = tag_opens (c ∷ bytes)
+hash_opens Plain c bytes h q = either_opens (eqb c 95) (tokens.Opens openers.Discard, 2) (tag_token (c ∷ bytes)) (record { opener = openers.Discard; is = refl }) (tag_opens (c ∷ bytes))
 
--- The element behind a gap is the one that is found there.
-pub front_is : {room p q : ℕ} {a left b : List ℕ} (piece : Piece) → IsGap p a piece.start left → IsElementAt room piece.kind piece.start left q b → left ≡ piece.text ++ b
-    → front_of p a ≡ Some (piece, q, b)
-unfolding front_of
-front_is {p = p} {q = q} {a = a} {left = left} {b = b} piece gap el text =
-    let f = first_is el in
-    let g = gap_is_long gap f.front in
-    let m = moved_gap gap left in
-    let at_left : drop (gap_length a) a ≡ left = (part_of m.2 (gap_length a) g).1 in
-    let n = moved_element el b (λ h. h) in
-    let after : drop (first_length left) left ≡ b = (part_of n.2 (first_length left) f.long).1 in
-    let long : first_length left ≡ length n.2.front = omega (arith, n.2.place, f.long) in
-    let same_front : take (first_length left) left ≡ n.2.front =
-    ap (take (first_length left)) n.2.here ∙ ap (λ (i : ℕ). take i (n.2.front ++ b)) long ∙ take-append_seam n.2.front b in
-    let same_text : n.2.front ≡ piece.text = cancel_end n.2.front piece.text b (sym n.2.here ∙ text) in
-    ap (λ (at : ℕ). first_of at (drop (gap_length a) a)) g
-    ∙ ap (first_of piece.start) at_left
-    ∙ first_some piece.start left f.some
-    ∙ ap (λ (k : ElementKind). Some (record { kind = k; start = piece.start; text = take (first_length left) left }, piece.start + first_length left, drop (first_length left) left)) f.same
-    ∙ ap (λ (t : List ℕ). Some (record { kind = piece.kind; start = piece.start; text = t }, piece.start + first_length left, drop (first_length left) left)) (same_front ∙ same_text)
-    ∙ ap (λ (r : ℕ). Some (piece, r, drop (first_length left) left)) f.long
-    ∙ ap (λ (r : List ℕ). Some (piece, q, r)) after
+full_some : (x : Token × ℕ) (p q : ℕ) (opens : List Open) → OpensSome x → length opens ≡ 64 → taken x.0 p q opens ≡ fails (faults.TooDeep p)
+full_some x p q opens o full = ap (λ (t : Token). taken t p q opens) o.is ∙ full_opens o.opener p q opens full
 
-first_closed : (c : ℕ) (bytes : List ℕ) (bracket : Bracket) → class_of c ≡ Closes bracket → (first_length (c ∷ bytes) ≡ 0) × (gap_length (c ∷ bytes) ≡ 0)
-first_closed c bytes bracket e = (first_run c bytes (ap opens_map e) ∙ run_none (c ∷ bytes) (ap is_run_class e), gap_none c bytes (ap is_white_class e))
+after_of : (c : ℕ) (bytes : List ℕ) → after_hash (c ∷ bytes) ≡ hash_token (class_of c) c bytes
+unfolding after_hash
+after_of c bytes = refl
 
--- Before a closing bracket there is none.
-pub front_none : {p q c : ℕ} {a rest : List ℕ} → IsGap p a q (c ∷ rest) → class_of c ≡ Closes Curly → front_of p a ≡ None
-unfolding front_of
-front_none {p} {q} {c} {a} {rest} gap e =
-    let f = first_closed c rest Curly e in
-    let g = gap_is_long gap f.1 in
-    let m = moved_gap gap (c ∷ rest) in
-    let at_left : drop (gap_length a) a ≡ c ∷ rest = (part_of m.2 (gap_length a) g).1 in
-    let test : eqb (first_length (c ∷ rest)) 0 ≡ true = ap (λ (n : ℕ). eqb n 0) f.0 in
-    ap (λ (at : ℕ). first_of at (drop (gap_length a) a)) g ∙ ap (first_of q) at_left
-    ∙ ap (λ (t : Bool). cond t None (Some (record { kind = first_kind (c ∷ rest); start = q; text = take (first_length (c ∷ rest)) (c ∷ rest) }, q + first_length (c ∷ rest), drop (first_length (c ∷ rest)) (c ∷ rest)))) test
+stray_by : (p : ℕ) (bracket : Bracket) (item : Open) (o : Option Open) (x : Taken) (w : Bool) → cond w o (Some item) ≡ None
+    → cond w (fails (fault_before p bracket item o)) x ≡ fails (faults.StrayClose p)
+stray_by p bracket item o x true n = ap (λ (i : Option Open). fails (fault_before p bracket item i)) n
+stray_by p bracket item o x false n = absurd cc
+
+closes_stray : (p q : ℕ) (bracket : Bracket) (opens : List Open) → innermost opens ≡ None → closed p q bracket opens ≡ fails (faults.StrayClose p)
+unfolding closed
+closes_stray p q bracket [] e = refl
+closes_stray p q bracket (item ∷ opens) e = stray_by p bracket item (innermost opens) _ (waits item.opener) e
+
+wrong_by : (p : ℕ) (bracket : Bracket) (item inner : Open) (o : Option Open) (x : Taken) (w : Bool) → cond w o (Some item) ≡ Some inner → fits inner.opener bracket ≡ false
+    → cond w (fails (fault_before p bracket item o)) (cond (fits item.opener bracket) x (fails (faults.WrongClose p))) ≡ fails (faults.WrongClose p)
+wrong_by p bracket item inner o x true e f =
+    ap (λ (i : Option Open). fails (fault_before p bracket item i)) e ∙ ap (λ (t : Bool). fails (cond t (faults.TagWithoutElement item.place) (faults.WrongClose p))) f
+wrong_by p bracket item inner o x false e f =
+    let same : item ≡ inner = cc in
+    let test : fits item.opener bracket ≡ false = ap (λ (i : Open). fits i.opener bracket) same ∙ f in
+    ap (λ (t : Bool). cond t x (fails (faults.WrongClose p))) test
+
+closes_wrong : (p q : ℕ) (bracket : Bracket) (inner : Open) (opens : List Open) → innermost opens ≡ Some inner → fits inner.opener bracket ≡ false → closed p q bracket opens ≡ fails (faults.WrongClose p)
+unfolding closed
+closes_wrong p q bracket inner [] e f = absurd cc
+closes_wrong p q bracket inner (item ∷ opens) e f = wrong_by p bracket item inner (innermost opens) _ (waits item.opener) e f
+
+closes_waiting : (p q : ℕ) (bracket : Bracket) (waiting inner : Open) (opens : List Open) → waits waiting.opener ≡ true → innermost opens ≡ Some inner → fits inner.opener bracket ≡ true
+    → closed p q bracket (waiting ∷ opens) ≡ fails (faults.TagWithoutElement waiting.place)
+unfolding closed
+closes_waiting p q bracket waiting inner opens w e f = rw (w, e, f) refl
+
+paired_curly : (opener : Opener) → is_paired opener ≡ true → (waits opener ≡ false) × (fits opener Curly ≡ true)
+paired_curly openers.List e = absurd cc
+paired_curly openers.Vector e = absurd cc
+paired_curly openers.Map e = (refl, refl)
+paired_curly openers.Set e = absurd cc
+paired_curly openers.Tag e = absurd cc
+paired_curly openers.Discard e = absurd cc
+
+closes_odd : (p q : ℕ) (inner : Open) (opens : List Open) → is_paired inner.opener ≡ true → inner.odd ≡ true → closed p q Curly (inner ∷ opens) ≡ fails (faults.OddMap p)
+unfolding closed
+closes_odd p q inner opens m o = let c = paired_curly inner.opener m in rw (c.0, c.1, m, o) refl
+
+closes_taken : (p q : ℕ) (bracket : Bracket) (opens : List Open) → taken (tokens.Closes bracket) p q opens ≡ closed p q bracket opens
+unfolding taken
+closes_taken p q bracket opens = refl
+
+closing_taken : (p b : ℕ) (bytes : List ℕ) (bracket : Bracket) (opens : List Open) → class_of b ≡ Closes bracket → front_taken p (b ∷ bytes) opens ≡ closed p (p + 1) bracket opens
+closing_taken p b bytes bracket opens e = taken_of p (b ∷ bytes) opens (tokens.Closes bracket, 1) (lexed_of b bytes (Closes bracket) e) ∙ closes_taken p (p + 1) bracket opens
+
+pub refused_taken : {p at : ℕ} {bytes : List ℕ} {opens : List Open} {fault : EdnFault} → Refuses opens p bytes at fault → front_taken p bytes opens ≡ fails fault
+refused_taken {p} {opens = opens} (too_deep {b = b} {bytes = bytes} {bracket = bracket} e full) =
+    taken_of p (b ∷ bytes) opens (tokens.Opens (opener_of bracket), 1) (lexed_of b bytes (Opens bracket) e) ∙ full_opens (opener_of bracket) p (p + 1) opens full
+refused_taken {opens = opens} (too_deep_hash {b = b} {c = c} {place = place} {bytes = bytes} e h q full) =
+    let token = hash_token (class_of c) c bytes in
+    taken_of place (b ∷ c ∷ bytes) opens token (lexed_of b (c ∷ bytes) Hash e ∙ after_of c bytes) ∙ full_some token place (place + token.1) opens (hash_opens (class_of c) c bytes h q) full
+refused_taken {p} {opens = opens} (stray_close {b = b} {bytes = bytes} {bracket = bracket} e n) = closing_taken p b bytes bracket opens e ∙ closes_stray p (p + 1) bracket opens n
+refused_taken {p} {opens = opens} (wrong_close {inner = inner} {b = b} {bytes = bytes} {bracket = bracket} e n f) = closing_taken p b bytes bracket opens e ∙ closes_wrong p (p + 1) bracket inner opens n f
+refused_taken {p} (no_element {opens = opens} {waiting = waiting} {inner = inner} {b = b} {bytes = bytes} {bracket = bracket} e w n f) =
+    closing_taken p b bytes bracket (waiting ∷ opens) e ∙ closes_waiting p (p + 1) bracket waiting inner opens w n f
+refused_taken {p} (odd_map {opens = opens} {inner = inner} {b = b} {bytes = bytes} e m o) = closing_taken p b bytes Curly (inner ∷ opens) e ∙ closes_odd p (p + 1) inner opens m o
+
+-- ---- one ending
+
+-- The run over an input up to where a token fails.
+pub record Ending (input : List ℕ) (p : ℕ) (a : List ℕ) (opens : List Open) (pieces : List Piece) : Type 0 where
+  pub spans : List Span
+  pub run : Leads 0 input [] [] p a opens spans
+  pub stuck : goes (front_taken p a opens) ≡ None
+  pub many : length spans ≡ length pieces
+
+pub record SameEnding (p : ℕ) (a : List ℕ) (ao : List Open) (firsts : List Piece) (q : ℕ) (b : List ℕ) (bo : List Open) (seconds : List Piece) : Type 0 where
+  pub place : p ≡ q
+  pub bytes : a ≡ b
+  pub opens : ao ≡ bo
+  pub many : length firsts ≡ length seconds
+
+pub same_ending : {input a b : List ℕ} {p q : ℕ} {ao bo : List Open} {firsts seconds : List Piece} → Ending input p a ao firsts → Ending input q b bo seconds → SameEnding p a ao firsts q b bo seconds
+same_ending x y =
+    elim (one_run x.run y.run) [
+      | inl more ↦ (let s = run_ends x.stuck more in
+          record { place = s.place; bytes = s.bytes; opens = s.opens; many = sym x.many ∙ ap length s.given ∙ y.many })
+      | inr more ↦ (let s = run_ends y.stuck more in
+          record { place = sym s.place; bytes = sym s.bytes; opens = sym s.opens; many = sym x.many ∙ ap length (sym s.given) ∙ y.many })
+    ]
+
+pub ending_stands : {p : ℕ} {input a : List ℕ} {pieces : List Piece} {opens : List Open} → StandsOpen input pieces opens p a → goes (front_taken p a opens) ≡ None → Ending input p a opens pieces
+ending_stands stands stuck = let o = leads_stands stands in record { spans = o.spans; run = o.run; stuck = stuck; many = o.many }
+
+at_end : (p : ℕ) (opens : List Open) → goes (front_taken p [] opens) ≡ None
+unfolding lexed taken
+at_end p opens = refl
+
+pub ending_end : {p : ℕ} {input : List ℕ} {pieces : List Piece} {opens : List Open} → StandsOpen input pieces opens p [] → Ending input p [] opens pieces
+ending_end {p} {opens = opens} stands = ending_stands stands (at_end p opens)
+
+-- A front has no more elements than an ending.
+pub front_fewer : {p q room : ℕ} {input a b : List ℕ} {opens : List Open} {firsts seconds : List Piece} → room ≤ 64 → IsElements room 0 input firsts q b → Ending input p a opens seconds → length firsts ≤ length seconds
+front_fewer {firsts = firsts} le els x =
+    let o = leads_outermost els [] le in
+    elim (one_run o.run x.run) [
+      | inl more ↦ (let m = given_more more in omega (arith, x.many, o.many, ap length m.1, length-append o.spans m.0))
+      | inr more ↦ (let s = run_ends x.stuck more in omega (arith, x.many, o.many, ap length s.given))
+    ]
 
 -- ---- one division
 
-pub same_found : (x y : Piece × ℕ × List ℕ) (o : Option (Piece × ℕ × List ℕ)) → o ≡ Some x → o ≡ Some y → x ≡ y
-same_found x y o e f = let both : Some x ≡ Some y = sym e ∙ f in cc
-
-pub agree : {room other p q r : ℕ} {a b d : List ℕ} (firsts seconds : List Piece) → IsElements room p a firsts q b → IsElements other p a seconds r d
+pub agree : {room other p q r : ℕ} {a b d : List ℕ} (firsts seconds : List Piece) → room ≤ 64 → other ≤ 64 → IsElements room p a firsts q b → IsElements other p a seconds r d
     → length firsts ≤ length seconds → IsBeginning firsts seconds
-agree firsts seconds none h le = (seconds, refl)
-agree firsts seconds (next gap el text els) none le = absurd (omega arith)
-agree firsts seconds (next {ended = here} {beyond = beyond} {piece = piece} {pieces = pieces} gap el text els) (next {room = other} {ended = there} {after = r} {beyond = left} {rest = d} {piece = second} {pieces = others} g e t h) le =
-    let same : (piece, here, beyond) ≡ (second, there, left) = same_found (piece, here, beyond) (second, there, left) _ (front_is piece gap el text) (front_is second g e t) in
-    let moved : IsElements other here beyond others r d = subst (λ (x : Piece × ℕ × List ℕ). IsElements other x.1 x.2 others r d) (sym same) h in
-    let rest = agree pieces others els moved (omega arith) in
-    let head : second ≡ piece = ap (λ (x : Piece × ℕ × List ℕ). x.0) (sym same) in
-    (rest.0, ap (λ (x : Piece). x ∷ others) head ∙ ap (λ (xs : List Piece). piece ∷ xs) rest.1)
+agree firsts seconds lo hi none h le = (seconds, refl)
+agree firsts seconds lo hi (next gap element whole els) none le = absurd (omega arith)
+agree firsts seconds lo hi (next {ended = here} {beyond = beyond} {piece = piece} {pieces = pieces} gap element whole els) (next {room = other} {ended = there} {after = r} {beyond = left} {rest = d} {piece = second} {pieces = others} g e t h) le =
+    let same = same_first piece second lo hi gap element whole g e t in
+    let moved : IsElements other here beyond others r d = subst (λ (n : ℕ). IsElements other n beyond others r d) (sym same.1) (subst (λ (x : List ℕ). IsElements other there x others r d) (sym same.2) h) in
+    let rest = agree pieces others lo hi els moved (omega arith) in
+    (rest.0, ap (λ (x : Piece). x ∷ others) (sym same.0) ∙ ap (λ (xs : List Piece). piece ∷ xs) rest.1)
 
-whole_one : {m n : ℕ} → whole m ≡ whole n → m ≡ n
-whole_one e = cc
-
-no_more : (pieces : List Piece) → length pieces ≡ 0 → pieces ≡ []
+pub no_more : (pieces : List Piece) → length pieces ≡ 0 → pieces ≡ []
 no_more [] e = refl
 no_more (piece ∷ others) e = absurd (omega arith)
 
--- A text has one division into elements.
-pub one_division : (input : List ℕ) (firsts seconds : List Piece) → IsText input firsts → IsText input seconds → firsts ≡ seconds
-one_division input firsts seconds s t =
-    let long : length firsts ≡ length seconds = whole_one (sym (outcome_text s) ∙ outcome_text t) in
-    let b = agree firsts seconds s.2 t.2 (omega arith) in
+pub same_list : {room other p q r : ℕ} {a b d : List ℕ} (firsts seconds : List Piece) → room ≤ 64 → other ≤ 64 → IsElements room p a firsts q b → IsElements other p a seconds r d
+    → length firsts ≡ length seconds → firsts ≡ seconds
+same_list firsts seconds lo hi els others long =
+    let b = agree firsts seconds lo hi els others (omega arith) in
     let none_left : b.0 ≡ [] = no_more b.0 (omega (arith, ap length b.1, length-append firsts b.0)) in
     sym (b.1 ∙ ap (λ (m : List Piece). firsts ++ m) none_left ∙ append-nil firsts)
+
+-- No element stands before a closing bracket.
+closing_stuck : {r s : ℕ} {others d : List ℕ} {bracket : Bracket} → IsToken (tokens.Closes bracket) r others s d → goes (front_taken r others []) ≡ None
+unfolding taken closed
+closing_stuck {r} {s} {others} token =
+    let l = lexed_token token in
+    ap (λ (t : Token). goes (taken t r (r + (lexed others).1) [])) l.token_is
+
+empty_span : {x : Span} {more : List Span} → [] ≡ (x ∷ []) ++ more → ⊥
+empty_span e = cc
+
+pub no_first : {room other p s q r t : ℕ} {a left b others d : List ℕ} {kind : ElementKind} {core : Core} {bracket : Bracket} → room ≤ 64 → other ≤ 64
+    → IsGap room p a s left → IsElementAt room kind core s left q b → IsGap other p a r others → IsToken (tokens.Closes bracket) r others t d → ⊥
+no_first le ge gap element before token =
+    let run = leads_then (leads_gap gap [] [] (omega arith)) (leads_outermost_element element [] le) in
+    elim (one_run run (leads_gap before [] [] (omega arith))) [
+      | inl more ↦ (let m = given_more more in empty_span m.1)
+      | inr more ↦ (let e = run_ends (closing_stuck token) more in empty_span (e.given ∙ sym (append-nil _)))
+    ]

@@ -1,144 +1,479 @@
--- The pairs that a view has left, and the fields among them.
-use Rattle.std.proofs.Common.{◌≡◌, ◌≢◌, ◌↔◌, ℕ, suc, ◌+◌, ◌<◌, Bool, true, false, not, cond, eqb, ◌&&◌, List, [], ◌∷◌, ◌++◌, length, take, drop, get_or, Option, Some, None, refl, sym, ap, subst, ◌∙◌, append_assoc, arith, length-drop, add-one}
-use Rattle.std.specs.Str.{bytes_eq}
+-- Elements on their own, the elements between brackets, and the fields of a map.
+use Rattle.std.proofs.Common.{◌≡◌, ◌↔◌, ◌⊎◌, inl, inr, ℕ, suc, ◌+◌, ◌-◌, ◌<◌, ◌≤◌, Bool, true, false, not, cond, ◌&&◌, List, [], ◌∷◌, ◌++◌, length, take, drop, Option, Some, None, refl, sym, ap, subst, ◌∙◌, append_assoc, arith, length-drop}
 use Rattle.std.specs.List.{AllByRecursion}
+use Rattle.std.proofs.Math.Seq.{take-append_seam}
+use Rattle.std.proofs.lemmas.Bool.{cases_lt}
 use Rattle.std.proofs.lemmas.Bool.Decides.{nat_tests}
-use Rattle.std.proofs.lemmas.List.{append-nil}
-use Rattle.edn_reader.specs.declared.bytes.ByteClass.TheVariants.{Opens}
-use Rattle.edn_reader.specs.declared.bytes.Bracket.TheVariants.{Curly}
+use Rattle.std.proofs.lemmas.List.{append-nil, drop-drop}
+use Rattle.edn_reader.specs.declared.bytes.Bracket.{Bracket}
+use Rattle.edn_reader.specs.declared.bytes.Bracket.TheVariants.{Round, Square, Curly}
+use Rattle.edn_reader.specs.declared.bytes.ByteClass.TheVariants as classes
 use Rattle.edn_reader.specs.declared.element.ElementKind.{ElementKind}
-use Rattle.edn_reader.specs.declared.element.ElementKind.TheVariants.{Atom, Map}
+use Rattle.edn_reader.specs.declared.element.ElementKind.TheVariants as kinds
+use Rattle.edn_reader.specs.declared.element.Core.{Core}
 use Rattle.edn_reader.specs.declared.element.Element.{Element}
-use Rattle.edn_reader.specs.declared.map_view.MapView.{MapView}
 use Rattle.edn_reader.specs.declared.field.Field.{Field}
-use Rattle.edn_reader.specs.declared.field.Field.TheVariants.{Absent, Once}
+use Rattle.edn_reader.specs.declared.field.Field.TheVariants.{Absent, Once, Twice}
+use Rattle.edn_reader.specs.declared.parts.Parts.{Parts}
+use Rattle.edn_reader.specs.declared.token.Token.{Token}
+use Rattle.edn_reader.specs.declared.token.Token.TheVariants.{Leaf, Opens, Closes}
+use Rattle.edn_reader.specs.declared.token.Opener.{Opener}
+use Rattle.edn_reader.specs.declared.token.Opener.TheVariants as openers
+use Rattle.edn_reader.specs.declared.view.MapView.{MapView}
 use Rattle.edn_reader.specs.Bytes.{class_of}
-use Rattle.edn_reader.specs.Grammar.{Piece, piece_of, IsGap, IsElementAt, run, hashed, map, IsElements, none, next, is_odd, IsElement}
+use Rattle.edn_reader.specs.Grammar.{Piece, piece_of, untagged, IsToken, white, comment, run, hashed, character, text, hash_text, opening, set, discard, tag, close, opener_of, kind_of, fits, is_paired, is_odd, IsGap, nothing, IsElementAt, leaf, bracketed, tagged, IsElements, none, next, IsElement}
 use Rattle.edn_reader.specs.Text.{IsFront}
-use Rattle.edn_reader.specs.Pairs.{in_turn, PairsFrom, HasPairs, PairsLeft, NextPair, is_keyword, values_of, IsField}
-use Rattle.edn_reader.specs.Token.{front_of, first_length, first_kind, gap_length}
-use Rattle.edn_reader.proofs.Places.{moved_element, cancel_end}
-use Rattle.edn_reader.proofs.Unique.{front_is, front_none, same_found}
-use Rattle.edn_reader.proofs.Tokens.{drop_here}
+use Rattle.edn_reader.specs.Token.{lexed}
+use Rattle.edn_reader.specs.Skipping.{kind_token, NoGap, SkipsElement, SkipsGap, SkipsTags, IsInside}
+use Rattle.edn_reader.specs.Pairs.{PartsFrom, HasParts, PartsLeft, NextPart, in_turn, HasPairs, PairsLeft, NextPair, is_word, values_of, IsField, IsWholeField}
+use Rattle.edn_reader.proofs.Lexing.{lexed_token}
+use Rattle.edn_reader.proofs.Places.{moved_element, cancel_end, wider_element}
+use Rattle.edn_reader.proofs.Skipping.{core_at, element_no_gap, element_kind, beyond_gap, beyond_element, none_at_end}
+use Rattle.edn_reader.proofs.Unique.{same_first, no_first}
 
--- ---- which bytes open a map
+-- ---- elements on their own
 
-opens_curly : class_of 123 ≡ Opens Curly
+-- What is behind the tags of an element is an element.
+pub untagged_is_element : (piece : Piece) → IsElement piece → IsElement (untagged piece)
+untagged_is_element piece h =
+    let c = core_at h.1 in
+    let same : c.ahead ≡ piece.core.start - piece.start = omega (arith, c.place) in
+    (h.0, subst (λ (n : ℕ). IsElementAt 64 piece.core.kind piece.core piece.core.start (drop n piece.text) h.0 []) same c.element)
+
+-- Every element of a list of elements is one on its own.
+pub each_is_element : {room p q : ℕ} {pieces : List Piece} {a b : List ℕ} → room ≤ 64 → IsElements room p a pieces q b → AllByRecursion IsElement pieces
+each_is_element low none = tt
+each_is_element low (next {room = room} {ended = here} {beyond = beyond} {piece = piece} gap element whole others) =
+    let m = moved_element element [] (λ h. tt) in
+    let same : m.place.front ≡ piece.text = cancel_end m.place.front piece.text beyond (sym m.place.here ∙ whole) in
+    let alone : m.bytes ≡ piece.text = m.place.there ∙ append-nil m.place.front ∙ same in
+    let there : IsElementAt room piece.kind piece.core piece.start piece.text here [] = subst (λ (t : List ℕ). IsElementAt room piece.kind piece.core piece.start t here []) alone m.element in
+    let roomy : IsElementAt 64 piece.kind piece.core piece.start piece.text here [] =
+    subst (λ (r : ℕ). IsElementAt r piece.kind piece.core piece.start piece.text here []) (omega arith) (wider_element (64 - room) there) in
+    ((here, roomy), each_is_element low others)
+
+last_of : (pieces : List Piece) (piece : Piece) → AllByRecursion IsElement (pieces ++ piece ∷ []) → IsElement piece
+last_of [] piece h = h.0
+last_of (p ∷ pieces) piece h = last_of pieces piece h.1
+
+-- The element that a longer front ends with.
+pub last_is_element : (input : List ℕ) (pieces : List Piece) (piece : Piece) (at : ℕ) → IsFront input (pieces ++ piece ∷ []) at → IsElement piece
+last_is_element input pieces piece at front = let low : 64 ≤ 64 = omega arith in last_of pieces piece (each_is_element low front)
+
+-- ---- brackets
+
+opener_one : (x y : Bracket) → opener_of x ≡ opener_of y → x ≡ y
+opener_one Round Round e = refl
+opener_one Round Square e = absurd cc
+opener_one Round Curly e = absurd cc
+opener_one Square Round e = absurd cc
+opener_one Square Square e = refl
+opener_one Square Curly e = absurd cc
+opener_one Curly Round e = absurd cc
+opener_one Curly Square e = absurd cc
+opener_one Curly Curly e = refl
+
+kind_one : (x : Opener) (bracket : Bracket) → kind_of x ≡ kind_of (opener_of bracket) → x ≡ opener_of bracket
+kind_one openers.List Round e = refl
+kind_one openers.List Square e = absurd cc
+kind_one openers.List Curly e = absurd cc
+kind_one openers.Vector Round e = absurd cc
+kind_one openers.Vector Square e = refl
+kind_one openers.Vector Curly e = absurd cc
+kind_one openers.Map Round e = absurd cc
+kind_one openers.Map Square e = absurd cc
+kind_one openers.Map Curly e = refl
+kind_one openers.Set Round e = absurd cc
+kind_one openers.Set Square e = absurd cc
+kind_one openers.Set Curly e = absurd cc
+kind_one openers.Tag Round e = absurd cc
+kind_one openers.Tag Square e = absurd cc
+kind_one openers.Tag Curly e = absurd cc
+kind_one openers.Discard Round e = absurd cc
+kind_one openers.Discard Square e = absurd cc
+kind_one openers.Discard Curly e = absurd cc
+
+abbrev is_bracket : Opener → Bool
+is_bracket openers.List = true
+is_bracket openers.Vector = true
+is_bracket openers.Map = true
+is_bracket openers.Set = false
+is_bracket openers.Tag = false
+is_bracket openers.Discard = false
+
+bracket_opener : (bracket : Bracket) → is_bracket (opener_of bracket) ≡ true
+bracket_opener Round = refl
+bracket_opener Square = refl
+bracket_opener Curly = refl
+
+no_bracket : (x : Opener) (bracket : Bracket) → is_bracket x ≡ false → x ≡ opener_of bracket → ⊥
+no_bracket x bracket e same = let both : false ≡ true = sym e ∙ ap is_bracket same ∙ bracket_opener bracket in absurd cc
+
+-- The byte that opens so, and what is behind it.
+record OpenedBy (bracket : Bracket) (p : ℕ) (a : List ℕ) (q : ℕ) (b : List ℕ) : Type 0 where
+  byte : ℕ
+  bytes : a ≡ byte ∷ b
+  class : class_of byte ≡ classes.Opens bracket
+  place : q ≡ suc p
+
+opened_by : {token : Token} {p q : ℕ} {a b : List ℕ} (bracket : Bracket) → IsToken token p a q b → token ≡ Opens (opener_of bracket) → OpenedBy bracket p a q b
+opened_by bracket (white v) e = absurd cc
+opened_by bracket (comment v g) e = absurd cc
+opened_by bracket (run v g) e = absurd cc
+opened_by bracket (hashed v u g) e = absurd cc
+opened_by bracket (character v g) e = absurd cc
+opened_by bracket (text v g) e = absurd cc
+opened_by bracket (hash_text v u g) e = absurd cc
+opened_by bracket (opening {b = b} {bracket = other} v) e =
+    let same : opener_of other ≡ opener_of bracket = cc in
+    record { byte = b; bytes = refl; class = v ∙ ap (λ (x : Bracket). classes.Opens x) (opener_one other bracket same); place = refl }
+opened_by bracket (set v u) e = let same : openers.Set ≡ opener_of bracket = cc in absurd (no_bracket openers.Set bracket refl same)
+opened_by bracket (discard v u) e = let same : openers.Discard ≡ opener_of bracket = cc in absurd (no_bracket openers.Discard bracket refl same)
+opened_by bracket (tag v u g) e = let same : openers.Tag ≡ opener_of bracket = cc in absurd (no_bracket openers.Tag bracket refl same)
+opened_by bracket (close v) e = absurd cc
+
+opens_square : class_of 91 ≡ classes.Opens Square
+unfolding class_of
+opens_square = refl
+
+opens_curly : class_of 123 ≡ classes.Opens Curly
 unfolding class_of
 opens_curly = refl
 
-opening_is : (b : ℕ) → class_of b ≡ Opens Curly → b ≡ 123
+square_is : (b : ℕ) → class_of b ≡ classes.Opens Square → b ≡ 91
 unfolding class_of
-opening_is b e = grind (arith, nat_tests)
+square_is b e = grind (arith, nat_tests)
 
--- ---- the views of a map
+curly_is : (b : ℕ) → class_of b ≡ classes.Opens Curly → b ≡ 123
+unfolding class_of
+curly_is b e = grind (arith, nat_tests)
 
-pub no_pairs_atom : (piece : Piece) (pairs : List (Piece × Piece)) → piece.kind ≡ Atom → HasPairs piece pairs → ⊥
-no_pairs_atom piece pairs e h = let both : Atom ≡ Map = sym e ∙ h.2 in cc
+-- The one byte of a bracket.
+pub record OneByte (bracket : Bracket) (byte : ℕ) : Type 0 where
+  pub opens : class_of byte ≡ classes.Opens bracket
+  pub alone : (b : ℕ) → class_of b ≡ classes.Opens bracket → b ≡ byte
 
-pub no_pairs_empty : (piece : Piece) (pairs : List (Piece × Piece)) → length piece.text ≡ 0 → HasPairs piece pairs → ⊥
-no_pairs_empty piece pairs e h = absurd (omega (arith, ap length h.3))
+pub square : OneByte Square 91
+square = record { opens = opens_square; alone = square_is }
 
-pub no_pairs_other : (piece : Piece) (pairs : List (Piece × Piece)) → get_or piece.text 0 0 ≢ 123 → HasPairs piece pairs → ⊥
-no_pairs_other piece pairs e h = e (ap (λ (xs : List ℕ). get_or xs 0 0) h.3 ∙ opening_is h.0 h.4)
+pub curly : OneByte Curly 123
+curly = record { opens = opens_curly; alone = curly_is }
 
-pub pairs_of_map : (piece : Piece) (view : MapView) → piece.kind ≡ Map → 0 < length piece.text → get_or piece.text 0 0 ≡ 123 → view.left.now ≡ drop 1 piece.text → view.at ≡ piece.start + 1
-    → (pairs : List (Piece × Piece)) → HasPairs piece pairs ↔ PairsLeft view pairs
-pairs_of_map piece view kind some first left at pairs =
-    let whole : piece.text ≡ 123 ∷ drop 1 piece.text = drop_here piece.text 0 some ∙ ap (λ (b : ℕ). b ∷ drop 1 piece.text) first in
-    let place : suc piece.start ≡ view.at = sym (at ∙ add-one piece.start) in (
+tail_same : {x y : ℕ} {a b : List ℕ} → x ∷ a ≡ y ∷ b → a ≡ b
+tail_same e = cc
+
+pub parts_of_inside : (bracket : Bracket) (byte : ℕ) → OneByte bracket byte → (parts : Parts) (piece : Piece) → IsInside (Some parts) piece (kind_of (opener_of bracket)) byte
+    → (pieces : List Piece) → HasParts (opener_of bracket) piece pieces ↔ PartsLeft (opener_of bracket) parts pieces
+parts_of_inside bracket byte one parts piece inside pieces =
+    let opener = opener_of bracket in
+    let place : suc piece.core.start ≡ parts.at = sym inside.2 in (
       λ h.
-          let tail : h.1 ≡ drop 1 piece.text = ap (drop 1) (sym h.3) in
-          subst (λ (p : ℕ). PairsFrom p view.left.now pairs) place (subst (λ (bytes : List ℕ). PairsFrom (suc piece.start) bytes pairs) (tail ∙ sym left) h.5),
-      λ h. (
-        123,
-        drop 1 piece.text,
-        kind,
-        whole,
-        opens_curly,
-        subst (λ (p : ℕ). PairsFrom p (drop 1 piece.text) pairs) (sym place) (subst (λ (bytes : List ℕ). PairsFrom view.at bytes pairs) left h),
-      ),
+          let o = opened_by bracket h.opens refl in
+          let tail : h.left ≡ parts.left.now = tail_same (sym o.bytes ∙ inside.1) in
+          subst (λ (p : ℕ). PartsFrom opener p parts.left.now pieces) (o.place ∙ place) (subst (λ (x : List ℕ). PartsFrom opener h.inner x pieces) tail h.inside),
+      λ h.
+          let token : IsToken (Opens opener) piece.core.start (byte ∷ parts.left.now) (suc piece.core.start) parts.left.now = opening one.opens in
+          record {
+            kind = inside.0;
+            inner = parts.at;
+            left = parts.left.now;
+            opens = subst (λ (p : ℕ). IsToken (Opens opener) piece.core.start (untagged piece).text p parts.left.now) place
+                (subst (λ (x : List ℕ). IsToken (Opens opener) piece.core.start x (suc piece.core.start) parts.left.now) (sym inside.1) token);
+            inside = h;
+          },
     )
 
--- ---- the next pair
+pub no_parts : (bracket : Bracket) (byte : ℕ) → OneByte bracket byte → (piece : Piece) → IsInside None piece (kind_of (opener_of bracket)) byte → (pieces : List Piece) → HasParts (opener_of bracket) piece pieces → ⊥
+no_parts bracket byte one piece outside pieces h =
+    let o = opened_by bracket h.opens refl in
+    outside h.kind h.left (o.bytes ∙ ap (λ (x : ℕ). x ∷ h.left) (one.alone o.byte o.class))
 
-found_none : (x : Piece × ℕ × List ℕ) (o : Option (Piece × ℕ × List ℕ)) → o ≡ Some x → o ≡ None → ⊥
-found_none x (Some y) e f = cc
-found_none x None e f = cc
+-- ---- an element with brackets has parts
 
-pub next_none : (place : ℕ) (bytes : List ℕ) (pairs : List (Piece × Piece)) → front_of place bytes ≡ None → PairsFrom place bytes pairs → pairs ≡ []
-next_none place bytes [] e h = refl
-next_none place bytes (pair ∷ pairs) e (room, inner, after, close, left, next gap el text els, last, closing) =
-    absurd (found_none _ _ (front_is pair.0 gap el text) e)
+abbrev is_leaf : ElementKind → Bool
+is_leaf kinds.Atom = true
+is_leaf kinds.Char = true
+is_leaf kinds.Text = true
+is_leaf kinds.List = false
+is_leaf kinds.Vector = false
+is_leaf kinds.Map = false
+is_leaf kinds.Set = false
+is_leaf kinds.Tagged = false
 
-record Split (place : ℕ) (bytes : List ℕ) (pairs : List (Piece × Piece)) : Type 0 where
-  key : Piece
-  value : Piece
-  rest : List (Piece × Piece)
-  whole : pairs ≡ (key, value) ∷ rest
-  middle : ℕ
-  middle_bytes : List ℕ
-  end : ℕ
-  end_bytes : List ℕ
-  first : front_of place bytes ≡ Some (key, middle, middle_bytes)
-  second : front_of middle middle_bytes ≡ Some (value, end, end_bytes)
-  others : PairsFrom end end_bytes rest
+leaf_kind : {token : Token} {p q : ℕ} {a b : List ℕ} (kind : ElementKind) → IsToken token p a q b → token ≡ Leaf kind → is_leaf kind ≡ true
+leaf_kind kind (white v) e = absurd cc
+leaf_kind kind (comment v g) e = absurd cc
+leaf_kind kind (run v g) e = let same : kind ≡ kinds.Atom = cc in ap is_leaf same
+leaf_kind kind (hashed v u g) e = let same : kind ≡ kinds.Atom = cc in ap is_leaf same
+leaf_kind kind (character v g) e = let same : kind ≡ kinds.Char = cc in ap is_leaf same
+leaf_kind kind (text v g) e = let same : kind ≡ kinds.Text = cc in ap is_leaf same
+leaf_kind kind (hash_text v u g) e = let same : kind ≡ kinds.Text = cc in ap is_leaf same
+leaf_kind kind (opening v) e = absurd cc
+leaf_kind kind (set v u) e = absurd cc
+leaf_kind kind (discard v u) e = absurd cc
+leaf_kind kind (tag v u g) e = absurd cc
+leaf_kind kind (close v) e = absurd cc
 
-split_pairs : (place : ℕ) (bytes : List ℕ) (pairs : List (Piece × Piece)) (piece : Piece) (q : ℕ) (b : List ℕ) → front_of place bytes ≡ Some (piece, q, b) → PairsFrom place bytes pairs → Split place bytes pairs
-split_pairs place bytes [] piece q b e (room, inner, after, close, left, none, last, closing) =
-    absurd (found_none (piece, q, b) _ e (front_none last closing))
-split_pairs place bytes (pair ∷ pairs) piece q b e (room, inner, after, close, left, next {ended = m} {beyond = mb} gap el text (next {ended = n} {beyond = nb} g v t els), last, closing) = record {
-  key = pair.0;
-  value = pair.1;
-  rest = pairs;
-  whole = refl;
-  middle = m;
-  middle_bytes = mb;
-  end = n;
-  end_bytes = nb;
-  first = front_is pair.0 gap el text;
-  second = front_is pair.1 g v t;
-  others = (room, inner, after, close, left, els, last, closing);
+bracket_no_leaf : (bracket : Bracket) → is_leaf (kind_of (opener_of bracket)) ≡ false
+bracket_no_leaf Round = refl
+bracket_no_leaf Square = refl
+bracket_no_leaf Curly = refl
+
+bracket_no_tag : (bracket : Bracket) → kinds.Tagged ≡ kind_of (opener_of bracket) → ⊥
+bracket_no_tag Round e = cc
+bracket_no_tag Square e = cc
+bracket_no_tag Curly e = cc
+
+record Bracketed (bracket : Bracket) (p : ℕ) (a : List ℕ) : Type 0 where
+  pieces : List Piece
+  inner : ℕ
+  left : List ℕ
+  opens : IsToken (Opens (opener_of bracket)) p a inner left
+  inside : PartsFrom (opener_of bracket) inner left pieces
+  even : is_paired (opener_of bracket) && is_odd pieces ≡ false
+
+parts_from : {room inner ends begins after : ℕ} {left beyond behind rest : List ℕ} {opener : Opener} {last : Bracket} (pieces : List Piece) → room ≡ 63
+    → IsElements room inner left pieces ends beyond → IsGap room ends beyond begins behind → IsToken (Closes last) begins behind after rest → fits opener last ≡ true → rest ≡ []
+    → PartsFrom opener inner left pieces
+parts_from {room} {inner} {ends} {begins} {after} {left} {beyond} {behind} {rest} {opener} {last} pieces less els gap token fit end = record {
+  ends = ends;
+  beyond = beyond;
+  begins = begins;
+  behind = behind;
+  after = after;
+  bracket = last;
+  elements = subst (λ (r : ℕ). IsElements r inner left pieces ends beyond) less els;
+  gap = subst (λ (r : ℕ). IsGap r ends beyond begins behind) less gap;
+  close = subst (λ (x : List ℕ). IsToken (Closes last) begins behind after x) end token;
+  closes = fit;
 }
 
-pub next_half : (view after : MapView) (pairs : List (Piece × Piece)) (piece : Piece) (q : ℕ) (b : List ℕ) → front_of view.at view.left.now ≡ Some (piece, q, b) → front_of q b ≡ None → PairsLeft view pairs → NextPair None after pairs
-next_half view after pairs piece q b e f h =
-    let s = split_pairs view.at view.left.now pairs piece q b e h in
-    let same : (s.key, s.middle, s.middle_bytes) ≡ (piece, q, b) = same_found (s.key, s.middle, s.middle_bytes) (piece, q, b) _ s.first e in
-    let there : front_of s.middle s.middle_bytes ≡ None = subst (λ (x : Piece × ℕ × List ℕ). front_of x.1 x.2 ≡ None) (sym same) f in
-    absurd (found_none (s.value, s.end, s.end_bytes) _ s.second there)
+bracketed_parts : {room p q : ℕ} {kind : ElementKind} {core : Core} {a b : List ℕ} (bracket : Bracket) → IsElementAt room kind core p a q b → room ≡ 64 → kind ≡ kind_of (opener_of bracket) → b ≡ []
+    → Bracketed bracket p a
+bracketed_parts bracket (leaf {kind = kind} token) full k end =
+    let both : true ≡ false = sym (leaf_kind kind token refl) ∙ ap is_leaf k ∙ bracket_no_leaf bracket in absurd cc
+bracketed_parts bracket (bracketed {room = room} {place = place} {inner = inner} {bytes = bytes} {left = left} {pieces = pieces} {opener = opener} {bracket = last} token els gap lasts fit even) full k end =
+    let same : opener ≡ opener_of bracket = kind_one opener bracket k in
+    let less : room ≡ 63 = omega arith in
+    let inside : PartsFrom opener inner left pieces = parts_from pieces less els gap lasts fit end in
+    record {
+      pieces = pieces;
+      inner = inner;
+      left = left;
+      opens = subst (λ (o : Opener). IsToken (Opens o) place bytes inner left) same token;
+      inside = subst (λ (o : Opener). PartsFrom o inner left pieces) same inside;
+      even = subst (λ (o : Opener). is_paired o && is_odd pieces ≡ false) same even;
+    }
+bracketed_parts bracket (tagged token gap element) full k end = absurd (bracket_no_tag bracket k)
 
-pub next_both : (view after : MapView) (pairs : List (Piece × Piece)) (key value : Element) (q : ℕ) (b : List ℕ) → front_of view.at view.left.now ≡ Some (piece_of key, q, b)
-    → front_of q b ≡ Some (piece_of value, after.at, after.left.now) → PairsLeft view pairs → NextPair (Some (key, value)) after pairs
-next_both view after pairs key value q b e f h =
-    let s = split_pairs view.at view.left.now pairs (piece_of key) q b e h in
-    let same : (s.key, s.middle, s.middle_bytes) ≡ (piece_of key, q, b) = same_found (s.key, s.middle, s.middle_bytes) (piece_of key, q, b) _ s.first e in
-    let there : front_of s.middle s.middle_bytes ≡ Some (piece_of value, after.at, after.left.now) = subst (λ (x : Piece × ℕ × List ℕ). front_of x.1 x.2 ≡ Some (piece_of value, after.at, after.left.now)) (sym same) f in
-    let last : (s.value, s.end, s.end_bytes) ≡ (piece_of value, after.at, after.left.now) = same_found (s.value, s.end, s.end_bytes) (piece_of value, after.at, after.left.now) _ s.second there in
-    let others : PairsLeft after s.rest = subst (λ (x : Piece × ℕ × List ℕ). PairsFrom x.1 x.2 s.rest) last s.others in
-    subst (λ (ps : List (Piece × Piece)). NextPair (Some (key, value)) after ps) (sym s.whole)
-    (ap (λ (x : Piece × ℕ × List ℕ). x.0) (sym same), ap (λ (x : Piece × ℕ × List ℕ). x.0) (sym last), others)
+-- What is an element and has the kind of a bracket behind its tags has parts.
+pub has_parts : (bracket : Bracket) (piece : Piece) → IsElement piece → piece.core.kind ≡ kind_of (opener_of bracket)
+    → (pieces : List Piece) × HasParts (opener_of bracket) piece pieces × (is_paired (opener_of bracket) && is_odd pieces ≡ false)
+has_parts bracket piece h kind =
+    let m = bracketed_parts bracket (untagged_is_element piece h).1 refl kind refl in
+    (m.pieces, record { kind = kind; inner = m.inner; left = m.left; opens = m.opens; inside = m.inside }, m.even)
 
-first_empty : first_length [] ≡ 0
-unfolding first_length
-first_empty = refl
+not-not : (t : Bool) → not (not t) ≡ t
+not-not true = refl
+not-not false = refl
 
-shrinks_first : (p : ℕ) (a : List ℕ) (n : ℕ) (t : Bool) → eqb n 0 ≡ t → n ≡ first_length a → (x : Piece × ℕ × List ℕ)
-    → cond t None (Some (record { kind = first_kind a; start = p; text = take n a }, p + n, drop n a)) ≡ Some x → length x.2 < length a
-shrinks_first p a n true e k x f = absurd cc
-shrinks_first p [] n false e k x f =
-    let zero_long : n ≡ 0 = k ∙ first_empty in absurd (grind (arith, nat_tests))
-shrinks_first p (b ∷ a) n false e k x f =
-    let some : 0 < n = grind (arith, nat_tests) in
-    let same : drop n (b ∷ a) ≡ x.2 = cc in
-    omega (arith, ap length same, length-drop n (b ∷ a))
+-- Every map has its pairs.
+paired : (pieces : List Piece) → is_odd pieces ≡ false → (pairs : List (Piece × Piece)) × (in_turn pairs ≡ pieces)
+paired [] e = ([], refl)
+paired (p ∷ []) e = absurd cc
+paired (p ∷ q ∷ pieces) e =
+    let rest = paired pieces (sym (not-not (is_odd pieces)) ∙ e) in
+    ((p, q) ∷ rest.0, ap (λ (ps : List Piece). p ∷ q ∷ ps) rest.1)
 
-pub front_shrinks : (p : ℕ) (a : List ℕ) (piece : Piece) (q : ℕ) (b : List ℕ) → front_of p a ≡ Some (piece, q, b) → length b < length a
-unfolding front_of
-front_shrinks p a piece q b e =
-    let left = drop (gap_length a) a in
-    let less : length b < length left = shrinks_first (p + gap_length a) left (first_length left) (eqb (first_length left) 0) refl refl (piece, q, b) e in
-    omega (arith, length-drop (gap_length a) a, less)
+pub has_pairs : (piece : Piece) → IsElement piece → piece.core.kind ≡ kinds.Map → (pairs : List (Piece × Piece)) × HasPairs piece pairs
+has_pairs piece h kind =
+    let m = has_parts Curly piece h kind in
+    let pairs = paired m.0 m.2 in
+    (pairs.0, subst (HasParts openers.Map piece) (sym pairs.1) m.1)
+
+-- ---- the next part
+
+-- The first of several elements.
+record First (room p : ℕ) (a : List ℕ) (piece : Piece) (pieces : List Piece) (ends : ℕ) (beyond : List ℕ) : Type 0 where
+  left : List ℕ
+  ended : ℕ
+  behind : List ℕ
+  gap : IsGap room p a piece.start left
+  element : IsElementAt room piece.kind piece.core piece.start left ended behind
+  whole : left ≡ piece.text ++ behind
+  others : IsElements room ended behind pieces ends beyond
+
+first_of : {room p ends : ℕ} {a beyond : List ℕ} {piece : Piece} {pieces : List Piece} → IsElements room p a (piece ∷ pieces) ends beyond → First room p a piece pieces ends beyond
+first_of (next {ended = ended} {left = left} {beyond = behind} gap element whole others) =
+    record { left = left; ended = ended; behind = behind; gap = gap; element = element; whole = whole; others = others }
+
+none_of : {room p ends : ℕ} {a beyond : List ℕ} → IsElements room p a [] ends beyond → (p ≡ ends) × (a ≡ beyond)
+none_of none = (refl, refl)
+
+-- Where a gap ends, what is left stands.
+gap_over : {room p q : ℕ} {a b : List ℕ} (start : ℕ) → IsGap room p a q b → NoGap (lexed b).0 → SkipsGap a 0 start → (p + start ≡ q) × (drop start a ≡ b)
+gap_over {room} {p} {q} {a} {b} start gap clear skips =
+    let long : p + start ≡ q + 0 = skips room p q b gap clear in
+    let place : p + start ≡ q = omega (arith, long) in
+    (place, beyond_gap start gap place)
+
+no_first_kind : (opener : Opener) (at : ℕ) (left : List ℕ) (start : ℕ) → PartsFrom opener at left [] → SkipsGap left 0 start → kind_token (lexed (drop start left)).0 ≡ None
+no_first_kind opener at left start h skips =
+    let close = (lexed_token h.close).token_is in
+    let same = none_of h.elements in
+    let gap : IsGap 63 at left h.begins h.behind =
+    subst (λ (p : ℕ). IsGap 63 p left h.begins h.behind) (sym same.0) (subst (λ (a : List ℕ). IsGap 63 h.ends a h.begins h.behind) (sym same.1) h.gap) in
+    let here = gap_over start gap (subst NoGap (sym close) tt) skips in
+    ap (λ (a : List ℕ). kind_token (lexed a).0) here.1 ∙ ap kind_token close
+
+-- What stands at the places that are found.
+record Reached (left : List ℕ) (at start middle : ℕ) (piece : Piece) (ended : ℕ) (behind : List ℕ) : Type 0 where
+  begins : at + start ≡ piece.start
+  first : kind_token (lexed (drop start left)).0 ≡ Some piece.kind
+  core : at + middle ≡ piece.core.start
+  inner : kind_token (lexed (drop middle left)).0 ≡ Some piece.core.kind
+  room : ℕ
+  element : IsElementAt room piece.core.kind piece.core piece.core.start (drop middle left) ended behind
+
+reached : {room at ended : ℕ} {left beyond behind : List ℕ} (piece : Piece) (start middle : ℕ) → IsGap room at left piece.start beyond → IsElementAt room piece.kind piece.core piece.start beyond ended behind
+    → SkipsGap left 0 start → SkipsTags left start middle → Reached left at start middle piece ended behind
+reached {room} {at} {ended} {left} {beyond} {behind} piece start middle gap element skips tags =
+    let here = gap_over start gap (element_no_gap element) skips in
+    let there : IsElementAt room piece.kind piece.core piece.start (drop start left) ended behind =
+    subst (λ (a : List ℕ). IsElementAt room piece.kind piece.core piece.start a ended behind) (sym here.1) element in
+    let long : piece.start + middle ≡ piece.core.start + start = tags room piece.start ended piece.kind piece.core behind there in
+    let c = core_at there in
+    let same : drop c.ahead (drop start left) ≡ drop middle left =
+    drop-drop c.ahead start left ∙ ap (λ (n : ℕ). drop n left) (omega (arith, long, c.place)) in
+    let inside : IsElementAt room piece.core.kind piece.core piece.core.start (drop middle left) ended behind =
+    subst (λ (a : List ℕ). IsElementAt room piece.core.kind piece.core piece.core.start a ended behind) same c.element in
+    record {
+      begins = here.0;
+      first = element_kind there;
+      core = omega (arith, here.0, long);
+      inner = element_kind inside;
+      room = room;
+      element = inside;
+    }
+
+no_kind : {kind : ElementKind} {found : Option ElementKind} → found ≡ Some kind → found ≡ None → ⊥
+no_kind e f = let both = sym e ∙ f in cc
+
+-- Where no element begins, none is left.
+pub none_left : (opener : Opener) (parts : Parts) (start : ℕ) → SkipsGap parts.left.now 0 start → kind_token (lexed (drop start parts.left.now)).0 ≡ None
+    → (pieces : List Piece) → PartsLeft opener parts pieces → pieces ≡ []
+none_left opener parts start skips e [] h = refl
+none_left opener parts start skips e (piece ∷ pieces) h =
+    let f = first_of h.elements in
+    let here = gap_over start f.gap (element_no_gap f.element) skips in
+    absurd (no_kind (ap (λ (a : List ℕ). kind_token (lexed a).0) here.1 ∙ element_kind f.element) e)
+
+pub no_core_left : (opener : Opener) (parts : Parts) (start middle : ℕ) → SkipsGap parts.left.now 0 start → SkipsTags parts.left.now start middle
+    → kind_token (lexed (drop middle parts.left.now)).0 ≡ None → (pieces : List Piece) → PartsLeft opener parts pieces → pieces ≡ []
+no_core_left opener parts start middle skips tags e [] h = refl
+no_core_left opener parts start middle skips tags e (piece ∷ pieces) h =
+    let f = first_of h.elements in absurd (no_kind (reached piece start middle f.gap f.element skips tags).inner e)
+
+abbrev pub found_piece : Parts → ℕ → ℕ → ℕ → ElementKind → ElementKind → Piece
+found_piece parts start middle end kind inner = record {
+  kind = kind;
+  start = parts.at + start;
+  text = take (end - start) (drop start parts.left.now);
+  core = record { kind = inner; start = parts.at + middle };
+}
+
+kind_same : {found : Option ElementKind} {x y : ElementKind} → found ≡ Some x → found ≡ Some y → x ≡ y
+kind_same e f = let both = sym e ∙ f in cc
+
+same_piece : (x y : Piece) → x.kind ≡ y.kind → x.start ≡ y.start → x.text ≡ y.text → x.core.kind ≡ y.core.kind → x.core.start ≡ y.core.start → x ≡ y
+same_piece x y e f g h i =
+    ap (λ (k : ElementKind). record { kind = k; start = x.start; text = x.text; core = x.core }) e
+    ∙ ap (λ (n : ℕ). record { kind = y.kind; start = n; text = x.text; core = x.core }) f
+    ∙ ap (λ (t : List ℕ). record { kind = y.kind; start = y.start; text = t; core = x.core }) g
+    ∙ ap (λ (k : ElementKind). record { kind = y.kind; start = y.start; text = y.text; core = record { kind = k; start = x.core.start } }) h
+    ∙ ap (λ (n : ℕ). record { kind = y.kind; start = y.start; text = y.text; core = record { kind = y.core.kind; start = n } }) i
+
+-- The element that is found is the first one, and the others are left.
+pub next_part : (opener : Opener) (old after : Parts) (element : Element) (start middle end : ℕ) (kind inner : ElementKind) → SkipsGap old.left.now 0 start → SkipsTags old.left.now start middle
+    → SkipsElement old.left.now middle end → start ≤ middle → middle ≤ end → Some kind ≡ kind_token (lexed (drop start old.left.now)).0
+    → Some inner ≡ kind_token (lexed (drop middle old.left.now)).0 → piece_of element ≡ found_piece old start middle end kind inner
+    → after.at ≡ old.at + end → after.left.now ≡ drop end old.left.now → (pieces : List Piece) → PartsLeft opener old pieces → NextPart opener (Some element) after pieces
+next_part opener old after element start middle end kind inner skips tags ends low high first second found at left [] h =
+    absurd (no_kind (sym first) (no_first_kind opener old.at old.left.now start h skips))
+next_part opener old after element start middle end kind inner skips tags ends low high first second found at left (piece ∷ pieces) h =
+    let bytes = old.left.now in
+    let f = first_of h.elements in
+    let r = reached piece start middle f.gap f.element skips tags in
+    let long : piece.core.start + end ≡ f.ended + middle = ends r.room piece.core.start piece.core.start f.ended piece.core.kind piece.core (drop middle bytes) f.behind nothing r.element in
+    let behind : drop end bytes ≡ f.behind =
+    ap (λ (n : ℕ). drop n bytes) (omega (arith, high)) ∙ sym (drop-drop (end - middle) middle bytes) ∙ beyond_element (end - middle) r.element (omega (arith, long, high)) in
+    let here = gap_over start f.gap (element_no_gap f.element) skips in
+    let m = moved_element f.element f.behind (λ e. e) in
+    let front : m.place.front ≡ piece.text = cancel_end m.place.front piece.text f.behind (sym m.place.here ∙ f.whole) in
+    let size : end - start ≡ length piece.text = omega (arith, m.place.place, ap length front, long, r.begins, r.core, low, high) in
+    let text : take (end - start) (drop start bytes) ≡ piece.text =
+    ap (take (end - start)) (here.1 ∙ f.whole) ∙ ap (λ (n : ℕ). take n (piece.text ++ f.behind)) size ∙ take-append_seam piece.text f.behind in
+    let same : found_piece old start middle end kind inner ≡ piece =
+    same_piece (found_piece old start middle end kind inner) piece (kind_same (sym first) r.first) r.begins text (kind_same (sym second) r.inner) r.core in
+    let ended : after.at ≡ f.ended = omega (arith, at, long, r.core) in
+    let rest : after.left.now ≡ f.behind = left ∙ behind in
+    let others : IsElements 63 after.at after.left.now pieces h.ends h.beyond =
+    subst (λ (p : ℕ). IsElements 63 p after.left.now pieces h.ends h.beyond) (sym ended) (subst (λ (a : List ℕ). IsElements 63 f.ended a pieces h.ends h.beyond) (sym rest) f.others) in (
+      found ∙ same,
+      record { ends = h.ends; beyond = h.beyond; begins = h.begins; behind = h.behind; after = h.after; bracket = h.bracket; elements = others; gap = h.gap; close = h.close; closes = h.closes },
+    )
+
+pub parts_are_elements : {opener : Opener} {place : ℕ} {bytes : List ℕ} {pieces : List Piece} → PartsFrom opener place bytes pieces → AllByRecursion IsElement pieces
+parts_are_elements h = let low : 63 ≤ 64 = omega arith in each_is_element low h.elements
+
+-- What is given is an element.
+pub given_is_element : (opener : Opener) (old after : Parts) (element : Element) (pieces : List Piece) → PartsLeft opener old pieces → NextPart opener (Some element) after pieces → IsElement (piece_of element)
+given_is_element opener old after element [] h n = absurd n
+given_is_element opener old after element (piece ∷ pieces) h n = subst IsElement (sym n.0) (parts_are_elements h).0
+
+pub fewer_bytes : (bytes : List ℕ) (start middle end : ℕ) (kind : ElementKind) → middle ≤ length bytes → (middle < length bytes → middle < end) → Some kind ≡ kind_token (lexed (drop middle bytes)).0
+    → middle ≤ end → end ≤ length bytes → length (drop end bytes) < length bytes
+fewer_bytes bytes start middle end kind within forward e after last = by_length (cases_lt middle (length bytes)) where
+  by_length : (middle < length bytes) ⊎ (length bytes ≤ middle) → length (drop end bytes) < length bytes
+  by_length (inl lt) = omega (arith, length-drop end bytes, forward lt)
+  by_length (inr le) = absurd (no_kind (sym e) (ap kind_token (none_at_end bytes middle le)))
+
+-- ---- pairs
+
+pub no_pair : (pairs : List (Piece × Piece)) → in_turn pairs ≡ [] → pairs ≡ []
+no_pair [] e = refl
+no_pair (pair ∷ pairs) e = absurd cc
+
+pub first_alone : (old middle after : Parts) (view : MapView) (key : Element) → ((pieces : List Piece) → PartsLeft openers.Map old pieces → NextPart openers.Map (Some key) middle pieces)
+    → ((pieces : List Piece) → PartsLeft openers.Map middle pieces → NextPart openers.Map None after pieces) → (pairs : List (Piece × Piece)) → PartsLeft openers.Map old (in_turn pairs) → NextPair None view pairs
+first_alone old middle after view key first second [] h = refl
+first_alone old middle after view key first second (pair ∷ pairs) h =
+    let e : pair.1 ∷ in_turn pairs ≡ [] = second (pair.1 ∷ in_turn pairs) (first (pair.0 ∷ pair.1 ∷ in_turn pairs) h).1 in absurd cc
+
+pub both_given : (old middle : Parts) (view : MapView) (key value : Element) → ((pieces : List Piece) → PartsLeft openers.Map old pieces → NextPart openers.Map (Some key) middle pieces)
+    → ((pieces : List Piece) → PartsLeft openers.Map middle pieces → NextPart openers.Map (Some value) view.parts pieces) → (pairs : List (Piece × Piece)) → PartsLeft openers.Map old (in_turn pairs)
+    → NextPair (Some (key, value)) view pairs
+both_given old middle view key value first second [] h = absurd (first [] h)
+both_given old middle view key value first second (pair ∷ pairs) h =
+    let f = first (pair.0 ∷ pair.1 ∷ in_turn pairs) h in
+    let s = second (pair.1 ∷ in_turn pairs) f.1 in (f.0, s.0, s.1)
+
+abbrev AreElements : Piece × Piece → Type 0
+AreElements pair = IsElement pair.0 × IsElement pair.1
+
+pairs_each : (pairs : List (Piece × Piece)) → AllByRecursion IsElement (in_turn pairs) → AllByRecursion AreElements pairs
+pairs_each [] h = tt
+pairs_each (pair ∷ pairs) h = ((h.0, h.1.0), pairs_each pairs h.1.1)
+
+pub pairs_are_elements : {opener : Opener} {place : ℕ} {bytes : List ℕ} (pairs : List (Piece × Piece)) → PartsFrom opener place bytes (in_turn pairs)
+    → AllByRecursion (λ pair. IsElement pair.0 × IsElement pair.1) pairs
+pairs_are_elements pairs h = pairs_each pairs (parts_are_elements h)
+
+pub given_are_elements : (view after : MapView) (pairs : List (Piece × Piece)) (key value : Element) → PairsLeft view pairs → NextPair (Some (key, value)) after pairs → IsElement (piece_of key) × IsElement (piece_of value)
+given_are_elements view after [] key value h n = absurd n
+given_are_elements view after (pair ∷ pairs) key value h n =
+    let each = (pairs_are_elements (pair ∷ pairs) h).0 in
+    (subst IsElement (sym n.0) each.0, subst IsElement (sym n.1) each.1)
 
 -- ---- fields
 
@@ -148,11 +483,8 @@ Seen first view key found =
     (pairs : List (Piece × Piece)) → PairsLeft first pairs
     → (seen left : List (Piece × Piece)) × (pairs ≡ seen ++ left) × PairsLeft view left × IsField found (values_of key seen)
 
-pub seen_begin : (view : MapView) (key : List ℕ) → Seen view view key Absent
-seen_begin view key pairs h = ([], pairs, refl, h, refl)
-
 abbrev fits_key : List ℕ → Piece × Piece → Bool
-fits_key key pair = is_keyword pair.0 && bytes_eq pair.0.text key
+fits_key key pair = is_word key pair.0
 
 one_value : (key : List ℕ) (pair : Piece × Piece) (pairs : List (Piece × Piece)) (t : Bool) → fits_key key pair ≡ t → values_of key (pair ∷ pairs) ≡ cond t (pair.1 ∷ values_of key pairs) (values_of key pairs)
 one_value key pair pairs true e = rw e refl
@@ -177,32 +509,34 @@ values_same key [] pair e = one_value key pair [] false e
 values_same key (p ∷ seen) pair e =
     values_behind key p seen (pair ∷ []) [] (fits_key key p) refl (values_same key seen pair e ∙ sym (append-nil (values_of key seen))) ∙ append-nil (values_of key (p ∷ seen))
 
-with_key : (first view after : MapView) (key : List ℕ) (found more : Field) (name value : Element) (seen left pairs : List (Piece × Piece)) → pairs ≡ seen ++ left
-    → NextPair (Some (name, value)) after left → IsField found (values_of key seen) → is_keyword (piece_of name) && bytes_eq (piece_of name).text key ≡ true
+with_key : (view after : MapView) (key : List ℕ) (found more : Field) (name value : Element) (seen left pairs : List (Piece × Piece)) → pairs ≡ seen ++ left
+    → NextPair (Some (name, value)) after left → IsField found (values_of key seen) → is_word key (piece_of name) ≡ true
     → ((values : List Piece) → IsField found values → IsField more (values ++ piece_of value ∷ []))
     → (s l : List (Piece × Piece)) × (pairs ≡ s ++ l) × PairsLeft after l × IsField more (values_of key s)
-with_key first view after key found more name value seen [] pairs e n k t f = absurd n
-with_key first view after key found more name value seen (pair ∷ left) pairs e n k t f =
-    let fits : fits_key key pair ≡ true = subst (λ (x : Piece). is_keyword x && bytes_eq x.text key ≡ true) n.0 t in
+with_key view after key found more name value seen [] pairs e n k t f = absurd n
+with_key view after key found more name value seen (pair ∷ left) pairs e n k t f =
+    let same : fits_key key pair ≡ true = subst (λ (x : Piece). is_word key x ≡ true) n.0 t in
     let longer : IsField more (values_of key seen ++ pair.1 ∷ []) = subst (λ (x : Piece). IsField more (values_of key seen ++ x ∷ [])) n.1 (f (values_of key seen) k) in
-    (seen ++ pair ∷ [], left, e ∙ sym (append_assoc seen (pair ∷ []) left), n.2, subst (IsField more) (sym (values_more key seen pair fits)) longer)
+    (seen ++ pair ∷ [], left, e ∙ sym (append_assoc seen (pair ∷ []) left), n.2, subst (IsField more) (sym (values_more key seen pair same)) longer)
 
-with_other : (first view after : MapView) (key : List ℕ) (found : Field) (name value : Element) (seen left pairs : List (Piece × Piece)) → pairs ≡ seen ++ left
-    → NextPair (Some (name, value)) after left → IsField found (values_of key seen) → is_keyword (piece_of name) && bytes_eq (piece_of name).text key ≡ false
+with_other : (view after : MapView) (key : List ℕ) (found : Field) (name value : Element) (seen left pairs : List (Piece × Piece)) → pairs ≡ seen ++ left
+    → NextPair (Some (name, value)) after left → IsField found (values_of key seen) → is_word key (piece_of name) ≡ false
     → (s l : List (Piece × Piece)) × (pairs ≡ s ++ l) × PairsLeft after l × IsField found (values_of key s)
-with_other first view after key found name value seen [] pairs e n k t = absurd n
-with_other first view after key found name value seen (pair ∷ left) pairs e n k t =
-    let fits : fits_key key pair ≡ false = subst (λ (x : Piece). is_keyword x && bytes_eq x.text key ≡ false) n.0 t in
-    (seen ++ pair ∷ [], left, e ∙ sym (append_assoc seen (pair ∷ []) left), n.2, subst (IsField found) (sym (values_same key seen pair fits)) k)
+with_other view after key found name value seen [] pairs e n k t = absurd n
+with_other view after key found name value seen (pair ∷ left) pairs e n k t =
+    let same : fits_key key pair ≡ false = subst (λ (x : Piece). is_word key x ≡ false) n.0 t in
+    (seen ++ pair ∷ [], left, e ∙ sym (append_assoc seen (pair ∷ []) left), n.2, subst (IsField found) (sym (values_same key seen pair same)) k)
 
 pub seen_key : (first view after : MapView) (key : List ℕ) (found more : Field) (name value : Element) → Seen first view key found
-    → ((pairs : List (Piece × Piece)) → PairsLeft view pairs → NextPair (Some (name, value)) after pairs) → is_keyword (piece_of name) && bytes_eq (piece_of name).text key ≡ true
+    → ((pairs : List (Piece × Piece)) → PairsLeft view pairs → NextPair (Some (name, value)) after pairs) → is_word key (piece_of name) ≡ true
     → ((values : List Piece) → IsField found values → IsField more (values ++ piece_of value ∷ [])) → Seen first after key more
-seen_key first view after key found more name value s n e f pairs h = with_key first view after key found more name value (s pairs h).0 (s pairs h).1 pairs (s pairs h).2 (n (s pairs h).1 (s pairs h).3) (s pairs h).4 e f
+seen_key first view after key found more name value s n e f pairs h =
+    let k = s pairs h in with_key view after key found more name value k.0 k.1 pairs k.2 (n k.1 k.3) k.4 e f
 
 pub seen_other : (first view after : MapView) (key : List ℕ) (found : Field) (name value : Element) → Seen first view key found
-    → ((pairs : List (Piece × Piece)) → PairsLeft view pairs → NextPair (Some (name, value)) after pairs) → is_keyword (piece_of name) && bytes_eq (piece_of name).text key ≡ false → Seen first after key found
-seen_other first view after key found name value s n e pairs h = with_other first view after key found name value (s pairs h).0 (s pairs h).1 pairs (s pairs h).2 (n (s pairs h).1 (s pairs h).3) (s pairs h).4 e
+    → ((pairs : List (Piece × Piece)) → PairsLeft view pairs → NextPair (Some (name, value)) after pairs) → is_word key (piece_of name) ≡ false → Seen first after key found
+seen_other first view after key found name value s n e pairs h =
+    let k = s pairs h in with_other view after key found name value k.0 k.1 pairs k.2 (n k.1 k.3) k.4 e
 
 pub seen_end : (first view after : MapView) (key : List ℕ) (found : Field) → Seen first view key found → ((pairs : List (Piece × Piece)) → PairsLeft view pairs → NextPair None after pairs)
     → (pairs : List (Piece × Piece)) → PairsLeft first pairs → IsField found (values_of key pairs)
@@ -210,41 +544,6 @@ seen_end first view after key found s n pairs h =
     let k = s pairs h in
     let e : pairs ≡ k.0 = k.2 ∙ ap (λ (left : List (Piece × Piece)). k.0 ++ left) (n k.1 k.3) ∙ append-nil k.0 in
     subst (λ (ps : List (Piece × Piece)). IsField found (values_of key ps)) (sym e) k.4
-
--- ---- laws
-
--- Every element of a list of elements is one on its own.
-pub each_is_element : {room p q : ℕ} {pieces : List Piece} {a b : List ℕ} → IsElements room p a pieces q b → AllByRecursion IsElement pieces
-each_is_element none = tt
-each_is_element (next {room = room} {ended = here} {beyond = beyond} {piece = piece} gap el text els) =
-    let m = moved_element el [] (λ h. tt) in
-    let same : m.2.front ≡ piece.text = cancel_end m.2.front piece.text beyond (sym m.2.here ∙ text) in
-    let alone : m.0 ≡ piece.text = m.2.there ∙ append-nil m.2.front ∙ same in
-    ((room, here, subst (λ (t : List ℕ). IsElementAt room piece.kind piece.start t here []) alone m.1), each_is_element els)
-
-last_of : (pieces : List Piece) (piece : Piece) → AllByRecursion IsElement (pieces ++ piece ∷ []) → IsElement piece
-last_of [] piece h = h.0
-last_of (p ∷ pieces) piece h = last_of pieces piece h.1
-
--- The element that a longer front ends with.
-pub last_is_element : (input : List ℕ) (pieces : List Piece) (piece : Piece) (at : ℕ) → IsFront input (pieces ++ piece ∷ []) at → IsElement piece
-last_is_element input pieces piece at front = last_of pieces piece (each_is_element front)
-
-abbrev AreElements : Piece × Piece → Type 0
-AreElements pair = IsElement pair.0 × IsElement pair.1
-
-pairs_each : (pairs : List (Piece × Piece)) → AllByRecursion IsElement (in_turn pairs) → AllByRecursion AreElements pairs
-pairs_each [] h = tt
-pairs_each (pair ∷ pairs) h = ((h.0, h.1.0), pairs_each pairs h.1.1)
-
-pub pairs_are_elements : (place : ℕ) (bytes : List ℕ) (pairs : List (Piece × Piece)) → PairsFrom place bytes pairs → AllByRecursion (λ pair. IsElement pair.0 × IsElement pair.1) pairs
-pairs_are_elements place bytes pairs (room, inner, after, close, left, els, last, closing) = pairs_each pairs (each_is_element els)
-
-pub given_are_elements : (view after : MapView) (pairs : List (Piece × Piece)) (key value : Element) → PairsLeft view pairs → NextPair (Some (key, value)) after pairs → IsElement (piece_of key) × IsElement (piece_of value)
-given_are_elements view after [] key value h n = absurd n
-given_are_elements view after (pair ∷ pairs) key value h n =
-    let each = (pairs_are_elements view.at view.left.now (pair ∷ pairs) h).0 in
-    (subst IsElement (sym n.0) each.0, subst IsElement (sym n.1) each.1)
 
 values_are_by : (key : List ℕ) (pair : Piece × Piece) (pairs : List (Piece × Piece)) (t : Bool) → fits_key key pair ≡ t → IsElement pair.1 → AllByRecursion IsElement (values_of key pairs) → AllByRecursion IsElement (values_of key (pair ∷ pairs))
 values_are_by key pair pairs true e h k = subst (AllByRecursion IsElement) (sym (one_value key pair pairs true e)) (h, k)
@@ -254,80 +553,64 @@ values_are : (key : List ℕ) (pairs : List (Piece × Piece)) → AllByRecursion
 values_are key [] h = tt
 values_are key (pair ∷ pairs) h = values_are_by key pair pairs (fits_key key pair) refl h.0.1 (values_are key pairs h.1)
 
-pub once_is_element : (view : MapView) (key : List ℕ) (pairs : List (Piece × Piece)) (element : Element) → PairsLeft view pairs → IsField (Once element) (values_of key pairs) → IsElement (piece_of element)
-once_is_element view key pairs element h f =
-    (subst (AllByRecursion IsElement) f (values_are key pairs (pairs_are_elements view.at view.left.now pairs h))).0
+-- A value that is given once is an element.
+pub whole_field : (view : MapView) (key : List ℕ) (pairs : List (Piece × Piece)) (found : Field) → PairsLeft view pairs → IsField found (values_of key pairs) → IsWholeField found
+whole_field view key pairs Absent h f = tt
+whole_field view key pairs (Once element) h f = (subst (AllByRecursion IsElement) f (values_are key pairs (pairs_are_elements pairs h))).0
+whole_field view key pairs Twice h f = tt
 
-first_none : (place : ℕ) (bytes : List ℕ) (pairs : List (Piece × Piece)) → PairsFrom place bytes pairs → PairsFrom place bytes [] → pairs ≡ []
-first_none place bytes pairs h (room, inner, after, close, left, none, last, closing) = next_none place bytes pairs (front_none last closing) h
+-- ---- one list of parts
 
-head_same : {x y : Piece × Piece} {xs ys : List (Piece × Piece)} → x ∷ xs ≡ y ∷ ys → x ≡ y
-head_same e = cc
+only_none : (opener : Opener) (place : ℕ) (bytes : List ℕ) (pieces : List Piece) → PartsFrom opener place bytes [] → PartsFrom opener place bytes pieces → pieces ≡ []
+only_none opener place bytes [] h k = refl
+only_none opener place bytes (piece ∷ pieces) h k =
+    let same = none_of h.elements in
+    let f = first_of k.elements in
+    let low : 63 ≤ 64 = omega arith in
+    let gap : IsGap 63 place bytes h.begins h.behind =
+    subst (λ (p : ℕ). IsGap 63 p bytes h.begins h.behind) (sym same.0) (subst (λ (a : List ℕ). IsGap 63 h.ends a h.begins h.behind) (sym same.1) h.gap) in
+    absurd (no_first low low f.gap f.element gap h.close)
 
-tail_same : {x y : Piece × Piece} {xs ys : List (Piece × Piece)} → x ∷ xs ≡ y ∷ ys → xs ≡ ys
-tail_same e = cc
+without_first : {opener : Opener} {place : ℕ} {bytes : List ℕ} {piece : Piece} {pieces : List Piece} (h : PartsFrom opener place bytes (piece ∷ pieces)) → PartsFrom opener (first_of h.elements).ended (first_of h.elements).behind pieces
+without_first h =
+    record { ends = h.ends; beyond = h.beyond; begins = h.begins; behind = h.behind; after = h.after; bracket = h.bracket; elements = (first_of h.elements).others; gap = h.gap; close = h.close; closes = h.closes }
 
-joined : {a b c d : Piece} {xs ys : List (Piece × Piece)} → a ≡ b → c ≡ d → xs ≡ ys → (a, c) ∷ xs ≡ (b, d) ∷ ys
-joined e f g = cc
+one_list : (opener : Opener) (place : ℕ) (bytes : List ℕ) (firsts seconds : List Piece) → PartsFrom opener place bytes firsts → PartsFrom opener place bytes seconds → firsts ≡ seconds
+one_list opener place bytes [] seconds h k = sym (only_none opener place bytes seconds h k)
+one_list opener place bytes (piece ∷ firsts) [] h k = only_none opener place bytes (piece ∷ firsts) k h
+one_list opener place bytes (piece ∷ firsts) (second ∷ seconds) h k =
+    let f = first_of h.elements in
+    let s = first_of k.elements in
+    let low : 63 ≤ 64 = omega arith in
+    let same = same_first piece second low low f.gap f.element f.whole s.gap s.element s.whole in
+    let moved : PartsFrom opener f.ended f.behind seconds =
+    subst (λ (p : ℕ). PartsFrom opener p f.behind seconds) (sym same.1) (subst (λ (a : List ℕ). PartsFrom opener s.ended a seconds) (sym same.2) (without_first k)) in
+    let others : firsts ≡ seconds = one_list opener f.ended f.behind firsts seconds (without_first h) moved in
+    ap (λ (x : Piece). x ∷ firsts) same.0 ∙ ap (λ (xs : List Piece). second ∷ xs) others
 
-not-not : (t : Bool) → not (not t) ≡ t
-not-not true = refl
-not-not false = refl
+-- One list of pairs gives one list of keys and values in turn.
+same_pairs : (firsts seconds : List (Piece × Piece)) → in_turn firsts ≡ in_turn seconds → firsts ≡ seconds
+same_pairs [] [] e = refl
+same_pairs [] (pair ∷ seconds) e = absurd cc
+same_pairs (pair ∷ firsts) [] e = absurd cc
+same_pairs ((key, value) ∷ firsts) ((other, worth) ∷ seconds) e =
+    let keys : key ≡ other = cc in
+    let values : value ≡ worth = cc in
+    let rest : in_turn firsts ≡ in_turn seconds = cc in
+    let same = same_pairs firsts seconds rest in
+    cc
+
+-- An element with brackets has one list of elements.
+pub one_list_of_parts : (bracket : Bracket) (piece : Piece) (firsts seconds : List Piece) → HasParts (opener_of bracket) piece firsts → HasParts (opener_of bracket) piece seconds → firsts ≡ seconds
+one_list_of_parts bracket piece firsts seconds h k =
+    let o = opened_by bracket h.opens refl in
+    let u = opened_by bracket k.opens refl in
+    let tail : k.left ≡ h.left = tail_same (sym u.bytes ∙ o.bytes) in
+    let place : k.inner ≡ h.inner = u.place ∙ sym o.place in
+    let moved : PartsFrom (opener_of bracket) h.inner h.left seconds =
+    subst (λ (p : ℕ). PartsFrom (opener_of bracket) p h.left seconds) place (subst (λ (a : List ℕ). PartsFrom (opener_of bracket) k.inner a seconds) tail k.inside) in
+    one_list (opener_of bracket) h.inner h.left firsts seconds h.inside moved
 
 -- A map has one list of pairs.
-same_pairs : (place : ℕ) (bytes : List ℕ) (firsts seconds : List (Piece × Piece)) → PairsFrom place bytes firsts → PairsFrom place bytes seconds → firsts ≡ seconds
-same_pairs place bytes firsts [] h k = first_none place bytes firsts h k
-same_pairs place bytes [] (pair ∷ seconds) h k = sym (first_none place bytes (pair ∷ seconds) k h)
-same_pairs place bytes ((key, value) ∷ firsts) ((other, worth) ∷ seconds) (room, inner, after, close, left, next {ended = m} {beyond = mb} gap el text (next {ended = n} {beyond = nb} g v t els), last, closing) k =
-    let s = split_pairs place bytes ((other, worth) ∷ seconds) key m mb (front_is key gap el text) k in
-    let same : (key, m, mb) ≡ (s.key, s.middle, s.middle_bytes) = same_found (key, m, mb) (s.key, s.middle, s.middle_bytes) _ (front_is key gap el text) s.first in
-    let there : front_of s.middle s.middle_bytes ≡ Some (value, n, nb) = subst (λ (x : Piece × ℕ × List ℕ). front_of x.1 x.2 ≡ Some (value, n, nb)) same (front_is value g v t) in
-    let also : (value, n, nb) ≡ (s.value, s.end, s.end_bytes) = same_found (value, n, nb) (s.value, s.end, s.end_bytes) _ there s.second in
-    let others : PairsFrom n nb s.rest = subst (λ (x : Piece × ℕ × List ℕ). PairsFrom x.1 x.2 s.rest) (sym also) s.others in
-    let tail : seconds ≡ s.rest = tail_same s.whole in
-    let rest = same_pairs n nb firsts seconds (room, inner, after, close, left, els, last, closing) (subst (PairsFrom n nb) (sym tail) others) in
-    joined (ap (λ (x : Piece × ℕ × List ℕ). x.0) same ∙ sym (ap (λ (p : Piece × Piece). p.0) (head_same s.whole))) (ap (λ (x : Piece × ℕ × List ℕ). x.0) also ∙ sym (ap (λ (p : Piece × Piece). p.1) (head_same s.whole))) rest
-
 pub one_list_of_pairs : (piece : Piece) (firsts seconds : List (Piece × Piece)) → HasPairs piece firsts → HasPairs piece seconds → firsts ≡ seconds
-one_list_of_pairs piece firsts seconds h k =
-    let tail : h.1 ≡ k.1 = ap (drop 1) (sym h.3 ∙ k.3) in
-    same_pairs (suc piece.start) k.1 firsts seconds (subst (λ (bytes : List ℕ). PairsFrom (suc piece.start) bytes firsts) tail h.5) k.5
-
--- Every map has its pairs.
-paired : (pieces : List Piece) → is_odd pieces ≡ false → (pairs : List (Piece × Piece)) × (in_turn pairs ≡ pieces)
-paired [] e = ([], refl)
-paired (p ∷ []) e = absurd cc
-paired (p ∷ q ∷ pieces) e =
-    let rest = paired pieces (sym (not-not (is_odd pieces)) ∙ e) in
-    ((p, q) ∷ rest.0, ap (λ (ps : List Piece). p ∷ q ∷ ps) rest.1)
-
-map_pairs : {room q : ℕ} {kind : ElementKind} {p : ℕ} {a b : List ℕ} → IsElementAt room kind p a q b → kind ≡ Map → b ≡ []
-    → (pairs : List (Piece × Piece)) × (opening : ℕ) × (bytes : List ℕ) × (a ≡ opening ∷ bytes) × (class_of opening ≡ Opens Curly) × PairsFrom (suc p) bytes pairs
-map_pairs (run w g) e n = absurd cc
-map_pairs (hashed v w g) e n = absurd cc
-map_pairs (map {room = room} {b = b} {c = c} {place = place} {inner = inner} {after = after} {bytes = bytes} {left = left} v els gap w even) e n =
-    let pairs = paired _ even in (
-      pairs.0,
-      b,
-      bytes,
-      refl,
-      v,
-      (
-        room,
-        inner,
-        after,
-        c,
-        left,
-        subst (λ (ps : List Piece). IsElements room (suc place) bytes ps inner left) (sym pairs.1) els,
-        subst (λ (r : List ℕ). IsGap inner left after (c ∷ r)) n gap,
-        w,
-      ),
-    )
-
-pub map_has_pairs : (piece : Piece) → IsElement piece → piece.kind ≡ Map → (pairs : List (Piece × Piece)) × HasPairs piece pairs
-map_has_pairs piece h e =
-    let m = map_pairs h.2 e refl in (m.0, (m.1, m.2, e, m.3, m.4, m.5))
-
--- What has no pairs is no map.
-pub no_map : (piece : Piece) → ((pairs : List (Piece × Piece)) → HasPairs piece pairs → ⊥) → IsElement piece → piece.kind ≡ Map → ⊥
-no_map piece h el e = let m = map_has_pairs piece el e in h m.0 m.1
+one_list_of_pairs piece firsts seconds h k = same_pairs firsts seconds (one_list_of_parts Curly piece (in_turn firsts) (in_turn seconds) h k)

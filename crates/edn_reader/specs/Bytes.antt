@@ -1,5 +1,5 @@
 -- The classes of bytes, as docs/FORMATS.md lists them (this project's profile of the EDN format).
-use Rattle.std.specs.Prelude.{◌≡◌, ℕ, nat_le, ◌==◌, ◌&&◌, ◌||◌, if◌then◌else◌, Bool, true, false, List, [], ◌∷◌}
+use Rattle.std.specs.Prelude.{◌≡◌, ℕ, suc, not, nat_le, ◌==◌, ◌&&◌, ◌||◌, if◌then◌else◌, Bool, true, false, List, [], ◌∷◌}
 use Rattle.edn_reader.specs.declared.bytes.ByteClass.{ByteClass}
 use Rattle.edn_reader.specs.declared.bytes.ByteClass.TheVariants.{White, Plain, Hash, Backslash, Semicolon, Quote, Opens, Closes}
 use Rattle.edn_reader.specs.declared.bytes.Bracket.TheVariants.{Round, Square, Curly}
@@ -35,7 +35,16 @@ is_run_class (Closes bracket) = false
 abbrev pub is_run : ℕ → Bool
 is_run b = is_run_class (class_of b)
 
--- A run ends before a delimiter or at the end.
-abbrev pub EndsRun : List ℕ → Type 0
-EndsRun [] = Unit {0}
-EndsRun (b ∷ bytes) = is_run b ≡ false
+-- A comment goes on up to a line end.
+abbrev pub is_in_comment : ℕ → Bool
+is_in_comment b = not (b == 10)
+
+-- Bytes that do not go on with a stretch of bytes that pass a test.
+abbrev pub Ends : (ℕ → Bool) → List ℕ → Type 0
+Ends test [] = Unit {0}
+Ends test (b ∷ bytes) = test b ≡ false
+
+-- How many bytes at the front pass a test.
+unfoldable pub stretch : (ℕ → Bool) → List ℕ → ℕ
+stretch test [] = 0
+stretch test (b ∷ bytes) = if test b then suc (stretch test bytes) else 0

@@ -6,4 +6,6 @@ pub mod Integer
 pub mod Pairs
 pub mod Reading
 pub mod Token
+pub mod Taking
+pub mod Skipping
 pub mod Standing

@@ -1,9 +1,9 @@
-//! The classes of bytes, and the runs that they make.
+//! The classes of bytes, and the stretches that they make.
 
 ghost use Rattle.std.specs.Prelude.{◌≡◌, ◌+◌, ◌≤◌, length, drop};
-ghost use Rattle.edn_reader.specs.Bytes.{class_of, is_run_class};
-ghost use Rattle.edn_reader.specs.Token.{is_white_class, opens_map};
-ghost use Rattle.edn_reader.specs.Token.{run_length};
+ghost use Rattle.edn_reader.specs.Bytes.{class_of, is_run, is_in_comment, stretch};
+
+use memchr::memchr;
 
 #[derive(Clone, Copy)]
 pub enum Bracket {
@@ -24,6 +24,7 @@ pub enum ByteClass {
     Closes(Bracket),
 }
 
+#[inline(always)]
 #[tactic(auto, unfolding(crate::specs::Bytes::class_of))]
 pub fn classify(byte: u8) -> ByteClass
     ensures { result ≡ class_of byte }
@@ -44,45 +45,46 @@ pub fn classify(byte: u8) -> ByteClass
     }
 }
 
-impl ByteClass {
-    pub fn is_run(self) -> bool
-        ensures { result ≡ is_run_class self }
-    {
-        match self {
-            ByteClass::Plain | ByteClass::Hash | ByteClass::Backslash => true,
-            _ => false,
-        }
-    }
+/// A plus for each run byte, by the byte's number.
+static RUN_BYTES: [u8; 256] = *b"\
+    +++++++++-----++++++++++++++++++\
+    -+-+++++--++-++++++++++++++-++++\
+    +++++++++++++++++++++++++++-+-++\
+    +++++++++++++++++++++++++++-+-++\
+    ++++++++++++++++++++++++++++++++\
+    ++++++++++++++++++++++++++++++++\
+    ++++++++++++++++++++++++++++++++\
+    ++++++++++++++++++++++++++++++++";
 
-    pub fn is_white(self) -> bool
-        ensures { result ≡ is_white_class self }
-    {
-        match self {
-            ByteClass::White => true,
-            _ => false,
-        }
-    }
-
-    pub fn opens_map(self) -> bool
-        ensures { result ≡ opens_map self }
-    {
-        match self {
-            ByteClass::Opens(Bracket::Curly) => true,
-            _ => false,
-        }
-    }
+#[inline(always)]
+fn is_run_byte(byte: u8) -> bool
+    ensures { result ≡ is_run byte }
+{
+    RUN_BYTES[byte as usize] == b'+'
 }
 
 /// Where the run ends that goes on at a place.
-#[tactic(auto, using(crate::proofs::Tokens::run_goes, crate::proofs::Tokens::run_stops, crate::proofs::Tokens::run_past))]
+#[tactic(auto, using(crate::proofs::Stretches::stretch_goes, crate::proofs::Stretches::stretch_stops, crate::proofs::Stretches::stretch_past))]
 pub fn run_end(input: &[u8], at: usize) -> usize
     requires { at ≤ length input.now }
-    ensures end { result ≡ at + run_length (drop at input.now) }
+    ensures end { result ≡ at + stretch is_run (drop at input.now) }
     ensures within { result ≤ length input.now }
 {
     let mut end = at;
-    while end < input.len() && classify(input[end]).is_run() {
+    while end < input.len() && is_run_byte(input[end]) {
         end += 1;
     }
     end
+}
+
+/// Where the comment ends that goes on at a place.
+pub fn comment_end(input: &[u8], at: usize) -> usize
+    requires { at ≤ length input.now }
+    ensures end { result ≡ at + stretch is_in_comment (drop at input.now) }
+    ensures within { result ≤ length input.now }
+{
+    match memchr(b'\n', &input[at..]) {
+        Some(length) => at + length,
+        None => input.len(),
+    }
 }

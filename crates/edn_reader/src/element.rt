@@ -5,12 +5,28 @@ ghost use Rattle.std.specs.Int.{w64};
 ghost use Rattle.std.specs.Option.{option_map};
 
 use crate::integer;
-use crate::map_view::MapView;
+use crate::parts::Parts;
+use crate::view::{MapView, VectorView};
 
 #[derive(Clone, Copy, Debug, PartialEq, Eq)]
 pub enum ElementKind {
+    /// `nil`, `true`, `false`, a keyword, a symbol or a number.
     Atom,
+    Char,
+    Text,
+    List,
+    Vector,
     Map,
+    Set,
+    /// A tag with its element.
+    Tagged,
+}
+
+/// The kind and the first place of an element once its tags are left out.
+#[derive(Clone, Copy)]
+pub struct Core {
+    pub(crate) kind: ElementKind,
+    pub(crate) start: usize,
 }
 
 /// An element and where it stands. It takes no memory.
@@ -19,23 +35,34 @@ pub struct Element<'t> {
     text: &'t [u8],
     start: usize,
     kind: ElementKind,
+    core: Core,
     ghost fits: { start + length text.now < 2 ^ 64 },
+    ghost core_after: { start ≤ core.start },
+    ghost core_within: { core.start ≤ start + length text.now },
 }
 
 impl<'t> Element<'t> {
-    ghost use Rattle.edn_reader.specs.Grammar.{Piece, piece_of, IsElement};
+    ghost use Rattle.edn_reader.specs.Grammar.{Piece, piece_of, untagged, IsElement};
     ghost use Rattle.edn_reader.specs.Integer.{IsInteger};
-    ghost use Rattle.edn_reader.specs.Pairs.{keyword_of, HasPairs, PairsLeft};
-    ghost use Rattle.edn_reader.specs.declared.element.ElementKind.TheVariants.{Atom, Map};
+    ghost use Rattle.edn_reader.specs.Skipping.{IsInside};
+    ghost use Rattle.edn_reader.specs.Pairs.{keyword_of, HasPairs, PairsLeft, HasMembers, MembersLeft};
+    ghost use Rattle.edn_reader.specs.declared.element.ElementKind.TheVariants.{Atom, Vector, Map};
 
-    pub(crate) fn new(text: &'t [u8], start: usize, kind: ElementKind) -> Element<'t>
-        requires { start + length text.now < 2 ^ 64 }
-        ensures { piece_of result ≡ record { kind = kind; start = start; text = text.entry.now } }
+    pub(crate) fn new(text: &'t [u8], start: usize, kind: ElementKind, core: Core) -> Element<'t>
+        requires fits { start + length text.now < 2 ^ 64 }
+        requires after { start ≤ core.start }
+        requires within { core.start ≤ start + length text.now }
+        ensures { piece_of result ≡ record { kind = kind; start = start; text = text.entry.now; core = core } }
     {
-        Element { text, start, kind }
+        Element {
+            text,
+            start,
+            kind,
+            core,
+        }
     }
 
-    /// Its bytes.
+    /// Its bytes, tags included.
     pub fn text(&self) -> &'t [u8]
         ensures { result.now ≡ (piece_of self.now).text }
     {
@@ -58,53 +85,87 @@ impl<'t> Element<'t> {
         kind
     }
 
-    /// Whether it is the word `nil`.
+    /// The element behind its tags; itself where it has none.
+    pub fn untagged(&self) -> Element<'t>
+        ensures bare { piece_of result ≡ untagged (piece_of self.now) }
+        ensures whole { IsElement (piece_of self.now) → IsElement (piece_of result) }
+    {
+        let Element {
+            text,
+            start,
+            core,
+            ..
+        } = *self;
+        Element::new(&text[core.start - start..], core.start, core.kind, core)
+    }
+
+    /// Whether it is the word `nil`, behind tags or not.
     pub fn is_nil(&self) -> bool
-        ensures { IsTrue result ↔ (((piece_of self.now).kind ≡ Atom) × ((piece_of self.now).text ≡ codes "nil")) }
+        ensures { IsTrue result ↔ (((piece_of self.now).core.kind ≡ Atom) × ((untagged (piece_of self.now)).text ≡ codes "nil")) }
     {
-        match self.kind {
-            ElementKind::Atom => self.text == b"nil".as_slice(),
-            ElementKind::Map => false,
+        let bare = self.untagged();
+        match bare.kind {
+            ElementKind::Atom => bare.text == b"nil".as_slice(),
+            _ => false,
         }
     }
 
-    /// The integer that it is, where that fits.
+    /// The integer that it is, behind tags or not, where that fits.
     pub fn as_int(&self) -> Option<i64>
-        ensures { MatchOption result ((z : ℤ) → IsInteger (piece_of self.now) z → FitsSigned w64 z → ⊥) (λ z. IsInteger (piece_of self.now) z) }
+        ensures { MatchOption result ((z : ℤ) → IsInteger (untagged (piece_of self.now)) z → FitsSigned w64 z → ⊥) (λ z. IsInteger (untagged (piece_of self.now)) z) }
     {
-        match self.kind {
-            ElementKind::Atom => integer::signed(self.text),
-            ElementKind::Map => None,
-        }
-    }
-
-    /// The bytes of the keyword that it is, with the colon.
-    pub fn as_keyword(&self) -> Option<&'t [u8]>
-        ensures { option_map (λ bytes. bytes.now) result ≡ keyword_of (piece_of self.now) }
-    {
-        match (self.kind, self.text) {
-            (ElementKind::Atom, [b':', ..]) => Some(self.text),
+        let bare = self.untagged();
+        match bare.kind {
+            ElementKind::Atom => integer::signed(bare.text),
             _ => None,
         }
     }
 
-    /// A view of the map that it is.
-    #[tactic(auto, using(crate::proofs::Views::no_pairs_empty, crate::proofs::Views::no_map))]
+    /// The bytes of the keyword that it is, behind tags or not, with the colon.
+    pub fn as_keyword(&self) -> Option<&'t [u8]>
+        ensures { option_map (λ bytes. bytes.now) result ≡ keyword_of (piece_of self.now) }
+    {
+        let bare = self.untagged();
+        match (bare.kind, bare.text) {
+            (ElementKind::Atom, [b':', ..]) => Some(bare.text),
+            _ => None,
+        }
+    }
+
+    /// What stands behind the bracket that a core of this kind begins with.
+    fn inside(&self, kind: ElementKind, bracket: u8) -> Option<Parts<'t>>
+        ensures { IsInside result (piece_of self.now) kind bracket }
+    {
+        let bare = self.untagged();
+        if bare.kind != kind || bare.text.is_empty() || bare.text[0] != bracket {
+            return None;
+        }
+        Some(Parts::new(&bare.text[1..], bare.start + 1))
+    }
+
+    /// A view of the map that it is, behind tags or not.
     pub fn as_map(&self) -> Option<MapView<'t>>
         ensures pairs { MatchOption result ((pairs : List (Piece × Piece)) → HasPairs (piece_of self.now) pairs → ⊥)
-            (λ view. ((piece_of self.now).kind ≡ Map) × ((pairs : List (Piece × Piece)) → HasPairs (piece_of self.now) pairs ↔ PairsLeft view pairs)) }
-        ensures whole { IsElement (piece_of self.now) → (piece_of self.now).kind ≡ Map
+            (λ view. ((piece_of self.now).core.kind ≡ Map) × ((pairs : List (Piece × Piece)) → HasPairs (piece_of self.now) pairs ↔ PairsLeft view pairs)) }
+        ensures whole { IsElement (piece_of self.now) → (piece_of self.now).core.kind ≡ Map
             → IsSomeAnd result (λ view. (pairs : List (Piece × Piece)) × HasPairs (piece_of self.now) pairs × PairsLeft view pairs) }
     {
-        if let ElementKind::Atom = self.kind {
-            return None;
+        match self.inside(ElementKind::Map, b'{') {
+            Some(parts) => Some(MapView::new(parts)),
+            None => None,
         }
-        if self.text.is_empty() {
-            return None;
+    }
+
+    /// A view of the vector that it is, behind tags or not.
+    pub fn as_vector(&self) -> Option<VectorView<'t>>
+        ensures members { MatchOption result ((members : List Piece) → HasMembers (piece_of self.now) members → ⊥)
+            (λ view. ((piece_of self.now).core.kind ≡ Vector) × ((members : List Piece) → HasMembers (piece_of self.now) members ↔ MembersLeft view members)) }
+        ensures whole { IsElement (piece_of self.now) → (piece_of self.now).core.kind ≡ Vector
+            → IsSomeAnd result (λ view. (members : List Piece) × HasMembers (piece_of self.now) members × MembersLeft view members) }
+    {
+        match self.inside(ElementKind::Vector, b'[') {
+            Some(parts) => Some(VectorView::new(parts)),
+            None => None,
         }
-        if self.text[0] != b'{' {
-            return None;
-        }
-        Some(MapView::new(&self.text[1..], self.start + 1))
     }
 }

@@ -1,9 +1,8 @@
 //! What a map has under a key.
 
-ghost use Rattle.std.specs.Prelude.{◌≡◌, ◌&&◌, ◌++◌, List, [], ◌∷◌};
-ghost use Rattle.std.specs.Str.{bytes_eq};
+ghost use Rattle.std.specs.Prelude.{◌≡◌, ◌++◌, List, [], ◌∷◌};
 ghost use Rattle.edn_reader.specs.Grammar.{Piece, piece_of};
-ghost use Rattle.edn_reader.specs.Pairs.{is_keyword, IsField};
+ghost use Rattle.edn_reader.specs.Pairs.{is_word, IsField};
 
 use crate::element::Element;
 
@@ -16,7 +15,7 @@ pub enum Field<'t> {
 }
 
 pub fn is_key(name: &Element, key: &[u8]) -> bool
-    ensures { result ≡ (is_keyword (piece_of name.now) && bytes_eq (piece_of name.now).text key.now) }
+    ensures { result ≡ is_word key.now (piece_of name.now) }
 {
     match name.as_keyword() {
         Some(text) => text == key,

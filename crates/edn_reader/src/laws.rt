@@ -3,11 +3,11 @@
 ghost use Rattle.std.specs.Prelude.{◌≡◌, ◌⊎◌, ℕ, List};
 ghost use Rattle.std.specs.List.{AllByRecursion};
 ghost use Rattle.edn_reader.specs.declared.fault.EdnFault.{EdnFault};
-ghost use Rattle.edn_reader.specs.declared.element.ElementKind.TheVariants.{Map};
+ghost use Rattle.edn_reader.specs.declared.element.ElementKind.TheVariants.{Vector, Map};
 ghost use Rattle.edn_reader.specs.Grammar.{Piece, IsElement};
 ghost use Rattle.edn_reader.specs.Text.{IsFront, IsText};
 ghost use Rattle.edn_reader.specs.Fault.{FaultOf};
-ghost use Rattle.edn_reader.specs.Pairs.{HasPairs};
+ghost use Rattle.edn_reader.specs.Pairs.{HasPairs, HasMembers};
 
 /// A text has one division into elements.
 pub fn one_division()
@@ -30,9 +30,16 @@ pub fn each_is_element()
     ensures { (input : List ℕ) (pieces : List Piece) (at : ℕ) → IsFront input pieces at → AllByRecursion IsElement pieces }
 {}
 
-/// A map has one list of pairs, of elements.
+/// A map has one list of pairs, of elements, behind its tags.
 pub fn pairs_of_map()
-    ensures some { (piece : Piece) → IsElement piece → piece.kind ≡ Map → (pairs : List (Piece × Piece)) × HasPairs piece pairs }
+    ensures some { (piece : Piece) → IsElement piece → piece.core.kind ≡ Map → (pairs : List (Piece × Piece)) × HasPairs piece pairs }
     ensures one { (piece : Piece) (firsts seconds : List (Piece × Piece)) → HasPairs piece firsts → HasPairs piece seconds → firsts ≡ seconds }
     ensures elements { (piece : Piece) (pairs : List (Piece × Piece)) → HasPairs piece pairs → AllByRecursion (λ pair. IsElement pair.0 × IsElement pair.1) pairs }
+{}
+
+/// A vector has one list of elements, behind its tags.
+pub fn members_of_vector()
+    ensures some { (piece : Piece) → IsElement piece → piece.core.kind ≡ Vector → (members : List Piece) × HasMembers piece members }
+    ensures one { (piece : Piece) (firsts seconds : List Piece) → HasMembers piece firsts → HasMembers piece seconds → firsts ≡ seconds }
+    ensures elements { (piece : Piece) (members : List Piece) → HasMembers piece members → AllByRecursion IsElement members }
 {}

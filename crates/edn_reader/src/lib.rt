@@ -7,16 +7,19 @@ mod fault;
 mod field;
 mod integer;
 pub mod laws;
-mod map_view;
 mod nesting;
+mod parts;
 mod reader;
+mod skip;
 mod step;
+mod token;
+mod view;
 
 pub use element::{Element, ElementKind};
 pub use fault::EdnFault;
 pub use field::Field;
-pub use map_view::MapView;
 pub use reader::Reader;
+pub use view::{MapView, VectorView};
 
 #[cfg(test)]
 mod tests;

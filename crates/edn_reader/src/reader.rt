@@ -1,12 +1,13 @@
 //! The reader: one pass over the input, which lends its elements.
 
 ghost use Rattle.std.specs.Prelude.{◌≡◌, ◌++◌, ◌≤◌, ◌<◌, ◌∷◌, ◌⊎◌, List, [], length, take, drop, None, Some, Ok, Err, IsNone, IfErr, OnErr, OnOk, IfOk, IfSome, OnSome};
-ghost use Rattle.edn_reader.specs.Token.{Reads};
+ghost use Rattle.edn_reader.specs.Taking.{Reads};
 
 use crate::element::Element;
 use crate::fault::EdnFault;
 use crate::nesting::Nesting;
-use crate::step::{Span, Step, read_step};
+use crate::step::{Span, take};
+use crate::token::read_token;
 use std::alloc::Global;
 use std::marker::Model;
 
@@ -32,7 +33,7 @@ impl<'t> Model for Reader<'t> {
 }
 
 /// Reads up to the end of the next outermost element.
-#[tactic(auto, using(crate::proofs::Reading::stands_begin, crate::proofs::Reading::stands_on, crate::proofs::Reading::goes_forward))]
+#[tactic(auto, using(crate::proofs::Reading::stands_begin, crate::proofs::Reading::stands_on))]
 fn read_element(input: &[u8], from: usize, nesting: &mut Nesting) -> Result<Option<Span>, EdnFault>
     requires at { from ≤ length input.now }
     requires none_open { nesting.old ≡ [] }
@@ -40,9 +41,10 @@ fn read_element(input: &[u8], from: usize, nesting: &mut Nesting) -> Result<Opti
 {
     let mut at = from;
     while at < input.len() {
-        match read_step(input, at, nesting) {
-            Ok(Step::On(place)) => at = place,
-            Ok(Step::Ended(span)) => return Ok(Some(span)),
+        let found = read_token(input, at);
+        match take(at, found, nesting) {
+            Ok(None) => at = found.end,
+            Ok(Some(span)) => return Ok(Some(span)),
             Err(fault) => return Err(fault),
         }
     }
@@ -58,7 +60,7 @@ impl<'t> Reader<'t> {
     ghost use Rattle.edn_reader.specs.Text.{IsFront, IsText};
     ghost use Rattle.edn_reader.specs.Fault.{FaultOf, IsMemory, AreElementsBefore};
 
-    /// Takes no memory. The allocator is kept for the maps that will stand open.
+    /// Takes no memory. The allocator is kept for what will stand open.
     pub fn new(alloc: Global, input: &'t [u8]) -> Reader<'t>
         ensures state { result ≡ record { input = input.entry.now; at = 0; fault = None } }
         ensures begins { IsFront input.entry.now [] 0 }
@@ -98,7 +100,7 @@ impl<'t> Reader<'t> {
             Ok(Some(span)) => {
                 let text = &self.input[span.start..span.end];
                 self.at = span.end;
-                Ok(Some(Element::new(text, span.start, span.kind)))
+                Ok(Some(Element::new(text, span.start, span.kind, span.core)))
             }
             Ok(None) => Ok(None),
             Err(fault) => {

@@ -1,14 +1,16 @@
-//! What is read at a place of the input: a white byte, an Atom or a bracket.
+//! What a token leads to: on, to the end of an outermost element, or to a fault.
 
-ghost use Rattle.std.specs.Prelude.{◌≡◌, ◌+◌, ◌≤◌, ◌<◌, ◌^◌, length, drop, [], OnOk};
-ghost use Rattle.edn_reader.specs.Token.{Gives, GivesStep, token_at, hash_at, open_at, close_at, ended};
+ghost use Rattle.std.specs.Prelude.{◌≡◌, ◌≤◌, ◌<◌, length};
+ghost use Rattle.edn_reader.specs.Grammar.{fits, waits, is_paired, kind_of};
+ghost use Rattle.edn_reader.specs.Taking.{Gives, completed, closed, opened, taken, plain_span, fault_before};
 
-use crate::bytes::{Bracket, ByteClass, classify, run_end};
-use crate::element::ElementKind;
+use crate::bytes::Bracket;
+use crate::element::{Core, ElementKind};
 use crate::fault::EdnFault;
-use crate::nesting::{Nesting, OpenMap};
+use crate::nesting::{Nesting, Open};
+use crate::token::{Found, Opener, Token};
 
-/// How many brackets may be open at once.
+/// How many brackets, tags and discards may be open at once.
 const ROOM: usize = 64;
 
 /// An element by its places in the input.
@@ -17,107 +19,109 @@ pub struct Span {
     pub kind: ElementKind,
     pub start: usize,
     pub end: usize,
+    pub core: Core,
 }
 
-/// What one thing that was read leads to.
-#[derive(Clone, Copy)]
-pub enum Step {
-    On(usize),
-    Ended(Span),
-}
-
-fn end_element(span: Span, nesting: &mut Nesting) -> Step
-    ensures { GivesStep result nesting.new (ended span.kind span.start span.end nesting.old) }
+fn plain_span(kind: ElementKind, start: usize, end: usize) -> Span
+    ensures { result ≡ plain_span kind start end }
 {
-    if nesting.len() == 0 {
-        return Step::Ended(span);
+    let core = Core { kind, start };
+    Span {
+        kind,
+        start,
+        end,
+        core,
     }
-    nesting.count_one();
-    Step::On(span.end)
 }
 
-#[tactic(auto, using(crate::proofs::Tokens::hash_here, crate::proofs::Tokens::hash_past), unfolding(crate::specs::Token::hash_at))]
-fn read_hash(input: &[u8], at: usize, nesting: &mut Nesting) -> Result<Step, EdnFault>
-    requires { at < length input.now }
-    ensures { Gives result nesting.new (hash_at at (drop (at + 1) input.now) nesting.old) }
+/// Ends an element, and with it the tags before it: the span of the whole where it is an outermost one.
+fn complete(element: Span, nesting: &mut Nesting) -> Option<Span>
+    ensures { Gives (Ok result) nesting.new (completed element nesting.old) }
 {
-    if at + 1 == input.len() {
-        return Err(EdnFault::Truncated(at + 1));
-    }
-    match classify(input[at + 1]) {
-        ByteClass::Hash => {
-            let end = run_end(input, at + 2);
-            let span = Span {
-                kind: ElementKind::Atom,
-                start: at,
-                end,
-            };
-            Ok(end_element(span, nesting))
+    let mut span = element;
+    while let Some(open) = nesting.end_one() {
+        match open.opener {
+            Opener::Tag => {
+                span = Span {
+                    kind: ElementKind::Tagged,
+                    start: open.place,
+                    end: span.end,
+                    core: span.core,
+                };
+            }
+            _ => return None,
         }
-        _ => Err(EdnFault::NotYet(at)),
     }
+    Some(span)
 }
 
-fn read_opening(at: usize, nesting: &mut Nesting) -> Result<Step, EdnFault>
-    requires { at + 1 < 2 ^ 64 }
-    ensures { Gives result nesting.new (open_at at nesting.old) }
+fn open(place: usize, opener: Opener, nesting: &mut Nesting) -> Result<Option<Span>, EdnFault>
+    ensures { Gives result nesting.new (opened place opener nesting.old) }
 {
     if nesting.len() == ROOM {
-        return Err(EdnFault::TooDeep(at));
+        return Err(EdnFault::TooDeep(place));
     }
-    let map = OpenMap {
-        place: at,
+    let open = Open {
+        place,
+        opener,
         odd: false,
     };
-    match nesting.push(map) {
-        Ok(()) => Ok(Step::On(at + 1)),
-        Err(_) => Err(EdnFault::Memory(at)),
+    match nesting.push(open) {
+        Ok(()) => Ok(None),
+        Err(_) => Err(EdnFault::Memory(place)),
     }
 }
 
-#[tactic(auto, unfolding(crate::specs::Token::close_at))]
-fn read_closing(at: usize, bracket: Bracket, nesting: &mut Nesting) -> Result<Step, EdnFault>
-    requires { at + 1 < 2 ^ 64 }
-    ensures { Gives result nesting.new (close_at at bracket nesting.old) }
+/// The fault of a closing bracket before which a tag or a discard waits.
+fn fault_before(place: usize, bracket: Bracket, waiting: Open, inner: Option<Open>) -> EdnFault
+    ensures { result ≡ fault_before place bracket waiting inner }
 {
-    let Some(map) = nesting.pop() else {
-        return Err(EdnFault::StrayClose(at));
-    };
-    match bracket {
-        Bracket::Round | Bracket::Square => Err(EdnFault::WrongClose(at)),
-        Bracket::Curly => {
-            if map.odd {
-                return Err(EdnFault::OddMap(at));
+    match inner {
+        None => EdnFault::StrayClose(place),
+        Some(inner) => {
+            if inner.opener.fits(bracket) {
+                EdnFault::TagWithoutElement(waiting.place)
+            } else {
+                EdnFault::WrongClose(place)
             }
-            let span = Span {
-                kind: ElementKind::Map,
-                start: map.place,
-                end: at + 1,
-            };
-            Ok(end_element(span, nesting))
         }
     }
 }
 
-/// Reads one thing: a white byte, an Atom, or a bracket.
-#[tactic(auto, using(crate::proofs::Tokens::token_here))]
-pub fn read_step(input: &[u8], at: usize, nesting: &mut Nesting) -> Result<Step, EdnFault>
-    requires { at < length input.now }
-    ensures { Gives result nesting.new (token_at at (drop at input.now) nesting.old) }
+#[tactic(auto, unfolding(crate::specs::Taking::closed))]
+fn close(
+    place: usize,
+    end: usize,
+    bracket: Bracket,
+    nesting: &mut Nesting,
+) -> Result<Option<Span>, EdnFault>
+    ensures { Gives result nesting.new (closed place end bracket nesting.old) }
 {
-    match classify(input[at]) {
-        ByteClass::White => Ok(Step::On(at + 1)),
-        ByteClass::Plain => {
-            let span = Span {
-                kind: ElementKind::Atom,
-                start: at,
-                end: run_end(input, at + 1),
-            };
-            Ok(end_element(span, nesting))
-        }
-        ByteClass::Hash => read_hash(input, at, nesting),
-        ByteClass::Opens(Bracket::Curly) => read_opening(at, nesting),
-        ByteClass::Closes(bracket) => read_closing(at, bracket, nesting),
-        _ => Err(EdnFault::NotYet(at)),
+    let Some(open) = nesting.pop() else {
+        return Err(EdnFault::StrayClose(place));
+    };
+    if open.opener.waits() {
+        return Err(fault_before(place, bracket, open, nesting.innermost()));
+    }
+    if !open.opener.fits(bracket) {
+        return Err(EdnFault::WrongClose(place));
+    }
+    if open.opener.is_paired() && open.odd {
+        return Err(EdnFault::OddMap(place));
+    }
+    Ok(complete(plain_span(open.opener.kind(), open.place, end), nesting))
+}
+
+/// Takes the token that was found at a place.
+#[tactic(auto, unfolding(crate::specs::Taking::taken))]
+pub fn take(place: usize, found: Found, nesting: &mut Nesting) -> Result<Option<Span>, EdnFault>
+    ensures { Gives result nesting.new (taken found.token place found.end nesting.old) }
+{
+    match found.token {
+        Token::Gap => Ok(None),
+        Token::Leaf(kind) => Ok(complete(plain_span(kind, place, found.end), nesting)),
+        Token::Opens(opener) => open(place, opener, nesting),
+        Token::Closes(bracket) => close(place, found.end, bracket, nesting),
+        Token::Unfinished => Err(EdnFault::Truncated(found.end)),
     }
 }

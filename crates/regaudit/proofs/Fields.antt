@@ -8,7 +8,7 @@ use Rattle.edn_reader.specs.declared.element.ElementKind.{ElementKind}
 use Rattle.edn_reader.specs.declared.element.ElementKind.TheVariants as kinds
 use Rattle.edn_reader.specs.declared.field.Field.{Field}
 use Rattle.edn_reader.specs.declared.field.Field.TheVariants.{Absent, Once, Twice}
-use Rattle.edn_reader.specs.Grammar.{Piece}
+use Rattle.edn_reader.specs.Grammar.{Piece, untagged}
 use Rattle.edn_reader.specs.Pairs.{is_atom, IsField}
 use Rattle.edn_reader.specs.Integer.{integer_of, IsInteger}
 use Rattle.regaudit.specs.Item.{given, seen, fitting, int_of}
@@ -46,10 +46,16 @@ none_fitting None h = refl
 none_fitting (Some (pos n)) h = no_choice (ltb n (2 ^ 63)) (pos n) (λ t. h (pos n) refl (fits_pos n ((Decides-ltb n (2 ^ 63)).0 t)))
 none_fitting (Some (negsuc n)) h = no_choice (ltb n (2 ^ 63)) (negsuc n) (λ t. h (negsuc n) refl (fits_negsuc n ((Decides-ltb n (2 ^ 63)).0 t)))
 
-by_kind : (piece : Piece) (kind : ElementKind) → piece.kind ≡ kind → ((z : ℤ) → IsInteger piece z → FitsSigned w64 z → ⊥) → None ≡ (if is_atom kind then fitting (integer_of piece.text) else None)
-by_kind piece kinds.Atom e h = sym (none_fitting (integer_of piece.text) (λ z found. h z (e, found)))
+by_kind : (piece : Piece) (kind : ElementKind) → piece.core.kind ≡ kind → ((z : ℤ) → IsInteger (untagged piece) z → FitsSigned w64 z → ⊥) → None ≡ (if is_atom kind then fitting (integer_of (untagged piece).text) else None)
+by_kind piece kinds.Atom e h = sym (none_fitting (integer_of (untagged piece).text) (λ z found. h z (e, found)))
+by_kind piece kinds.Char e h = refl
+by_kind piece kinds.Text e h = refl
+by_kind piece kinds.List e h = refl
+by_kind piece kinds.Vector e h = refl
 by_kind piece kinds.Map e h = refl
+by_kind piece kinds.Set e h = refl
+by_kind piece kinds.Tagged e h = refl
 
-pub int_is : (piece : Piece) (result : Option ℤ) → MatchOption result ((z : ℤ) → IsInteger piece z → FitsSigned w64 z → ⊥) (λ z. IsInteger piece z) → MatchOption result (Unit {0}) (λ z. FitsSigned w64 z) → result ≡ int_of piece
-int_is piece None h fits = by_kind piece piece.kind refl h
+pub int_is : (piece : Piece) (result : Option ℤ) → MatchOption result ((z : ℤ) → IsInteger (untagged piece) z → FitsSigned w64 z → ⊥) (λ z. IsInteger (untagged piece) z) → MatchOption result (Unit {0}) (λ z. FitsSigned w64 z) → result ≡ int_of piece
+int_is piece None h fits = by_kind piece piece.core.kind refl h
 int_is piece (Some z) h fits = sym (rw (h.0, h.1) (fits_fitting z fits))

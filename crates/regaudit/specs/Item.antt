@@ -7,8 +7,8 @@ use Rattle.intervals.specs.declared.operation.Value.{Value}
 use Rattle.intervals.specs.declared.operation.Value.TheVariants.{Nil, Int}
 use Rattle.edn_reader.specs.declared.field.Field.{Field}
 use Rattle.edn_reader.specs.declared.field.Field.TheVariants.{Absent, Once, Twice}
-use Rattle.edn_reader.specs.Grammar.{Piece, piece_of}
-use Rattle.edn_reader.specs.Pairs.{is_atom, is_keyword, values_of, HasPairs}
+use Rattle.edn_reader.specs.Grammar.{Piece, piece_of, untagged}
+use Rattle.edn_reader.specs.Pairs.{is_atom, is_word, values_of, HasPairs}
 use Rattle.edn_reader.specs.Integer.{integer_of}
 use Rattle.regaudit.specs.declared.event.Action.{Action}
 use Rattle.regaudit.specs.declared.event.Action.TheVariants.{Read, Write}
@@ -86,23 +86,19 @@ needed field Missing = Err (MissingField field)
 needed field (One value) = Ok value
 needed field Many = Err (DuplicateField field)
 
--- the keyword with these bytes
-abbrev pub is_word : List ℕ → Piece → Bool
-is_word word piece = is_keyword piece && bytes_eq piece.text word
-
 -- a number of 64 bits with a sign
 abbrev pub fitting : Option ℤ → Option ℤ
 fitting None = None
 fitting (Some (pos n)) = if nat_lt n (2 ^ 63) then Some (pos n) else None
 fitting (Some (negsuc n)) = if nat_lt n (2 ^ 63) then Some (negsuc n) else None
 
--- the integer that an element is, where it fits
+-- the integer that an element is behind its tags, where it fits
 abbrev pub int_of : Piece → Option ℤ
-int_of piece = if is_atom piece.kind then fitting (integer_of piece.text) else None
+int_of piece = if is_atom piece.core.kind then fitting (integer_of (untagged piece).text) else None
 
--- the word nil
+-- the word nil, behind tags or not
 abbrev pub is_nil : Piece → Bool
-is_nil piece = is_atom piece.kind && bytes_eq piece.text (codes "nil")
+is_nil piece = is_atom piece.core.kind && bytes_eq (untagged piece).text (codes "nil")
 
 -- the value that an integer is
 abbrev pub int_value : Option ℤ → Result Value FormFault

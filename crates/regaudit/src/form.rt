@@ -2,8 +2,8 @@
 
 ghost use Rattle.std.specs.Prelude.{◌≡◌, List};
 ghost use Rattle.edn_reader.specs.Grammar.{Piece, piece_of, IsElement};
-ghost use Rattle.edn_reader.specs.Pairs.{PairsLeft};
-ghost use Rattle.regaudit.specs.Item.{IsItem, Gives, seen, is_there as is_some_given, fields_of, needed as needed_of, is_word as is_that_word, int_of as integer_in, value_of as value_in, moment_of as moment_in, action_of as action_in, progress_of as progress_in, value_given, value_ignored, invoked_value as value_invoked, moment_given, stage_of as stage_in, event_of as event_in, item_of as item_in};
+ghost use Rattle.edn_reader.specs.Pairs.{PairsLeft, is_word as is_that_word};
+ghost use Rattle.regaudit.specs.Item.{IsItem, Gives, seen, is_there as is_some_given, fields_of, needed as needed_of, int_of as integer_in, value_of as value_in, moment_of as moment_in, action_of as action_in, progress_of as progress_in, value_given, value_ignored, invoked_value as value_invoked, moment_given, stage_of as stage_in, event_of as event_in, item_of as item_in};
 ghost use Rattle.regaudit.specs.Form.{seen_all};
 
 use crate::event::{Action, Event, FormFault, FormField, Item, Stage};

@@ -1,6 +1,6 @@
 use Rattle.std.proofs.Common.{◌≡◌, ◌+◌, ◌*◌, ◌-◌, drop, get_or, sym, ◌∙◌, arith, cond, Some, None, ap}
 use Rattle.edn_reader.specs.Integer.{is_suffix, digits_after}
-use Rattle.edn_reader.proofs.Tokens.{from_index}
+use Rattle.edn_reader.proofs.Stretches.{from_index}
 use Rattle.edn_reader.proofs.Integers.{digits_go, digits_stop, digits_past, digits_grow, digits_done}
 use Rattle.edn_reader.proofs.integer.digits.Goals as goal
 use Rattle.edn_reader.proofs.integer.digits.Goals.{then-loop-at-test+else-is_digit, else-loop-at-test}

@@ -1,5 +1,5 @@
-use Rattle.edn_reader.proofs.Unique as unique
+use Rattle.edn_reader.proofs.Viable as viable
 use Rattle.edn_reader.proofs.laws.one_division.Goals as goal
 
 pub returns : goal.returns
-returns c = unique.one_division
+returns c = viable.one_division

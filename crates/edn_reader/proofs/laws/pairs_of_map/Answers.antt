@@ -3,7 +3,7 @@ use Rattle.edn_reader.proofs.laws.pairs_of_map.Goals as goal
 
 pub returns : goal.returns
 returns c = record {
-  some = views.map_has_pairs;
+  some = views.has_pairs;
   one = views.one_list_of_pairs;
-  elements = λ piece pairs h. views.pairs_are_elements _ _ pairs h.5;
+  elements = λ piece pairs h. views.pairs_are_elements pairs h.inside;
 }

@@ -1,27 +1,30 @@
-use Rattle.std.proofs.Common.{List, ◌≡◌, ◌<◌, length, arith, refl, ◌∙◌}
-use Rattle.edn_reader.proofs.Tokens.{from_index}
-use Rattle.std.proofs.lemmas.Grind.{common_steps}
-use Rattle.edn_reader.specs.declared.element.ElementKind.{ElementKind}
-use Rattle.edn_reader.specs.Grammar.{Piece, piece_of}
-use Rattle.edn_reader.specs.declared.element.ElementKind.TheVariants.{Atom, Map}
-use Rattle.edn_reader.proofs.Views.{no_pairs_other, no_map, map_has_pairs, pairs_of_map}
+use Rattle.std.proofs.Common.{sym, subst}
+use Rattle.edn_reader.specs.declared.bytes.Bracket.TheVariants.{Curly}
+use Rattle.edn_reader.specs.declared.parts.Parts.{Parts}
+use Rattle.edn_reader.specs.declared.token.Opener.TheVariants.{Map}
+use Rattle.edn_reader.specs.Grammar.{piece_of}
+use Rattle.edn_reader.specs.Pairs.{in_turn, PartsLeft}
+use Rattle.edn_reader.proofs.Views.{curly, parts_of_inside, no_parts, has_pairs}
 use Rattle.edn_reader.proofs.element.Element.as_map.Goals as goal
 
-pub returns-then-self-ne123 : goal.returns-then-self-ne123
-returns-then-self-ne123 c =
-    let no = λ (pairs : List (Piece × Piece)). no_pairs_other (piece_of c.args.self.now) pairs c.if-self-ne123.true in
-    record { pairs = no; whole = λ h e. absurd (no_map (piece_of c.args.self.now) no h e) }
+pub returns-in-Some-clause-pairs : goal.returns-in-Some-clause-pairs
+returns-in-Some-clause-pairs c =
+    let inside = parts_of_inside Curly 123 curly c.in-Some.parts (piece_of c.args.self.now) c.in-Some.ensures in (
+      c.in-Some.ensures.0,
+      λ pairs. (
+        λ h. subst (λ (p : Parts). PartsLeft Map p (in_turn pairs)) (sym c.new.ensures) ((inside (in_turn pairs)).0 h),
+        λ h. (inside (in_turn pairs)).1 (subst (λ (p : Parts). PartsLeft Map p (in_turn pairs)) c.new.ensures h),
+      ),
+    )
 
-kind_of : (kind : ElementKind) → (kind ≡ Atom → ⊥) → kind ≡ Map
-kind_of Atom h = absurd (h refl)
-kind_of Map h = refl
+pub returns-in-Some-clause-whole : goal.returns-in-Some-clause-whole
+returns-in-Some-clause-whole c h kind =
+    let m = has_pairs (piece_of c.args.self.now) h kind in
+    (m.0, m.1, ((returns-in-Some-clause-pairs c).1 m.0).0 m.1)
 
-pub returns : goal.returns
-returns c =
-    let some : 0 < length c.args.self.now.text.now = grind (arith, common_steps) in
-    let kind = kind_of c.args.self.now.kind c.in_default.not-Atom in
-    let both = pairs_of_map (piece_of c.args.self.now) c.new.result kind some c.if-self-ne123.false (c.new.ensures.left ∙ from_index c.args.self.now.text.now 1) c.new.ensures.at in
-    record {
-      pairs = (kind, both);
-      whole = λ h e. let m = map_has_pairs (piece_of c.args.self.now) h e in (m.0, m.1, (both m.0).0 m.1);
-    }
+pub returns-in-None-clause-pairs : goal.returns-in-None-clause-pairs
+returns-in-None-clause-pairs c pairs h = no_parts Curly 123 curly (piece_of c.args.self.now) c.in-None.ensures (in_turn pairs) h
+
+pub returns-in-None-clause-whole : goal.returns-in-None-clause-whole
+returns-in-None-clause-whole c h kind =
+    let m = has_pairs (piece_of c.args.self.now) h kind in returns-in-None-clause-pairs c m.0 m.1

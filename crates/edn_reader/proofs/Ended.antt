@@ -1,0 +1,161 @@
+-- What stands behind an element that ended: it ends the tags before it too.
+use Rattle.std.proofs.Common.{◌≡◌, ℕ, suc, ◌+◌, ◌-◌, ◌<◌, ◌≤◌, Bool, true, false, cond, List, [], ◌∷◌, ◌++◌, length, take, drop, Some, refl, sym, ap, subst, ◌∙◌, arith, length-append}
+use Rattle.std.proofs.Math.Seq.{take-append_seam, drop-append_seam}
+use Rattle.edn_reader.specs.declared.element.ElementKind.{ElementKind}
+use Rattle.edn_reader.specs.declared.element.ElementKind.TheVariants.{Tagged}
+use Rattle.edn_reader.specs.declared.element.Core.{Core}
+use Rattle.edn_reader.specs.declared.nesting.Open.{Open}
+use Rattle.edn_reader.specs.declared.step.Span.{Span}
+use Rattle.edn_reader.specs.declared.token.Token.TheVariants.{Opens}
+use Rattle.edn_reader.specs.declared.token.Opener.{Opener}
+use Rattle.edn_reader.specs.declared.token.Opener.TheVariants as openers
+use Rattle.edn_reader.specs.Grammar.{Piece, IsToken, IsGap, nothing, discarded, IsElementAt, tagged, IsElements, waits}
+use Rattle.edn_reader.specs.Text.{IsText, StandsOpen, outermost, within, waiting}
+use Rattle.edn_reader.specs.Taking.{Taken, on, ends, fails, one_more, is_tag, behind_tag, completed, piece_in}
+use Rattle.edn_reader.proofs.Places.{moved_element, moved_elements, moved_stands, core_within}
+use Rattle.edn_reader.proofs.Steps.{stands_gap, stands_inside, stands_outermost, Waited, stands_waited}
+use Rattle.edn_reader.proofs.Runs.{goes, settled, settles}
+
+-- ---- the bytes from a place on
+
+left_behind : (front rest bytes : List ℕ) (q : ℕ) → bytes ≡ front ++ rest → q ≡ 0 + length front → rest ≡ drop q bytes
+left_behind front rest bytes q e n =
+    let k : q ≡ length front = omega arith in
+    sym (rw (k, e) (drop-append_seam front rest))
+
+pub elements_left : {room q : ℕ} {pieces : List Piece} {input rest : List ℕ} → IsElements room 0 input pieces q rest → rest ≡ drop q input
+elements_left {q = q} {input = input} {rest = rest} els =
+    let m = moved_elements els rest (λ h. h, λ h. h, λ h. h) in left_behind m.2.front rest input q m.2.here m.2.place
+
+pub stands_left : {q : ℕ} {pieces : List Piece} {opens : List Open} {input rest : List ℕ} → StandsOpen input pieces opens q rest → rest ≡ drop q input
+stands_left {q = q} {input = input} {rest = rest} s =
+    let m = moved_stands s rest (λ h. h, λ h. h, λ h. h) in left_behind m.2.front rest input q m.2.here m.2.place
+
+-- At the end of the input the place is its length.
+pub stands_end : {q : ℕ} {pieces : List Piece} {opens : List Open} {input rest : List ℕ} → StandsOpen input pieces opens q rest → q + length rest ≡ length input
+stands_end {q = q} {input = input} {rest = rest} s =
+    let m = moved_stands s rest (λ h. h, λ h. h, λ h. h) in omega (arith, m.2.place, ap length m.2.here, length-append m.2.front rest)
+
+pub stands_room : {q : ℕ} {pieces : List Piece} (opens : List Open) {input rest : List ℕ} → StandsOpen input pieces opens q rest → length opens ≤ 64
+stands_room [] s = omega arith
+stands_room (item ∷ opens) (within s token bracket full els gap) = omega (arith, full)
+stands_room (item ∷ opens) (waiting s token bracket full gap) = omega (arith, full)
+
+pub stands_text : {p : ℕ} {pieces : List Piece} {input : List ℕ} → StandsOpen input pieces [] p [] → IsText input pieces
+stands_text {p} {pieces} {input} (outermost {place = at} els gap) =
+    (at, p, subst (λ (r : List ℕ). IsElements 64 0 input pieces at r) (elements_left els) els, subst (λ (r : List ℕ). IsGap 64 at r p []) (elements_left els) gap)
+
+-- ---- an element that ended
+
+-- What is taken says this of the input up to a place, with the bytes that are left there.
+abbrev pub Stands : List ℕ → List Piece → ℕ → List ℕ → Taken → Type 0
+Stands input pieces q b (on opens) = StandsOpen input pieces opens q b
+Stands input pieces q b (ends span) =
+    (span.start ≤ span.core.start) × (span.core.start < span.end) × (span.end ≡ q) × IsElements 64 0 input (pieces ++ piece_in input span ∷ []) q b
+Stands input pieces q b (fails fault) = Unit {0}
+
+-- the bytes of an element
+record Text (input : List ℕ) (p q : ℕ) (a b : List ℕ) : Type 0 where
+  bytes : List ℕ
+  whole : a ≡ bytes ++ b
+  taken : bytes ≡ take (q - p) (drop p input)
+
+text_of : {room p q : ℕ} {kind : ElementKind} {core : Core} {input a b : List ℕ} {pieces : List Piece} {opens : List Open} → StandsOpen input pieces opens p a → IsElementAt room kind core p a q b → Text input p q a b
+text_of {p = p} {q = q} {input = input} {a = a} {b = b} stands element =
+    let m = (moved_element element b (λ h. h)).place in
+    let long : q - p ≡ length m.front = omega (arith, m.place) in
+    record {
+      bytes = m.front;
+      whole = m.here;
+      taken = sym (ap (take (q - p)) (sym (stands_left stands)) ∙ ap (take (q - p)) m.here ∙ ap (λ (n : ℕ). take n (m.front ++ b)) long ∙ take-append_seam m.front b);
+    }
+
+completed_by : (input : List ℕ) (pieces : List Piece) (q : ℕ) (b : List ℕ) (t w : Bool) (x : Taken) (y z : List Open)
+    → (t ≡ true → Stands input pieces q b x) → (t ≡ false → w ≡ true → Stands input pieces q b (on y)) → (w ≡ false → Stands input pieces q b (on z))
+    → (t ≡ true → w ≡ true) → Stands input pieces q b (cond t x (cond w (on y) (on z)))
+completed_by input pieces q b true w x y z f g h k = f refl
+completed_by input pieces q b false true x y z f g h k = g refl refl
+completed_by input pieces q b false false x y z f g h k = h refl
+
+tag_waits : (opener : Opener) → is_tag opener ≡ true → waits opener ≡ true
+tag_waits openers.List e = absurd cc
+tag_waits openers.Vector e = absurd cc
+tag_waits openers.Map e = absurd cc
+tag_waits openers.Set e = absurd cc
+tag_waits openers.Tag e = refl
+tag_waits openers.Discard e = absurd cc
+
+is_the_tag : (opener : Opener) → is_tag opener ≡ true → opener ≡ openers.Tag
+is_the_tag openers.List e = absurd cc
+is_the_tag openers.Vector e = absurd cc
+is_the_tag openers.Map e = absurd cc
+is_the_tag openers.Set e = absurd cc
+is_the_tag openers.Tag e = refl
+is_the_tag openers.Discard e = absurd cc
+
+is_the_discard : (opener : Opener) → is_tag opener ≡ false → waits opener ≡ true → opener ≡ openers.Discard
+is_the_discard openers.List e w = absurd cc
+is_the_discard openers.Vector e w = absurd cc
+is_the_discard openers.Map e w = absurd cc
+is_the_discard openers.Set e w = absurd cc
+is_the_discard openers.Tag e w = absurd cc
+is_the_discard openers.Discard e w = refl
+
+-- A discard with its element is a gap.
+discard_over : {q : ℕ} {input a b : List ℕ} {pieces : List Piece} {item : Open} {opens : List Open} {kind : ElementKind} {core : Core} (p : ℕ) → waits item.opener ≡ true → item.opener ≡ openers.Discard
+    → StandsOpen input pieces (item ∷ opens) p a → ((room : ℕ) → room + suc (length opens) ≡ 64 → IsElementAt room kind core p a q b) → StandsOpen input pieces opens q b
+discard_over {q} {b = b} {item = item} {opens = opens} p w e stands element =
+    let s = stands_waited w stands in
+    let token : IsToken (Opens openers.Discard) item.place s.bytes s.inner s.left = subst (λ (o : Opener). IsToken (Opens o) item.place s.bytes s.inner s.left) e s.token in
+    stands_gap s.before (λ room fit.
+    let same : suc s.room ≡ room = omega (arith, s.full, fit) in
+    subst (λ (n : ℕ). IsGap n item.place s.bytes q b) same (discarded token s.gap (element s.room s.full) nothing))
+
+-- A tag with its element is an element.
+tag_over : {q : ℕ} {input a b : List ℕ} {pieces : List Piece} {item : Open} {opens : List Open} {kind : ElementKind} {core : Core} (p : ℕ) (w : waits item.opener ≡ true) → item.opener ≡ openers.Tag
+    → (s : Waited input pieces item opens p a) → ((room : ℕ) → room + suc (length opens) ≡ 64 → IsElementAt room kind core p a q b)
+    → (room : ℕ) → room + length opens ≡ 64 → IsElementAt room Tagged core item.place s.bytes q b
+tag_over {q} {b = b} {item = item} {opens = opens} {core = core} p w e s element room fit =
+    let token : IsToken (Opens openers.Tag) item.place s.bytes s.inner s.left = subst (λ (o : Opener). IsToken (Opens o) item.place s.bytes s.inner s.left) e s.token in
+    let same : suc s.room ≡ room = omega (arith, s.full, fit) in
+    subst (λ (n : ℕ). IsElementAt n Tagged core item.place s.bytes q b) same (tagged token s.gap (element s.room s.full))
+
+pub stands_completed : {input b : List ℕ} {pieces : List Piece} (opens : List Open) (span : Span) (a : List ℕ) → StandsOpen input pieces opens span.start a
+    → ((room : ℕ) → room + length opens ≡ 64 → IsElementAt room span.kind span.core span.start a span.end b) → Stands input pieces span.end b (completed span opens)
+unfolding completed
+stands_completed {input} {b} {pieces} [] span a stands element =
+    let el = element 64 refl in
+    let t = text_of stands el in
+    let core = core_within el in (
+      core.0,
+      core.1,
+      refl,
+      subst (λ (x : List ℕ). IsElements 64 0 input (pieces ++ record { kind = span.kind; start = span.start; text = x; core = span.core } ∷ []) span.end b) t.taken
+          (stands_outermost span.kind span.core t.bytes stands el t.whole),
+    )
+stands_completed {input} {b} {pieces} (item ∷ opens) span a stands element =
+    completed_by input pieces span.end b (is_tag item.opener) (waits item.opener) (completed (behind_tag item span) opens) opens (one_more item ∷ opens)
+    (λ t. let w = tag_waits item.opener t in let s = stands_waited w stands in
+    stands_completed opens (behind_tag item span) s.bytes s.before (tag_over span.start w (is_the_tag item.opener t) s element))
+    (λ t w. discard_over span.start w (is_the_discard item.opener t w) stands element)
+    (λ w. let x = text_of stands (element (64 - suc (length opens)) (omega (arith, stands_room (item ∷ opens) stands))) in
+    stands_inside span.kind span.core x.bytes w stands element x.whole)
+    (tag_waits item.opener)
+
+-- ---- what is open then
+
+pub next_stands : (input : List ℕ) (pieces : List Piece) (q : ℕ) (b : List ℕ) (t : Taken) (next : List Open × List Span) → goes t ≡ Some next → Stands input pieces q b t
+    → (others : List Piece) × StandsOpen input others next.0 q b
+next_stands input pieces q b (on opens) next e s =
+    let same : opens ≡ next.0 = cc in (pieces, subst (λ (x : List Open). StandsOpen input pieces x q b) same s)
+next_stands input pieces q b (ends span) next e s =
+    let same : [] ≡ next.0 = cc in
+    (pieces ++ piece_in input span ∷ [], subst (λ (x : List Open). StandsOpen input (pieces ++ piece_in input span ∷ []) x q b) same (outermost s.3 nothing))
+next_stands input pieces q b (fails fault) next e s = absurd cc
+
+-- One more element, wherever it stands.
+pub stands_more : {input a b : List ℕ} {pieces : List Piece} (opens : List Open) (span : Span) → StandsOpen input pieces opens span.start a
+    → ((room : ℕ) → room + length opens ≡ 64 → IsElementAt room span.kind span.core span.start a span.end b)
+    → (others : List Piece) × StandsOpen input others (settled span opens).0 span.end b
+stands_more {input} {a} {b} {pieces} opens span stands element =
+    next_stands input pieces span.end b (completed span opens) (settled span opens) (settles span opens) (stands_completed opens span a stands element)

@@ -1,0 +1,340 @@
+-- The ways over elements, gaps and tags by tokens alone.
+use Rattle.std.proofs.Common.{◌≡◌, ◌≢◌, ◌⊎◌, inl, inr, ℕ, zero, suc, pred, ◌+◌, ◌-◌, ◌<◌, ◌≤◌, true, List, [], length, drop, Some, refl, sym, ap, subst, ◌∙◌, arith}
+use Rattle.std.proofs.Math.ListN.{drop_of_length-le}
+use Rattle.std.proofs.lemmas.Bool.{cases_lt}
+use Rattle.std.proofs.lemmas.List.{drop-drop, drop_at}
+use Rattle.edn_reader.specs.declared.bytes.Bracket.{Bracket}
+use Rattle.edn_reader.specs.declared.element.ElementKind.{ElementKind}
+use Rattle.edn_reader.specs.declared.element.Core.{Core}
+use Rattle.edn_reader.specs.declared.skip.Counts.{Counts}
+use Rattle.edn_reader.specs.declared.token.Token.{Token}
+use Rattle.edn_reader.specs.declared.token.Token.TheVariants.{Gap, Leaf, Opens, Closes, Unfinished}
+use Rattle.edn_reader.specs.declared.token.Opener.{Opener}
+use Rattle.edn_reader.specs.declared.token.Opener.TheVariants as openers
+use Rattle.edn_reader.specs.Grammar.{Piece, IsGap, nothing, skipped, discarded, IsElementAt, leaf, bracketed, tagged, IsElements, none, next, fits}
+use Rattle.edn_reader.specs.Token.{lexed}
+use Rattle.edn_reader.specs.Skipping.{counted, ended_at, ended_one, wanted_at, closed_at, opened_with, kind_token, NoGap, SkipsElement, SkipsGap, SkipsTags}
+use Rattle.edn_reader.proofs.Lexing.{Lexed, lexed_token}
+use Rattle.edn_reader.proofs.Places.{Replaced, moved_gap, moved_element, wider_element}
+
+-- ---- the ends of elements
+
+abbrev pub counts_of : ℕ → ℕ → Counts
+counts_of brackets elements = record { brackets = brackets; elements = elements }
+
+-- From a place with so much to end, the tokens lead to another place, where nothing is.
+pub data Scans : Counts → ℕ → List ℕ → ℕ → List ℕ → Type 0 where
+  done : {counts : Counts} {p : ℕ} {a : List ℕ} → counts.brackets + counts.elements ≡ 0 → Scans counts p a p a
+  further : {counts : Counts} {p q : ℕ} {a b : List ℕ} → 0 < counts.brackets + counts.elements
+      → Scans (counted (lexed a).0 counts) (p + (lexed a).1) (drop (lexed a).1 a) q b → Scans counts p a q b
+
+over_token : {token : Token} {counts : Counts} {p q r : ℕ} {a b c : List ℕ} → Lexed token p a q b → 0 < counts.brackets + counts.elements → Scans (counted token counts) q b r c → Scans counts p a r c
+over_token {token} {counts} {p} {q} {r} {a} {b} {c} l busy h =
+    let placed : Scans (counted token counts) (p + (lexed a).1) b r c = subst (λ (n : ℕ). Scans (counted token counts) n b r c) (sym l.place) h in
+    let rested : Scans (counted token counts) (p + (lexed a).1) (drop (lexed a).1 a) r c = subst (λ (x : List ℕ). Scans (counted token counts) (p + (lexed a).1) x r c) (sym l.rest) placed in
+    further busy (subst (λ (t : Token). Scans (counted t counts) (p + (lexed a).1) (drop (lexed a).1 a) r c) (sym l.token_is) rested)
+
+wanted_busy : (brackets elements : ℕ) → 0 < (wanted_at brackets elements).brackets + (wanted_at brackets elements).elements
+wanted_busy zero elements = omega arith
+wanted_busy (suc brackets) elements = omega arith
+
+wanted_ended : (brackets elements : ℕ) → counts_of brackets elements ≡ ended_one (wanted_at brackets elements)
+wanted_ended zero elements = refl
+wanted_ended (suc brackets) elements = refl
+
+-- What opens and holds elements counts as a bracket.
+opened_bracket : (opener : Opener) (bracket : Bracket) (counts : Counts) → fits opener bracket ≡ true → counts_of (suc counts.brackets) counts.elements ≡ opened_with opener counts
+opened_bracket openers.List bracket counts e = refl
+opened_bracket openers.Vector bracket counts e = refl
+opened_bracket openers.Map bracket counts e = refl
+opened_bracket openers.Set bracket counts e = refl
+opened_bracket openers.Tag bracket counts e = absurd cc
+opened_bracket openers.Discard bracket counts e = absurd cc
+
+mutual
+  over_gap : {room p q r : ℕ} {a b c : List ℕ} (counts : Counts) → IsGap room p a q b → 0 < counts.brackets + counts.elements → Scans counts q b r c → Scans counts p a r c
+  over_gap counts nothing busy h = h
+  over_gap counts (skipped token gap) busy h = over_token (lexed_token token) busy (over_gap counts gap busy h)
+  over_gap {r = r} {c = c} counts (discarded {ends = ends} {behind = behind} token inside element gap) busy h =
+      let wanted = wanted_at counts.brackets counts.elements in
+      let more : 0 < wanted.brackets + wanted.elements = wanted_busy counts.brackets counts.elements in
+      let after : Scans counts ends behind r c = over_gap counts gap busy h in
+      over_token (lexed_token token) busy (over_gap wanted inside more
+      (over_element wanted element more (subst (λ (k : Counts). Scans k ends behind r c) (wanted_ended counts.brackets counts.elements) after)))
+
+  over_element : {room p q r : ℕ} {kind : ElementKind} {core : Core} {a b c : List ℕ} (counts : Counts) → IsElementAt room kind core p a q b → 0 < counts.brackets + counts.elements
+      → Scans (ended_one counts) q b r c → Scans counts p a r c
+  over_element counts (leaf token) busy h = over_token (lexed_token token) busy h
+  over_element {r = r} {c = c} counts (bracketed {inner = inner} {left = left} {opener = opener} {bracket = bracket} token inside gap last fit even) busy h =
+      let deeper : 0 < suc counts.brackets + counts.elements = omega arith in
+      let behind : Scans (counts_of (suc counts.brackets) counts.elements) inner left r c =
+      over_elements counts.brackets counts.elements inside (over_gap (counts_of (suc counts.brackets) counts.elements) gap deeper (over_token (lexed_token last) deeper h)) in
+      over_token (lexed_token token) busy (subst (λ (k : Counts). Scans k inner left r c) (opened_bracket opener bracket counts fit) behind)
+  over_element counts (tagged token gap element) busy h = over_token (lexed_token token) busy (over_gap counts gap busy (over_element counts element busy h))
+
+  over_elements : {room p q r : ℕ} {pieces : List Piece} {a b c : List ℕ} (brackets elements : ℕ) → IsElements room p a pieces q b
+      → Scans (counts_of (suc brackets) elements) q b r c → Scans (counts_of (suc brackets) elements) p a r c
+  over_elements brackets elements none h = h
+  over_elements brackets elements (next gap element text others) h =
+      let deeper : 0 < suc brackets + elements = omega arith in
+      over_gap (counts_of (suc brackets) elements) gap deeper (over_element (counts_of (suc brackets) elements) element deeper (over_elements brackets elements others h))
+
+pred_less : (n : ℕ) → pred n ≤ n
+pred_less zero = omega arith
+pred_less (suc n) = omega arith
+
+ended_bound : (brackets elements : ℕ) → (ended_at brackets elements).brackets + (ended_at brackets elements).elements ≤ brackets + elements + 1
+ended_bound zero elements = omega (arith, pred_less elements)
+ended_bound (suc brackets) elements = omega arith
+
+wanted_bound : (brackets elements : ℕ) → (wanted_at brackets elements).brackets + (wanted_at brackets elements).elements ≤ brackets + elements + 1
+wanted_bound zero elements = omega arith
+wanted_bound (suc brackets) elements = omega arith
+
+closed_bound : (brackets elements : ℕ) → (closed_at brackets elements).brackets + (closed_at brackets elements).elements ≤ brackets + elements + 1
+closed_bound zero elements = omega arith
+closed_bound (suc brackets) elements = omega (arith, ended_bound brackets elements)
+
+pub counted_bound : (token : Token) (counts : Counts) → (counted token counts).brackets + (counted token counts).elements ≤ counts.brackets + counts.elements + 1
+counted_bound Gap counts = omega arith
+counted_bound (Leaf kind) counts = ended_bound counts.brackets counts.elements
+counted_bound (Opens openers.List) counts = omega arith
+counted_bound (Opens openers.Vector) counts = omega arith
+counted_bound (Opens openers.Map) counts = omega arith
+counted_bound (Opens openers.Set) counts = omega arith
+counted_bound (Opens openers.Tag) counts = omega arith
+counted_bound (Opens openers.Discard) counts = wanted_bound counts.brackets counts.elements
+counted_bound (Closes bracket) counts = closed_bound counts.brackets counts.elements
+counted_bound Unfinished counts = omega arith
+
+-- What leads from the first place to the end of an element leads there from the second one, with so much to end.
+abbrev pub Scanned : List ℕ → ℕ → ℕ → Counts → Type 0
+Scanned bytes from at counts =
+    (start after : ℕ) (rest : List ℕ) → Scans (counts_of 0 1) start (drop from bytes) after rest → (other : ℕ) × (other + from ≡ start + at) × Scans counts other (drop at bytes) after rest
+
+-- One token further.
+one_further : {counts : Counts} {p q : ℕ} {a b : List ℕ} → Scans counts p a q b → 0 < counts.brackets + counts.elements
+    → Scans (counted (lexed a).0 counts) (p + (lexed a).1) (drop (lexed a).1 a) q b
+one_further (done e) busy = absurd (omega arith)
+one_further (further more h) busy = h
+
+pub scanned_more : (bytes : List ℕ) (from at end : ℕ) (counts more : Counts) → Scanned bytes from at counts → 0 < counts.brackets + counts.elements
+    → more ≡ counted (lexed (drop at bytes)).0 counts → end ≡ at + (lexed (drop at bytes)).1 → Scanned bytes from end more
+scanned_more bytes from at end counts more scanned busy e f start after rest h =
+    let k = scanned start after rest h in
+    let token = lexed (drop at bytes) in
+    let left : drop token.1 (drop at bytes) ≡ drop end bytes = drop-drop token.1 at bytes ∙ ap (λ (n : ℕ). drop n bytes) (sym f) in
+    let step : Scans (counted token.0 counts) (k.0 + token.1) (drop token.1 (drop at bytes)) after rest = one_further k.2 busy in (
+      k.0 + token.1,
+      omega (arith, k.1, f),
+      subst (λ (c : Counts). Scans c (k.0 + token.1) (drop end bytes) after rest) (sym e) (subst (λ (x : List ℕ). Scans (counted token.0 counts) (k.0 + token.1) x after rest) left step),
+    )
+
+lexed_nothing : lexed [] ≡ (Unfinished, 0)
+unfolding lexed
+lexed_nothing = refl
+
+-- Where nothing is left, or nothing to end, it goes no further.
+scans_last : {counts : Counts} {p q : ℕ} {a b : List ℕ} → Scans counts p a q b → a ≡ [] → p ≡ q
+scans_last (done e) last = refl
+scans_last {p = p} (further {a = a} more h) last =
+    let none_long : (lexed a).1 ≡ 0 = ap (λ (x : List ℕ). (lexed x).1) last ∙ ap (λ (t : Token × ℕ). t.1) lexed_nothing in
+    let still : drop (lexed a).1 a ≡ [] = ap (λ (n : ℕ). drop n a) none_long ∙ last in
+    omega (arith, none_long, scans_last h still)
+
+scans_none : {counts : Counts} {p q : ℕ} {a b : List ℕ} → Scans counts p a q b → counts.brackets + counts.elements ≡ 0 → p ≡ q
+scans_none (done e) nothing_left = refl
+scans_none (further more h) nothing_left = absurd (omega arith)
+
+scans_element : {room other p r q : ℕ} {kind : ElementKind} {core : Core} {a b c : List ℕ} → IsGap room p a r b → IsElementAt other kind core r b q c → Scans (counts_of 0 1) p a q c
+scans_element gap element =
+    let one : 0 < 0 + 1 = omega arith in over_gap (counts_of 0 1) gap one (over_element (counts_of 0 1) element one (done refl))
+
+pub skips_element : (bytes : List ℕ) (from at : ℕ) (counts : Counts) → Scanned bytes from at counts → (at < length bytes → counts.brackets + counts.elements ≡ 0) → SkipsElement bytes from at
+skips_element bytes from at counts scanned over room start begins after kind core left rest gap element =
+    let k = scanned start after rest (scans_element gap element) in
+    let last : k.0 ≡ after = reached k.0 after rest k.2 (cases_lt at (length bytes)) in
+    omega (arith, k.1, last)
+  where
+    reached : (p q : ℕ) (b : List ℕ) → Scans counts p (drop at bytes) q b → (at < length bytes) ⊎ (length bytes ≤ at) → p ≡ q
+    reached p q b h (inl lt) = scans_none h (over lt)
+    reached p q b h (inr le) = scans_last h (drop_of_length-le bytes le)
+
+-- ---- what a derivation leaves
+
+beyond : {p q : ℕ} {a b d e : List ℕ} (n : ℕ) → Replaced p a q b d e → p + n ≡ q → drop n a ≡ b
+beyond {b = b} n m at = ap (drop n) m.here ∙ drop_at m.front b n (omega (arith, m.place, at))
+
+pub beyond_gap : {room p q : ℕ} {a b : List ℕ} (n : ℕ) → IsGap room p a q b → p + n ≡ q → drop n a ≡ b
+beyond_gap {b = b} n gap at = beyond n (moved_gap gap b (λ h. h, λ h. h, λ h. h)).2 at
+
+pub beyond_element : {room p q : ℕ} {kind : ElementKind} {core : Core} {a b : List ℕ} (n : ℕ) → IsElementAt room kind core p a q b → p + n ≡ q → drop n a ≡ b
+beyond_element {b = b} n element at = beyond n (moved_element element b (λ h. h)).place at
+
+gap_forward : {room p q : ℕ} {a b : List ℕ} → IsGap room p a q b → p ≤ q
+gap_forward {b = b} gap = omega (arith, (moved_gap gap b (λ h. h, λ h. h, λ h. h)).2.place)
+
+element_forward : {room p q : ℕ} {kind : ElementKind} {core : Core} {a b : List ℕ} → IsElementAt room kind core p a q b → p ≤ q
+element_forward {b = b} element = omega (arith, (moved_element element b (λ h. h)).place.place)
+
+-- The same between two indices of a list.
+between : (bytes left : List ℕ) (from end n : ℕ) → left ≡ drop from bytes → from + n ≡ end → drop n left ≡ drop end bytes
+between bytes left from end n here at = ap (drop n) here ∙ drop-drop n from bytes ∙ ap (λ (i : ℕ). drop i bytes) at
+
+-- ---- the end of a gap
+
+-- What is left of a gap from the first place, at the second one.
+abbrev pub GapLeft : List ℕ → ℕ → ℕ → Type 0
+GapLeft bytes from at =
+    (room start after : ℕ) (rest : List ℕ) → IsGap room start (drop from bytes) after rest → NoGap (lexed rest).0
+    → (other place : ℕ) × (place + from ≡ start + at) × IsGap other place (drop at bytes) after rest
+
+over_white : {room p q : ℕ} {a b : List ℕ} → IsGap room p a q b → NoGap (lexed b).0 → (lexed a).0 ≡ Gap → (other : ℕ) × IsGap other (p + (lexed a).1) (drop (lexed a).1 a) q b
+over_white nothing clear e = absurd (subst NoGap e clear)
+over_white {p = p} {q = q} {a = a} {b = b} (skipped {room = room} {left = left} token gap) clear e =
+    let l = lexed_token token in
+    (room, subst (λ (x : List ℕ). IsGap room (p + (lexed a).1) x q b) (sym l.rest) (subst (λ (n : ℕ). IsGap room n left q b) (sym l.place) gap))
+over_white (discarded token inside element gap) clear e =
+    let both : Gap ≡ Opens openers.Discard = sym e ∙ (lexed_token token).token_is in absurd cc
+
+over_discard : {room p q : ℕ} {a b : List ℕ} (bytes : List ℕ) (from end : ℕ) → IsGap room p a q b → NoGap (lexed b).0 → (lexed a).0 ≡ Opens openers.Discard
+    → drop (lexed a).1 a ≡ drop from bytes → SkipsElement bytes from end → from ≤ end → (other place : ℕ) × (place + from ≡ p + (lexed a).1 + end) × IsGap other place (drop end bytes) q b
+over_discard bytes from end nothing clear e here skips le = absurd (subst NoGap e clear)
+over_discard bytes from end (skipped token gap) clear e here skips le =
+    let both : Opens openers.Discard ≡ Gap = sym e ∙ (lexed_token token).token_is in absurd cc
+over_discard {q = q} {a = a} {b = b} bytes from end (discarded {room = room} {inner = inner} {begins = begins} {ends = ends} {left = left} {beyond = start} {behind = behind} {kind = kind} {core = core} token inside element gap) clear e here skips le =
+    let l = lexed_token token in
+    let there : left ≡ drop from bytes = sym l.rest ∙ here in
+    let long : inner + end ≡ ends + from = skips room inner begins ends kind core start behind (subst (λ (x : List ℕ). IsGap room inner x begins start) there inside) element in
+    let first : ℕ = begins - inner in
+    let second : ℕ = ends - begins in
+    let ordered : (inner ≤ begins) × (begins ≤ ends) = (gap_forward inside, element_forward element) in
+    let left_start : drop first left ≡ start = beyond_gap first inside (omega (arith, ordered.0)) in
+    let start_behind : drop second start ≡ behind = beyond_element second element (omega (arith, ordered.1)) in
+    let whole : drop end bytes ≡ behind =
+    sym (between bytes left from end (first + second) there (omega (arith, long, ordered.0, ordered.1, le)))
+    ∙ sym (drop-drop second first left) ∙ ap (drop second) left_start ∙ start_behind in
+    (suc room, ends, omega (arith, long, l.place), subst (λ (x : List ℕ). IsGap (suc room) ends x q b) (sym whole) gap)
+
+stop_gap : {room p q : ℕ} {a b : List ℕ} → IsGap room p a q b → ((lexed a).0 ≡ Gap → ⊥) → ((lexed a).0 ≡ Opens openers.Discard → ⊥) → p ≡ q
+stop_gap nothing white discard = refl
+stop_gap (skipped token gap) white discard = absurd (white (lexed_token token).token_is)
+stop_gap (discarded token inside element gap) white discard = absurd (discard (lexed_token token).token_is)
+
+pub gap_white : (bytes : List ℕ) (from at end : ℕ) → GapLeft bytes from at → (lexed (drop at bytes)).0 ≡ Gap → end ≡ at + (lexed (drop at bytes)).1 → GapLeft bytes from end
+gap_white bytes from at end left e f room start after rest gap clear =
+    let k = left room start after rest gap clear in
+    let token = lexed (drop at bytes) in
+    let m = over_white k.3 clear e in
+    (m.0, k.1 + token.1, omega (arith, k.2, f), subst (λ (x : List ℕ). IsGap m.0 (k.1 + token.1) x after rest) (between bytes (drop at bytes) at end token.1 refl (sym f)) m.1)
+
+pub gap_discard : (bytes : List ℕ) (from at inner end : ℕ) → GapLeft bytes from at → (lexed (drop at bytes)).0 ≡ Opens openers.Discard → inner ≡ at + (lexed (drop at bytes)).1
+    → SkipsElement bytes inner end → inner ≤ end → GapLeft bytes from end
+gap_discard bytes from at inner end left e f skips le room start after rest gap clear =
+    let k = left room start after rest gap clear in
+    let token = lexed (drop at bytes) in
+    let m = over_discard bytes inner end k.3 clear e (between bytes (drop at bytes) at inner token.1 refl (sym f)) skips le in
+    (m.0, m.1, omega (arith, k.2, m.2, f), m.3)
+
+pub skips_gap : (bytes : List ℕ) (from at : ℕ) → GapLeft bytes from at → ((lexed (drop at bytes)).0 ≡ Gap → ⊥) → ((lexed (drop at bytes)).0 ≡ Opens openers.Discard → ⊥) → SkipsGap bytes from at
+skips_gap bytes from at left white discard room start after rest gap clear =
+    let k = left room start after rest gap clear in
+    let last : k.1 ≡ after = stop_gap k.3 white discard in
+    omega (arith, k.2, last)
+
+-- No token begins at the end.
+pub none_at_end : (bytes : List ℕ) (at : ℕ) → length bytes ≤ at → (lexed (drop at bytes)).0 ≡ Unfinished
+none_at_end bytes at le = ap (λ (x : List ℕ). (lexed x).0) (drop_of_length-le bytes le) ∙ ap (λ (t : Token × ℕ). t.0) lexed_nothing
+
+-- ---- the end of the tags
+
+opener_no_gap : (opener : Opener) (bracket : Bracket) → fits opener bracket ≡ true → NoGap (Opens opener)
+opener_no_gap openers.List bracket e = tt
+opener_no_gap openers.Vector bracket e = tt
+opener_no_gap openers.Map bracket e = tt
+opener_no_gap openers.Set bracket e = tt
+opener_no_gap openers.Tag bracket e = tt
+opener_no_gap openers.Discard bracket e = absurd cc
+
+-- No gap begins where an element does.
+pub element_no_gap : {room p q : ℕ} {kind : ElementKind} {core : Core} {a b : List ℕ} → IsElementAt room kind core p a q b → NoGap (lexed a).0
+element_no_gap (leaf {kind = kind} token) = subst NoGap (sym (lexed_token token).token_is) tt
+element_no_gap (bracketed {opener = opener} {bracket = bracket} token inside gap last fit even) = subst NoGap (sym (lexed_token token).token_is) (opener_no_gap opener bracket fit)
+element_no_gap (tagged token gap element) = subst NoGap (sym (lexed_token token).token_is) tt
+
+pub element_kind : {room p q : ℕ} {kind : ElementKind} {core : Core} {a b : List ℕ} → IsElementAt room kind core p a q b → kind_token (lexed a).0 ≡ Some kind
+element_kind (leaf token) = ap kind_token (lexed_token token).token_is
+element_kind (bracketed token inside gap last fit even) = ap kind_token (lexed_token token).token_is
+element_kind (tagged token gap element) = ap kind_token (lexed_token token).token_is
+
+-- What is left of an element from the first place, at the second one.
+abbrev pub TagsLeft : List ℕ → ℕ → ℕ → Type 0
+TagsLeft bytes from at =
+    (room start after : ℕ) (kind : ElementKind) (core : Core) (rest : List ℕ) → IsElementAt room kind core start (drop from bytes) after rest
+    → (other place : ℕ) × (behind : ElementKind) × (place + from ≡ start + at) × IsElementAt other behind core place (drop at bytes) after rest
+
+not_tag : (opener : Opener) (bracket : Bracket) → fits opener bracket ≡ true → opener ≢ openers.Tag
+not_tag opener bracket fit e = let both : fits openers.Tag bracket ≡ true = subst (λ (o : Opener). fits o bracket ≡ true) e fit in absurd cc
+
+over_tag : {room p q : ℕ} {kind : ElementKind} {core : Core} {a b : List ℕ} (bytes : List ℕ) (from end : ℕ) → IsElementAt room kind core p a q b → (lexed a).0 ≡ Opens openers.Tag
+    → drop (lexed a).1 a ≡ drop from bytes → SkipsGap bytes from end → from ≤ end
+    → (other place : ℕ) × (behind : ElementKind) × (place + from ≡ p + (lexed a).1 + end) × IsElementAt other behind core place (drop end bytes) q b
+over_tag bytes from end (leaf {kind = kind} token) e here skips le =
+    let both : Opens openers.Tag ≡ Leaf kind = sym e ∙ (lexed_token token).token_is in absurd cc
+over_tag bytes from end (bracketed {opener = opener} {bracket = bracket} token inside gap last fit even) e here skips le =
+    let both : Opens openers.Tag ≡ Opens opener = sym e ∙ (lexed_token token).token_is in
+    let same : opener ≡ openers.Tag = cc in
+    absurd (not_tag opener bracket fit same)
+over_tag {q = q} {core = core} {b = b} bytes from end (tagged {room = room} {inner = inner} {begins = begins} {left = left} {beyond = start} {kind = kind} token gap element) e here skips le =
+    let l = lexed_token token in
+    let there : left ≡ drop from bytes = sym l.rest ∙ here in
+    let long : inner + end ≡ begins + from = skips room inner begins start (subst (λ (x : List ℕ). IsGap room inner x begins start) there gap) (element_no_gap element) in
+    let left_start : drop (end - from) left ≡ start = beyond_gap (end - from) gap (omega (arith, long, le)) in
+    let whole : drop end bytes ≡ start = sym (between bytes left from end (end - from) there (omega (arith, le))) ∙ left_start in
+    (room, begins, kind, omega (arith, long, l.place), subst (λ (x : List ℕ). IsElementAt room kind core begins x q b) (sym whole) element)
+
+stop_tags : {room p q : ℕ} {kind : ElementKind} {core : Core} {a b : List ℕ} → IsElementAt room kind core p a q b → ((lexed a).0 ≡ Opens openers.Tag → ⊥) → p ≡ core.start
+stop_tags (leaf token) other = refl
+stop_tags (bracketed token inside gap last fit even) other = refl
+stop_tags (tagged token gap element) other = absurd (other (lexed_token token).token_is)
+
+pub tags_tag : (bytes : List ℕ) (from at inner end : ℕ) → TagsLeft bytes from at → (lexed (drop at bytes)).0 ≡ Opens openers.Tag → inner ≡ at + (lexed (drop at bytes)).1
+    → SkipsGap bytes inner end → inner ≤ end → TagsLeft bytes from end
+tags_tag bytes from at inner end left e f skips le room start after kind core rest element =
+    let k = left room start after kind core rest element in
+    let token = lexed (drop at bytes) in
+    let m = over_tag bytes inner end k.4 e (between bytes (drop at bytes) at inner token.1 refl (sym f)) skips le in
+    (m.0, m.1, m.2, omega (arith, k.3, m.3, f), m.4)
+
+pub skips_tags : (bytes : List ℕ) (from at : ℕ) → TagsLeft bytes from at → ((lexed (drop at bytes)).0 ≡ Opens openers.Tag → ⊥) → SkipsTags bytes from at
+skips_tags bytes from at left other room start after kind core rest element =
+    let k = left room start after kind core rest element in
+    let last : k.1 ≡ core.start = stop_tags k.4 other in
+    omega (arith, k.3, last)
+
+-- ---- the core of an element
+
+-- The core of an element begins so many bytes behind it, and is an element.
+pub record CoreAt (room : ℕ) (core : Core) (p : ℕ) (a : List ℕ) (q : ℕ) (b : List ℕ) : Type 0 where
+  pub ahead : ℕ
+  pub place : p + ahead ≡ core.start
+  pub element : IsElementAt room core.kind core core.start (drop ahead a) q b
+
+pub core_at : {room p q : ℕ} {kind : ElementKind} {core : Core} {a b : List ℕ} → IsElementAt room kind core p a q b → CoreAt room core p a q b
+core_at (leaf token) = record { ahead = 0; place = omega arith; element = leaf token }
+core_at (bracketed token inside gap last fit even) = record { ahead = 0; place = omega arith; element = bracketed token inside gap last fit even }
+core_at {room = room} {p = p} {q = q} {core = core} {a = a} {b = b} (tagged {room = less} {inner = inner} {begins = begins} {left = left} {beyond = start} token gap element) =
+    let l = lexed_token token in
+    let c = core_at element in
+    let forward : inner ≤ begins = gap_forward gap in
+    let first : ℕ = (lexed a).1 in
+    let second : ℕ = begins - inner in
+    let at_start : drop (first + second) a ≡ start = sym (drop-drop second first a) ∙ ap (drop second) l.rest ∙ beyond_gap second gap (omega (arith, forward)) in
+    let at_core : drop c.ahead start ≡ drop (first + second + c.ahead) a = ap (drop c.ahead) (sym at_start) ∙ drop-drop c.ahead (first + second) a in
+    let roomy : IsElementAt (suc less) core.kind core core.start (drop c.ahead start) q b =
+    subst (λ (r : ℕ). IsElementAt r core.kind core core.start (drop c.ahead start) q b) (omega arith) (wider_element 1 c.element) in
+    record {
+      ahead = first + second + c.ahead;
+      place = omega (arith, l.place, c.place, forward);
+      element = subst (λ (x : List ℕ). IsElementAt (suc less) core.kind core core.start x q b) at_core roomy;
+    }

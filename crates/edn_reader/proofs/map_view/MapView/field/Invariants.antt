@@ -1,9 +1,0 @@
-use Rattle.edn_reader.specs.Pairs.{bytes_left}
-use Rattle.edn_reader.proofs.Views.{Seen}
-use Rattle.edn_reader.proofs.map_view.MapView.field.Given as goal
-
-abbrev pub invariant-loop-name : goal.invariant-loop-name
-invariant-loop-name l = Seen l.fn.self l.view l.key l.found
-
-abbrev pub decreases-loop-name : goal.decreases-loop-name
-decreases-loop-name l = bytes_left l.view

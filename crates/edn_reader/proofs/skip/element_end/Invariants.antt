@@ -1,0 +1,15 @@
+use Rattle.std.proofs.Common.{length, ◌-◌, ◌+◌, ◌≡◌, ◌≤◌}
+use Rattle.edn_reader.proofs.Skipping.{Scanned}
+use Rattle.edn_reader.proofs.skip.element_end.Given as goal
+
+abbrev pub invariant-loop-at : goal.invariant-loop-at
+invariant-loop-at l = record {
+  within : l.at ≤ length l.bytes;
+  after : l.from ≤ l.at;
+  few : l.counts.brackets + l.counts.elements + l.from ≤ l.at + 1;
+  first : l.at ≤ l.from → l.counts.elements ≡ 1;
+  scanned : Scanned l.bytes l.from l.at l.counts;
+}
+
+abbrev pub decreases-loop-at : goal.decreases-loop-at
+decreases-loop-at l = length l.bytes - l.at

@@ -1,0 +1,103 @@
+-- What a token leads to where these stand open. No public clause speaks of it.
+use Rattle.std.specs.Prelude.{◌≡◌, ◌<◌, ◌≤◌, ◌-◌, ◌⊎◌, ℕ, Bool, true, false, ◌==◌, ◌&&◌, if◌then◌else◌, not, List, [], ◌∷◌, ◌++◌, length, take, drop, Option, Some, None, Result, Ok, Err}
+use Rattle.edn_reader.specs.declared.bytes.Bracket.{Bracket}
+use Rattle.edn_reader.specs.declared.element.ElementKind.{ElementKind}
+use Rattle.edn_reader.specs.declared.element.ElementKind.TheVariants.{Tagged}
+use Rattle.edn_reader.specs.declared.fault.EdnFault.{EdnFault}
+use Rattle.edn_reader.specs.declared.fault.EdnFault.TheVariants.{Truncated, StrayClose, WrongClose, TooDeep, OddMap, TagWithoutElement}
+use Rattle.edn_reader.specs.declared.nesting.Open.{Open}
+use Rattle.edn_reader.specs.declared.step.Span.{Span}
+use Rattle.edn_reader.specs.declared.token.Token.{Token}
+use Rattle.edn_reader.specs.declared.token.Token.TheVariants as tokens
+use Rattle.edn_reader.specs.declared.token.Opener.{Opener}
+use Rattle.edn_reader.specs.declared.token.Opener.TheVariants as openers
+use Rattle.edn_reader.specs.Grammar.{Piece, fits, waits, is_paired, kind_of}
+use Rattle.edn_reader.specs.Text.{IsFront, IsText}
+use Rattle.edn_reader.specs.Fault.{FaultOf, IsMemory, AreElementsBefore, innermost}
+
+-- The reader goes on with these open, gives an outermost element, or fails.
+pub data Taken : Type 0 where
+  on : List Open → Taken
+  ends : Span → Taken
+  fails : EdnFault → Taken
+
+-- What is open, with one more element in it.
+abbrev pub one_more : Open → Open
+one_more item = record { place = item.place; opener = item.opener; odd = not item.odd }
+
+abbrev pub is_tag : Opener → Bool
+is_tag openers.List = false
+is_tag openers.Vector = false
+is_tag openers.Map = false
+is_tag openers.Set = false
+is_tag openers.Tag = true
+is_tag openers.Discard = false
+
+-- An element that has a tag before it.
+abbrev pub behind_tag : Open → Span → Span
+behind_tag item span = record { kind = Tagged; start = item.place; end = span.end; core = span.core }
+
+-- An element ended: it ends the tags before it, and is one more of the bracket or the one of the discard before them.
+unfoldable pub completed : Span → List Open → Taken
+completed span [] = ends span
+completed span (item ∷ opens) =
+    if is_tag item.opener then completed (behind_tag item span) opens
+    else if waits item.opener then on opens
+    else on (one_more item ∷ opens)
+
+-- What was innermost is taken where it waits, and has one more element where it is a bracket.
+abbrev pub EndsOne : Option Open → List Open → List Open → Type 0
+EndsOne None opens after = (opens ≡ []) × (after ≡ [])
+EndsOne (Some item) opens after = (others : List Open) × (opens ≡ item ∷ others) × (after ≡ (if waits item.opener then others else one_more item ∷ others))
+
+-- An element that begins and ends here and has no tag.
+abbrev pub plain_span : ElementKind → ℕ → ℕ → Span
+plain_span kind start after = record { kind = kind; start = start; end = after; core = record { kind = kind; start = start } }
+
+-- A closing bracket that finds a tag or a discard waiting.
+abbrev pub fault_before : ℕ → Bracket → Open → Option Open → EdnFault
+fault_before place bracket waiting None = StrayClose place
+fault_before place bracket waiting (Some inner) = if fits inner.opener bracket then TagWithoutElement waiting.place else WrongClose place
+
+-- A closing bracket.
+unfoldable pub closed : ℕ → ℕ → Bracket → List Open → Taken
+closed place after bracket [] = fails (StrayClose place)
+closed place after bracket (item ∷ opens) =
+    if waits item.opener then fails (fault_before place bracket item (innermost opens))
+    else if fits item.opener bracket then
+    (if is_paired item.opener && item.odd then fails (OddMap place) else completed (plain_span (kind_of item.opener) item.place after) opens)
+    else fails (WrongClose place)
+
+-- What opens.
+abbrev pub opened : ℕ → Opener → List Open → Taken
+opened place opener opens =
+    if length opens == 64 then fails (TooDeep place) else on (record { place = place; opener = opener; odd = false } ∷ opens)
+
+-- A token from a place to behind it.
+unfoldable pub taken : Token → ℕ → ℕ → List Open → Taken
+taken tokens.Gap place after opens = on opens
+taken (tokens.Leaf kind) place after opens = completed (plain_span kind place after) opens
+taken (tokens.Opens opener) place after opens = opened place opener opens
+taken (tokens.Closes bracket) place after opens = closed place after bracket opens
+taken tokens.Unfinished place after opens = fails (Truncated after)
+
+-- What the program answered is that, but for want of memory.
+abbrev pub Gives : Result (Option Span) EdnFault → List Open → Taken → Type 0
+Gives (Ok None) opens token = token ≡ on opens
+Gives (Ok (Some span)) opens token = (token ≡ ends span) × (opens ≡ [])
+Gives (Err fault) opens token = IsMemory fault ⊎ (token ≡ fails fault)
+
+-- The element at a span of the input.
+abbrev pub piece_in : List ℕ → Span → Piece
+piece_in input span = record { kind = span.kind; start = span.start; text = take (span.end - span.start) (drop span.start input); core = span.core }
+
+-- What reading the next outermost element says of the input.
+abbrev pub Reads : List ℕ → ℕ → Result (Option Span) EdnFault → List Open → Type 0
+Reads input from (Ok (Some span)) opens =
+    (opens ≡ [])
+    × (from < span.end)
+    × ((pieces : List Piece) → IsFront input pieces from
+    → (span.start ≤ span.core.start) × (span.core.start < span.end) × (span.end ≤ length input) × IsFront input (pieces ++ piece_in input span ∷ []) span.end)
+Reads input from (Ok None) opens = (opens ≡ []) × ((pieces : List Piece) → IsFront input pieces from → IsText input pieces)
+Reads input from (Err fault) opens =
+    IsMemory fault ⊎ ((pieces : List Piece) → IsFront input pieces from → FaultOf input fault × AreElementsBefore input pieces)

@@ -1,0 +1,47 @@
+//! What is left between the brackets of an element. It takes no memory.
+
+ghost use Rattle.std.specs.Prelude.{◌≡◌, ◌+◌, ◌≤◌, ◌<◌, ◌^◌, List, [], ◌∷◌, length, drop, MatchOption, IfSome, Some, None};
+
+use crate::element::{Core, Element, ElementKind};
+use crate::skip::{element_end, gap_end, kind_at, tags_end};
+
+#[derive(Clone, Copy)]
+pub struct Parts<'t> {
+    left: &'t [u8],
+    at: usize,
+    ghost fits: { at + length left.now < 2 ^ 64 },
+}
+
+impl<'t> Parts<'t> {
+    ghost use Rattle.edn_reader.specs.Grammar.{Piece, piece_of, IsElement};
+    ghost use Rattle.edn_reader.specs.declared.token.Opener.{Opener};
+    ghost use Rattle.edn_reader.specs.Pairs.{PartsLeft, NextPart, part_bytes};
+
+    pub fn new(left: &'t [u8], at: usize) -> Parts<'t>
+        requires { at + length left.now < 2 ^ 64 }
+        ensures left { result.left.now ≡ left.entry.now }
+        ensures at { result.at ≡ at }
+    {
+        Parts { left, at }
+    }
+
+    /// The next element.
+    pub fn next(&mut self) -> Option<Element<'t>>
+        ensures part { (opener : Opener) (parts : List Piece) → PartsLeft opener self.old parts → NextPart opener result self.new parts }
+        ensures whole { (opener : Opener) (parts : List Piece) → PartsLeft opener self.old parts → IfSome result (λ element. IsElement (piece_of element)) }
+        ensures shrinks { MatchOption result (self.new ≡ self.old) (λ element. part_bytes self.new < part_bytes self.old) }
+    {
+        let Parts { left, at } = *self;
+        let start = gap_end(left, 0);
+        let core = tags_end(left, start);
+        let kind = kind_at(left, start)?;
+        let core_kind = kind_at(left, core)?;
+        let end = element_end(left, core);
+        *self = Parts::new(&left[end..], at + end);
+        let core = Core {
+            kind: core_kind,
+            start: at + core,
+        };
+        Some(Element::new(&left[start..end], at + start, kind, core))
+    }
+}
