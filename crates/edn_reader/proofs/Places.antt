@@ -166,7 +166,7 @@ mutual
       let m = moved_element element g.0 (follows_before g.2 f).0 in
       let h = moved_gap before m.bytes m.begins in
       let t = moved_token token h.0 (follows_before h.2 m.begins) in
-      (t.bytes, discarded t.token h.1 m.element g.1, replaced_then t.place (replaced_then h.2 (replaced_then m.place g.2)))
+      (t.bytes, discarded {bytes = t.bytes} t.token h.1 m.element g.1, replaced_then t.place (replaced_then h.2 (replaced_then m.place g.2)))
 
   pub moved_element : {room p q : ℕ} {kind : ElementKind} {core : Core} {a b : List ℕ} → IsElementAt room kind core p a q b → (e : List ℕ)
       → (Ends is_run b → Ends is_run e) → MovedElement room kind core p a q b e

@@ -1,6 +1,7 @@
 -- One more element of an audit, and its end.
 use Rattle.std.proofs.Common.{◌≡◌, ◌↔◌, ◌⊎◌, inl, inr, ℕ, Bool, List, [], ◌∷◌, ◌++◌, length, Option, Some, Result, Ok, Err, rules, refl, sym, ap, subst, ◌∙◌}
 use Rattle.std.specs.Prelude.{IsTrue, IfOk}
+use Rattle.std.specs.List.{AllZip}
 use Rattle.edn_reader.specs.declared.fault.EdnFault.{EdnFault}
 use Rattle.edn_reader.specs.Grammar.{Piece}
 use Rattle.edn_reader.specs.Text.{IsFront}
@@ -16,21 +17,18 @@ use Rattle.intervals.specs.Terms.{Claimed}
 use Rattle.regaudit.specs.Item.{IsItem}
 use Rattle.regaudit.specs.Trace.{Paired, with_item, paired_after, paired}
 use Rattle.regaudit.specs.Session.{StandsFor}
-use Rattle.regaudit.specs.Audit.{AreItems, AreElements, IsVerdict, IsAudit}
+use Rattle.regaudit.specs.Audit.{AreElements, IsVerdict, IsAudit}
 use Rattle.regaudit.proofs.SoFar.{IsSoFar}
 
 paired_after-push : (so_far : Paired) (items : List (Result Item FormFault)) (item : Result Item FormFault) → paired_after so_far (items ++ item ∷ []) ≡ with_item (paired_after so_far items) item
 paired_after-push so_far [] item = refl
 paired_after-push so_far (first ∷ items) item = paired_after-push (with_item so_far first) items item
 
-items_push : (pieces : List Piece) (items : List (Result Item FormFault)) (piece : Piece) (item : Result Item FormFault) → AreItems pieces items → IsItem piece item → AreItems (pieces ++ piece ∷ []) (items ++ item ∷ [])
+items_push : (pieces : List Piece) (items : List (Result Item FormFault)) (piece : Piece) (item : Result Item FormFault) → AllZip IsItem pieces items → IsItem piece item → AllZip IsItem (pieces ++ piece ∷ []) (items ++ item ∷ [])
 items_push [] [] piece item h is = (is, tt)
 items_push [] (i ∷ items) piece item h is = absurd h
 items_push (p ∷ pieces) [] piece item h is = absurd h
 items_push (p ∷ pieces) (i ∷ items) piece item h is = (h.0, items_push pieces items piece item h.1 is)
-
-pub so_far_begins : (input : List ℕ) (session : Session) → IsFront input [] 0 → StandsFor session (paired []) → IsSoFar input 0 session
-so_far_begins input session front stands = record { pieces = []; front = front; items = []; read = tt; stands = stands }
 
 pub so_far_on : (input : List ℕ) (at to : ℕ) (old new : Session) (piece : Piece) (item : Result Item FormFault) → IsSoFar input at old → ((pieces : List Piece) → IsFront input pieces at → IsFront input (pieces ++ piece ∷ []) to) → IsItem piece item → ((trace : Paired) → StandsFor old trace → StandsFor new (with_item trace item)) → IsSoFar input to new
 so_far_on input at to old new piece item so_far goes is taken = record {

@@ -1,6 +1,8 @@
 pub mod Refusals
 pub mod Sessions
 pub mod Fields
+pub mod Worths
+pub mod Items
 pub mod SoFar
 pub mod Audits
 pub mod Endings

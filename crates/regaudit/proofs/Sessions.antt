@@ -13,7 +13,7 @@ use Rattle.regaudit.specs.declared.pairing.Pairing.{Pairing}
 use Rattle.regaudit.specs.declared.session.Session.{Session}
 use Rattle.intervals.specs.Terms.{Claimed}
 use Rattle.regaudit.specs.Pairing.{Accepted, later_or, last_of, left_open, opening_of, open_of, step_of, StandsAfter}
-use Rattle.regaudit.specs.Trace.{Paired, feeder, with_fault, with_step, any_refused, safe_register, standing_of}
+use Rattle.regaudit.specs.Trace.{Paired, feeder, with_step, any_refused, safe_register, standing_of}
 use Rattle.regaudit.specs.Session.{StandsFor}
 
 -- the last event of a process, behind one more event
@@ -66,34 +66,6 @@ any_refused-push claim ops (first ∷ edits) edit =
 -- the step that the pairing found is the trace's
 pub same_step : (session : Session) (trace : Paired) (event : Event) → StandsFor session trace → step_of session.pairing.feeder (get int_cmp session.pairing.open event.process) session.place event ≡ step_of feeder (open_of trace.accepted event.process) trace.count event
 same_step session trace event h = rw (h.feeder_is, h.pairing event.process, h.place) refl
-
-pub stands_skipped : (session : Session) (trace : Paired) → StandsFor session trace → StandsFor (record session { place = session.place + 1 }) (record trace { count = trace.count + 1 })
-stands_skipped session trace h = record {
-  place = ap (λ n. n + 1) h.place;
-  feeder_is = h.feeder_is;
-  pairing = h.pairing;
-  register = h.register;
-  refused = h.refused;
-}
-
-pub stands_refused : (session : Session) (trace : Paired) → StandsFor session trace → StandsFor (record session { place = session.place + 1; refused = true }) (with_fault trace)
-stands_refused session trace h = record {
-  place = ap (λ n. n + 1) h.place;
-  feeder_is = h.feeder_is;
-  pairing = h.pairing;
-  register = h.register;
-  refused = refl;
-}
-
--- behind an event that the pairing refused
-pub stands_unpaired : (session : Session) (trace : Paired) (pairing : Pairing) → StandsFor session trace → pairing.feeder ≡ session.pairing.feeder → ((process : ℤ) → get int_cmp pairing.open process ≡ get int_cmp session.pairing.open process) → StandsFor (record session { pairing = pairing }) trace
-stands_unpaired session trace pairing h f is = record {
-  place = h.place;
-  feeder_is = f ∙ h.feeder_is;
-  pairing = pairing_same session.pairing pairing trace.accepted h.pairing is;
-  register = h.register;
-  refused = h.refused;
-}
 
 paired_place : (session : Session) (trace : Paired) (pairing : Pairing) (event : Event) → StandsFor session trace → ((process : ℤ) → get int_cmp pairing.open process ≡ (if int_eq process event.process then opening_of session.place event else get int_cmp session.pairing.open process)) → StandsAfter pairing (trace.accepted ++ record { place = trace.count; event = event } ∷ [])
 paired_place session trace pairing event h is = pairing_on session.pairing pairing trace.accepted trace.count event h.pairing (λ process. is process ∙ ap (λ (n : ℕ). if int_eq process event.process then opening_of n event else get int_cmp session.pairing.open process) h.place)

@@ -1,5 +1,6 @@
 -- What an audit of a trace of the safe register says.
 use Rattle.std.specs.Prelude.{◌≡◌, ◌↔◌, ℕ, Bool, List, [], ◌∷◌, ◌++◌, length, Option, Some, None, Result, IsTrue, codes, if◌then◌else◌}
+use Rattle.std.specs.List.{AllZip}
 use Rattle.std.specs.Fmt.{decimal}
 use Rattle.std.specs.Io.KnownBytes.{Appends}
 use Rattle.edn_reader.specs.declared.fault.EdnFault.{EdnFault}
@@ -13,24 +14,17 @@ use Rattle.regaudit.specs.declared.audit.Audit.{Audit}
 use Rattle.regaudit.specs.Item.{IsItem}
 use Rattle.regaudit.specs.Trace.{Paired, paired, safe_register, standing_of, is_refused}
 
--- an item for each element, in order
-abbrev pub AreItems : List Piece → List (Result Item FormFault) → Type 0
-AreItems [] [] = Unit {0}
-AreItems [] (item ∷ items) = ⊥
-AreItems (piece ∷ pieces) [] = ⊥
-AreItems (piece ∷ pieces) (item ∷ items) = IsItem piece item × AreItems pieces items
-
 -- the elements of an input: those of a text, or those before its first fault
 abbrev pub AreElements : List ℕ → Option EdnFault → List Piece → Type 0
 AreElements input None pieces = IsText input pieces
 AreElements input (Some fault) pieces = FaultOf input fault × AreElementsBefore input pieces
 
--- the trace that these elements make
+-- the trace that these elements make, with an item for each of them in order
 pub record IsTrace (input : List ℕ) (fault : Option EdnFault) (trace : Paired) : Type 0 where
   pub pieces : List Piece
   pub elements : AreElements input fault pieces
   pub items : List (Result Item FormFault)
-  pub read : AreItems pieces items
+  pub read : AllZip IsItem pieces items
   pub is : trace ≡ paired items
 
 -- the verdict on what stands after the trace, how much stands, and whether an element was refused

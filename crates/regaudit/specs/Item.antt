@@ -8,7 +8,7 @@ use Rattle.intervals.specs.declared.operation.Value.TheVariants.{Nil, Int}
 use Rattle.edn_reader.specs.declared.field.Field.{Field}
 use Rattle.edn_reader.specs.declared.field.Field.TheVariants.{Absent, Once, Twice}
 use Rattle.edn_reader.specs.Grammar.{Piece, piece_of, untagged}
-use Rattle.edn_reader.specs.Pairs.{is_atom, is_word, values_of, HasPairs}
+use Rattle.edn_reader.specs.Pairs.{is_atom, is_word, values_of, HasMembers, HasPairs}
 use Rattle.edn_reader.specs.Integer.{integer_of}
 use Rattle.regaudit.specs.declared.event.Action.{Action}
 use Rattle.regaudit.specs.declared.event.Action.TheVariants.{Read, Write}
@@ -19,7 +19,7 @@ use Rattle.regaudit.specs.declared.event.Item.TheVariants as items
 use Rattle.regaudit.specs.declared.event.FormField.{FormField}
 use Rattle.regaudit.specs.declared.event.FormField.TheVariants as fields
 use Rattle.regaudit.specs.declared.event.FormFault.{FormFault}
-use Rattle.regaudit.specs.declared.event.FormFault.TheVariants.{NotAMap, MissingField, DuplicateField, BadType, UnsupportedF, BadValue, BadMoment}
+use Rattle.regaudit.specs.declared.event.FormFault.TheVariants.{NotAMap, MissingField, DuplicateField, BadType, UnsupportedF, BadValue, BadMoment, NoRegister}
 use Rattle.regaudit.specs.declared.form.Progress.{Progress}
 use Rattle.regaudit.specs.declared.form.Progress.TheVariants as progress
 
@@ -47,17 +47,30 @@ is_there Missing = false
 is_there (One value) = true
 is_there Many = true
 
--- the fields of a map that are read
+-- what stands under :value: nothing, one element of the only register, a register's name with a value, or more
+pub data Worth : Type 0 where
+  Silent : Worth
+  Plain : (value : Piece) → Worth
+  Named : (name value : Piece) → Worth
+  Repeated : Worth
+
+-- a vector of exactly two elements, behind tags or not, is a name and a value; any other element is of the only register
+pub data IsWorth : Given → Worth → Type 0 where
+  silent : IsWorth Missing Silent
+  plain : {piece : Piece} → ((name value : Piece) → HasMembers piece (name ∷ value ∷ []) → ⊥) → IsWorth (One piece) (Plain piece)
+  named : {piece : Piece} (name value : Piece) → HasMembers piece (name ∷ value ∷ []) → IsWorth (One piece) (Named name value)
+  repeated : IsWorth Many Repeated
+
+-- the fields of a map that are read, but for its value
 pub record Fields : Type 0 where
   pub edit : Given
   pub ask : Given
   pub process : Given
   pub stage : Given
   pub action : Given
-  pub value : Given
   pub moment : Given
 
--- the fields of a map of these pairs, by their keywords
+-- the fields of a map of these pairs, by their keywords, but for its value
 abbrev pub fields_of : List (Piece × Piece) → Fields
 fields_of pairs = record {
   edit = given (values_of (codes ":edit") pairs);
@@ -65,7 +78,6 @@ fields_of pairs = record {
   process = given (values_of (codes ":process") pairs);
   stage = given (values_of (codes ":type") pairs);
   action = given (values_of (codes ":f") pairs);
-  value = given (values_of (codes ":value") pairs);
   moment = given (values_of (codes ":index") pairs);
 }
 
@@ -135,22 +147,28 @@ progress_of piece =
     else if is_word (codes ":info") piece then Ok progress.Crashed
     else Err BadType
 
--- the value of an answer or of a write; a missing one is nil
-abbrev pub value_given : Given → Result Value FormFault
-value_given Missing = Ok Nil
-value_given (One piece) = value_of piece
-value_given Many = Err (DuplicateField fields.Value)
+-- the name of the only register, r, behind tags or not
+abbrev pub is_name : Piece → Bool
+is_name piece = bytes_eq (untagged piece).text (codes "r")
 
--- an invoked read has no value yet, whatever stands there once
-abbrev pub value_ignored : Given → Result Value FormFault
-value_ignored Missing = Ok Nil
-value_ignored (One piece) = Ok Nil
-value_ignored Many = Err (DuplicateField fields.Value)
+-- the value of an answer or of a write; a missing one is nil
+abbrev pub value_given : Worth → Result Value FormFault
+value_given Silent = Ok Nil
+value_given (Plain value) = value_of value
+value_given (Named name value) = if is_name name then value_of value else Err NoRegister
+value_given Repeated = Err (DuplicateField fields.Value)
+
+-- an invoked read has no value yet, whatever stands there once; a name must be the register's
+abbrev pub value_ignored : Worth → Result Value FormFault
+value_ignored Silent = Ok Nil
+value_ignored (Plain value) = Ok Nil
+value_ignored (Named name value) = if is_name name then Ok Nil else Err NoRegister
+value_ignored Repeated = Err (DuplicateField fields.Value)
 
 -- the value of an invocation
-abbrev pub invoked_value : Action → Given → Result Value FormFault
-invoked_value Read given = value_ignored given
-invoked_value Write given = value_given given
+abbrev pub invoked_value : Action → Worth → Result Value FormFault
+invoked_value Read worth = value_ignored worth
+invoked_value Write worth = value_given worth
 
 -- the moment that must be there
 abbrev pub moment_given : Given → Result Moment FormFault
@@ -161,33 +179,40 @@ abbrev pub timed : (Value → Moment → Stage) → Result Value FormFault → G
 timed stage value moment = value >>= (λ v. moment_given moment >>= (λ m. Ok (stage v m)))
 
 -- the stage: its value and moment where it is an invocation or an answer
-abbrev pub stage_of : Progress → Action → Fields → Result Stage FormFault
-stage_of progress.Invoked action given = timed stages.Invoke (invoked_value action given.value) given.moment
-stage_of progress.Answered action given = timed stages.Ok (value_given given.value) given.moment
-stage_of progress.Failed action given = Ok stages.Fail
-stage_of progress.Crashed action given = Ok stages.Info
+abbrev pub stage_of : Progress → Action → Fields → Worth → Result Stage FormFault
+stage_of progress.Invoked action given worth = timed stages.Invoke (invoked_value action worth) given.moment
+stage_of progress.Answered action given worth = timed stages.Ok (value_given worth) given.moment
+stage_of progress.Failed action given worth = Ok stages.Fail
+stage_of progress.Crashed action given worth = Ok stages.Info
 
 -- the event of a process: its type, what it does, and then its value and moment
-abbrev pub event_of : Fields → Bor (List ℕ) → ℤ → Result Item FormFault
-event_of given text process =
+abbrev pub event_of : Fields → Worth → Bor (List ℕ) → ℤ → Result Item FormFault
+event_of given worth text process =
     (needed fields.Stage given.stage >>= progress_of) >>= (λ reached.
     (needed fields.Action given.action >>= action_of) >>= (λ action.
-    stage_of reached action given >>= (λ stage.
+    stage_of reached action given worth >>= (λ stage.
     Ok (items.Event (record { process = process; action = action; stage = stage; text = text })))))
 
 -- where the process is no integer the event is skipped
-abbrev pub by_process : Fields → Bor (List ℕ) → Option ℤ → Result Item FormFault
-by_process given text None = Ok items.Skipped
-by_process given text (Some process) = event_of given text process
+abbrev pub by_process : Fields → Worth → Bor (List ℕ) → Option ℤ → Result Item FormFault
+by_process given worth text None = Ok items.Skipped
+by_process given worth text (Some process) = event_of given worth text process
 
 -- edits and questions are not read yet
-abbrev pub item_of : Fields → Bor (List ℕ) → Result Item FormFault
-item_of given text =
+abbrev pub item_of : Fields → Worth → Bor (List ℕ) → Result Item FormFault
+item_of given worth text =
     if is_there given.edit || is_there given.ask then Err BadType
-    else needed fields.Process given.process >>= (λ piece. by_process given text (int_of piece))
+    else needed fields.Process given.process >>= (λ piece. by_process given worth text (int_of piece))
 
 -- the item of an element: none of an element that is no map, else that of its pairs
 pub data IsItem : Piece → Result Item FormFault → Type 0 where
   no_map : {piece : Piece} → ((pairs : List (Piece × Piece)) → HasPairs piece pairs → ⊥) → IsItem piece (Err NotAMap)
-  of_map : {piece : Piece} (pairs : List (Piece × Piece)) (text : Bor (List ℕ)) → HasPairs piece pairs → text.now ≡ piece.text
-      → IsItem piece (item_of (fields_of pairs) text)
+  of_map : {piece : Piece} (pairs : List (Piece × Piece)) (worth : Worth) (text : Bor (List ℕ)) → HasPairs piece pairs
+      → IsWorth (given (values_of (codes ":value") pairs)) worth → text.now ≡ piece.text
+      → IsItem piece (item_of (fields_of pairs) worth text)
+
+-- an item whose text lies at this place in memory
+abbrev pub lying_at : ℕ × ℕ → Result Item FormFault → Result Item FormFault
+lying_at place (Err fault) = Err fault
+lying_at place (Ok items.Skipped) = Ok items.Skipped
+lying_at place (Ok (items.Event event)) = Ok (items.Event (record event { text = record { ref_ptr = place; now = event.text.now } }))

@@ -63,4 +63,6 @@ pub enum FormFault {
     BadValue,
     #[error("F7 BadMoment")]
     BadMoment,
+    #[error("F8 NoRegister")]
+    NoRegister,
 }

@@ -1,14 +1,14 @@
 //! From an element to an item.
 
-ghost use Rattle.std.specs.Prelude.{◌≡◌, List};
+ghost use Rattle.std.specs.Prelude.{◌≡◌, List, codes};
 ghost use Rattle.edn_reader.specs.Grammar.{Piece, piece_of, IsElement};
-ghost use Rattle.edn_reader.specs.Pairs.{PairsLeft, is_word as is_that_word};
-ghost use Rattle.regaudit.specs.Item.{IsItem, Gives, seen, is_there as is_some_given, fields_of, needed as needed_of, int_of as integer_in, value_of as value_in, moment_of as moment_in, action_of as action_in, progress_of as progress_in, value_given, value_ignored, invoked_value as value_invoked, moment_given, stage_of as stage_in, event_of as event_in, item_of as item_in};
-ghost use Rattle.regaudit.specs.Form.{seen_all};
+ghost use Rattle.edn_reader.specs.Pairs.{PairsLeft, MembersLeft, IsWholeField, values_of, is_word as is_that_word};
+ghost use Rattle.regaudit.specs.Item.{IsItem, IsWorth, One, Gives, given, seen, is_there as is_some_given, fields_of, needed as needed_of, int_of as integer_in, value_of as value_in, moment_of as moment_in, action_of as action_in, progress_of as progress_in, is_name as is_that_name, value_given, value_ignored, invoked_value as value_invoked, moment_given, stage_of as stage_in, event_of as event_in, item_of as item_in};
+ghost use Rattle.regaudit.specs.Form.{seen_all, worth_of, AreTheTwo};
 
 use crate::event::{Action, Event, FormFault, FormField, Item, Stage};
 use edn_reader::laws::pairs_of_map;
-use edn_reader::{Element, Field, MapView};
+use edn_reader::{Element, Field, MapView, VectorView};
 use intervals::{Moment, Value};
 
 /// How far an operation has come, as its type says.
@@ -20,6 +20,16 @@ pub enum Progress {
     Crashed,
 }
 
+/// What stands under `:value`: nothing, one element of the only register, a register's name with a
+/// value, or more.
+#[derive(Clone, Copy)]
+pub enum Said<'t> {
+    Nothing,
+    Plain(Element<'t>),
+    Named(Element<'t>, Element<'t>),
+    Repeated,
+}
+
 /// What a map has under the keys that are read.
 #[derive(Clone, Copy)]
 pub struct Form<'t> {
@@ -28,7 +38,7 @@ pub struct Form<'t> {
     process: Field<'t>,
     stage: Field<'t>,
     action: Field<'t>,
-    value: Field<'t>,
+    value: Said<'t>,
     moment: Field<'t>,
 }
 
@@ -44,7 +54,8 @@ pub fn read_item<'t>(element: &Element<'t>) -> Result<Item<'t>, FormFault>
 }
 
 fn form_of<'t>(map: &MapView<'t>) -> Form<'t>
-    ensures { (pairs : List (Piece × Piece)) → PairsLeft map.now pairs → seen_all result ≡ fields_of pairs }
+    ensures fields { (pairs : List (Piece × Piece)) → PairsLeft map.now pairs → seen_all result ≡ fields_of pairs }
+    ensures value { (pairs : List (Piece × Piece)) → PairsLeft map.now pairs → IsWorth (given (values_of (codes ":value") pairs)) (worth_of result.value) }
 {
     Form {
         edit: map.field(b":edit"),
@@ -52,13 +63,52 @@ fn form_of<'t>(map: &MapView<'t>) -> Form<'t>
         process: map.field(b":process"),
         stage: map.field(b":type"),
         action: map.field(b":f"),
-        value: map.field(b":value"),
+        value: said_by(&map.field(b":value")),
         moment: map.field(b":index"),
     }
 }
 
+fn said_by<'t>(field: &Field<'t>) -> Said<'t>
+    ensures { IsWholeField field.now → IsWorth (seen field.now) (worth_of result) }
+{
+    match field {
+        Field::Absent => Said::Nothing,
+        Field::Once(element) => said_in(element),
+        Field::Twice => Said::Repeated,
+    }
+}
+
+fn said_in<'t>(element: &Element<'t>) -> Said<'t>
+    ensures { IsElement (piece_of element.now) → IsWorth (One (piece_of element.now)) (worth_of result) }
+{
+    let Some(vector) = element.as_vector() else {
+        return Said::Plain(*element);
+    };
+    match the_two(&vector) {
+        Some((name, value)) => Said::Named(name, value),
+        None => Said::Plain(*element),
+    }
+}
+
+/// The elements of a vector of exactly two.
+fn the_two<'t>(vector: &VectorView<'t>) -> Option<(Element<'t>, Element<'t>)>
+    ensures { (members : List Piece) → MembersLeft vector.now members → AreTheTwo result members }
+{
+    let mut ahead = *vector;
+    let Some(first) = ahead.next() else {
+        return None;
+    };
+    let Some(second) = ahead.next() else {
+        return None;
+    };
+    match ahead.next() {
+        Some(_) => None,
+        None => Some((first, second)),
+    }
+}
+
 fn item_of<'t>(form: &Form<'t>, text: &'t [u8]) -> Result<Item<'t>, FormFault>
-    ensures { result ≡ item_in (seen_all form.now) text.entry }
+    ensures { result ≡ item_in (seen_all form.now) (worth_of form.now.value) text.entry }
 {
     if is_given(&form.edit) || is_given(&form.ask) {
         return Err(FormFault::BadType);
@@ -71,7 +121,7 @@ fn item_of<'t>(form: &Form<'t>, text: &'t [u8]) -> Result<Item<'t>, FormFault>
 }
 
 fn event_of<'t>(form: &Form<'t>, text: &'t [u8], process: i64) -> Result<Item<'t>, FormFault>
-    ensures { result ≡ event_in (seen_all form.now) text.entry process }
+    ensures { result ≡ event_in (seen_all form.now) (worth_of form.now.value) text.entry process }
 {
     let progress = progress_of(&needed(&form.stage, FormField::Stage)?)?;
     let action = action_of(&needed(&form.action, FormField::Action)?)?;
@@ -85,7 +135,7 @@ fn event_of<'t>(form: &Form<'t>, text: &'t [u8], process: i64) -> Result<Item<'t
 }
 
 fn stage_of(form: &Form, progress: Progress, action: Action) -> Result<Stage, FormFault>
-    ensures { result ≡ stage_in progress action (seen_all form.now) }
+    ensures { result ≡ stage_in progress action (seen_all form.now) (worth_of form.now.value) }
 {
     match progress {
         Progress::Invoked => {
@@ -157,33 +207,44 @@ fn is_word(element: &Element, word: &[u8]) -> bool
     }
 }
 
-fn invoked_value(action: Action, field: &Field) -> Result<Value, FormFault>
-    ensures { result ≡ value_invoked action (seen field.now) }
+fn invoked_value(action: Action, said: &Said) -> Result<Value, FormFault>
+    ensures { result ≡ value_invoked action (worth_of said.now) }
 {
     match action {
-        Action::Read => ignored_value(field),
-        Action::Write => value_of(field),
+        Action::Read => ignored_value(said),
+        Action::Write => value_of(said),
     }
 }
 
 /// The value of an invoked read: none yet.
-fn ignored_value(field: &Field) -> Result<Value, FormFault>
-    ensures { result ≡ value_ignored (seen field.now) }
+fn ignored_value(said: &Said) -> Result<Value, FormFault>
+    ensures { result ≡ value_ignored (worth_of said.now) }
 {
-    match field {
-        Field::Absent | Field::Once(_) => Ok(Value::Nil),
-        Field::Twice => Err(FormFault::DuplicateField(FormField::Value)),
+    match said {
+        Said::Nothing | Said::Plain(_) => Ok(Value::Nil),
+        Said::Named(name, _) if is_name(name) => Ok(Value::Nil),
+        Said::Named(_, _) => Err(FormFault::NoRegister),
+        Said::Repeated => Err(FormFault::DuplicateField(FormField::Value)),
     }
 }
 
-fn value_of(field: &Field) -> Result<Value, FormFault>
-    ensures { result ≡ value_given (seen field.now) }
+fn value_of(said: &Said) -> Result<Value, FormFault>
+    ensures { result ≡ value_given (worth_of said.now) }
 {
-    match field {
-        Field::Absent => Ok(Value::Nil),
-        Field::Once(element) => read_value(element),
-        Field::Twice => Err(FormFault::DuplicateField(FormField::Value)),
+    match said {
+        Said::Nothing => Ok(Value::Nil),
+        Said::Plain(value) => read_value(value),
+        Said::Named(name, value) if is_name(name) => read_value(value),
+        Said::Named(_, _) => Err(FormFault::NoRegister),
+        Said::Repeated => Err(FormFault::DuplicateField(FormField::Value)),
     }
+}
+
+/// Whether it is the name of the only register, behind tags or not.
+fn is_name(element: &Element) -> bool
+    ensures { result ≡ is_that_name (piece_of element.now) }
+{
+    element.untagged().text() == b"r".as_slice()
 }
 
 fn read_value(element: &Element) -> Result<Value, FormFault>

@@ -5,6 +5,7 @@ mod audit;
 mod event;
 mod form;
 mod input;
+pub mod laws;
 mod pairing;
 mod register;
 mod run;
