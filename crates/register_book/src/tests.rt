@@ -1,0 +1,510 @@
+//! Worked histories as calls of a book, and what no clause says.
+
+use super::*;
+use intervals::{
+    Act, Change, Claim, Edit, Kind, Lent, Memory, Moment, Op, OpId, Parts, Refusal, Value, Writers,
+};
+use std::process::Abort;
+use std::test::Fail;
+
+const PAST: u64 = 4611686018427387904;
+
+const HOLDS: Reply = Reply::Accepted { holds: true };
+
+const FAILS: Reply = Reply::Accepted { holds: false };
+
+fn id(event: u64) -> OpId {
+    OpId { feeder: 0, event }
+}
+
+fn read() -> Act {
+    Act::Read(Value::Nil)
+}
+
+fn write(value: i64) -> Act {
+    Act::Write(Value::Int(value))
+}
+
+fn operation(id: OpId, process: i64, act: Act, begin: u64, end: Option<Moment>) -> Edit<'static> {
+    Edit::Append(Op {
+        id,
+        process,
+        act,
+        begin: Moment(begin),
+        end,
+        parts: Parts {
+            invocation: b"invoked",
+            answer: None,
+            amendment: None,
+        },
+    })
+}
+
+/// An invocation: an operation that has no end yet.
+fn invoke(event: u64, process: i64, act: Act, begin: u64) -> Edit<'static> {
+    operation(id(event), process, act, begin, None)
+}
+
+fn whole(event: u64, process: i64, act: Act, begin: u64, end: u64) -> Edit<'static> {
+    operation(id(event), process, act, begin, Some(Moment(end)))
+}
+
+/// The answer of a write.
+fn written(event: u64, end: u64) -> Edit<'static> {
+    Edit::Amend(
+        id(event),
+        Change {
+            value: None,
+            begin: None,
+            end: Some(Some(Moment(end))),
+            lent: Lent::Answer(b"answered"),
+        },
+    )
+}
+
+/// The answer of a read.
+fn returned(event: u64, value: i64, end: u64) -> Edit<'static> {
+    Edit::Amend(
+        id(event),
+        Change {
+            value: Some(Value::Int(value)),
+            begin: None,
+            end: Some(Some(Moment(end))),
+            lent: Lent::Answer(b"answered"),
+        },
+    )
+}
+
+fn begins(event: u64, begin: u64) -> Edit<'static> {
+    Edit::Amend(
+        id(event),
+        Change {
+            value: None,
+            begin: Some(Moment(begin)),
+            end: None,
+            lent: Lent::Amendment(b"amended"),
+        },
+    )
+}
+
+fn reopens(event: u64) -> Edit<'static> {
+    Edit::Amend(
+        id(event),
+        Change {
+            value: None,
+            begin: None,
+            end: Some(None),
+            lent: Lent::Amendment(b"amended"),
+        },
+    )
+}
+
+fn withdraw(event: u64) -> Edit<'static> {
+    Edit::Withdraw(id(event))
+}
+
+/// A book of a register that process 0 alone may write.
+fn book<R: AllocGlobal + Abort>(
+    rt: &R,
+    kind: Kind,
+    initial: Value,
+    domain: &[i64],
+) -> Result<RegisterBook<'static>, Memory> {
+    assert!(rt; kind != Kind::Atomic);
+    let claim = claim(rt, kind, initial, domain)?;
+    assert!(rt; claim.kind != Kind::Atomic);
+    RegisterBook::new(rt.alloc(), &claim)
+}
+
+fn claim<R: AllocGlobal>(
+    rt: &R,
+    kind: Kind,
+    initial: Value,
+    domain: &[i64],
+) -> Result<Claim, Memory> {
+    let mut values = Vec::new(rt.alloc());
+    for value in domain {
+        values.push(Value::Int(*value))?;
+    }
+    Ok(Claim {
+        kind,
+        writers: Writers::Listed(vec![in rt.alloc(); 0]?),
+        initial,
+        domain: if domain.is_empty() {
+            None
+        } else {
+            Some(values)
+        },
+    })
+}
+
+/// Each edit in turn has that reply.
+fn replies(
+    rt: &impl Abort,
+    register: &mut RegisterBook<'static>,
+    cases: &[(Edit<'static>, Reply)],
+) -> Result<(), Memory> {
+    for (edit, reply) in cases {
+        assert_eq!(rt; register.apply(*edit)?, *reply);
+    }
+    Ok(())
+}
+
+/// The register ends with that many operations, and that fault.
+fn ends(rt: &impl Abort, register: &RegisterBook<'static>, len: usize, fault: Option<Fault>) {
+    assert_eq!(rt; register.len(), len);
+    assert_eq!(rt; register.fault(), fault);
+    assert_eq!(rt; register.holds(), fault.is_none());
+    assert_eq!(rt; register.witness().is_some(), fault.is_some());
+}
+
+const DIGITS: &[i64] = &[0, 1, 2, 3, 4, 5, 6, 7, 8, 9];
+
+#[test]
+fn a_safe_read_within_a_write_returns_anything_of_the_domain(rt: HostRuntime) -> Result<(), Fail> {
+    let mut register = book(&rt, Kind::Safe, Value::Int(0), DIGITS)?;
+    let cases = [
+        (invoke(0, 0, write(1), 0), HOLDS),
+        (invoke(1, 1, read(), 1), HOLDS),
+        (returned(1, 7, 2), HOLDS),
+        (written(0, 3), HOLDS),
+    ];
+    replies(&rt, &mut register, &cases)?;
+    ends(&rt, &register, 2, None);
+    Ok(())
+}
+
+#[test]
+fn a_safe_read_within_a_write_returns_nothing_else(rt: HostRuntime) -> Result<(), Fail> {
+    let mut register = book(&rt, Kind::Safe, Value::Int(0), DIGITS)?;
+    let cases = [
+        (invoke(0, 0, write(1), 0), HOLDS),
+        (invoke(1, 1, read(), 1), HOLDS),
+        (returned(1, 12, 2), FAILS),
+        (written(0, 3), FAILS),
+    ];
+    replies(&rt, &mut register, &cases)?;
+    ends(&rt, &register, 2, Some(Fault::Wrong(id(1))));
+    Ok(())
+}
+
+#[test]
+fn a_write_out_of_the_domain_is_refused_and_so_is_its_end(rt: HostRuntime) -> Result<(), Fail> {
+    let mut register = book(&rt, Kind::Safe, Value::Int(0), DIGITS)?;
+    let cases = [
+        (
+            invoke(0, 0, write(12), 0),
+            Reply::Refused(Refusal::OutOfDomain),
+        ),
+        (written(0, 1), Reply::Refused(Refusal::UnknownOp)),
+    ];
+    replies(&rt, &mut register, &cases)?;
+    ends(&rt, &register, 0, None);
+    Ok(())
+}
+
+#[test]
+fn regular_reads_within_a_write_return_either_value_in_any_order(
+    rt: HostRuntime,
+) -> Result<(), Fail> {
+    let mut register = book(&rt, Kind::Regular, Value::Nil, &[])?;
+    let cases = [
+        (invoke(0, 0, write(1), 0), HOLDS),
+        (written(0, 1), HOLDS),
+        (invoke(2, 0, write(2), 2), HOLDS),
+        (invoke(3, 1, read(), 4), HOLDS),
+        (returned(3, 2, 5), HOLDS),
+        (invoke(5, 1, read(), 6), HOLDS),
+        (returned(5, 1, 7), HOLDS),
+        (written(2, 9), HOLDS),
+    ];
+    replies(&rt, &mut register, &cases)?;
+    ends(&rt, &register, 4, None);
+    Ok(())
+}
+
+#[test]
+fn a_regular_read_over_two_writes_returns_the_older_one(rt: HostRuntime) -> Result<(), Fail> {
+    let mut register = book(&rt, Kind::Regular, Value::Int(0), &[0, 1])?;
+    let cases = [
+        (invoke(0, 0, write(1), 0), HOLDS),
+        (written(0, 1), HOLDS),
+        (invoke(2, 0, write(0), 2), HOLDS),
+        (invoke(3, 1, read(), 3), HOLDS),
+        (returned(3, 1, 4), HOLDS),
+        (invoke(5, 2, read(), 6), HOLDS),
+        (written(2, 7), HOLDS),
+        (invoke(7, 0, write(1), 8), HOLDS),
+        (returned(5, 0, 10), HOLDS),
+        (written(7, 11), HOLDS),
+    ];
+    replies(&rt, &mut register, &cases)?;
+    ends(&rt, &register, 5, None);
+    Ok(())
+}
+
+/// A book in which the write of 2 stands before the earlier write of 1, and then an open read.
+fn two_writes<R: AllocGlobal + Abort>(rt: &R) -> Result<RegisterBook<'static>, Memory> {
+    let mut register = book(rt, Kind::Regular, Value::Int(0), &[0, 1, 2])?;
+    let cases = [
+        (whole(2, 0, write(2), 30, 39), HOLDS),
+        (whole(0, 0, write(1), 10, 19), HOLDS),
+        (invoke(4, 1, read(), 50), HOLDS),
+    ];
+    replies(rt, &mut register, &cases)?;
+    Ok(register)
+}
+
+/// Each edit is refused by two writes and an open read, which then stand as before.
+fn refused<R: AllocGlobal + Abort>(
+    rt: &R,
+    cases: &[(Edit<'static>, Refusal)],
+) -> Result<(), Memory> {
+    let mut register = two_writes(rt)?;
+    for (edit, refusal) in cases {
+        assert_eq!(rt;
+            register.apply(*edit)?,
+            Reply::Refused(*refusal),
+            "{refusal}"
+        );
+        ends(rt, &register, 3, None);
+    }
+    Ok(())
+}
+
+/// Each edit of two writes and an open read has that reply and leaves so many operations.
+fn accepted<R: AllocGlobal + Abort>(
+    rt: &R,
+    cases: &[(Edit<'static>, Reply, usize)],
+) -> Result<(), Memory> {
+    for (edit, reply, len) in cases {
+        let mut register = two_writes(rt)?;
+        assert_eq!(rt; register.apply(*edit)?, *reply);
+        assert_eq!(rt; register.len(), *len);
+        assert_eq!(rt; register.holds(), *reply == HOLDS);
+    }
+    Ok(())
+}
+
+const STRANGER: OpId = OpId {
+    feeder: 1,
+    event: 0,
+};
+
+#[test]
+fn refused_by_the_ids_that_stand(rt: HostRuntime) -> Result<(), Fail> {
+    // Of each code one alone and one with a later condition.
+    let cases = [
+        (withdraw(9), Refusal::UnknownOp),
+        (Edit::Withdraw(STRANGER), Refusal::UnknownOp),
+        (written(9, PAST), Refusal::UnknownOp),
+        (whole(0, 1, read(), 60, 61), Refusal::OpTaken),
+        (whole(0, 1, read(), 60, 59), Refusal::OpTaken),
+    ];
+    refused(&rt, &cases)?;
+    let cases = [
+        (withdraw(4), HOLDS, 2),
+        (operation(STRANGER, 1, read(), 60, None), HOLDS, 4),
+    ];
+    accepted(&rt, &cases)?;
+    Ok(())
+}
+
+#[test]
+fn refused_by_the_moments_of_an_operation(rt: HostRuntime) -> Result<(), Fail> {
+    let cases = [
+        (whole(7, 1, read(), 60, 60), Refusal::EndNotAfterBegin),
+        (whole(7, 1, read(), 19, 18), Refusal::EndNotAfterBegin),
+        (written(4, 50), Refusal::EndNotAfterBegin),
+        (invoke(7, 1, read(), PAST), Refusal::MomentTooLarge),
+        (whole(7, 1, read(), 60, PAST), Refusal::MomentTooLarge),
+        (whole(7, 5, write(1), 60, PAST), Refusal::MomentTooLarge),
+    ];
+    refused(&rt, &cases)?;
+    let cases = [
+        (returned(4, 2, 51), HOLDS, 3),
+        (returned(4, 1, 51), FAILS, 3),
+        (invoke(7, 1, read(), PAST - 1), HOLDS, 4),
+    ];
+    accepted(&rt, &cases)?;
+    Ok(())
+}
+
+#[test]
+fn refused_by_the_moments_of_another(rt: HostRuntime) -> Result<(), Fail> {
+    let cases = [
+        (
+            whole(7, 1, read(), 19, 30),
+            Refusal::MomentTaken(Moment(19), id(0)),
+        ),
+        (
+            whole(7, 1, read(), 40, 50),
+            Refusal::MomentTaken(Moment(50), id(4)),
+        ),
+        (
+            whole(7, 1, read(), 10, PAST),
+            Refusal::MomentTaken(Moment(10), id(0)),
+        ),
+        (
+            whole(7, 5, write(1), 39, 41),
+            Refusal::MomentTaken(Moment(39), id(2)),
+        ),
+    ];
+    refused(&rt, &cases)?;
+    let cases = [
+        (whole(7, 1, Act::Read(Value::Int(1)), 20, 29), HOLDS, 4),
+        (begins(2, 30), HOLDS, 3),
+    ];
+    accepted(&rt, &cases)?;
+    Ok(())
+}
+
+#[test]
+fn refused_by_the_claim(rt: HostRuntime) -> Result<(), Fail> {
+    let cases = [
+        (whole(7, 5, write(1), 60, 61), Refusal::NotAWriter),
+        (whole(7, 5, write(3), 12, 61), Refusal::NotAWriter),
+        (whole(7, 0, write(3), 60, 61), Refusal::OutOfDomain),
+    ];
+    refused(&rt, &cases)?;
+    let cases = [
+        (invoke(7, 5, read(), 60), HOLDS, 4),
+        (invoke(7, 0, write(1), 60), HOLDS, 4),
+    ];
+    accepted(&rt, &cases)?;
+    Ok(())
+}
+
+#[test]
+fn refused_by_the_writes_that_stand(rt: HostRuntime) -> Result<(), Fail> {
+    // Of two overlapped writes the one that began first is named, though it was appended last.
+    let cases = [
+        (whole(7, 0, write(1), 31, 32), Refusal::WritesOverlap(id(2))),
+        (invoke(7, 0, write(1), 12), Refusal::WritesOverlap(id(0))),
+        (whole(7, 0, write(3), 18, 29), Refusal::WritesOverlap(id(0))),
+        (begins(2, 15), Refusal::WritesOverlap(id(0))),
+        (written(0, 35), Refusal::WritesOverlap(id(2))),
+        (reopens(0), Refusal::WritesOverlap(id(2))),
+    ];
+    refused(&rt, &cases)?;
+    let cases = [
+        (whole(7, 0, write(1), 20, 29), HOLDS, 4),
+        (begins(2, 20), HOLDS, 3),
+        (written(0, 29), HOLDS, 3),
+    ];
+    accepted(&rt, &cases)?;
+    Ok(())
+}
+
+#[test]
+fn a_withdrawn_id_is_appended_again(rt: HostRuntime) -> Result<(), Fail> {
+    let mut register = two_writes(&rt)?;
+    let cases = [
+        (returned(4, 1, 60), FAILS),
+        (withdraw(2), HOLDS),
+        (withdraw(2), Reply::Refused(Refusal::UnknownOp)),
+        (whole(2, 0, write(0), 30, 39), FAILS),
+        (withdraw(2), HOLDS),
+        (whole(2, 0, write(1), 30, 39), HOLDS),
+    ];
+    replies(&rt, &mut register, &cases)?;
+    let again = register.get(id(2)).copied().expect(&rt, "it stands");
+    assert_eq!(rt; again.act, write(1));
+    Ok(())
+}
+
+#[test]
+fn an_amendment_reopens_an_end(rt: HostRuntime) -> Result<(), Fail> {
+    let mut register = two_writes(&rt)?;
+    let cases = [
+        (returned(4, 1, 60), FAILS),
+        (reopens(2), HOLDS),
+        (written(2, 45), FAILS),
+        (reopens(4), HOLDS),
+    ];
+    replies(&rt, &mut register, &cases)?;
+    let reopened = register.get(id(4)).copied().expect(&rt, "it stands");
+    assert_eq!(rt; reopened.end, None);
+    assert_eq!(rt; reopened.parts.answer, Some(b"answered".as_slice()));
+    assert_eq!(rt; reopened.parts.amendment, Some(b"amended".as_slice()));
+    Ok(())
+}
+
+/// The witness of a book that is gone.
+fn witness_of_a_stale_read<R: AllocGlobal + Abort>(
+    rt: &R,
+) -> Result<Option<Witness<'static>>, Memory> {
+    let mut register = two_writes(rt)?;
+    let cases = [
+        (whole(8, 1, Act::Read(Value::Int(7)), 80, 90), FAILS),
+        (returned(4, 1, 60), FAILS),
+        (whole(6, 2, Act::Read(Value::Int(0)), 41, 70), FAILS),
+    ];
+    replies(rt, &mut register, &cases)?;
+    ends(rt, &register, 5, Some(Fault::Wrong(id(4))));
+    Ok(register.witness())
+}
+
+#[test]
+fn a_witness_is_the_wrong_read_that_ended_first_and_outlives_its_book(
+    rt: HostRuntime,
+) -> Result<(), Fail> {
+    match witness_of_a_stale_read(&rt)? {
+        Some(Witness::Wrong(op)) => {
+            assert_eq!(rt; op.id, id(4));
+            assert_eq!(rt; op.end, Some(Moment(60)));
+            assert_eq!(rt; op.parts.invocation, b"invoked".as_slice());
+            assert_eq!(rt; op.parts.answer, Some(b"answered".as_slice()));
+        }
+        _ => assert!(rt; false, "a wrong read"),
+    }
+    Ok(())
+}
+
+/// Carries the edit out. Where memory is refused the book is as it was, and the same edit is then
+/// answered as it would have been.
+fn carry_out(
+    rt: &impl Abort,
+    register: &mut RegisterBook<'static>,
+    edit: Edit<'static>,
+) -> Result<Reply, Memory> {
+    let len = register.len();
+    let fault = register.fault();
+    match register.apply(edit) {
+        Ok(reply) => Ok(reply),
+        Err(Memory) => {
+            ends(rt, register, len, fault);
+            register.apply(edit)
+        }
+    }
+}
+
+/// The same book whether memory is refused on the way to it or not.
+fn at_last<R: AllocGlobal + Abort>(rt: &R) -> Result<RegisterBook<'static>, Memory> {
+    match book(rt, Kind::Regular, Value::Int(0), &[0, 1, 7]) {
+        Ok(register) => Ok(register),
+        Err(Memory) => book(rt, Kind::Regular, Value::Int(0), &[0, 1, 7]),
+    }
+}
+
+/// To be run with each allocation refused in turn.
+#[test]
+fn refused_memory_changes_nothing(rt: HostRuntime) -> Result<(), Fail> {
+    let mut register = at_last(&rt)?;
+    let cases = [
+        (invoke(0, 0, write(1), 0), HOLDS),
+        (invoke(0, 0, write(7), 7), Reply::Refused(Refusal::OpTaken)),
+        (invoke(1, 1, read(), 1), HOLDS),
+        (written(0, 2), HOLDS),
+        (returned(1, 7, 3), FAILS),
+        (invoke(2, 0, write(7), 4), FAILS),
+        (returned(1, 7, 5), HOLDS),
+        (withdraw(2), FAILS),
+        (withdraw(1), HOLDS),
+    ];
+    for (edit, reply) in cases {
+        assert_eq!(rt; carry_out(&rt, &mut register, edit)?, reply);
+    }
+    ends(&rt, &register, 1, None);
+    Ok(())
+}
