@@ -1,0 +1,91 @@
+-- The keys of a level and of a file, seen by the program and read further.
+use Rattle.std.proofs.Common.{◌≡◌, ◌≢◌, ◌↔◌, ℕ, List, [], ◌∷◌, ◌++◌, length, Option, Some, None, Result, Ok, Err, refl, sym, ap, subst, ◌∙◌}
+use Rattle.std.specs.Prelude.{codes, Vec}
+use Rattle.std.specs.declared.alloc.Global.{Global}
+use Rattle.std.proofs.lemmas.List.{length-map, map_push}
+use Rattle.edn_reader.specs.declared.element.ElementKind.TheVariants.{Map}
+use Rattle.edn_reader.specs.declared.field.Field.{Field}
+use Rattle.edn_reader.specs.declared.view.MapView.{MapView}
+use Rattle.edn_reader.specs.Grammar.{Piece}
+use Rattle.edn_reader.specs.Pairs.{values_of, IsField, HasPairs, PairsLeft}
+use Rattle.tower_file.specs.declared.fault.TowerField.TheVariants.{Name, Registers, Levels}
+use Rattle.tower_file.specs.declared.fault.TowerFault.{TowerFault}
+use Rattle.tower_file.specs.Form.{Given, IsGiven, IsVectorOf, IsMapOf, RegisterForm, IsRegister, LevelForm, AreLevelFields, IsLevel, FileForm, AreFileFields}
+use Rattle.tower_file.specs.Contents.{Register, Contents, empty}
+use Rattle.tower_file.specs.Reading.{name_in, vector_in, registers_after, with_level, level_after, levels_after, contents_of}
+use Rattle.tower_file.specs.Views.{seen, contents_with}
+use Rattle.tower_file.proofs.Fields.{seen_given}
+
+-- the pairs of a map that a view has left, read by a relation
+pub map_form : {Form : Type 0} (IsRead : List (Piece × Piece) → Form → Type 0) (piece : Piece) (view : MapView) → piece.core.kind ≡ Map
+    → ((pairs : List (Piece × Piece)) → HasPairs piece pairs ↔ PairsLeft view pairs) → (form : Option Form) → IsMapOf IsRead piece form
+    → (read : Form) × (pairs : List (Piece × Piece)) × (form ≡ Some read) × PairsLeft view pairs × IsRead pairs read
+map_form IsRead piece view k m None h = absurd (h k)
+map_form IsRead piece view k m (Some read) h = (read, h.0, refl, (m h.0).0 h.1, h.2)
+
+-- what a view has under a key
+abbrev pub IsUnder : MapView → List ℕ → Field → Type 0
+IsUnder view key field = (pairs : List (Piece × Piece)) → PairsLeft view pairs → IsField field (values_of key pairs)
+
+pub level_name : (piece : Piece) (view : MapView) (name : Field) → piece.core.kind ≡ Map → ((pairs : List (Piece × Piece)) → HasPairs piece pairs ↔ PairsLeft view pairs)
+    → IsUnder view (codes ":name") name → (form : Option LevelForm) → IsLevel piece form → (level : LevelForm) × (form ≡ Some level) × (level.name ≡ seen name)
+level_name piece view name k m n form h =
+    let f = map_form AreLevelFields piece view k m form h in
+    (f.0, f.2, f.4.name ∙ sym (seen_given name _ (n f.1 f.3)))
+
+pub level_found : (piece : Piece) (view : MapView) (name registers : Field) → piece.core.kind ≡ Map → ((pairs : List (Piece × Piece)) → HasPairs piece pairs ↔ PairsLeft view pairs)
+    → IsUnder view (codes ":name") name → IsUnder view (codes ":registers") registers → (form : Option LevelForm) → IsLevel piece form
+    → (level : LevelForm) × (form ≡ Some level) × (level.name ≡ seen name) × IsGiven (IsVectorOf IsRegister) (seen registers) level.registers
+level_found piece view name registers k m n r form h =
+    let f = map_form AreLevelFields piece view k m form h in (
+      f.0,
+      f.2,
+      f.4.name ∙ sym (seen_given name _ (n f.1 f.3)),
+      subst (λ (given : Given Piece). IsGiven (IsVectorOf IsRegister) given f.0.registers) (sym (seen_given registers _ (r f.1 f.3))) f.4.registers,
+    )
+
+pub file_found : (piece : Piece) (view : MapView) (levels : Field) → piece.core.kind ≡ Map → ((pairs : List (Piece × Piece)) → HasPairs piece pairs ↔ PairsLeft view pairs)
+    → IsUnder view (codes ":levels") levels → (form : Option FileForm) → IsMapOf AreFileFields piece form
+    → (file : FileForm) × (form ≡ Some file) × IsGiven (IsVectorOf IsLevel) (seen levels) file.levels
+file_found piece view levels k m l form h =
+    let f = map_form AreFileFields piece view k m form h in
+    (f.0, f.2, subst (λ (given : Given Piece). IsGiven (IsVectorOf IsLevel) given f.0.levels) (sym (seen_given levels _ (l f.1 f.3))) f.4.levels)
+
+-- the steps of a level
+pub no_name : (tower : Contents) (form : Option LevelForm) (level : LevelForm) (given : Given Piece) (fault : TowerFault) → form ≡ Some level → level.name ≡ given
+    → name_in Name given ≡ Err fault → level_after tower form ≡ Err fault
+no_name tower form level given fault e n f = rw (e, n, f) refl
+
+pub no_registers : (tower : Contents) (form : Option LevelForm) (level : LevelForm) (given : Given Piece) (name : List ℕ) (fault : TowerFault) → form ≡ Some level → level.name ≡ given
+    → name_in Name given ≡ Ok name → vector_in Registers level.registers ≡ Err fault → level_after tower form ≡ Err fault
+no_registers tower form level given name fault e n f v = rw (e, n, f, v) refl
+
+pub to_registers : (tower : Contents) (form : Option LevelForm) (level : LevelForm) (given : Given Piece) (name : List ℕ) (forms : List (Option RegisterForm)) → form ≡ Some level → level.name ≡ given
+    → name_in Name given ≡ Ok name → vector_in Registers level.registers ≡ Ok forms → level_after tower form ≡ with_level tower name forms
+to_registers tower form level given name forms e n f v = rw (e, n, f, v) refl
+
+pub level_fails : (tower : Contents) (name : List ℕ) (forms : List (Option RegisterForm)) (fault : TowerFault) → registers_after (length tower.levels) tower.registers forms ≡ Err fault
+    → with_level tower name forms ≡ Err fault
+level_fails tower name forms fault e = rw e refl
+
+pub level_ends : (tower : Contents) (name : List ℕ) (forms : List (Option RegisterForm)) (registers : List Register) → registers_after (length tower.levels) tower.registers forms ≡ Ok registers
+    → with_level tower name forms ≡ Ok (record { levels = tower.levels ++ name ∷ []; registers = registers })
+level_ends tower name forms registers e = rw e refl
+
+-- the steps of a file
+pub no_levels : (form : Option FileForm) (file : FileForm) (fault : TowerFault) → form ≡ Some file → vector_in Levels file.levels ≡ Err fault → contents_of form ≡ Err fault
+no_levels form file fault e v = rw (e, v) refl
+
+pub to_levels : (form : Option FileForm) (file : FileForm) (forms : List (Option LevelForm)) → form ≡ Some file → vector_in Levels file.levels ≡ Ok forms → contents_of form ≡ levels_after empty forms
+to_levels form file forms e v = rw (e, v) refl
+
+-- the levels so far
+pub level_count : (levels : Vec (Vec ℕ Global) Global) (registers : List Register) → length (contents_with levels registers).levels ≡ length levels.items
+level_count levels registers = length-map levels.items (λ name. name.items)
+
+pub level_pushed : (old new : Vec (Vec ℕ Global) Global) (item : Vec ℕ Global) (name : List ℕ) (before after : List Register) → new.items ≡ old.items ++ item ∷ [] → item.items ≡ name
+    → (contents_with new after).levels ≡ (contents_with old before).levels ++ name ∷ []
+level_pushed old new item name before after e n = rw (e, map_push (λ (v : Vec ℕ Global). v.items) old.items item, n) refl
+
+pub begins_empty : (levels : Vec (Vec ℕ Global) Global) (registers : List Register) → levels.items ≡ [] → registers ≡ [] → contents_with levels registers ≡ empty
+begins_empty levels registers a b = rw (a, b) refl

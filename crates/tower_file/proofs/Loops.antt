@@ -1,0 +1,111 @@
+-- Going over a vector: what was gathered so far, and what the elements that are left will give.
+use Rattle.std.proofs.Common.{◌≡◌, ◌≢◌, List, [], ◌∷◌, ◌++◌, Option, Some, None, Result, Ok, Err, refl, sym, ap, subst, ◌∙◌, append_assoc, append-nil}
+use Rattle.edn_reader.specs.declared.element.Element.{Element}
+use Rattle.edn_reader.specs.declared.view.VectorView.{VectorView}
+use Rattle.edn_reader.specs.Grammar.{Piece, piece_of}
+use Rattle.edn_reader.specs.Pairs.{MembersLeft, NextMember}
+use Rattle.tower_file.specs.declared.fault.TowerFault.{TowerFault}
+use Rattle.tower_file.specs.Form.{Each}
+use Rattle.tower_file.specs.Reading.{◌>>=◌, each, through}
+use Rattle.tower_file.specs.Stated.{FormsLeft}
+
+-- what a view gives next
+abbrev pub Gives_next : VectorView → Option Element → VectorView → Type 0
+Gives_next view element after = (members : List Piece) → MembersLeft view members → NextMember element after members
+
+module _ {Y : Type 0} (read : Piece → Result Y TowerFault) where
+  -- what stands before what is read of the rest
+  abbrev pub behind : List Y → Result (List Y) TowerFault → Result (List Y) TowerFault
+  behind done rest = rest >>= (λ ys. Ok (done ++ ys))
+
+  behind_nothing : (rest : Result (List Y) TowerFault) → rest ≡ behind [] rest
+  behind_nothing (Ok ys) = refl
+  behind_nothing (Err fault) = refl
+
+  behind_one : (done : List Y) (y : Y) (rest : Result (List Y) TowerFault) → behind done (rest >>= (λ ys. Ok (y ∷ ys))) ≡ behind (done ++ y ∷ []) rest
+  behind_one done y (Ok ys) = ap Ok (sym (append_assoc done (y ∷ []) ys))
+  behind_one done y (Err fault) = refl
+
+  -- what was gathered of a view, and what it has left
+  abbrev pub SoFar : VectorView → VectorView → List Y → Type 0
+  SoFar first view done = (members : List Piece) → MembersLeft first members
+      → (left : List Piece) × MembersLeft view left × (each read members ≡ behind done (each read left))
+
+  pub so_far_begins : (view : VectorView) → SoFar view view []
+  so_far_begins view members h = (members, h, behind_nothing (each read members))
+
+  on_by : (first after : VectorView) (element : Element) (done : List Y) (y : Y) (members left : List Piece) → each read members ≡ behind done (each read left)
+      → NextMember (Some element) after left → read (piece_of element) ≡ Ok y → (l : List Piece) × MembersLeft after l × (each read members ≡ behind (done ++ y ∷ []) (each read l))
+  on_by first after element done y members [] e n r = absurd n
+  on_by first after element done y members (piece ∷ left) e n r =
+      let is : read piece ≡ Ok y = subst (λ (p : Piece). read p ≡ Ok y) n.0 r in
+      (left, n.1, e ∙ rw is refl ∙ behind_one done y (each read left))
+
+  pub so_far_on : (first view after : VectorView) (element : Element) (done : List Y) (y : Y) → SoFar first view done → Gives_next view (Some element) after
+      → read (piece_of element) ≡ Ok y → SoFar first after (done ++ y ∷ [])
+  so_far_on first view after element done y s n r members h =
+      let k = s members h in on_by first after element done y members k.0 k.2 (n k.0 k.1) r
+
+  fails_by : (after : VectorView) (element : Element) (done : List Y) (fault : TowerFault) (members left : List Piece) → each read members ≡ behind done (each read left)
+      → NextMember (Some element) after left → read (piece_of element) ≡ Err fault → each read members ≡ Err fault
+  fails_by after element done fault members [] e n r = absurd n
+  fails_by after element done fault members (piece ∷ left) e n r =
+      let is : read piece ≡ Err fault = subst (λ (p : Piece). read p ≡ Err fault) n.0 r in e ∙ rw is refl
+
+  pub so_far_fails : (first view after : VectorView) (element : Element) (done : List Y) (fault : TowerFault) → SoFar first view done → Gives_next view (Some element) after
+      → read (piece_of element) ≡ Err fault → (members : List Piece) → MembersLeft first members → each read members ≡ Err fault
+  so_far_fails first view after element done fault s n r members h =
+      let k = s members h in fails_by after element done fault members k.0 k.2 (n k.0 k.1) r
+
+  pub so_far_ends : (first view after : VectorView) (done : List Y) → SoFar first view done → Gives_next view None after
+      → (members : List Piece) → MembersLeft first members → each read members ≡ Ok done
+  so_far_ends first view after done s n members h =
+      let k = s members h in
+      k.2 ∙ ap (λ (left : List Piece). behind done (each read left)) (n k.0 k.1) ∙ ap Ok (append-nil done)
+
+module _ {Form State : Type 0} (IsRead : Piece → Form → Type 0) (step : State → Form → Result State TowerFault) where
+  -- the state after the forms of a view that were gone over, and the forms that it has left
+  abbrev pub After : VectorView → State → VectorView → State → Type 0
+  After first start view state = (forms : List Form) → FormsLeft IsRead first forms
+      → (left : List Form) × FormsLeft IsRead view left × (through step start forms ≡ through step state left)
+
+  pub after_begins : (view : VectorView) (state : State) → After view state view state
+  after_begins view state forms h = (forms, h, refl)
+
+  -- what the next form is, and those behind it
+  abbrev First : Element → VectorView → List Form → Type 0
+  First element after left = (form : Form) × (forms : List Form) × (left ≡ form ∷ forms) × IsRead (piece_of element) form × FormsLeft IsRead after forms
+
+  first_by : (element : Element) (after : VectorView) (members : List Piece) (left : List Form) → NextMember (Some element) after members → Each IsRead members left → First element after left
+  first_by element after [] left n h = absurd n
+  first_by element after (piece ∷ members) [] n h = absurd h
+  first_by element after (piece ∷ members) (form ∷ forms) n h =
+      (form, forms, refl, subst (λ (p : Piece). IsRead p form) (sym n.0) h.0, (members, n.1, h.1))
+
+  first_of : (view after : VectorView) (element : Element) (left : List Form) → FormsLeft IsRead view left → Gives_next view (Some element) after → First element after left
+  first_of view after element left h n = first_by element after h.0 left (n h.0 h.1) h.2
+
+  pub after_on : (first view after : VectorView) (element : Element) (start state next : State) → After first start view state → Gives_next view (Some element) after
+      → ((form : Form) → IsRead (piece_of element) form → step state form ≡ Ok next) → After first start after next
+  after_on first view after element start state next s n r forms h =
+      let k = s forms h in
+      let f = first_of view after element k.0 k.1 n in
+      (f.1, f.4, k.2 ∙ ap (through step state) f.2 ∙ rw (r f.0 f.3) refl)
+
+  pub after_fails : (first view after : VectorView) (element : Element) (start state : State) (fault : TowerFault) → After first start view state → Gives_next view (Some element) after
+      → ((form : Form) → IsRead (piece_of element) form → step state form ≡ Err fault) → (forms : List Form) → FormsLeft IsRead first forms → through step start forms ≡ Err fault
+  after_fails first view after element start state fault s n r forms h =
+      let k = s forms h in
+      let f = first_of view after element k.0 k.1 n in
+      k.2 ∙ ap (through step state) f.2 ∙ rw (r f.0 f.3) refl
+
+  none_left : (members : List Piece) (left : List Form) → members ≡ [] → Each IsRead members left → left ≡ []
+  none_left [] [] e h = refl
+  none_left [] (form ∷ left) e h = absurd h
+  none_left (piece ∷ members) left e h = absurd cc
+
+  pub after_ends : (first view after : VectorView) (start state : State) → After first start view state → Gives_next view None after
+      → (forms : List Form) → FormsLeft IsRead first forms → through step start forms ≡ Ok state
+  after_ends first view after start state s n forms h =
+      let k = s forms h in
+      k.2 ∙ ap (through step state) (none_left k.1.0 k.0 (n k.1.0 k.1.1) k.1.2)

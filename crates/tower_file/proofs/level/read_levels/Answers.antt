@@ -1,0 +1,23 @@
+use Rattle.std.proofs.Common.{◌≡◌}
+use Rattle.std.proofs.lemmas.Result.{err_from_is_err_and}
+use Rattle.tower_file.specs.Form.{IsLevel}
+use Rattle.tower_file.specs.Reading.{level_after}
+use Rattle.tower_file.specs.Views.{contents_with}
+use Rattle.tower_file.proofs.Loops.{after_on, after_fails, after_ends}
+use Rattle.tower_file.proofs.level.read_levels.Goals as goal
+
+pub loop-element-preserved : goal.loop-element-preserved
+loop-element-preserved c =
+    after_on IsLevel level_after c.args.view c.loop-element.left c.next.new.self c.in-Some.element (contents_with c.args.levels.now c.args.registers.now)
+    (contents_with c.loop-element.levels c.loop-element.registers) (contents_with c.read_level.new.levels c.read_level.new.registers) c.loop-element.invariant c.in-Some.ensures.member c.in_ok-read_level.ensures.ok
+
+pub returns-in_err-read_level-clause-err : goal.returns-in_err-read_level-clause-err
+returns-in_err-read_level-clause-err c =
+    let p = err_from_is_err_and c.from_residual.result c.from_residual.ensures.1 in
+    rw (p.1, p.2) (λ other. after_fails IsLevel level_after c.args.view c.loop-element.left c.next.new.self c.in-Some.element (contents_with c.args.levels.now c.args.registers.now)
+    (contents_with c.loop-element.levels c.loop-element.registers) c.in_err-read_level.field-0.0 c.loop-element.invariant c.in-Some.ensures.member (c.in_err-read_level.ensures.err other))
+
+pub returns-clause-ok : goal.returns-clause-ok
+returns-clause-ok c =
+    after_ends IsLevel level_after c.args.view c.loop-element.left c.next.new.self (contents_with c.args.levels.now c.args.registers.now)
+    (contents_with c.loop-element.levels c.loop-element.registers) c.loop-element.invariant c.in_default.ensures.member

@@ -1,0 +1,11 @@
+-- the parts so far are those of the elements that were gone over
+use Rattle.edn_reader.specs.Pairs.{members_left}
+use Rattle.tower_file.specs.Reading.{part_of}
+use Rattle.tower_file.proofs.Loops.{SoFar}
+use Rattle.tower_file.proofs.place.parts_of.Given as goal
+
+abbrev pub invariant-loop-element : goal.invariant-loop-element
+invariant-loop-element l = SoFar (part_of l.first l.registers) l.view l.left l.parts.items
+
+abbrev pub decreases-loop-element : goal.decreases-loop-element
+decreases-loop-element l = members_left l.left

@@ -1,0 +1,32 @@
+use Rattle.std.proofs.Common.{◌≡◌, ◌++◌, ◌∷◌, [], ℕ, List, Option, Ok, Err, Result, refl, sym, ap, subst, ◌∙◌, length}
+use Rattle.std.proofs.lemmas.Result.{err_from_is_err_and}
+use Rattle.edn_reader.specs.Grammar.{piece_of}
+use Rattle.tower_file.specs.declared.fault.TowerFault.{TowerFault}
+use Rattle.tower_file.specs.Form.{RegisterForm, IsRegister}
+use Rattle.tower_file.specs.Contents.{Register}
+use Rattle.tower_file.specs.Reading.{with_register, through}
+use Rattle.tower_file.proofs.Loops.{after_on, after_fails, after_ends}
+use Rattle.tower_file.proofs.Places.{one_more, no_more}
+use Rattle.tower_file.proofs.register.read_registers.Goals as goal
+
+pub returns-in_err-name-clause-err : goal.returns-in_err-name-clause-err
+returns-in_err-name-clause-err c =
+    let p = err_from_is_err_and c.from_residual.result c.from_residual.ensures.1 in
+    rw (p.1, p.2) (λ other forms h. subst (λ (first : ℕ). through (with_register c.args.level first) c.args.registers.now forms ≡ Err c.in_err-name.field-0.0) c.len-first.ensures
+    (after_fails IsRegister (with_register c.args.level c.len-first.result) c.args.view c.loop-element.left c.next.new.self c.in-Some.element c.args.registers.now c.loop-element.registers c.in_err-name.field-0.0
+    c.loop-element.invariant c.in-Some.ensures.member (λ form is. no_more _ _ _ form _ (c.in_err-name.ensures.register form is other)) forms h))
+
+pub loop-element-preserved : goal.loop-element-preserved
+loop-element-preserved c =
+    after_on IsRegister (with_register c.args.level c.len-first.result) c.args.view c.loop-element.left c.next.new.self c.in-Some.element c.args.registers.now c.loop-element.registers c.push.new.self
+    c.loop-element.invariant c.in-Some.ensures.member (λ form is. one_more _ _ _ form _ (c.in_ok-name.ensures.register form is) ∙ ap Ok (sym c.in_ok-push.ensures.ok))
+
+pub returns-in_err-push-clause-err : goal.returns-in_err-push-clause-err
+returns-in_err-push-clause-err c =
+    let p = err_from_is_err_and c.from_residual-in_err-push.result c.from_residual-in_err-push.ensures.1 in
+    rw (p.1, p.2) (λ other forms h. absurd (other c.in_err-push.ensures.memory))
+
+pub returns-clause-ok : goal.returns-clause-ok
+returns-clause-ok c forms h =
+    subst (λ (first : ℕ). through (with_register c.args.level first) c.args.registers.now forms ≡ Ok c.loop-element.registers) c.len-first.ensures
+    (after_ends IsRegister (with_register c.args.level c.len-first.result) c.args.view c.loop-element.left c.next.new.self c.args.registers.now c.loop-element.registers c.loop-element.invariant c.in_default.ensures.member forms h)

@@ -1,0 +1,11 @@
+-- the processes so far are those of the elements that were gone over
+use Rattle.edn_reader.specs.Pairs.{members_left}
+use Rattle.tower_file.specs.Reading.{process_of}
+use Rattle.tower_file.proofs.Loops.{SoFar}
+use Rattle.tower_file.proofs.said.processes_of.Given as goal
+
+abbrev pub invariant-loop-element : goal.invariant-loop-element
+invariant-loop-element l = SoFar process_of l.view l.left l.processes.items
+
+abbrev pub decreases-loop-element : goal.decreases-loop-element
+decreases-loop-element l = members_left l.left

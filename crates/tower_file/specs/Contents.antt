@@ -1,0 +1,26 @@
+-- What a tower says, apart from where it lies in memory.
+use Rattle.std.specs.Prelude.{ℕ, List, [], Option, map, position}
+use Rattle.std.specs.Option.{option_map}
+use Rattle.std.specs.Str.{bytes_eq}
+use Rattle.intervals.specs.declared.operation.RegId.{RegId}
+use Rattle.intervals.specs.Terms.{Terms}
+
+-- A register: its name, its claim, the number of its level, and the registers that it is made of.
+pub record Register : Type 0 where
+  pub name : List ℕ
+  pub claim : Terms
+  pub level : ℕ
+  pub parts : List RegId
+
+-- The names of the levels, the lowest first, and the registers by number.
+pub record Contents : Type 0 where
+  pub levels : List (List ℕ)
+  pub registers : List Register
+
+-- No levels.
+abbrev pub empty : Contents
+empty = record { levels = []; registers = [] }
+
+-- The number of the first register that has this name, byte for byte.
+abbrev pub number_of : List Register → List ℕ → Option RegId
+number_of registers name = option_map (λ n. record { 0 = n }) (position (bytes_eq name) (map (λ register. register.name) registers))

@@ -1,0 +1,245 @@
+-- What a file says: its levels and registers in file order, and the first fault that is met.
+use Rattle.std.specs.Prelude.{◌≡◌, ℕ, ◌^◌, ℤ, pos, negsuc, nat_lt, nat_le, ◌==◌, Bool, true, false, not, ◌&&◌, List, [], ◌∷◌, ◌++◌, length, Option, Some, None, Result, Ok, Err, codes, if◌then◌else◌, is_some}
+use Rattle.std.specs.List.{list_any}
+use Rattle.std.specs.Str.{bytes_eq}
+use Rattle.intervals.specs.declared.operation.RegId.{RegId}
+use Rattle.intervals.specs.declared.operation.Value.{Value}
+use Rattle.intervals.specs.declared.operation.Value.TheVariants.{Nil, Int}
+use Rattle.intervals.specs.declared.claim.Kind.{Kind}
+use Rattle.intervals.specs.declared.claim.Kind.TheVariants as kinds
+use Rattle.intervals.specs.Operation.{same_value}
+use Rattle.edn_reader.specs.Grammar.{Piece, untagged}
+use Rattle.edn_reader.specs.Pairs.{is_atom, is_word}
+use Rattle.edn_reader.specs.Integer.{integer_of}
+use Rattle.tower_file.specs.declared.fault.TowerField.{TowerField}
+use Rattle.tower_file.specs.declared.fault.TowerField.TheVariants as fields
+use Rattle.tower_file.specs.declared.fault.TowerFault.{TowerFault}
+use Rattle.tower_file.specs.declared.fault.TowerFault.TheVariants.{Shape, NameTaken, WriterCount, UnknownPart, EmptyDomain, InitialOutOfDomain, TooMany}
+use Rattle.tower_file.specs.Form.{Given, Missing, One, Many, Sequence, RegisterForm, LevelForm, FileForm}
+use Rattle.tower_file.specs.Contents.{Register, Contents, empty, number_of}
+
+infixl 10 ◌>>=◌
+-- One step after another, up to the first fault.
+abbrev pub ◌>>=◌ : {A B : Type 0} → Result A TowerFault → (A → Result B TowerFault) → Result B TowerFault
+(Ok x) >>= f = f x
+(Err e) >>= f = Err e
+
+-- What stands once under a key that is needed.
+abbrev pub needed : {X : Type 0} → TowerField → Given X → Result X TowerFault
+needed field Missing = Err (Shape field)
+needed field (One x) = Ok x
+needed field Many = Err (Shape field)
+
+-- What stands under a key that may be left out, read further; none where it is.
+abbrev pub optional : {X Y : Type 0} → TowerField → (X → Result Y TowerFault) → Given X → Result (Option Y) TowerFault
+optional field read Missing = Ok None
+optional field read (One x) = read x >>= (λ y. Ok (Some y))
+optional field read Many = Err (Shape field)
+
+-- What is of the form that it is to have.
+abbrev pub formed : {X : Type 0} → TowerField → Option X → Result X TowerFault
+formed field None = Err (Shape field)
+formed field (Some x) = Ok x
+
+-- Each of a list, read in turn.
+abbrev pub each : {X Y : Type 0} → (X → Result Y TowerFault) → List X → Result (List Y) TowerFault
+each read [] = Ok []
+each read (x ∷ xs) = read x >>= (λ y. each read xs >>= (λ ys. Ok (y ∷ ys)))
+
+-- The bytes of an element without its tags, which are the name that it gives.
+abbrev pub name_of : Piece → List ℕ
+name_of piece = (untagged piece).text
+
+-- A number of 64 bits with a sign.
+abbrev pub fitting : Option ℤ → Option ℤ
+fitting None = None
+fitting (Some (pos n)) = if nat_lt n (2 ^ 63) then Some (pos n) else None
+fitting (Some (negsuc n)) = if nat_lt n (2 ^ 63) then Some (negsuc n) else None
+
+-- The integer that an element is behind its tags, where it fits.
+abbrev pub int_of : Piece → Option ℤ
+int_of piece = if is_atom piece.core.kind then fitting (integer_of (untagged piece).text) else None
+
+-- The word nil, behind tags or not.
+abbrev pub is_nil : Piece → Bool
+is_nil piece = is_atom piece.core.kind && bytes_eq (untagged piece).text (codes "nil")
+
+-- The value that an integer is.
+abbrev pub int_value : TowerField → Option ℤ → Result Value TowerFault
+int_value field None = Err (Shape field)
+int_value field (Some z) = Ok (Int z)
+
+-- A value: nil, or an integer that fits.
+abbrev pub value_of : TowerField → Piece → Result Value TowerFault
+value_of field piece = if is_nil piece then Ok Nil else int_value field (int_of piece)
+
+-- A process: an integer that fits.
+abbrev pub process_of : Piece → Result ℤ TowerFault
+process_of piece = formed fields.Writers (int_of piece)
+
+-- A kind, by its keyword.
+abbrev pub kind_of : Piece → Result Kind TowerFault
+kind_of piece =
+    if is_word (codes ":safe") piece then Ok kinds.Safe
+    else if is_word (codes ":regular") piece then Ok kinds.Regular
+    else if is_word (codes ":atomic") piece then Ok kinds.Atomic
+    else Err (Shape fields.Kind)
+
+-- The processes of a vector.
+abbrev pub processes_of : Option (List Piece) → Result (Option (List ℤ)) TowerFault
+processes_of members = formed fields.Writers members >>= each process_of >>= (λ processes. Ok (Some processes))
+
+-- The writers: any process, for which none are listed, or those of a vector.
+abbrev pub writers_of : Sequence → Result (Option (List ℤ)) TowerFault
+writers_of writers = if is_word (codes ":any") writers.element then Ok None else processes_of writers.members
+
+-- The values of a vector.
+abbrev pub values_of : Option (List Piece) → Result (List Value) TowerFault
+values_of members = formed fields.Domain members >>= each (value_of fields.Domain)
+
+-- What is said under each key of a register.
+abbrev pub name_in : TowerField → Given Piece → Result (List ℕ) TowerFault
+name_in field name = needed field name >>= (λ piece. Ok (name_of piece))
+
+abbrev pub kind_in : Given Piece → Result Kind TowerFault
+kind_in kind = needed fields.Kind kind >>= kind_of
+
+abbrev pub writers_in : Given Sequence → Result (Option (List ℤ)) TowerFault
+writers_in writers = needed fields.Writers writers >>= writers_of
+
+abbrev pub initial_in : Given Piece → Result (Option Value) TowerFault
+initial_in initial = optional fields.Initial (value_of fields.Initial) initial
+
+abbrev pub domain_in : Given (Option (List Piece)) → Result (Option (List Value)) TowerFault
+domain_in domain = optional fields.Domain values_of domain
+
+-- The elements that name parts; none where the key is left out.
+abbrev pub parts_in : Given (Option (List Piece)) → Result (List Piece) TowerFault
+parts_in Missing = Ok []
+parts_in (One members) = formed fields.Parts members
+parts_in Many = Err (Shape fields.Parts)
+
+-- What a register says by itself, before it is placed among the others.
+pub record Said : Type 0 where
+  pub name : List ℕ
+  pub kind : Kind
+  pub writers : Option (List ℤ)
+  pub initial : Option Value
+  pub domain : Option (List Value)
+  pub parts : List Piece
+
+-- The keys are read in this order.
+abbrev pub said_by : RegisterForm → Result Said TowerFault
+said_by form =
+    name_in fields.Name form.name >>= (λ name.
+    kind_in form.kind >>= (λ kind.
+    writers_in form.writers >>= (λ writers.
+    initial_in form.initial >>= (λ initial.
+    domain_in form.domain >>= (λ domain.
+    parts_in form.parts >>= (λ parts.
+    Ok (record { name = name; kind = kind; writers = writers; initial = initial; domain = domain; parts = parts })))))))
+
+-- There is exactly one writer.
+abbrev pub is_one : Option (List ℤ) → Bool
+is_one None = false
+is_one (Some processes) = length processes == 1
+
+-- Safe and regular registers have one writer (Lamport 1986).
+abbrev pub has_its_writers : Kind → Option (List ℤ) → Bool
+has_its_writers kinds.Safe writers = is_one writers
+has_its_writers kinds.Regular writers = is_one writers
+has_its_writers kinds.Atomic writers = true
+
+-- A register that was named before the first one of a level.
+abbrev pub below : ℕ → Option RegId → Result RegId TowerFault
+below first None = Err UnknownPart
+below first (Some number) = if nat_lt number.0 first then Ok number else Err UnknownPart
+
+-- The part that an element names: a register of an earlier level.
+abbrev pub part_of : ℕ → List Register → Piece → Result RegId TowerFault
+part_of first registers piece = below first (number_of registers (name_of piece))
+
+-- The domain is there and has no value.
+abbrev pub is_empty_domain : Option (List Value) → Bool
+is_empty_domain None = false
+is_empty_domain (Some values) = length values == 0
+
+-- The initial value and the domain are there, and the one is not in the other.
+abbrev pub is_outside : Option Value → Option (List Value) → Bool
+is_outside None domain = false
+is_outside (Some initial) None = false
+is_outside (Some initial) (Some values) = not (list_any (λ value. same_value value initial) values)
+
+-- The value before any write; nil where none is said.
+abbrev pub initial_of : Option Value → Value
+initial_of None = Nil
+initial_of (Some initial) = initial
+
+-- The register that is said, on a level.
+abbrev pub register_said : ℕ → Said → List RegId → Register
+register_said level said parts = record {
+  name = said.name;
+  claim = record { kind = said.kind; writers = said.writers; initial = initial_of said.initial; domain = said.domain };
+  level = level;
+  parts = parts;
+}
+
+-- A fault where a test holds.
+abbrev pub refused_if : Bool → TowerFault → Result Unit TowerFault
+refused_if true fault = Err fault
+refused_if false fault = Ok tt
+
+-- A register among those before it, of which the earlier levels have the first ones: what is wrong with it is asked in this order.
+abbrev pub placed : ℕ → ℕ → List Register → Said → Result Register TowerFault
+placed level first registers said =
+    refused_if (is_some (number_of registers said.name)) NameTaken >>= (λ _.
+    refused_if (not (has_its_writers said.kind said.writers)) WriterCount >>= (λ _.
+    each (part_of first registers) said.parts >>= (λ parts.
+    refused_if (is_empty_domain said.domain) EmptyDomain >>= (λ _.
+    refused_if (is_outside said.initial said.domain) InitialOutOfDomain >>= (λ _.
+    refused_if (nat_le 65536 (length registers)) TooMany >>= (λ _.
+    Ok (register_said level said parts)))))))
+
+-- The register that an element is, on a level, among those before it.
+abbrev pub register_of : ℕ → ℕ → List Register → Option RegisterForm → Result Register TowerFault
+register_of level first registers form = formed fields.Registers form >>= said_by >>= placed level first registers
+
+-- One step for each of a list, in turn, each from what the one before leaves.
+abbrev pub through : {State X : Type 0} → (State → X → Result State TowerFault) → State → List X → Result State TowerFault
+through step state [] = Ok state
+through step state (x ∷ xs) = step state x >>= (λ next. through step next xs)
+
+-- The registers with one more of a level.
+abbrev pub with_register : ℕ → ℕ → List Register → Option RegisterForm → Result (List Register) TowerFault
+with_register level first registers form = register_of level first registers form >>= (λ register. Ok (registers ++ register ∷ []))
+
+-- The registers after those of a level, whose first one gets the number of those before it.
+abbrev pub registers_after : ℕ → List Register → List (Option RegisterForm) → Result (List Register) TowerFault
+registers_after level registers forms = through (with_register level (length registers)) registers forms
+
+-- One more level of a tower, of that name and with these registers.
+abbrev pub with_level : Contents → List ℕ → List (Option RegisterForm) → Result Contents TowerFault
+with_level tower name registers =
+    registers_after (length tower.levels) tower.registers registers
+    >>= (λ after. Ok (record { levels = tower.levels ++ name ∷ []; registers = after }))
+
+-- The elements of a vector that is needed.
+abbrev pub vector_in : {Form : Type 0} → TowerField → Given (Option (List Form)) → Result (List Form) TowerFault
+vector_in field given = needed field given >>= formed field
+
+-- The tower after one level, of which the name is read first.
+abbrev pub level_after : Contents → Option LevelForm → Result Contents TowerFault
+level_after tower form =
+    formed fields.Levels form >>= (λ level.
+    name_in fields.Name level.name >>= (λ name.
+    vector_in fields.Registers level.registers >>= with_level tower name))
+
+-- The tower after these levels.
+abbrev pub levels_after : Contents → List (Option LevelForm) → Result Contents TowerFault
+levels_after = through level_after
+
+-- The tower of a file.
+abbrev pub contents_of : Option FileForm → Result Contents TowerFault
+contents_of form =
+    formed fields.File form >>= (λ file.
+    vector_in fields.Levels file.levels >>= levels_after empty)

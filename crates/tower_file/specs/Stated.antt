@@ -1,0 +1,52 @@
+-- What a program holds of the members of a register and of a vector that is left to go over.
+use Rattle.std.specs.Prelude.{◌≡◌, ◌≢◌, ℕ, List, [], Option, Some, None, Result, Ok, Err, Vec}
+use Rattle.std.specs.Option.{option_map}
+use Rattle.std.specs.declared.alloc.Global.{Global}
+use Rattle.edn_reader.specs.declared.view.VectorView.{VectorView}
+use Rattle.edn_reader.specs.Grammar.{Piece}
+use Rattle.edn_reader.specs.Pairs.{MembersLeft}
+use Rattle.intervals.specs.declared.operation.Value.{Value}
+use Rattle.intervals.specs.Terms.{writers_of}
+use Rattle.tower_file.specs.declared.said.Fields.{Fields}
+use Rattle.tower_file.specs.declared.said.Said.{Said as Found}
+use Rattle.tower_file.specs.declared.fault.TowerFault.{TowerFault}
+use Rattle.tower_file.specs.declared.fault.TowerFault.TheVariants.{Memory}
+use Rattle.tower_file.specs.Form.{RegisterForm, IsGiven, IsSequence, AreMembers, Each}
+use Rattle.tower_file.specs.Reading.{Said}
+use Rattle.tower_file.specs.Views.{seen}
+
+-- The program has looked up what stands under each key of a register.
+pub record AreFound (found : Fields) (form : RegisterForm) : Type 0 where
+  pub name : form.name ≡ seen found.name
+  pub kind : form.kind ≡ seen found.kind
+  pub writers : IsGiven IsSequence (seen found.writers) form.writers
+  pub initial : form.initial ≡ seen found.initial
+  pub domain : IsGiven AreMembers (seen found.domain) form.domain
+  pub parts : IsGiven AreMembers (seen found.parts) form.parts
+
+-- The elements that a view has left; none where there is no view.
+abbrev pub PartsLeft : Option VectorView → List Piece → Type 0
+PartsLeft None pieces = pieces ≡ []
+PartsLeft (Some view) pieces = MembersLeft view pieces
+
+-- The values of a domain, where one is given.
+abbrev pub domain_items : Option (Vec Value Global) → Option (List Value)
+domain_items domain = option_map (λ values. values.items) domain
+
+-- The program holds what is said.
+pub record IsSaid (found : Found) (said : Said) : Type 0 where
+  pub name : said.name ≡ found.name.now
+  pub kind : said.kind ≡ found.kind
+  pub writers : said.writers ≡ writers_of found.writers
+  pub initial : said.initial ≡ found.initial
+  pub domain : said.domain ≡ domain_items found.domain
+  pub parts : PartsLeft found.parts said.parts
+
+-- What a function answered stands for what is to be answered, where memory was not refused.
+abbrev pub ShowsOrMemory : {X Y : Type 0} → (X → Y → Type 0) → Result X TowerFault → Result Y TowerFault → Type 0
+ShowsOrMemory {X} {Y} Shows (Ok x) wanted = (y : Y) × (wanted ≡ Ok y) × Shows x y
+ShowsOrMemory Shows (Err fault) wanted = fault ≢ Memory → wanted ≡ Err fault
+
+-- These are left of a vector whose elements are read by a relation.
+abbrev pub FormsLeft : {Form : Type 0} → (Piece → Form → Type 0) → VectorView → List Form → Type 0
+FormsLeft IsRead view forms = (members : List Piece) × MembersLeft view members × Each IsRead members forms

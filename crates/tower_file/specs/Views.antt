@@ -1,0 +1,36 @@
+-- What the program's values are, apart from where they lie in memory.
+use Rattle.std.specs.Prelude.{◌≡◌, ◌≢◌, ℕ, List, [], Option, Some, None, Result, Ok, Err, Vec, map}
+use Rattle.std.specs.declared.alloc.Global.{Global}
+use Rattle.edn_reader.specs.declared.field.Field.{Field}
+use Rattle.edn_reader.specs.declared.field.Field.TheVariants.{Absent, Once, Twice}
+use Rattle.edn_reader.specs.Grammar.{Piece, piece_of}
+use Rattle.intervals.specs.Terms.{terms_of}
+use Rattle.tower_file.specs.declared.registers.Entry.{Entry}
+use Rattle.tower_file.specs.declared.fault.TowerFault.{TowerFault}
+use Rattle.tower_file.specs.declared.fault.TowerFault.TheVariants.{Memory}
+use Rattle.tower_file.specs.Form.{Given, Missing, One, Many}
+use Rattle.tower_file.specs.Contents.{Register, Contents}
+
+-- What the program found under a key.
+abbrev pub seen : Field → Given Piece
+seen Absent = Missing
+seen (Once element) = One (piece_of element)
+seen Twice = Many
+
+-- A name with what the program keeps beside it.
+abbrev pub register_at : Vec ℕ Global × Entry → Register
+register_at entry = record { name = entry.0.items; claim = terms_of entry.1.claim; level = entry.1.level; parts = entry.1.parts.items }
+
+-- The names of levels, and registers, as a tower.
+abbrev pub contents_with : Vec (Vec ℕ Global) Global → List Register → Contents
+contents_with levels registers = record { levels = map (λ name. name.items) levels.items; registers = registers }
+
+-- What a function answered, seen by a view, is what is to be answered.
+abbrev pub Gives : {X Y : Type 0} → (X → Y) → Result X TowerFault → Result Y TowerFault → Type 0
+Gives view (Ok x) wanted = wanted ≡ Ok (view x)
+Gives view (Err fault) wanted = wanted ≡ Err fault
+
+-- The same, where memory may be refused.
+abbrev pub GivesOrMemory : {X Y : Type 0} → (X → Y) → Result X TowerFault → Result Y TowerFault → Type 0
+GivesOrMemory view (Ok x) wanted = wanted ≡ Ok (view x)
+GivesOrMemory view (Err fault) wanted = fault ≢ Memory → wanted ≡ Err fault

@@ -1,0 +1,102 @@
+//! What single elements of a tower file say.
+
+ghost use Rattle.std.specs.Prelude.{◌≡◌};
+ghost use Rattle.edn_reader.specs.Grammar.{Piece, piece_of};
+ghost use Rattle.edn_reader.specs.Pairs.{is_word as is_that_word};
+ghost use Rattle.tower_file.specs.Reading.{int_of as integer_in, value_of as value_in, process_of as process_in, kind_of as kind_that, name_of as name_that, needed as needed_of, name_in, kind_in, initial_in};
+ghost use Rattle.tower_file.specs.Views.{seen, Gives};
+
+use crate::fault::{TowerFault, TowerField};
+use edn_reader::{Element, Field};
+use intervals::{Kind, Value};
+
+/// What stands once under a key that is needed.
+pub fn needed<'t>(field: &Field<'t>, name: TowerField) -> Result<Element<'t>, TowerFault>
+    ensures { Gives piece_of result (needed_of name (seen field.now)) }
+{
+    match field {
+        Field::Once(element) => Ok(*element),
+        Field::Absent | Field::Twice => Err(TowerFault::Shape(name)),
+    }
+}
+
+/// The bytes of an element without its tags.
+pub fn name_of<'t>(element: &Element<'t>) -> &'t [u8]
+    ensures { result.now ≡ name_that (piece_of element.now) }
+{
+    element.untagged().text()
+}
+
+pub fn read_name<'t>(field: &Field<'t>) -> Result<&'t [u8], TowerFault>
+    ensures { Gives (λ name. name.now) result (name_in TowerField.Name (seen field.now)) }
+{
+    Ok(name_of(&needed(field, TowerField::Name)?))
+}
+
+pub fn read_kind(field: &Field) -> Result<Kind, TowerFault>
+    ensures { result ≡ kind_in (seen field.now) }
+{
+    kind_of(&needed(field, TowerField::Kind)?)
+}
+
+fn kind_of(element: &Element) -> Result<Kind, TowerFault>
+    ensures { result ≡ kind_that (piece_of element.now) }
+{
+    if is_word(element, b":safe") {
+        Ok(Kind::Safe)
+    } else if is_word(element, b":regular") {
+        Ok(Kind::Regular)
+    } else if is_word(element, b":atomic") {
+        Ok(Kind::Atomic)
+    } else {
+        Err(TowerFault::Shape(TowerField::Kind))
+    }
+}
+
+pub fn is_word(element: &Element, word: &[u8]) -> bool
+    ensures { result ≡ is_that_word word.now (piece_of element.now) }
+{
+    match element.as_keyword() {
+        Some(text) => text == word,
+        None => false,
+    }
+}
+
+pub fn read_initial(field: &Field) -> Result<Option<Value>, TowerFault>
+    ensures { result ≡ initial_in (seen field.now) }
+{
+    match field {
+        Field::Absent => Ok(None),
+        Field::Once(element) => Ok(Some(value_of(element, TowerField::Initial)?)),
+        Field::Twice => Err(TowerFault::Shape(TowerField::Initial)),
+    }
+}
+
+/// A value: nil, or an integer that fits.
+pub fn value_of(element: &Element, name: TowerField) -> Result<Value, TowerFault>
+    ensures { result ≡ value_in name (piece_of element.now) }
+{
+    if element.is_nil() {
+        return Ok(Value::Nil);
+    }
+    match int_of(element) {
+        Some(number) => Ok(Value::Int(number)),
+        None => Err(TowerFault::Shape(name)),
+    }
+}
+
+/// A process: an integer that fits.
+pub fn process_of(element: &Element) -> Result<i64, TowerFault>
+    ensures { result ≡ process_in (piece_of element.now) }
+{
+    match int_of(element) {
+        Some(number) => Ok(number),
+        None => Err(TowerFault::Shape(TowerField::Writers)),
+    }
+}
+
+fn int_of(element: &Element) -> Option<i64>
+    ensures { result ≡ integer_in (piece_of element.now) }
+{
+    element.as_int()
+}

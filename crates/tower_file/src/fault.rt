@@ -1,0 +1,72 @@
+//! Why a text is no tower file.
+
+ghost use Rattle.std.specs.Prelude.{◌≡◌};
+ghost use Rattle.tower_file.specs.declared.fault.TowerFault.TheVariants.{Memory};
+
+use edn_reader::EdnFault;
+use std::alloc::{AllocError, AllocFailed};
+use thiserror::Error;
+
+/// The part of a tower file that is missing, stands twice or has another form.
+#[derive(Clone, Copy, Debug, PartialEq, Eq)]
+pub enum TowerField {
+    /// The file: one map and nothing else.
+    File,
+    Levels,
+    Name,
+    Registers,
+    Kind,
+    Writers,
+    Initial,
+    Domain,
+    /// What stands under `:of`.
+    Parts,
+}
+
+/// The first fault of a tower file, in reading order.
+#[derive(Clone, Copy, Debug, PartialEq, Eq, Error)]
+pub enum TowerFault {
+    /// The text has a fault, anywhere in the file.
+    #[error("V1 Edn {0}")]
+    Edn(EdnFault),
+    /// A part is missing, stands twice or has another form.
+    #[error("V2 Shape of {0:?}")]
+    Shape(TowerField),
+    /// An earlier register has the name.
+    #[error("V3 NameTaken")]
+    NameTaken,
+    /// A safe or regular register has not exactly one writer.
+    #[error("V4 WriterCount")]
+    WriterCount,
+    /// A part is no register of an earlier level.
+    #[error("V5 UnknownPart")]
+    UnknownPart,
+    /// A domain without a value.
+    #[error("V6 EmptyDomain")]
+    EmptyDomain,
+    /// The initial value is not in the domain.
+    #[error("V7 InitialOutOfDomain")]
+    InitialOutOfDomain,
+    /// 65,536 registers come before this one.
+    #[error("V8 TooMany")]
+    TooMany,
+    /// A growth was refused.
+    #[error("V9 Memory")]
+    Memory,
+}
+
+impl From<AllocError> for TowerFault {
+    ghost from_gives = { λ _ fault. fault ≡ Memory };
+
+    fn from(_e: AllocError) -> TowerFault {
+        TowerFault::Memory
+    }
+}
+
+impl<T: Drop> From<AllocFailed<T>> for TowerFault {
+    ghost from_gives = { λ _ fault. fault ≡ Memory };
+
+    fn from(_e: AllocFailed<T>) -> TowerFault {
+        TowerFault::Memory
+    }
+}

@@ -1,0 +1,28 @@
+//! The map that a tower file is.
+
+ghost use Rattle.std.specs.Prelude.{Option};
+ghost use Rattle.edn_reader.specs.Grammar.{piece_of};
+ghost use Rattle.tower_file.specs.Form.{FileForm, IsMapOf, AreFileFields};
+ghost use Rattle.tower_file.specs.Reading.{contents_of};
+ghost use Rattle.tower_file.specs.Views.{contents_with, GivesOrMemory};
+
+use crate::fault::{TowerFault, TowerField};
+use crate::level::{read_levels, read_vector};
+use crate::registers::Registers;
+use edn_reader::Element;
+use std::alloc::Global;
+
+/// The names of the levels, and the registers, of the map that a file is.
+pub fn read_file(alloc: Global, element: &Element) -> Result<(Vec<Vec<u8>>, Registers), TowerFault>
+    ensures { (form : Option FileForm) → IsMapOf AreFileFields (piece_of element.now) form
+        → GivesOrMemory (λ read. contents_with read.0 read.1) result (contents_of form) }
+{
+    let Some(map) = element.as_map() else {
+        return Err(TowerFault::Shape(TowerField::File));
+    };
+    let view = read_vector(&map.field(b":levels"), TowerField::Levels)?;
+    let mut levels = Vec::new(alloc);
+    let mut registers = Registers::new(alloc);
+    read_levels(alloc, view, &mut levels, &mut registers)?;
+    Ok((levels, registers))
+}

@@ -1,0 +1,164 @@
+//! A register among those before it.
+
+ghost use Rattle.std.specs.Prelude.{◌≡◌, ◌<◌, List, Option, None, IfOk, OnOk, length, not};
+ghost use Rattle.edn_reader.specs.Grammar.{Piece, piece_of};
+ghost use Rattle.edn_reader.specs.Pairs.{MembersLeft};
+ghost use Rattle.std.specs.List.{list_any};
+ghost use Rattle.intervals.specs.Operation.{same_value};
+ghost use Rattle.intervals.specs.Terms.{writers_of as listed_writers};
+ghost use Rattle.tower_file.specs.Contents.{number_of};
+ghost use Rattle.tower_file.specs.Reading.{each, Said as SaidBy, has_its_writers as has_writers, part_of as part_that, is_empty_domain, is_outside as is_that_outside, initial_of as initial_that, placed};
+ghost use Rattle.tower_file.specs.Views.{register_at, GivesOrMemory};
+ghost use Rattle.tower_file.specs.Stated.{PartsLeft, IsSaid, domain_items};
+
+use crate::element::name_of;
+use crate::fault::TowerFault;
+use crate::registers::{Entry, Registers};
+use crate::said::Said;
+use edn_reader::{Element, VectorView};
+use intervals::{Claim, Kind, RegId, Value, Writers};
+use std::alloc::Global;
+
+/// How many registers a tower may have.
+const MOST_REGISTERS: usize = 65_536;
+
+/// The register that is said, on a level whose first register has the number `first`.
+pub fn place(
+    alloc: Global,
+    said: Said,
+    level: usize,
+    first: usize,
+    registers: &Registers,
+) -> Result<(Vec<u8>, Entry), TowerFault>
+    ensures placed { (form : SaidBy) → IsSaid said.entry form → GivesOrMemory register_at result (placed level first registers.now form) }
+    ensures new { IfOk result (λ entry. number_of registers.now entry.0.items ≡ None) }
+    ensures room { OnOk result (length registers.now < 65536) }
+{
+    let Said {
+        name,
+        kind,
+        writers,
+        initial,
+        domain,
+        parts,
+    } = said;
+    if registers.find(name).is_some() {
+        return Err(TowerFault::NameTaken);
+    }
+    if !has_its_writers(kind, &writers) {
+        return Err(TowerFault::WriterCount);
+    }
+    let parts = read_parts(alloc, parts, first, registers)?;
+    if is_empty(&domain) {
+        return Err(TowerFault::EmptyDomain);
+    }
+    if is_outside(initial, &domain) {
+        return Err(TowerFault::InitialOutOfDomain);
+    }
+    if registers.len() >= MOST_REGISTERS {
+        return Err(TowerFault::TooMany);
+    }
+    let claim = Claim {
+        kind,
+        writers,
+        initial: initial_of(initial),
+        domain,
+    };
+    let entry = Entry {
+        claim,
+        level,
+        parts,
+    };
+    Ok((Vec::from_slice(alloc, name)?, entry))
+}
+
+/// Whether a safe or regular register has one writer.
+fn has_its_writers(kind: Kind, writers: &Writers) -> bool
+    ensures { result ≡ has_writers kind (listed_writers writers.now) }
+{
+    match (kind, writers) {
+        (Kind::Atomic, _) => true,
+        (_, Writers::Any) => false,
+        (_, Writers::Listed(processes)) => processes.len() == 1,
+    }
+}
+
+fn is_empty(domain: &Option<Vec<Value>>) -> bool
+    ensures { result ≡ is_empty_domain (domain_items domain.now) }
+{
+    match domain {
+        Some(values) => values.len() == 0,
+        None => false,
+    }
+}
+
+/// Whether an initial value is given that is not in a domain that is given.
+fn is_outside(initial: Option<Value>, domain: &Option<Vec<Value>>) -> bool
+    ensures { result ≡ is_that_outside initial (domain_items domain.now) }
+{
+    match (initial, domain) {
+        (Some(initial), Some(values)) => !is_among(values.as_slice(), initial),
+        _ => false,
+    }
+}
+
+fn is_among(values: &[Value], value: Value) -> bool
+    ensures { result ≡ list_any (λ other. same_value other value) values.now }
+{
+    values.iter().any(|other| is_same(*other, value))
+}
+
+fn is_same(a: Value, b: Value) -> bool
+    ensures { result ≡ same_value a b }
+{
+    a == b
+}
+
+fn initial_of(initial: Option<Value>) -> Value
+    ensures { result ≡ initial_that initial }
+{
+    match initial {
+        Some(value) => value,
+        None => Value::Nil,
+    }
+}
+
+fn read_parts(
+    alloc: Global,
+    parts: Option<VectorView>,
+    first: usize,
+    registers: &Registers,
+) -> Result<Vec<RegId>, TowerFault>
+    ensures { (members : List Piece) → PartsLeft parts.entry members → GivesOrMemory (λ found. found.items) result (each (part_that first registers.now) members) }
+{
+    match parts {
+        Some(view) => parts_of(alloc, view, first, registers),
+        None => Ok(Vec::new(alloc)),
+    }
+}
+
+fn parts_of(
+    alloc: Global,
+    view: VectorView,
+    first: usize,
+    registers: &Registers,
+) -> Result<Vec<RegId>, TowerFault>
+    ensures { (members : List Piece) → MembersLeft view.entry members → GivesOrMemory (λ found. found.items) result (each (part_that first registers.now) members) }
+{
+    let mut left = view;
+    let mut parts = Vec::new(alloc);
+    while let Some(element) = left.next() {
+        parts.push(part_of(&element, first, registers)?)?;
+    }
+    Ok(parts)
+}
+
+/// The register of an earlier level that an element names.
+fn part_of(element: &Element, first: usize, registers: &Registers) -> Result<RegId, TowerFault>
+    ensures { result ≡ part_that first registers.now (piece_of element.now) }
+{
+    match registers.find(name_of(element)) {
+        Some(number) if (number.0 as usize) < first => Ok(number),
+        _ => Err(TowerFault::UnknownPart),
+    }
+}

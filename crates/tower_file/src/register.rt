@@ -1,0 +1,58 @@
+//! The registers of a level.
+
+ghost use Rattle.std.specs.Prelude.{◌≡◌, ◌≢◌, ◌<◌, List, Option, None, Ok, Err, IfOk, IfErr, OnOk, length};
+ghost use Rattle.edn_reader.specs.Grammar.{piece_of};
+ghost use Rattle.tower_file.specs.Form.{RegisterForm, IsRegister};
+ghost use Rattle.tower_file.specs.Contents.{number_of};
+ghost use Rattle.tower_file.specs.Reading.{register_of, registers_after};
+ghost use Rattle.tower_file.specs.Views.{register_at, GivesOrMemory};
+ghost use Rattle.tower_file.specs.Stated.{FormsLeft};
+ghost use Rattle.tower_file.specs.declared.fault.TowerFault.TheVariants.{Memory};
+
+use crate::fault::{TowerFault, TowerField};
+use crate::place::place;
+use crate::registers::{Entry, Registers};
+use crate::said::{look_up, read_said};
+use edn_reader::{Element, VectorView};
+use std::alloc::Global;
+
+/// Adds the registers of a level to those before them.
+pub fn read_registers(
+    alloc: Global,
+    view: VectorView,
+    level: usize,
+    registers: &mut Registers,
+) -> Result<(), TowerFault>
+    ensures ok { OnOk result ((forms : List (Option RegisterForm)) → FormsLeft IsRegister view.entry forms
+        → registers_after level registers.old forms ≡ Ok registers.new) }
+    ensures err { IfErr result (λ fault. fault ≢ Memory → (forms : List (Option RegisterForm)) → FormsLeft IsRegister view.entry forms
+        → registers_after level registers.old forms ≡ Err fault) }
+{
+    let first = registers.len();
+    let mut left = view;
+    while let Some(element) = left.next() {
+        let (name, entry) = read_register(alloc, &element, level, first, registers)?;
+        registers.push(name, entry)?;
+    }
+    Ok(())
+}
+
+fn read_register(
+    alloc: Global,
+    element: &Element,
+    level: usize,
+    first: usize,
+    registers: &Registers,
+) -> Result<(Vec<u8>, Entry), TowerFault>
+    ensures register { (form : Option RegisterForm) → IsRegister (piece_of element.now) form → GivesOrMemory register_at result (register_of level first registers.now form) }
+    ensures new { IfOk result (λ entry. number_of registers.now entry.0.items ≡ None) }
+    ensures room { OnOk result (length registers.now < 65536) }
+{
+    match element.as_map() {
+        Some(map) => {
+            let said = read_said(alloc, &look_up(&map))?;
+            place(alloc, said, level, first, registers)
+        }
+        None => Err(TowerFault::Shape(TowerField::Registers)),
+    }
+}

@@ -1,0 +1,84 @@
+//! The registers of a tower by number, and by name.
+
+ghost use Rattle.std.specs.Prelude.{◌≡◌, ◌<◌, ◌∷◌, ◌++◌, [], length, None, OnOk, OnErr, IfErr};
+ghost use Rattle.std.specs.Option.{option_map};
+ghost use Rattle.std.specs.List.{slice_get};
+ghost use Rattle.tower_file.specs.Contents.{number_of};
+ghost use Rattle.tower_file.specs.Views.{register_at};
+
+use crate::fault::TowerFault;
+use indexmap::IndexMap;
+use intervals::{Claim, RegId};
+use std::alloc::Global;
+use std::marker::Model;
+
+/// What is kept of a register beside its name.
+#[derive(Debug, Drop)]
+pub struct Entry {
+    pub claim: Claim,
+    pub level: usize,
+    pub parts: Vec<RegId>,
+}
+
+/// At most 65,536 registers, in the order in which they were added.
+#[derive(Drop)]
+pub struct Registers {
+    by_name: IndexMap<Vec<u8>, Entry>,
+}
+
+impl Model for Registers {
+    ghost use Rattle.std.specs.Prelude.{◌≤◌, List, map, length};
+    ghost use Rattle.tower_file.specs.Contents.{Register};
+    ghost use Rattle.tower_file.specs.Views.{register_at};
+
+    ghost Value = { List Register };
+
+    ghost view = { λ r. map register_at r.by_name.entries };
+
+    ghost invariant = { λ r. length r.by_name.entries ≤ 65536 };
+}
+
+impl Registers {
+    pub fn new(alloc: Global) -> Registers
+        ensures { result ≡ [] }
+    {
+        Registers {
+            by_name: IndexMap::new(alloc),
+        }
+    }
+
+    pub fn len(&self) -> usize
+        ensures { result ≡ length self.now }
+    {
+        self.by_name.len()
+    }
+
+    /// The number of the register of that name.
+    pub fn find(&self, name: &[u8]) -> Option<RegId>
+        ensures { result ≡ number_of self.now name.now }
+    {
+        match self.by_name.get_index_of(name) {
+            Some(number) => Some(RegId(number as u32)),
+            None => None,
+        }
+    }
+
+    /// The name of a register, and what is kept beside it.
+    pub fn get(&self, id: RegId) -> Option<(&Vec<u8>, &Entry)>
+        ensures { option_map (λ entry. register_at (entry.0.now, entry.1.now)) result ≡ slice_get self.now id.0 }
+    {
+        self.by_name.get_index(id.0 as usize)
+    }
+
+    /// Adds a register of a new name.
+    pub fn push(&mut self, name: Vec<u8>, entry: Entry) -> Result<(), TowerFault>
+        requires new { number_of self.old name.items ≡ None }
+        requires room { length self.old < 65536 }
+        ensures ok { OnOk result (self.new ≡ self.old ++ register_at (name, entry) ∷ []) }
+        ensures err { OnErr result (self.new ≡ self.old) }
+        ensures memory { IfErr result (λ fault. fault ≡ TowerFault.Memory) }
+    {
+        self.by_name.insert(name, entry)?;
+        Ok(())
+    }
+}

@@ -1,0 +1,133 @@
+//! What a register says by itself.
+
+ghost use Rattle.std.specs.Prelude.{◌≡◌, List, Option};
+ghost use Rattle.edn_reader.specs.Grammar.{Piece};
+ghost use Rattle.edn_reader.specs.Pairs.{PairsLeft as PairsOfView, MembersLeft};
+ghost use Rattle.intervals.specs.Terms.{writers_of as listed_writers};
+ghost use Rattle.tower_file.specs.Form.{Given, Sequence, RegisterForm, AreRegisterFields, IsGiven, IsSequence, AreMembers};
+ghost use Rattle.tower_file.specs.Reading.{each, value_of as value_in, process_of as process_in, writers_in, domain_in, parts_in, said_by};
+ghost use Rattle.tower_file.specs.Views.{seen, GivesOrMemory};
+ghost use Rattle.tower_file.specs.Stated.{AreFound, PartsLeft, IsSaid, ShowsOrMemory, domain_items};
+
+use crate::element::{is_word, needed, process_of, read_initial, read_kind, read_name, value_of};
+use crate::fault::{TowerFault, TowerField};
+use edn_reader::{Field, MapView, VectorView};
+use intervals::{Kind, Value, Writers};
+use std::alloc::Global;
+
+/// What a register has under the keys that are read.
+#[derive(Clone, Copy)]
+pub struct Fields<'t> {
+    name: Field<'t>,
+    kind: Field<'t>,
+    writers: Field<'t>,
+    initial: Field<'t>,
+    domain: Field<'t>,
+    parts: Field<'t>,
+}
+
+/// What they say, before the register is placed among the others.
+#[derive(Drop)]
+pub struct Said<'t> {
+    pub name: &'t [u8],
+    pub kind: Kind,
+    pub writers: Writers,
+    pub initial: Option<Value>,
+    pub domain: Option<Vec<Value>>,
+    pub parts: Option<VectorView<'t>>,
+}
+
+pub fn look_up<'t>(map: &MapView<'t>) -> Fields<'t>
+    ensures { (pairs : List (Piece × Piece)) (form : RegisterForm) → PairsOfView map.now pairs → AreRegisterFields pairs form → AreFound result form }
+{
+    Fields {
+        name: map.field(b":name"),
+        kind: map.field(b":kind"),
+        writers: map.field(b":writers"),
+        initial: map.field(b":initial"),
+        domain: map.field(b":domain"),
+        parts: map.field(b":of"),
+    }
+}
+
+pub fn read_said<'t>(alloc: Global, fields: &Fields<'t>) -> Result<Said<'t>, TowerFault>
+    ensures { (form : RegisterForm) → AreFound fields.now form → ShowsOrMemory IsSaid result (said_by form) }
+{
+    let name = read_name(&fields.name)?;
+    let kind = read_kind(&fields.kind)?;
+    let writers = read_writers(alloc, &fields.writers)?;
+    let initial = read_initial(&fields.initial)?;
+    let domain = read_domain(alloc, &fields.domain)?;
+    let parts = read_parts(&fields.parts)?;
+    Ok(Said {
+        name,
+        kind,
+        writers,
+        initial,
+        domain,
+        parts,
+    })
+}
+
+fn read_writers(alloc: Global, field: &Field) -> Result<Writers, TowerFault>
+    ensures { (given : Given Sequence) → IsGiven IsSequence (seen field.now) given → GivesOrMemory listed_writers result (writers_in given) }
+{
+    let element = needed(field, TowerField::Writers)?;
+    if is_word(&element, b":any") {
+        return Ok(Writers::Any);
+    }
+    match element.as_vector() {
+        Some(view) => Ok(Writers::Listed(processes_of(alloc, view)?)),
+        None => Err(TowerFault::Shape(TowerField::Writers)),
+    }
+}
+
+fn processes_of(alloc: Global, view: VectorView) -> Result<Vec<i64>, TowerFault>
+    ensures { (members : List Piece) → MembersLeft view.entry members → GivesOrMemory (λ found. found.items) result (each process_in members) }
+{
+    let mut left = view;
+    let mut processes = Vec::new(alloc);
+    while let Some(element) = left.next() {
+        processes.push(process_of(&element)?)?;
+    }
+    Ok(processes)
+}
+
+fn read_domain(alloc: Global, field: &Field) -> Result<Option<Vec<Value>>, TowerFault>
+    ensures { (given : Given (Option (List Piece))) → IsGiven AreMembers (seen field.now) given → GivesOrMemory domain_items result (domain_in given) }
+{
+    let element = match field {
+        Field::Absent => return Ok(None),
+        Field::Once(element) => *element,
+        Field::Twice => return Err(TowerFault::Shape(TowerField::Domain)),
+    };
+    match element.as_vector() {
+        Some(view) => Ok(Some(values_of(alloc, view)?)),
+        None => Err(TowerFault::Shape(TowerField::Domain)),
+    }
+}
+
+fn values_of(alloc: Global, view: VectorView) -> Result<Vec<Value>, TowerFault>
+    ensures { (members : List Piece) → MembersLeft view.entry members → GivesOrMemory (λ found. found.items) result (each (value_in TowerField.Domain) members) }
+{
+    let mut left = view;
+    let mut values = Vec::new(alloc);
+    while let Some(element) = left.next() {
+        values.push(value_of(&element, TowerField::Domain)?)?;
+    }
+    Ok(values)
+}
+
+fn read_parts<'t>(field: &Field<'t>) -> Result<Option<VectorView<'t>>, TowerFault>
+    ensures { (given : Given (Option (List Piece))) → IsGiven AreMembers (seen field.now) given → ShowsOrMemory PartsLeft result (parts_in given) }
+{
+    let element = match field {
+        Field::Absent => return Ok(None),
+        Field::Once(element) => *element,
+        Field::Twice => return Err(TowerFault::Shape(TowerField::Parts)),
+    };
+    match element.as_vector() {
+        Some(view) => Ok(Some(view)),
+        None => Err(TowerFault::Shape(TowerField::Parts)),
+    }
+}

@@ -1,0 +1,50 @@
+//! The text of a tower file, read to its end.
+
+ghost use Rattle.std.specs.Prelude.{◌≡◌, ◌++◌, ◌∷◌, [], List, IfOk, IfErr};
+ghost use Rattle.edn_reader.specs.Grammar.{Piece, piece_of, IsElement};
+ghost use Rattle.edn_reader.specs.Text.{IsText};
+ghost use Rattle.edn_reader.specs.Fault.{FaultOf, IsMemory};
+ghost use Rattle.edn_reader.specs.Pairs.{IsField, IsWholeField};
+ghost use Rattle.tower_file.specs.Tower.{IsTextFault};
+
+use crate::fault::TowerFault;
+use edn_reader::{EdnFault, Element, Field, Reader};
+use std::alloc::Global;
+
+/// What the text is made of: nothing, one element, or more.
+pub fn read_text(alloc: Global, bytes: &[u8]) -> Result<Field<'_>, TowerFault>
+    ensures text { IfOk result (λ found. (pieces : List Piece) × IsText bytes.now pieces × IsField found pieces) }
+    ensures whole { IfOk result IsWholeField }
+    ensures fault { IfErr result (IsTextFault bytes.now) }
+{
+    let mut reader = Reader::new(alloc, bytes);
+    let mut found = Field::Absent;
+    loop {
+        match reader.next() {
+            Ok(Some(element)) => found = one_more(found, element),
+            Ok(None) => return Ok(found),
+            Err(fault) => return Err(fault_of(fault)),
+        }
+    }
+}
+
+fn one_more<'t>(found: Field<'t>, element: Element<'t>) -> Field<'t>
+    ensures field { (pieces : List Piece) → IsField found.entry pieces → IsField result (pieces ++ piece_of element.entry ∷ []) }
+    ensures whole { IsWholeField found.entry → IsElement (piece_of element.entry) → IsWholeField result }
+{
+    match found {
+        Field::Absent => Field::Once(element),
+        Field::Once(_) | Field::Twice => Field::Twice,
+    }
+}
+
+/// A fault of the text; want of memory is one of its own.
+fn fault_of(fault: EdnFault) -> TowerFault
+    ensures memory { IsMemory fault → result ≡ TowerFault.Memory }
+    ensures text { (IsMemory fault → ⊥) → result ≡ TowerFault.Edn fault }
+{
+    match fault {
+        EdnFault::Memory(_) => TowerFault::Memory,
+        _ => TowerFault::Edn(fault),
+    }
+}
