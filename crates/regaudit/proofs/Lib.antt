@@ -6,3 +6,6 @@ pub mod Items
 pub mod SoFar
 pub mod Audits
 pub mod Endings
+pub mod Commands
+pub mod Listings
+pub mod Asking

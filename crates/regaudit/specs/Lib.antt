@@ -5,3 +5,6 @@ pub mod Trace
 pub mod Session
 pub mod Audit
 pub mod Input
+pub mod Words
+pub mod Listing
+pub mod Run

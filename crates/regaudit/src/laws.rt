@@ -1,10 +1,12 @@
-//! Laws of the elements of a trace. Each is proved, and does nothing.
+//! Laws of the elements of a trace, and of the words of the command line. Each is proved, and does
+//! nothing.
 
-ghost use Rattle.std.specs.Prelude.{◌≡◌, ℕ, Result};
+ghost use Rattle.std.specs.Prelude.{◌≡◌, ℕ, true, List, [], ◌∷◌, Result, Some, None, codes};
 ghost use Rattle.edn_reader.specs.Grammar.{Piece, IsElement};
 ghost use Rattle.regaudit.specs.declared.event.Item.{Item};
 ghost use Rattle.regaudit.specs.declared.event.FormFault.{FormFault};
 ghost use Rattle.regaudit.specs.Item.{IsItem, lying_at};
+ghost use Rattle.regaudit.specs.Words.{Safe, Tower, asked, is_plain};
 
 use edn_reader::laws::{members_of_vector, pairs_of_map};
 
@@ -15,4 +17,15 @@ pub fn one_item()
 {
     pairs_of_map();
     members_of_vector();
+}
+
+/// What words ask for, whatever the program's name: the command is named behind it, and then its
+/// file. A file whose name begins with a hyphen stands behind `--`.
+pub fn words_in_turn()
+    ensures input { (program : List ℕ) → asked (program ∷ codes "safe" ∷ []) ≡ Some (Safe None) }
+    ensures trace { (program name : List ℕ) → is_plain name ≡ true → asked (program ∷ codes "safe" ∷ name ∷ []) ≡ Some (Safe (Some name)) }
+    ensures tower { (program name : List ℕ) → is_plain name ≡ true → asked (program ∷ codes "tower" ∷ name ∷ []) ≡ Some (Tower name) }
+    ensures hyphens { (program name : List ℕ) → asked (program ∷ codes "tower" ∷ codes "--" ∷ name ∷ []) ≡ Some (Tower name) }
+    ensures alone { (program : List ℕ) → asked (program ∷ []) ≡ None }
+{
 }

@@ -1,7 +1,11 @@
-//! Judges a trace of one safe register.
+//! Judges a trace of one safe register, and lists the registers of a tower.
 #![tactic(auto)]
 
 mod audit;
+mod fault;
+mod files;
+mod listing;
+mod words;
 mod event;
 mod form;
 mod input;
@@ -13,27 +17,30 @@ mod session;
 #[cfg(test)]
 mod tests;
 
+use crate::fault::RunFault;
+use crate::files::HostFiles;
+use std::env;
+use std::io;
 use std::process::ExitCode;
 use std::rt::Env;
-use std::{env, io};
 
 fn main(rt: HostRuntime) -> ExitCode {
-    let status = match is_safe_command(&rt) {
-        Ok(true) => run::run_safe(&rt, &mut rt.stdin(), &mut rt.stdout(), &mut rt.stderr()),
-        Err(error) if error.kind() == io::ErrorKind::OutOfMemory => {
-            run::complain(&mut rt.stderr(), "out of memory")
-        }
-        Ok(false) | Err(_) => run::complain(&mut rt.stderr(), "usage"),
+    let mut err = rt.stderr();
+    let status = match words_of(&rt) {
+        Ok(words) => run::run(
+            &rt,
+            words.as_slice(),
+            &mut HostFiles::new(&rt),
+            &mut rt.stdin(),
+            &mut rt.stdout(),
+            &mut err,
+        ),
+        Err(_) => run::conclude(Err(RunFault::Memory), &mut err),
     };
     ExitCode::from(status)
 }
 
-/// Whether the words after the program's name are `safe` alone.
-fn is_safe_command<R: Env + Alloc>(rt: &R) -> io::Result<bool> {
-    let mut words = env::args(rt)?;
-    words.next();
-    match (words.next(), words.next()) {
-        (Some(word), None) => Ok(word.as_str() == "safe"),
-        _ => Ok(false),
-    }
+/// The words of the command line, the program's name among them.
+fn words_of<R: Env + AllocGlobal>(rt: &R) -> io::Result<Vec<String>> {
+    Ok(env::args(rt)?.collect(rt.alloc())?)
 }

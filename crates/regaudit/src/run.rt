@@ -1,21 +1,46 @@
-//! The command `regaudit safe` over any reader and two writers.
+//! The program's commands, over files, an input and two outputs.
 
-ghost use Rattle.std.specs.Prelude.{◌≡◌, ◌≢◌, OnOk, IfSome, MatchOption};
+ghost use Rattle.std.specs.Prelude.{◌≡◌, ◌≢◌, OnOk, IfOk, IfSome, MatchOption, MatchResult, map};
 ghost use Rattle.std.specs.Io.KnownBytes.{Appends, Keeps};
 ghost use Rattle.regaudit.specs.Audit.{IsAudited, register_line, status_of};
+ghost use Rattle.regaudit.specs.Words.{asked_of};
+ghost use Rattle.regaudit.specs.Run.{IsListed, IsCarriedOut, IsDone};
 
 use crate::audit::{Audit, audit_trace};
-use crate::input::{InputFault, read_whole};
+use crate::fault::RunFault;
+use crate::files::{Files, Missing};
+use crate::input::read_whole;
+use crate::listing::tower_text;
+use crate::words::{Command, read_words};
+use std::convert::AsStr;
 use std::io;
 use std::io::{Read, Write};
+use tower_file::Tower;
 
 /// The status of a run whose trace broke, or that could not read, write or go on.
 pub const BROKEN: u8 = 2;
 
-/// Judges the trace that is read from `input` and writes its register's line to `out`. The status
-/// is 1 where the register fails, else 3 where an element was refused, else 0. It is 2 where the
-/// trace broke, which has its line all the same, and where the input could not be read, memory was
-/// refused or the line could not be written, which is said on `err`.
+/// Carries out the command that the words ask for, of which the first is the program's name. What
+/// is found goes to `out`. The status is 1 where a register fails, else 3 where an element was
+/// refused, else 0. It is 2 where a trace broke, which has its line all the same, and where the
+/// words ask for no command, a file or the input cannot be read, a tower file has a fault, memory
+/// was refused or `out` could not be written, which is said on `err`.
+pub fn run<'a, A: AllocGlobal, S: AsStr, F: Files, R: Read, W: Write, E: Write>(
+    rt: &A,
+    words: &'a [S],
+    files: &mut F,
+    input: &mut R,
+    out: &mut W,
+    err: &mut E,
+) -> u8
+    ensures done { result ≢ BROKEN → IsDone (map S.text words.entry.now) (F.held files.old) (R.remaining input.old) result (W.contents out.old) (W.contents out.new) }
+    ensures silent { result ≢ BROKEN → Keeps (E.contents err.old) (E.contents err.new) }
+{
+    let outcome = run_words(rt, words, files, input, out);
+    conclude(outcome, err)
+}
+
+/// The command `safe` on standard input.
 pub fn run_safe<A: AllocGlobal, R: Read, W: Write, E: Write>(
     rt: &A,
     input: &mut R,
@@ -25,26 +50,101 @@ pub fn run_safe<A: AllocGlobal, R: Read, W: Write, E: Write>(
     ensures line { result ≢ BROKEN → IfSome (R.remaining input.old) (λ bytes. IsAudited bytes result (W.contents out.old) (W.contents out.new)) }
     ensures silent { result ≢ BROKEN → Keeps (E.contents err.old) (E.contents err.new) }
 {
-    let bytes = match read_whole(rt.alloc(), input) {
-        Ok(bytes) => bytes,
-        Err(InputFault::Unreadable) => return complain(err, "cannot read -"),
-        Err(InputFault::Memory) => return complain(err, "out of memory"),
-    };
-    let Ok(audit) = audit_trace(rt.alloc(), bytes.as_slice()) else {
-        return complain(err, "out of memory");
-    };
-    if write_line(out, audit.holds, audit.operations).is_err() {
-        return complain(err, "cannot write");
-    }
-    status(&audit)
+    let outcome = judge(rt, "-", input, out);
+    conclude(outcome, err)
 }
 
-/// Says on standard error why the run broke off.
-pub fn complain<E: Write>(err: &mut E, message: &str) -> u8
-    ensures { result ≡ BROKEN }
+/// The status of a run; why it broke off is said on standard error.
+pub fn conclude<'a, E: Write>(outcome: Result<u8, RunFault<'a>>, err: &mut E) -> u8
+    ensures { MatchResult outcome.entry (λ status. (result ≡ status) × Keeps (E.contents err.old) (E.contents err.new)) (λ fault. result ≡ BROKEN) }
 {
-    let _ = writeln!(err, "regaudit: {message}");
-    BROKEN
+    match outcome {
+        Ok(status) => status,
+        Err(fault) => {
+            let _ = write!(err, "{fault}");
+            BROKEN
+        }
+    }
+}
+
+fn run_words<'a, A: AllocGlobal, S: AsStr, F: Files, R: Read, W: Write>(
+    rt: &A,
+    words: &'a [S],
+    files: &mut F,
+    input: &mut R,
+    out: &mut W,
+) -> Result<u8, RunFault<'a>>
+    ensures { IfOk result (λ status. status ≢ BROKEN → IsDone (map S.text words.entry.now) (F.held files.old) (R.remaining input.old) status (W.contents out.old) (W.contents out.new)) }
+{
+    match read_words(rt.alloc(), words) {
+        Ok(command) => carry_out(rt, command, files, input, out),
+        Err(error) => Err(RunFault::of_words(error)),
+    }
+}
+
+fn carry_out<'a, A: AllocGlobal, F: Files, R: Read, W: Write>(
+    rt: &A,
+    command: Command<'a>,
+    files: &mut F,
+    input: &mut R,
+    out: &mut W,
+) -> Result<u8, RunFault<'a>>
+    ensures { IfOk result (λ status. status ≢ BROKEN → IsCarriedOut (asked_of command.entry) (F.held files.old) (R.remaining input.old) status (W.contents out.old) (W.contents out.new)) }
+{
+    match command {
+        Command::Safe(None) => judge(rt, "-", input, out),
+        Command::Safe(Some(name)) => match files.open(name) {
+            Ok(mut trace) => judge(rt, name, &mut trace, out),
+            Err(Missing) => Err(RunFault::Unreadable(name)),
+        },
+        Command::Tower(name) => match files.open(name) {
+            Ok(mut file) => list(rt, name, &mut file, out),
+            Err(Missing) => Err(RunFault::Unreadable(name)),
+        },
+    }
+}
+
+/// Judges a trace and writes the line of its register.
+fn judge<'a, A: AllocGlobal, R: Read, W: Write>(
+    rt: &A,
+    name: &'a str,
+    input: &mut R,
+    out: &mut W,
+) -> Result<u8, RunFault<'a>>
+    ensures { IfOk result (λ status. status ≢ BROKEN → IfSome (R.remaining input.old) (λ bytes. IsAudited bytes status (W.contents out.old) (W.contents out.new))) }
+{
+    let bytes = match read_whole(rt.alloc(), input) {
+        Ok(bytes) => bytes,
+        Err(fault) => return Err(RunFault::of_input(fault, name)),
+    };
+    let Ok(audit) = audit_trace(rt.alloc(), bytes.as_slice()) else {
+        return Err(RunFault::Memory);
+    };
+    write_line(out, audit.holds, audit.operations)?;
+    Ok(status(&audit))
+}
+
+/// Reads a tower file and writes the lines of its registers.
+fn list<'a, A: AllocGlobal, R: Read, W: Write>(
+    rt: &A,
+    name: &'a str,
+    file: &mut R,
+    out: &mut W,
+) -> Result<u8, RunFault<'a>>
+    ensures { IfOk result (λ status. IfSome (R.remaining file.old) (λ bytes. IsListed bytes status (W.contents out.old) (W.contents out.new))) }
+{
+    let bytes = match read_whole(rt.alloc(), file) {
+        Ok(bytes) => bytes,
+        Err(fault) => return Err(RunFault::of_input(fault, name)),
+    };
+    let tower = match Tower::read(rt.alloc(), bytes.as_slice()) {
+        Ok(tower) => tower,
+        Err(fault) => return Err(RunFault::of_tower(fault)),
+    };
+    let text = tower_text(rt.alloc(), &tower)?;
+    out.write_all(text.as_bytes())?;
+    out.flush()?;
+    Ok(0)
 }
 
 fn status(audit: &Audit) -> u8

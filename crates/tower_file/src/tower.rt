@@ -1,6 +1,6 @@
 //! A tower: its levels and its registers.
 
-ghost use Rattle.std.specs.Prelude.{◌≡◌, ◌≢◌, ◌⊎◌, length, Ok, Err, IfOk, IfErr};
+ghost use Rattle.std.specs.Prelude.{◌≡◌, ◌≢◌, ◌≤◌, ◌⊎◌, length, Ok, Err, IfOk, IfErr};
 ghost use Rattle.std.specs.Option.{option_map};
 ghost use Rattle.std.specs.List.{slice_get};
 ghost use Rattle.intervals.specs.Terms.{terms_of};
@@ -58,7 +58,8 @@ impl Tower {
 
     /// How many registers there are.
     pub fn len(&self) -> usize
-        ensures { result ≡ length self.now.registers }
+        ensures length { result ≡ length self.now.registers }
+        ensures most { result ≤ 65536 }
     {
         self.registers.len()
     }

@@ -12,7 +12,7 @@ use Rattle.tower_file.proofs.register.read_registers.Goals as goal
 pub returns-in_err-name-clause-err : goal.returns-in_err-name-clause-err
 returns-in_err-name-clause-err c =
     let p = err_from_is_err_and c.from_residual.result c.from_residual.ensures.1 in
-    rw (p.1, p.2) (λ other forms h. subst (λ (first : ℕ). through (with_register c.args.level first) c.args.registers.now forms ≡ Err c.in_err-name.field-0.0) c.len-first.ensures
+    rw (p.1, p.2) (λ other forms h. subst (λ (first : ℕ). through (with_register c.args.level first) c.args.registers.now forms ≡ Err c.in_err-name.field-0.0) c.len-first.ensures.length
     (after_fails IsRegister (with_register c.args.level c.len-first.result) c.args.view c.loop-element.left c.next.new.self c.in-Some.element c.args.registers.now c.loop-element.registers c.in_err-name.field-0.0
     c.loop-element.invariant c.in-Some.ensures.member (λ form is. no_more _ _ _ form _ (c.in_err-name.ensures.register form is other)) forms h))
 
@@ -28,5 +28,5 @@ returns-in_err-push-clause-err c =
 
 pub returns-clause-ok : goal.returns-clause-ok
 returns-clause-ok c forms h =
-    subst (λ (first : ℕ). through (with_register c.args.level first) c.args.registers.now forms ≡ Ok c.loop-element.registers) c.len-first.ensures
+    subst (λ (first : ℕ). through (with_register c.args.level first) c.args.registers.now forms ≡ Ok c.loop-element.registers) c.len-first.ensures.length
     (after_ends IsRegister (with_register c.args.level c.len-first.result) c.args.view c.loop-element.left c.next.new.self c.args.registers.now c.loop-element.registers c.loop-element.invariant c.in_default.ensures.member forms h)
