@@ -2,9 +2,8 @@
 
 ghost use Rattle.std.specs.Prelude.{◌≡◌, ℕ, List, Option, Some, None, IfOk, IfSome};
 
-use std::fs;
 use std::io::Read;
-use std::rt;
+use std::{fs, rt};
 
 /// A file that cannot be opened.
 #[derive(Clone, Copy, Debug, PartialEq, Eq)]

@@ -27,5 +27,4 @@ pub fn words_in_turn()
     ensures tower { (program name : List ℕ) → is_plain name ≡ true → asked (program ∷ codes "tower" ∷ name ∷ []) ≡ Some (Tower name) }
     ensures hyphens { (program name : List ℕ) → asked (program ∷ codes "tower" ∷ codes "--" ∷ name ∷ []) ≡ Some (Tower name) }
     ensures alone { (program : List ℕ) → asked (program ∷ []) ≡ None }
-{
-}
+{}

@@ -25,7 +25,11 @@ pub fn tower_text(alloc: Global, tower: &Tower) -> Result<String, AllocError>
 fn push_register(text: &mut String, tower: &Tower, id: RegId) -> Result<(), AllocError>
     ensures { OnOk result (string_bytes text.new ≡ string_bytes text.old ++ option_map_or (register_line tower.now.levels id.0) (slice_get tower.now.registers id.0) []) }
 {
-    let (Some(name), Some(level), Some(claim)) = (tower.name(id), tower.level_of(id), tower.claim(id)) else {
+    let (Some(name), Some(level), Some(claim)) = (
+        tower.name(id),
+        tower.level_of(id),
+        tower.claim(id),
+    ) else {
         return Ok(());
     };
     write!(text, "{} ", id.0)?;

@@ -2,27 +2,28 @@
 #![tactic(auto)]
 
 mod audit;
+#[cfg(test)]
+mod command_tests;
+mod event;
 mod fault;
 mod files;
-mod listing;
-mod words;
-mod event;
 mod form;
 mod input;
 pub mod laws;
+mod listing;
 mod pairing;
 mod register;
 mod run;
 mod session;
 #[cfg(test)]
 mod tests;
+mod words;
 
 use crate::fault::RunFault;
 use crate::files::HostFiles;
-use std::env;
-use std::io;
 use std::process::ExitCode;
 use std::rt::Env;
+use std::{env, io};
 
 fn main(rt: HostRuntime) -> ExitCode {
     let mut err = rt.stderr();

@@ -11,16 +11,16 @@ use std::test::Fail;
 /// A reader of some bytes, in pieces of a size. It is interrupted at each second call, or fails at
 /// one call.
 #[derive(Drop)]
-struct Source<'t> {
+pub struct Source<'t> {
     bytes: &'t [u8],
     piece: usize,
     interrupted: bool,
-    fails_at: u32,
+    pub fails_at: u32,
     calls: u32,
 }
 
 impl<'t> Source<'t> {
-    fn new(bytes: &'t [u8]) -> Self {
+    pub fn new(bytes: &'t [u8]) -> Self {
         Source {
             bytes,
             piece: 1 << 20,
@@ -49,7 +49,7 @@ impl Read for Source<'_> {
 
 /// A writer that takes nothing.
 #[derive(Drop)]
-struct Full;
+pub struct Full;
 
 impl Write for Full {
     fn write(&mut self, _buf: &[u8]) -> io::Result<usize> {

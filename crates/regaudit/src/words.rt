@@ -45,8 +45,9 @@ fn command_of<'a>(matches: &ArgMatches<'a>) -> Option<Command<'a>>
 fn command_line<'a>(alloc: Global) -> Result<clap::Command<'a>, AllocError>
     ensures { IfOk result (λ line. app_of line ≡ line_of_commands) }
 {
-    let trace = Arg::new(alloc, "TRACE")
-        .help("The trace, in EDN; standard input where none is named");
+    let trace = Arg::new(alloc, "TRACE").help(
+        "The trace, in EDN; standard input where none is named",
+    );
     let safe = clap::Command::new(alloc, "safe")
         .about("Judges a trace of one safe register, r, at first 0, written by process 0")
         .arg(trace)?;
