@@ -1,5 +1,5 @@
 -- The ways over elements, gaps and tags by tokens alone.
-use Rattle.std.proofs.Common.{◌≡◌, ◌≢◌, ◌⊎◌, inl, inr, ℕ, zero, suc, pred, ◌+◌, ◌-◌, ◌<◌, ◌≤◌, true, List, [], length, drop, Some, refl, sym, ap, subst, ◌∙◌, arith}
+use Rattle.std.proofs.Common.{◌≡◌, ◌≢◌, ◌⊎◌, inl, inr, ℕ, zero, suc, pred, ◌+◌, ◌-◌, ◌<◌, ◌≤◌, true, false, List, [], length, drop, Some, refl, sym, ap, subst, ◌∙◌, arith}
 use Rattle.std.proofs.Math.ListN.{drop_of_length-le}
 use Rattle.std.proofs.lemmas.Bool.{cases_lt}
 use Rattle.std.proofs.lemmas.List.{drop-drop, drop_at}
@@ -7,13 +7,15 @@ use Rattle.edn_reader.specs.declared.bytes.Bracket.{Bracket}
 use Rattle.edn_reader.specs.declared.element.ElementKind.{ElementKind}
 use Rattle.edn_reader.specs.declared.element.Core.{Core}
 use Rattle.edn_reader.specs.declared.skip.Counts.{Counts}
+use Rattle.edn_reader.specs.declared.skip.Front.{Front}
+use Rattle.edn_reader.specs.declared.token.Found.{Found}
 use Rattle.edn_reader.specs.declared.token.Token.{Token}
 use Rattle.edn_reader.specs.declared.token.Token.TheVariants.{Gap, Leaf, Opens, Closes, Unfinished}
 use Rattle.edn_reader.specs.declared.token.Opener.{Opener}
 use Rattle.edn_reader.specs.declared.token.Opener.TheVariants as openers
 use Rattle.edn_reader.specs.Grammar.{Piece, IsGap, nothing, skipped, discarded, IsElementAt, leaf, bracketed, tagged, IsElements, none, next, fits}
 use Rattle.edn_reader.specs.Token.{lexed}
-use Rattle.edn_reader.specs.Skipping.{counted, ended_at, ended_one, wanted_at, closed_at, opened_with, kind_token, NoGap, SkipsElement, SkipsGap, SkipsTags}
+use Rattle.edn_reader.specs.Skipping.{counted, ended_at, ended_one, wanted_at, closed_at, opened_with, kind_token, is_tag_token, Stands, NoGap, SkipsElement, SkipsGap, SkipsTags}
 use Rattle.edn_reader.proofs.Lexing.{Lexed, lexed_token}
 use Rattle.edn_reader.proofs.Places.{Replaced, moved_gap, moved_element, wider_element}
 
@@ -130,6 +132,12 @@ scanned_more bytes from at end counts more scanned busy e f start after rest h =
       subst (λ (c : Counts). Scans c (k.0 + token.1) (drop end bytes) after rest) (sym e) (subst (λ (x : List ℕ). Scans (counted token.0 counts) (k.0 + token.1) x after rest) left step),
     )
 
+-- The first token.
+pub scanned_first : (bytes : List ℕ) (front : Front) (counts : Counts) → Stands bytes front → counts ≡ counted front.found.token (counts_of 0 1) → Scanned bytes front.at front.found.end counts
+scanned_first bytes front counts s e =
+    scanned_more bytes front.at front.at front.found.end (counts_of 0 1) counts (λ start after rest h. (start, refl, h)) (omega arith)
+    (e ∙ ap (λ (f : Found). counted f.token (counts_of 0 1)) s.found) (ap (λ (f : Found). f.end) s.found)
+
 lexed_nothing : lexed [] ≡ (Unfinished, 0)
 unfolding lexed
 lexed_nothing = refl
@@ -236,7 +244,7 @@ gap_discard bytes from at inner end left e f skips le room start after rest gap 
     let m = over_discard bytes inner end k.3 clear e (between bytes (drop at bytes) at inner token.1 refl (sym f)) skips le in
     (m.0, m.1, omega (arith, k.2, m.2, f), m.3)
 
-pub skips_gap : (bytes : List ℕ) (from at : ℕ) → GapLeft bytes from at → ((lexed (drop at bytes)).0 ≡ Gap → ⊥) → ((lexed (drop at bytes)).0 ≡ Opens openers.Discard → ⊥) → SkipsGap bytes from at
+skips_gap : (bytes : List ℕ) (from at : ℕ) → GapLeft bytes from at → ((lexed (drop at bytes)).0 ≡ Gap → ⊥) → ((lexed (drop at bytes)).0 ≡ Opens openers.Discard → ⊥) → SkipsGap bytes from at
 skips_gap bytes from at left white discard room start after rest gap clear =
     let k = left room start after rest gap clear in
     let last : k.1 ≡ after = stop_gap k.3 white discard in
@@ -298,7 +306,7 @@ stop_tags (leaf token) other = refl
 stop_tags (bracketed token inside gap last fit even) other = refl
 stop_tags (tagged token gap element) other = absurd (other (lexed_token token).token_is)
 
-pub tags_tag : (bytes : List ℕ) (from at inner end : ℕ) → TagsLeft bytes from at → (lexed (drop at bytes)).0 ≡ Opens openers.Tag → inner ≡ at + (lexed (drop at bytes)).1
+tags_tag : (bytes : List ℕ) (from at inner end : ℕ) → TagsLeft bytes from at → (lexed (drop at bytes)).0 ≡ Opens openers.Tag → inner ≡ at + (lexed (drop at bytes)).1
     → SkipsGap bytes inner end → inner ≤ end → TagsLeft bytes from end
 tags_tag bytes from at inner end left e f skips le room start after kind core rest element =
     let k = left room start after kind core rest element in
@@ -306,11 +314,68 @@ tags_tag bytes from at inner end left e f skips le room start after kind core re
     let m = over_tag bytes inner end k.4 e (between bytes (drop at bytes) at inner token.1 refl (sym f)) skips le in
     (m.0, m.1, m.2, omega (arith, k.3, m.3, f), m.4)
 
-pub skips_tags : (bytes : List ℕ) (from at : ℕ) → TagsLeft bytes from at → ((lexed (drop at bytes)).0 ≡ Opens openers.Tag → ⊥) → SkipsTags bytes from at
+skips_tags : (bytes : List ℕ) (from at : ℕ) → TagsLeft bytes from at → ((lexed (drop at bytes)).0 ≡ Opens openers.Tag → ⊥) → SkipsTags bytes from at
 skips_tags bytes from at left other room start after kind core rest element =
     let k = left room start after kind core rest element in
     let last : k.1 ≡ core.start = stop_tags k.4 other in
     omega (arith, k.3, last)
+
+-- ---- tokens that are met
+
+-- What stands at a place is the token there.
+pub stands_token : (bytes : List ℕ) (front : Front) (at : ℕ) → Stands bytes front → front.at ≡ at → (lexed (drop at bytes)).0 ≡ front.found.token
+stands_token bytes front at s e = ap (λ (n : ℕ). (lexed (drop n bytes)).0) (sym e) ∙ sym (ap (λ (f : Found). f.token) s.found)
+
+pub stands_end : (bytes : List ℕ) (front : Front) (at : ℕ) → Stands bytes front → front.at ≡ at → front.found.end ≡ at + (lexed (drop at bytes)).1
+stands_end bytes front at s e = ap (λ (f : Found). f.end) s.found ∙ ap (λ (n : ℕ). n + (lexed (drop n bytes)).1) e
+
+-- At the end of the bytes there is no element to go over.
+pub skips_nothing : (bytes : List ℕ) (from : ℕ) → length bytes ≤ from → SkipsElement bytes from from
+skips_nothing bytes from le = skips_element bytes from from (counts_of 0 1) (λ start after rest h. (start, refl, h)) (λ lt. absurd (omega arith))
+
+-- A gap ends at a token that is of none.
+pub gap_met : (bytes : List ℕ) (from at : ℕ) (front : Front) → GapLeft bytes from at → Stands bytes front → front.at ≡ at
+    → (front.found.token ≡ Gap → ⊥) → (front.found.token ≡ Opens openers.Discard → ⊥) → SkipsGap bytes from front.at
+gap_met bytes from at front left s e white discard =
+    let token = stands_token bytes front at s e in
+    subst (SkipsGap bytes from) (sym e) (skips_gap bytes from at left (λ f. white (sym token ∙ f)) (λ f. discard (sym token ∙ f)))
+
+-- Or at the end of the bytes.
+pub gap_at_end : (bytes : List ℕ) (from at : ℕ) → GapLeft bytes from at → at ≤ length bytes → length bytes ≤ at → SkipsGap bytes from (length bytes)
+gap_at_end bytes from at left low high =
+    let last = none_at_end bytes at high in
+    subst (SkipsGap bytes from) (omega (arith, low, high))
+    (skips_gap bytes from at left (λ e. let both : Gap ≡ Unfinished = sym e ∙ last in absurd cc) (λ e. let both : Opens openers.Discard ≡ Unfinished = sym e ∙ last in absurd cc))
+
+tag_is : (token : Token) → is_tag_token token ≡ true → token ≡ Opens openers.Tag
+tag_is Gap e = absurd cc
+tag_is (Leaf kind) e = absurd cc
+tag_is (Opens openers.List) e = absurd cc
+tag_is (Opens openers.Vector) e = absurd cc
+tag_is (Opens openers.Map) e = absurd cc
+tag_is (Opens openers.Set) e = absurd cc
+tag_is (Opens openers.Tag) e = refl
+tag_is (Opens openers.Discard) e = absurd cc
+tag_is (Closes bracket) e = absurd cc
+tag_is Unfinished e = absurd cc
+
+-- One tag further.
+pub tags_on : (bytes : List ℕ) (from end : ℕ) (front : Front) → TagsLeft bytes from front.at → Stands bytes front → is_tag_token front.found.token ≡ true
+    → SkipsGap bytes front.found.end end → front.found.end ≤ end → TagsLeft bytes from end
+tags_on bytes from end front left s t skips le =
+    tags_tag bytes from front.at front.found.end end left (stands_token bytes front front.at s refl ∙ tag_is front.found.token t) (stands_end bytes front front.at s refl) skips le
+
+-- The tags end at another token.
+pub tags_met : (bytes : List ℕ) (from : ℕ) (front : Front) → TagsLeft bytes from front.at → Stands bytes front → is_tag_token front.found.token ≡ false → SkipsTags bytes from front.at
+tags_met bytes from front left s t =
+    skips_tags bytes from front.at left
+    (λ e. let both : false ≡ true = sym t ∙ ap is_tag_token (sym (stands_token bytes front front.at s refl) ∙ e) in absurd cc)
+
+-- Or at the end of the bytes.
+pub tags_at_end : (bytes : List ℕ) (from : ℕ) → TagsLeft bytes from (length bytes) → SkipsTags bytes from (length bytes)
+tags_at_end bytes from left =
+    let last = none_at_end bytes (length bytes) (omega arith) in
+    skips_tags bytes from (length bytes) left (λ e. let both : Opens openers.Tag ≡ Unfinished = sym e ∙ last in absurd cc)
 
 -- ---- the core of an element
 

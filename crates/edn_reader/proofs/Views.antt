@@ -1,8 +1,7 @@
 -- Elements on their own, the elements between brackets, and the fields of a map.
-use Rattle.std.proofs.Common.{◌≡◌, ◌↔◌, ◌⊎◌, inl, inr, ℕ, suc, ◌+◌, ◌-◌, ◌<◌, ◌≤◌, Bool, true, false, not, cond, ◌&&◌, List, [], ◌∷◌, ◌++◌, length, take, drop, Option, Some, None, refl, sym, ap, subst, ◌∙◌, append_assoc, arith, length-drop}
+use Rattle.std.proofs.Common.{◌≡◌, ◌↔◌, ℕ, suc, ◌+◌, ◌-◌, ◌≤◌, Bool, true, false, not, cond, ◌&&◌, List, [], ◌∷◌, ◌++◌, length, take, drop, Option, Some, None, refl, sym, ap, subst, ◌∙◌, append_assoc, arith}
 use Rattle.std.specs.List.{AllByRecursion}
 use Rattle.std.proofs.Math.Seq.{take-append_seam}
-use Rattle.std.proofs.lemmas.Bool.{cases_lt}
 use Rattle.std.proofs.lemmas.Bool.Decides.{nat_tests}
 use Rattle.std.proofs.lemmas.List.{append-nil, drop-drop}
 use Rattle.edn_reader.specs.declared.bytes.Bracket.{Bracket}
@@ -29,7 +28,7 @@ use Rattle.edn_reader.specs.Pairs.{PartsFrom, HasParts, PartsLeft, NextPart, in_
 use Rattle.edn_reader.specs.Given.{One, given, seen as seen_of}
 use Rattle.edn_reader.proofs.Lexing.{lexed_token}
 use Rattle.edn_reader.proofs.Places.{moved_element, cancel_end, wider_element}
-use Rattle.edn_reader.proofs.Skipping.{core_at, element_no_gap, element_kind, beyond_gap, beyond_element, none_at_end}
+use Rattle.edn_reader.proofs.Skipping.{core_at, element_no_gap, element_kind, beyond_gap, beyond_element}
 use Rattle.edn_reader.proofs.Unique.{same_first, no_first}
 
 -- ---- elements on their own
@@ -431,13 +430,6 @@ parts_are_elements h = let low : 63 ≤ 64 = omega arith in each_is_element low 
 pub given_is_element : (opener : Opener) (old after : Parts) (element : Element) (pieces : List Piece) → PartsLeft opener old pieces → NextPart opener (Some element) after pieces → IsElement (piece_of element)
 given_is_element opener old after element [] h n = absurd n
 given_is_element opener old after element (piece ∷ pieces) h n = subst IsElement (sym n.0) (parts_are_elements h).0
-
-pub fewer_bytes : (bytes : List ℕ) (start middle end : ℕ) (kind : ElementKind) → middle ≤ length bytes → (middle < length bytes → middle < end) → Some kind ≡ kind_token (lexed (drop middle bytes)).0
-    → middle ≤ end → end ≤ length bytes → length (drop end bytes) < length bytes
-fewer_bytes bytes start middle end kind within forward e after last = by_length (cases_lt middle (length bytes)) where
-  by_length : (middle < length bytes) ⊎ (length bytes ≤ middle) → length (drop end bytes) < length bytes
-  by_length (inl lt) = omega (arith, length-drop end bytes, forward lt)
-  by_length (inr le) = absurd (no_kind (sym e) (ap kind_token (none_at_end bytes middle le)))
 
 -- ---- pairs
 

@@ -1,15 +1,16 @@
 -- Ways over gaps, tags and elements that are whole. No public clause speaks of them.
-use Rattle.std.specs.Prelude.{◌≡◌, ◌≢◌, ◌+◌, ℕ, zero, suc, pred, List, ◌∷◌, drop, Option, Some, None}
+use Rattle.std.specs.Prelude.{◌≡◌, ◌≢◌, ◌+◌, ◌≤◌, ◌<◌, ℕ, zero, suc, pred, Bool, true, false, List, ◌∷◌, length, drop, Option, Some, None}
 use Rattle.edn_reader.specs.declared.element.ElementKind.{ElementKind}
 use Rattle.edn_reader.specs.declared.element.Core.{Core}
 use Rattle.edn_reader.specs.declared.parts.Parts.{Parts}
 use Rattle.edn_reader.specs.declared.skip.Counts.{Counts}
+use Rattle.edn_reader.specs.declared.skip.Front.{Front}
 use Rattle.edn_reader.specs.declared.token.Token.{Token}
 use Rattle.edn_reader.specs.declared.token.Token.TheVariants.{Gap, Leaf, Opens, Closes, Unfinished}
 use Rattle.edn_reader.specs.declared.token.Opener.{Opener}
 use Rattle.edn_reader.specs.declared.token.Opener.TheVariants as openers
 use Rattle.edn_reader.specs.Grammar.{Piece, untagged, IsGap, IsElementAt, kind_of}
-use Rattle.edn_reader.specs.Token.{lexed}
+use Rattle.edn_reader.specs.Token.{found_at, lexed}
 
 -- An element ended; inside brackets that counts for nothing.
 abbrev pub ended_at : ℕ → ℕ → Counts
@@ -51,6 +52,25 @@ kind_token (Leaf kind) = Some kind
 kind_token (Opens opener) = Some (kind_of opener)
 kind_token (Closes bracket) = None
 kind_token Unfinished = None
+
+-- Whether a token is that of a tag.
+abbrev pub is_tag_token : Token → Bool
+is_tag_token Gap = false
+is_tag_token (Leaf kind) = false
+is_tag_token (Opens openers.List) = false
+is_tag_token (Opens openers.Vector) = false
+is_tag_token (Opens openers.Map) = false
+is_tag_token (Opens openers.Set) = false
+is_tag_token (Opens openers.Tag) = true
+is_tag_token (Opens openers.Discard) = false
+is_tag_token (Closes bracket) = false
+is_tag_token Unfinished = false
+
+-- A token stands at its place.
+pub record Stands (bytes : List ℕ) (front : Front) : Type 0 where
+  pub found : front.found ≡ found_at front.at (lexed (drop front.at bytes))
+  pub forward : front.at < front.found.end
+  pub within : front.found.end ≤ length bytes
 
 -- What no gap begins with: anything but white, a comment and a discard.
 abbrev pub NoGap : Token → Type 0

@@ -3,7 +3,7 @@
 ghost use Rattle.std.specs.Prelude.{◌≡◌, ◌+◌, ◌≤◌, ◌<◌, ◌^◌, List, [], ◌∷◌, length, drop, MatchOption, IfSome, Some, None};
 
 use crate::element::{Core, Element, ElementKind};
-use crate::skip::{element_end, gap_end, kind_at, tags_end};
+use crate::skip::{behind_gap, behind_tags, end_behind, kind_of};
 
 #[derive(Clone, Copy)]
 pub struct Parts<'t> {
@@ -32,16 +32,16 @@ impl<'t> Parts<'t> {
         ensures shrinks { MatchOption result (self.new ≡ self.old) (λ element. part_bytes self.new < part_bytes self.old) }
     {
         let Parts { left, at } = *self;
-        let start = gap_end(left, 0);
-        let core = tags_end(left, start);
-        let kind = kind_at(left, start)?;
-        let core_kind = kind_at(left, core)?;
-        let end = element_end(left, core);
+        let first = behind_gap(left, 0)?;
+        let inner = behind_tags(left, first)?;
+        let kind = kind_of(first.found.token)?;
+        let core_kind = kind_of(inner.found.token)?;
+        let end = end_behind(left, inner);
         *self = Parts::new(&left[end..], at + end);
         let core = Core {
             kind: core_kind,
-            start: at + core,
+            start: at + inner.at,
         };
-        Some(Element::new(&left[start..end], at + start, kind, core))
+        Some(Element::new(&left[first.at..end], at + first.at, kind, core))
     }
 }

@@ -1,11 +1,17 @@
 //! Ways over gaps, tags and elements that are whole. They take no memory.
 
-ghost use Rattle.std.specs.Prelude.{◌≡◌, ◌+◌, ◌≤◌, ◌<◌, ◌^◌, ℕ, List, length, drop, zero, suc, MatchOption, Some, None};
-ghost use Rattle.edn_reader.specs.Token.{lexed};
-ghost use Rattle.edn_reader.specs.Skipping.{counted, ended_one, kind_token, SkipsGap, SkipsTags, SkipsElement};
+ghost use Rattle.std.specs.Prelude.{◌≡◌, ◌+◌, ◌≤◌, ◌<◌, ◌^◌, length, MatchOption, IfSome};
+ghost use Rattle.edn_reader.specs.Skipping.{counted, ended_one, kind_token, is_tag_token, Stands, SkipsGap, SkipsTags, SkipsElement};
 
 use crate::element::ElementKind;
-use crate::token::{Opener, Token, read_token};
+use crate::token::{Found, Opener, Token, read_token};
+
+/// The token at a place, which is looked at once.
+#[derive(Clone, Copy)]
+pub struct Front {
+    pub at: usize,
+    pub found: Found,
+}
 
 /// What is still to end: brackets, and outside of them elements.
 #[derive(Clone, Copy)]
@@ -62,19 +68,32 @@ fn counts_after(token: Token, counts: Counts) -> Counts
     }
 }
 
-/// Where the element ends that the bytes from a place on hold behind a gap.
-pub fn element_end(bytes: &[u8], from: usize) -> usize
-    requires { from ≤ length bytes.now }
-    ensures end { SkipsElement bytes.now from result }
-    ensures within { result ≤ length bytes.now }
-    ensures forward { from < length bytes.now → from < result }
-    ensures after { from ≤ result }
+fn front_at(bytes: &[u8], at: usize) -> Front
+    requires { at < length bytes.now }
+    ensures stands { Stands bytes.now result }
+    ensures at { result.at ≡ at }
 {
-    let mut counts = Counts {
-        brackets: 0,
-        elements: 1,
-    };
-    let mut at = from;
+    Front {
+        at,
+        found: read_token(bytes, at),
+    }
+}
+
+/// Where the element ends that begins with this token, or with a gap that does.
+pub fn end_behind(bytes: &[u8], front: Front) -> usize
+    requires { Stands bytes.now front }
+    ensures end { SkipsElement bytes.now front.at result }
+    ensures within { result ≤ length bytes.now }
+    ensures forward { front.at < result }
+{
+    let mut counts = counts_after(
+        front.found.token,
+        Counts {
+            brackets: 0,
+            elements: 1,
+        },
+    );
+    let mut at = front.found.end;
     while at < bytes.len() && (counts.brackets > 0 || counts.elements > 0) {
         let found = read_token(bytes, at);
         counts = counts_after(found.token, counts);
@@ -83,44 +102,64 @@ pub fn element_end(bytes: &[u8], from: usize) -> usize
     at
 }
 
-/// Where the gap ends that begins at a place.
-pub fn gap_end(bytes: &[u8], from: usize) -> usize
+/// Where the element ends that the bytes from a place on hold behind a gap.
+fn element_end(bytes: &[u8], from: usize) -> usize
     requires { from ≤ length bytes.now }
-    ensures end { SkipsGap bytes.now from result }
+    ensures end { SkipsElement bytes.now from result }
     ensures within { result ≤ length bytes.now }
     ensures after { from ≤ result }
 {
-    let mut at = from;
-    while at < bytes.len() {
-        let found = read_token(bytes, at);
-        match found.token {
-            Token::Gap => at = found.end,
-            Token::Opens(Opener::Discard) => at = element_end(bytes, found.end),
-            _ => return at,
-        }
+    if from == bytes.len() {
+        return from;
     }
-    at
+    end_behind(bytes, front_at(bytes, from))
 }
 
-/// Where the core begins of the element that begins at a place.
-pub fn tags_end(bytes: &[u8], from: usize) -> usize
+/// The token that the gap ends at which begins at a place, where the bytes do not end with the gap.
+pub fn behind_gap(bytes: &[u8], from: usize) -> Option<Front>
     requires { from ≤ length bytes.now }
-    ensures end { SkipsTags bytes.now from result }
-    ensures within { result ≤ length bytes.now }
-    ensures after { from ≤ result }
+    ensures end { MatchOption result (SkipsGap bytes.now from (length bytes.now)) (λ front. SkipsGap bytes.now from front.at) }
+    ensures stands { IfSome result (λ front. Stands bytes.now front × (from ≤ front.at)) }
 {
     let mut at = from;
     while at < bytes.len() {
-        let found = read_token(bytes, at);
-        match found.token {
-            Token::Opens(Opener::Tag) => at = gap_end(bytes, found.end),
-            _ => return at,
+        let front = front_at(bytes, at);
+        match front.found.token {
+            Token::Gap => at = front.found.end,
+            Token::Opens(Opener::Discard) => at = element_end(bytes, front.found.end),
+            _ => return Some(front),
         }
     }
-    at
+    None
 }
 
-fn kind_of(token: Token) -> Option<ElementKind>
+/// The token that the core begins with of the element that begins with a token.
+pub fn behind_tags(bytes: &[u8], first: Front) -> Option<Front>
+    requires { Stands bytes.now first }
+    ensures end { MatchOption result (SkipsTags bytes.now first.at (length bytes.now)) (λ front. SkipsTags bytes.now first.at front.at) }
+    ensures stands { IfSome result (λ front. Stands bytes.now front × (first.at ≤ front.at)) }
+{
+    let mut front = first;
+    while is_tag(front.found.token) {
+        match behind_gap(bytes, front.found.end) {
+            Some(next) => front = next,
+            None => return None,
+        }
+    }
+    Some(front)
+}
+
+fn is_tag(token: Token) -> bool
+    ensures { result ≡ is_tag_token token }
+{
+    match token {
+        Token::Opens(Opener::Tag) => true,
+        _ => false,
+    }
+}
+
+/// The kind of the element that begins with a token.
+pub fn kind_of(token: Token) -> Option<ElementKind>
     ensures { result ≡ kind_token token }
 {
     match token {
@@ -128,15 +167,4 @@ fn kind_of(token: Token) -> Option<ElementKind>
         Token::Opens(opener) => Some(opener.kind()),
         _ => None,
     }
-}
-
-/// The kind of the element that begins at a place.
-pub fn kind_at(bytes: &[u8], at: usize) -> Option<ElementKind>
-    requires { at ≤ length bytes.now }
-    ensures { result ≡ kind_token (lexed (drop at bytes.now)).0 }
-{
-    if at == bytes.len() {
-        return None;
-    }
-    kind_of(read_token(bytes, at).token)
 }

@@ -1,6 +1,6 @@
 use Rattle.std.proofs.Common.{length, ◌-◌, ◌≤◌}
 use Rattle.edn_reader.proofs.Skipping.{GapLeft}
-use Rattle.edn_reader.proofs.skip.gap_end.Given as goal
+use Rattle.edn_reader.proofs.skip.behind_gap.Given as goal
 
 abbrev pub invariant-loop-at : goal.invariant-loop-at
 invariant-loop-at l = record {
