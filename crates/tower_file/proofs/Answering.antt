@@ -1,5 +1,5 @@
 -- A text says a tower or has a fault, one of either, and not both.
-use Rattle.std.proofs.Common.{◌≡◌, ◌⊎◌, inl, inr, ℕ, List, [], ◌∷◌, Option, Some, None, Result, Ok, Err, refl, sym, ap, subst, ◌∙◌}
+use Rattle.std.proofs.Common.{◌≡◌, ◌⊎◌, inl, inr, ℕ, List, [], ◌∷◌, Option, None, Result, Ok, Err, refl, sym, ap, subst, ◌∙◌}
 use Rattle.std.specs.List.{AllByRecursion}
 use Rattle.edn_reader.specs.declared.fault.EdnFault.{EdnFault}
 use Rattle.edn_reader.specs.Grammar.{Piece, IsElement}
@@ -10,7 +10,7 @@ use Rattle.tower_file.specs.declared.fault.TowerFault.TheVariants.{Edn, Memory}
 use Rattle.tower_file.specs.Form.{FileForm, IsMapOf, AreFileFields, IsFile, IsFileOf}
 use Rattle.tower_file.specs.Contents.{Contents}
 use Rattle.tower_file.specs.Reading.{contents_of}
-use Rattle.tower_file.specs.Tower.{Says, IsTowerOf, HasTextFault, HasTowerFault}
+use Rattle.tower_file.specs.Tower.{Says, IsTowerOf, HasTowerFault}
 use Rattle.tower_file.proofs.Forms.{Some_form}
 use Rattle.tower_file.proofs.Towers.{NotBoth, OneFault}
 use Rattle.tower_file.proofs.Unique.{One_form}

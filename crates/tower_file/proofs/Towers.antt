@@ -1,5 +1,5 @@
 -- What a file says is answered, unless memory is refused.
-use Rattle.std.proofs.Common.{◌≡◌, ◌≢◌, ◌⊎◌, inl, inr, ℕ, List, [], ◌∷◌, length, ◌≤◌, Option, Some, None, Result, Ok, Err, refl, sym, ap, subst, ◌∙◌, arith}
+use Rattle.std.proofs.Common.{◌≡◌, ◌≢◌, ◌⊎◌, inl, inr, ℕ, List, [], ◌∷◌, length, ◌≤◌, Option, None, Result, Ok, Err, refl, sym, ap, subst, ◌∙◌, arith}
 use Rattle.std.specs.Prelude.{IfOk, IfErr}
 use Rattle.edn_reader.specs.declared.fault.EdnFault.{EdnFault}
 use Rattle.edn_reader.specs.declared.element.Element.{Element}
@@ -9,7 +9,6 @@ use Rattle.edn_reader.specs.Grammar.{Piece, piece_of}
 use Rattle.edn_reader.specs.Text.{IsText}
 use Rattle.edn_reader.specs.Fault.{FaultOf}
 use Rattle.edn_reader.specs.Pairs.{IsField, IsWholeField}
-use Rattle.tower_file.specs.declared.fault.TowerField.{TowerField}
 use Rattle.tower_file.specs.declared.fault.TowerField.TheVariants.{File}
 use Rattle.tower_file.specs.declared.fault.TowerFault.{TowerFault}
 use Rattle.tower_file.specs.declared.fault.TowerFault.TheVariants.{Edn, Shape, NameTaken, WriterCount, UnknownPart, EmptyDomain, InitialOutOfDomain, TooMany, Memory}
@@ -18,7 +17,7 @@ use Rattle.tower_file.specs.Contents.{Contents}
 use Rattle.tower_file.specs.Reading.{contents_of}
 use Rattle.tower_file.specs.Views.{GivesOrMemory}
 use Rattle.tower_file.proofs.Forms.{Some_form}
-use Rattle.tower_file.specs.Tower.{Says, IsTowerOf, HasTowerFault, IsTextFault}
+use Rattle.tower_file.specs.Tower.{IsTowerOf, HasTowerFault, IsTextFault}
 
 memory_or : (fault : TowerFault) → (fault ≡ Memory) ⊎ (fault ≢ Memory)
 memory_or (Edn e) = inr (λ h. absurd cc)

@@ -1,8 +1,7 @@
 -- What a file says is never want of memory.
-use Rattle.std.proofs.Common.{◌≡◌, ℕ, Bool, true, false, List, [], ◌∷◌, Option, Some, None, Result, Ok, Err, refl, subst}
+use Rattle.std.proofs.Common.{ℕ, Bool, true, false, List, [], ◌∷◌, Option, Some, None, Result, Ok, Err}
 use Rattle.std.specs.Prelude.{ℤ, if◌then◌else◌, not, nat_lt, nat_le, length, is_some}
 use Rattle.intervals.specs.declared.operation.RegId.{RegId}
-use Rattle.intervals.specs.declared.claim.Kind.{Kind}
 use Rattle.edn_reader.specs.Grammar.{Piece}
 use Rattle.edn_reader.specs.Pairs.{is_word}
 use Rattle.std.specs.Prelude.{codes}

@@ -1,4 +1,3 @@
-use Rattle.std.proofs.Common.{◌≡◌}
 use Rattle.edn_reader.specs.Grammar.{piece_of}
 use Rattle.tower_file.specs.Form.{IsRegister, IsLevel}
 use Rattle.tower_file.specs.Views.{seen}

@@ -1,4 +1,4 @@
-use Rattle.std.proofs.Common.{◌≡◌, sym, subst, ◌∙◌}
+use Rattle.std.proofs.Common.{sym, subst, ◌∙◌}
 use Rattle.edn_reader.specs.Grammar.{Piece}
 use Rattle.tower_file.specs.Form.{Given, IsGiven, IsSequence, AreMembers}
 use Rattle.tower_file.proofs.Fields.{seen_given}
