@@ -483,3 +483,42 @@ fn words_and_integers(rt: HostRuntime) -> Result<(), Fail> {
     assert!(rt; first(&rt, b"ok")?.as_map().is_none());
     Ok(())
 }
+
+/// Forty vectors, one in the other, between two atoms: what stands open has to grow twice.
+const DEEP: &[u8] =
+    b"a [[[[[[[[[[[[[[[[[[[[[[[[[[[[[[[[[[[[[[[[1]]]]]]]]]]]]]]]]]]]]]]]]]]]]]]]]]]]]]]]] b";
+
+/// Whether the elements of the deep text are given. Where they are not a growth was refused, which is
+/// then answered for good.
+fn gives_deep_elements(rt: &impl Abort, alloc: Global) -> Result<bool, Fail> {
+    let mut reader = Reader::new(alloc, DEEP);
+    let first = reader.next()?.ok_or("an element")?;
+    assert_eq!(rt; first.span(), (0, 1));
+    match reader.next() {
+        Ok(vector) => {
+            assert_eq!(rt; vector.ok_or("a vector")?.span(), (2, 83));
+            let last = reader.next()?.ok_or("an element")?;
+            assert_eq!(rt; last.span(), (84, 85));
+            assert!(rt; reader.next()?.is_none());
+            Ok(true)
+        }
+        Err(fault) => {
+            // The 17th bracket or the 33rd.
+            let refused = [EdnFault::Memory(18), EdnFault::Memory(34)];
+            assert!(rt; refused.contains(&fault), "{fault}");
+            for _ in 0..3 {
+                assert_eq!(rt; reader.next().err(), Some(fault));
+            }
+            Ok(false)
+        }
+    }
+}
+
+/// To be run with each allocation refused in turn: a fresh reader then gives the same elements.
+#[test]
+fn refused_memory_is_the_answer_for_good(rt: HostRuntime) -> Result<(), Fail> {
+    let first = gives_deep_elements(&rt, rt.alloc())?;
+    let second = gives_deep_elements(&rt, rt.alloc())?;
+    assert!(rt; first || second, "one growth is refused and no more");
+    Ok(())
+}

@@ -121,3 +121,45 @@ fn edits_leave_the_list_that_they_say(rt: HostRuntime) -> Result<(), Fail> {
     assert_eq!(rt; book.operations().len(), 1);
     Ok(())
 }
+
+/// Carries the edit out. Where memory is refused to an append the book is as it was, and the same
+/// append is then carried out.
+fn carry_out<'t>(rt: &impl Abort, book: &mut OpBook<'t>, edit: Edit<'t>) -> Result<(), Memory> {
+    let len = book.len();
+    match (admit(rt, book, edit), edit) {
+        (Err(Memory), Edit::Append(op)) => {
+            assert_eq!(rt; book.len(), len);
+            assert!(rt; book.get(op.id).is_none());
+            admit(rt, book, edit)
+        }
+        (answer, _) => answer,
+    }
+}
+
+/// To be run with each allocation refused in turn.
+#[test]
+fn refused_memory_changes_nothing(rt: HostRuntime) -> Result<(), Fail> {
+    let mut book = OpBook::new(rt.alloc());
+    let event_of = |event| OpId { feeder: 0, event };
+    for event in 0..6 {
+        let write = op(event, Act::Write(Value::Nil), 10 * event, None);
+        carry_out(&rt, &mut book, Edit::Append(write))?;
+    }
+    carry_out(&rt, &mut book, Edit::Amend(event_of(3), ends_at(35)))?;
+    carry_out(&rt, &mut book, Edit::Withdraw(event_of(1)))?;
+    for event in 6..9 {
+        let read = op(event, Act::Read(Value::Nil), 10 * event, None);
+        carry_out(&rt, &mut book, Edit::Append(read))?;
+    }
+    let mut found = book.operations().iter();
+    for event in [0, 2, 3, 4, 5, 6, 7, 8] {
+        let standing = found.next().copied().expect(&rt, "it stands");
+        assert_eq!(rt; standing.id, event_of(event));
+        assert_eq!(rt; standing.begin, Moment(10 * event));
+        assert_eq!(rt; standing.is_write(), event < 6);
+        let end = if event == 3 { Some(Moment(35)) } else { None };
+        assert_eq!(rt; standing.end, end);
+    }
+    assert!(rt; found.next().is_none());
+    Ok(())
+}

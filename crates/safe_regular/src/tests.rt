@@ -130,3 +130,71 @@ fn the_first_refusal_of_a_write(rt: HostRuntime) -> Result<(), Fail> {
     }
     Ok(())
 }
+
+fn admit<'t>(
+    rt: &impl Abort,
+    judge: &mut SingleWriterJudge<'t>,
+    op: &Op<'t>,
+) -> Result<(), Memory> {
+    if op.is_write() {
+        admit_write(rt, judge, op)
+    } else {
+        admit_read(rt, judge, op)
+    }
+}
+
+/// Admits the operation. Where memory is refused the judge is as it was, and the same operation is
+/// then admitted.
+fn admit_at_last<'t>(
+    rt: &impl Abort,
+    judge: &mut SingleWriterJudge<'t>,
+    op: &Op<'t>,
+) -> Result<(), Memory> {
+    let fault = judge.first_fault();
+    match admit(rt, judge, op) {
+        Ok(()) => Ok(()),
+        Err(Memory) => {
+            assert_eq!(rt; judge.first_fault(), fault);
+            admit(rt, judge, op)
+        }
+    }
+}
+
+/// A judge of a claim that lists its writers and its domain.
+fn judge<R: AllocGlobal>(rt: &R) -> Result<SingleWriterJudge<'static>, Memory> {
+    let claim = Claim {
+        kind: Kind::Regular,
+        writers: Writers::Listed(vec![in rt.alloc(); 0, 3]?),
+        initial: Value::Int(0),
+        domain: Some(vec![in rt.alloc(); Value::Int(1), Value::Int(2)]?),
+    };
+    SingleWriterJudge::new(rt.alloc(), &claim)
+}
+
+/// To be run with each allocation refused in turn.
+#[test]
+fn refused_memory_changes_nothing(rt: HostRuntime) -> Result<(), Fail> {
+    let mut judge = match judge(&rt) {
+        Ok(made) => made,
+        Err(Memory) => judge(&rt)?,
+    };
+    let cases = [
+        (write(0, 1, 0, 3), None),
+        (read(1, 0, 1, 2), None),
+        (read(2, 0, 4, 6), Some(id(2))),
+        (read(3, 2, 5, 9), Some(id(2))),
+        (read(4, 7, 5, 10), Some(id(2))),
+        (write(5, 2, 7, 8), Some(id(2))),
+    ];
+    for (op, fault) in cases {
+        admit_at_last(&rt, &mut judge, &op)?;
+        assert_eq!(rt; judge.first_fault(), fault);
+    }
+    judge.drop_read(id(2));
+    assert_eq!(rt; judge.first_fault(), Some(id(4)), "3 returns what 5 wrote");
+    let next = |process, value| op(9, process, Act::Write(Value::Int(value)), 20, None);
+    assert_eq!(rt; judge.check_write(&next(3, 2)), Ok(()));
+    assert_eq!(rt; judge.check_write(&next(1, 2)), Err(Refusal::NotAWriter));
+    assert_eq!(rt; judge.check_write(&next(3, 0)), Err(Refusal::OutOfDomain));
+    Ok(())
+}

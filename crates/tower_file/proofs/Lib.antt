@@ -6,3 +6,6 @@ pub mod Levels
 pub mod Places
 pub mod Towers
 pub mod Forms
+pub mod Unique
+pub mod Wanting
+pub mod Answering

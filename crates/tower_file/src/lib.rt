@@ -4,6 +4,7 @@
 mod element;
 mod fault;
 mod file;
+pub mod laws;
 mod level;
 mod place;
 mod register;

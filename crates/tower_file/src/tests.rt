@@ -3,6 +3,7 @@
 use crate::{Tower, TowerFault, TowerField};
 use edn_reader::EdnFault;
 use intervals::{Kind, RegId, Value, Writers};
+use std::alloc::Global;
 use std::process::Abort;
 use std::test::Fail;
 
@@ -425,22 +426,132 @@ fn at_most_65536_registers(rt: HostRuntime) -> Result<(), Fail> {
     )
 }
 
-/// Each allocation of this test may be refused: the answer is then want of memory, and the same call
-/// again gives what it would have given.
-#[test]
-fn a_refused_growth_is_want_of_memory(rt: HostRuntime) -> Result<(), Fail> {
-    for _ in 0..2 {
-        match Tower::read(rt.alloc(), EACH_KEY) {
-            Ok(tower) => {
-                assert_eq!(rt; tower.len(), 3);
-                assert_eq!(rt; tower.find(b"a"), Some(RegId(0)));
-                assert_eq!(rt;
-                    tower.parts_of(RegId(2)),
-                    Some([RegId(1), RegId(0)].as_slice())
-                );
-            }
-            Err(fault) => assert_eq!(rt; fault, TowerFault::Memory),
-        }
+/// Five levels and nine registers, writers, values and parts that need more than one growth, and
+/// brackets that are nested more deeply than the reader keeps in place.
+const EACH_GROWTH: &[u8] = b"{:levels [
+  {:name bits :note [[[[[[[[[[[[[[[[[[[[nil]]]]]]]]]]]]]]]]]]]]
+   :registers [{:name a :kind :safe :writers [7] :initial 3 :domain [nil 3 -4 5 6 7]}
+               {:name b :kind :safe :writers [8]}
+               {:name c :kind :regular :writers [9] :initial -1}
+               {:name d :kind :regular :writers [7] :domain [1]}
+               {:name e :kind :regular :writers [7]}
+               {:name f :kind :regular :writers [7]}]}
+  {:name cells :registers [{:name cell :kind :regular :writers [1] :of [f e d c b a]}]}
+  {:name words :registers [{:name word :kind :atomic :writers [1 2 3 4 5 6] :of [a cell]}]}
+  {:name spare :registers []}
+  {:name top :registers [{:name x :kind :atomic :writers :any :initial 0 :domain [0 1] :of [word]}]}
+]}";
+
+/// The name is taken, on the third level, and then a part is unknown.
+const TWO_FAULTS: &[u8] = b"{:levels [
+  {:name bits :registers [{:name a :kind :safe :writers [7] :domain [1 2]}]}
+  {:name cells :registers [{:name b :kind :regular :writers [1] :of [a]}]}
+  {:name top :registers [{:name a :kind :atomic :writers [1 2 3] :of [a b]}
+                         {:name x :kind :atomic :writers :any :of [y]}]}
+]}";
+
+/// Nothing is one of the levels, and then the text ends too early.
+const CUT_OFF: &[u8] = b"{:levels [nil] :note [[[[[[[[[[[[[[[[[[[[";
+
+/// The look-ups of a register: its name, its level, its writers and its parts.
+fn looks_up(rt: &impl Abort, tower: &Tower, number: u32, row: (&[u8], usize, &[i64], &[RegId])) {
+    let id = RegId(number);
+    let (name, level, writers, parts) = row;
+    assert_eq!(rt; tower.find(name), Some(id));
+    assert_eq!(rt; tower.name(id), Some(name));
+    assert_eq!(rt; tower.level_of(id), Some(level));
+    assert_eq!(rt; listed(tower, id), writers);
+    assert_eq!(rt; tower.parts_of(id), Some(parts));
+}
+
+/// Every level and register of the tower of each growth.
+fn is_grown(rt: &impl Abort, tower: &Tower) -> Result<(), Fail> {
+    for (level, name) in [
+        (0, b"bits".as_slice()),
+        (1, b"cells"),
+        (2, b"words"),
+        (3, b"spare"),
+        (4, b"top"),
+    ] {
+        assert!(rt; is_level(tower, level, name));
     }
+    assert!(rt; tower.level_name(5).is_none());
+    assert_eq!(rt; tower.len(), 9);
+    let bits = [RegId(5), RegId(4), RegId(3), RegId(2), RegId(1), RegId(0)];
+    looks_up(rt, tower, 0, (b"a", 0, &[7], &[]));
+    looks_up(rt, tower, 1, (b"b", 0, &[8], &[]));
+    looks_up(rt, tower, 2, (b"c", 0, &[9], &[]));
+    looks_up(rt, tower, 3, (b"d", 0, &[7], &[]));
+    looks_up(rt, tower, 4, (b"e", 0, &[7], &[]));
+    looks_up(rt, tower, 5, (b"f", 0, &[7], &[]));
+    looks_up(rt, tower, 6, (b"cell", 1, &[1], &bits));
+    looks_up(
+        rt,
+        tower,
+        7,
+        (b"word", 2, &[1, 2, 3, 4, 5, 6], &[RegId(0), RegId(6)]),
+    );
+    looks_up(rt, tower, 8, (b"x", 4, &[-1], &[RegId(7)]));
+    let values = [
+        Value::Nil,
+        Value::Int(3),
+        Value::Int(-4),
+        Value::Int(5),
+        Value::Int(6),
+        Value::Int(7),
+    ];
+    claims(rt, tower, 0, (Kind::Safe, Value::Int(3), &values))?;
+    claims(rt, tower, 1, (Kind::Safe, Value::Nil, &[]))?;
+    claims(rt, tower, 2, (Kind::Regular, Value::Int(-1), &[]))?;
+    claims(rt, tower, 3, (Kind::Regular, Value::Nil, &[Value::Int(1)]))?;
+    claims(rt, tower, 4, (Kind::Regular, Value::Nil, &[]))?;
+    claims(rt, tower, 5, (Kind::Regular, Value::Nil, &[]))?;
+    claims(rt, tower, 6, (Kind::Regular, Value::Nil, &[]))?;
+    claims(rt, tower, 7, (Kind::Atomic, Value::Nil, &[]))?;
+    claims(
+        rt,
+        tower,
+        8,
+        (Kind::Atomic, Value::Int(0), &[Value::Int(0), Value::Int(1)]),
+    )
+}
+
+/// The kind, the initial value and the domain of a register.
+fn claims(
+    rt: &impl Abort,
+    tower: &Tower,
+    number: u32,
+    row: (Kind, Value, &[Value]),
+) -> Result<(), Fail> {
+    let (kind, initial, values) = row;
+    let claim = tower.claim(RegId(number)).ok_or("a claim")?;
+    assert_eq!(rt; claim.kind, kind);
+    assert_eq!(rt; claim.initial, initial);
+    assert_eq!(rt; claim.domain.is_some(), values.len() > 0);
+    assert_eq!(rt; domain(tower, RegId(number)), values);
+    Ok(())
+}
+
+/// Where memory is refused the same call is made again.
+fn read_at_last(alloc: Global, bytes: &[u8]) -> Result<Tower, TowerFault> {
+    match Tower::read(alloc, bytes) {
+        Err(TowerFault::Memory) => Tower::read(alloc, bytes),
+        answer => answer,
+    }
+}
+
+/// To be run with each allocation refused in turn.
+#[test]
+fn refused_memory_changes_nothing(rt: HostRuntime) -> Result<(), Fail> {
+    let tower = read_at_last(rt.alloc(), EACH_GROWTH)?;
+    is_grown(&rt, &tower)?;
+    assert_eq!(rt;
+        read_at_last(rt.alloc(), TWO_FAULTS).err(),
+        Some(TowerFault::NameTaken)
+    );
+    assert_eq!(rt;
+        read_at_last(rt.alloc(), CUT_OFF).err(),
+        Some(TowerFault::Edn(EdnFault::Truncated(41)))
+    );
     Ok(())
 }

@@ -1,0 +1,48 @@
+//! Laws of the tower file. Each is proved, and does nothing.
+
+ghost use Rattle.std.specs.Prelude.{◌≡◌, ◌⊎◌, ℕ, List};
+ghost use Rattle.tower_file.specs.Contents.{Contents};
+ghost use Rattle.tower_file.specs.Tower.{IsTowerOf, HasTowerFault};
+ghost use Rattle.tower_file.specs.declared.fault.TowerFault.{TowerFault};
+ghost use Rattle.tower_file.specs.declared.fault.TowerFault.TheVariants.{Memory};
+
+use edn_reader::laws::{
+    each_is_element, members_of_vector, one_division, one_fault, pairs_of_map, text_or_fault,
+};
+
+/// A text says one tower at most.
+pub fn one_tower()
+    ensures { (bytes : List ℕ) (first second : Contents) → IsTowerOf bytes first → IsTowerOf bytes second → first ≡ second }
+{
+    one_division();
+    pairs_of_map();
+    members_of_vector();
+}
+
+/// A text has one fault of a tower file at most.
+pub fn one_tower_fault()
+    ensures { (bytes : List ℕ) (first second : TowerFault) → HasTowerFault bytes first → HasTowerFault bytes second → first ≡ second }
+{
+    one_division();
+    one_fault();
+    text_or_fault();
+    pairs_of_map();
+    members_of_vector();
+}
+
+/// A text says a tower or has a fault, and not both.
+pub fn tower_or_fault()
+    ensures one { (bytes : List ℕ) → ((tower : Contents) × IsTowerOf bytes tower) ⊎ ((fault : TowerFault) × HasTowerFault bytes fault) }
+    ensures not_both { (bytes : List ℕ) (tower : Contents) (fault : TowerFault) → IsTowerOf bytes tower → HasTowerFault bytes fault → ⊥ }
+{
+    each_is_element();
+    one_division();
+    text_or_fault();
+    pairs_of_map();
+    members_of_vector();
+}
+
+/// Want of memory is no fault of a text.
+pub fn no_text_wants_memory()
+    ensures { (bytes : List ℕ) → HasTowerFault bytes Memory → ⊥ }
+{}
