@@ -25,7 +25,8 @@ use Rattle.edn_reader.specs.Grammar.{Piece, piece_of, untagged, IsToken, white, 
 use Rattle.edn_reader.specs.Text.{IsFront}
 use Rattle.edn_reader.specs.Token.{lexed}
 use Rattle.edn_reader.specs.Skipping.{kind_token, NoGap, SkipsElement, SkipsGap, SkipsTags, IsInside}
-use Rattle.edn_reader.specs.Pairs.{PartsFrom, HasParts, PartsLeft, NextPart, in_turn, HasPairs, PairsLeft, NextPair, is_word, values_of, IsField, IsWholeField}
+use Rattle.edn_reader.specs.Pairs.{PartsFrom, HasParts, PartsLeft, NextPart, in_turn, HasPairs, PairsLeft, NextPair, is_word, values_of, IsWholeField}
+use Rattle.edn_reader.specs.Given.{One, given, seen as seen_of}
 use Rattle.edn_reader.proofs.Lexing.{lexed_token}
 use Rattle.edn_reader.proofs.Places.{moved_element, cancel_end, wider_element}
 use Rattle.edn_reader.proofs.Skipping.{core_at, element_no_gap, element_kind, beyond_gap, beyond_element, none_at_end}
@@ -477,11 +478,20 @@ given_are_elements view after (pair ∷ pairs) key value h n =
 
 -- ---- fields
 
+-- One value that is given is the only one.
+one_given : (values : List Piece) (value : Piece) → One value ≡ given values → values ≡ value ∷ []
+one_given [] value e = absurd cc
+one_given (first ∷ []) value e = let same : value ≡ first = cc in cc
+one_given (first ∷ second ∷ values) value e = absurd cc
+
+abbrev IsOf : Field → List Piece → Type 0
+IsOf found values = seen_of found ≡ given values
+
 -- The values found so far are those of the pairs that were seen.
 abbrev pub Seen : MapView → MapView → List ℕ → Field → Type 0
 Seen first view key found =
     (pairs : List (Piece × Piece)) → PairsLeft first pairs
-    → (seen left : List (Piece × Piece)) × (pairs ≡ seen ++ left) × PairsLeft view left × IsField found (values_of key seen)
+    → (seen left : List (Piece × Piece)) × (pairs ≡ seen ++ left) × PairsLeft view left × IsOf found (values_of key seen)
 
 abbrev fits_key : List ℕ → Piece × Piece → Bool
 fits_key key pair = is_word key pair.0
@@ -510,26 +520,26 @@ values_same key (p ∷ seen) pair e =
     values_behind key p seen (pair ∷ []) [] (fits_key key p) refl (values_same key seen pair e ∙ sym (append-nil (values_of key seen))) ∙ append-nil (values_of key (p ∷ seen))
 
 with_key : (view after : MapView) (key : List ℕ) (found more : Field) (name value : Element) (seen left pairs : List (Piece × Piece)) → pairs ≡ seen ++ left
-    → NextPair (Some (name, value)) after left → IsField found (values_of key seen) → is_word key (piece_of name) ≡ true
-    → ((values : List Piece) → IsField found values → IsField more (values ++ piece_of value ∷ []))
-    → (s l : List (Piece × Piece)) × (pairs ≡ s ++ l) × PairsLeft after l × IsField more (values_of key s)
+    → NextPair (Some (name, value)) after left → IsOf found (values_of key seen) → is_word key (piece_of name) ≡ true
+    → ((values : List Piece) → IsOf found values → IsOf more (values ++ piece_of value ∷ []))
+    → (s l : List (Piece × Piece)) × (pairs ≡ s ++ l) × PairsLeft after l × IsOf more (values_of key s)
 with_key view after key found more name value seen [] pairs e n k t f = absurd n
 with_key view after key found more name value seen (pair ∷ left) pairs e n k t f =
     let same : fits_key key pair ≡ true = subst (λ (x : Piece). is_word key x ≡ true) n.0 t in
-    let longer : IsField more (values_of key seen ++ pair.1 ∷ []) = subst (λ (x : Piece). IsField more (values_of key seen ++ x ∷ [])) n.1 (f (values_of key seen) k) in
-    (seen ++ pair ∷ [], left, e ∙ sym (append_assoc seen (pair ∷ []) left), n.2, subst (IsField more) (sym (values_more key seen pair same)) longer)
+    let longer : IsOf more (values_of key seen ++ pair.1 ∷ []) = subst (λ (x : Piece). IsOf more (values_of key seen ++ x ∷ [])) n.1 (f (values_of key seen) k) in
+    (seen ++ pair ∷ [], left, e ∙ sym (append_assoc seen (pair ∷ []) left), n.2, subst (IsOf more) (sym (values_more key seen pair same)) longer)
 
 with_other : (view after : MapView) (key : List ℕ) (found : Field) (name value : Element) (seen left pairs : List (Piece × Piece)) → pairs ≡ seen ++ left
-    → NextPair (Some (name, value)) after left → IsField found (values_of key seen) → is_word key (piece_of name) ≡ false
-    → (s l : List (Piece × Piece)) × (pairs ≡ s ++ l) × PairsLeft after l × IsField found (values_of key s)
+    → NextPair (Some (name, value)) after left → IsOf found (values_of key seen) → is_word key (piece_of name) ≡ false
+    → (s l : List (Piece × Piece)) × (pairs ≡ s ++ l) × PairsLeft after l × IsOf found (values_of key s)
 with_other view after key found name value seen [] pairs e n k t = absurd n
 with_other view after key found name value seen (pair ∷ left) pairs e n k t =
     let same : fits_key key pair ≡ false = subst (λ (x : Piece). is_word key x ≡ false) n.0 t in
-    (seen ++ pair ∷ [], left, e ∙ sym (append_assoc seen (pair ∷ []) left), n.2, subst (IsField found) (sym (values_same key seen pair same)) k)
+    (seen ++ pair ∷ [], left, e ∙ sym (append_assoc seen (pair ∷ []) left), n.2, subst (IsOf found) (sym (values_same key seen pair same)) k)
 
 pub seen_key : (first view after : MapView) (key : List ℕ) (found more : Field) (name value : Element) → Seen first view key found
     → ((pairs : List (Piece × Piece)) → PairsLeft view pairs → NextPair (Some (name, value)) after pairs) → is_word key (piece_of name) ≡ true
-    → ((values : List Piece) → IsField found values → IsField more (values ++ piece_of value ∷ [])) → Seen first after key more
+    → ((values : List Piece) → IsOf found values → IsOf more (values ++ piece_of value ∷ [])) → Seen first after key more
 seen_key first view after key found more name value s n e f pairs h =
     let k = s pairs h in with_key view after key found more name value k.0 k.1 pairs k.2 (n k.1 k.3) k.4 e f
 
@@ -539,11 +549,11 @@ seen_other first view after key found name value s n e pairs h =
     let k = s pairs h in with_other view after key found name value k.0 k.1 pairs k.2 (n k.1 k.3) k.4 e
 
 pub seen_end : (first view after : MapView) (key : List ℕ) (found : Field) → Seen first view key found → ((pairs : List (Piece × Piece)) → PairsLeft view pairs → NextPair None after pairs)
-    → (pairs : List (Piece × Piece)) → PairsLeft first pairs → IsField found (values_of key pairs)
+    → (pairs : List (Piece × Piece)) → PairsLeft first pairs → IsOf found (values_of key pairs)
 seen_end first view after key found s n pairs h =
     let k = s pairs h in
     let e : pairs ≡ k.0 = k.2 ∙ ap (λ (left : List (Piece × Piece)). k.0 ++ left) (n k.1 k.3) ∙ append-nil k.0 in
-    subst (λ (ps : List (Piece × Piece)). IsField found (values_of key ps)) (sym e) k.4
+    subst (λ (ps : List (Piece × Piece)). IsOf found (values_of key ps)) (sym e) k.4
 
 values_are_by : (key : List ℕ) (pair : Piece × Piece) (pairs : List (Piece × Piece)) (t : Bool) → fits_key key pair ≡ t → IsElement pair.1 → AllByRecursion IsElement (values_of key pairs) → AllByRecursion IsElement (values_of key (pair ∷ pairs))
 values_are_by key pair pairs true e h k = subst (AllByRecursion IsElement) (sym (one_value key pair pairs true e)) (h, k)
@@ -554,9 +564,9 @@ values_are key [] h = tt
 values_are key (pair ∷ pairs) h = values_are_by key pair pairs (fits_key key pair) refl h.0.1 (values_are key pairs h.1)
 
 -- A value that is given once is an element.
-pub whole_field : (view : MapView) (key : List ℕ) (pairs : List (Piece × Piece)) (found : Field) → PairsLeft view pairs → IsField found (values_of key pairs) → IsWholeField found
+pub whole_field : (view : MapView) (key : List ℕ) (pairs : List (Piece × Piece)) (found : Field) → PairsLeft view pairs → IsOf found (values_of key pairs) → IsWholeField found
 whole_field view key pairs Absent h f = tt
-whole_field view key pairs (Once element) h f = (subst (AllByRecursion IsElement) f (values_are key pairs (pairs_are_elements pairs h))).0
+whole_field view key pairs (Once element) h f = (subst (AllByRecursion IsElement) (one_given (values_of key pairs) (piece_of element) f) (values_are key pairs (pairs_are_elements pairs h))).0
 whole_field view key pairs Twice h f = tt
 
 -- ---- one list of parts

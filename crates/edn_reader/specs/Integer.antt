@@ -1,8 +1,8 @@
 -- Integers: an optional sign, then 0 or digits that do not begin with 0, then an optional N (the EDN format).
-use Rattle.std.specs.Prelude.{◌≡◌, ℕ, zero, suc, ◌+◌, ◌-◌, ◌*◌, nat_le, ◌==◌, ◌&&◌, if◌then◌else◌, Bool, true, false, not, List, [], ◌∷◌, ℤ, pos, negsuc, Option, Some, None}
+use Rattle.std.specs.Prelude.{ℕ, zero, suc, ◌+◌, ◌-◌, ◌*◌, ◌^◌, nat_le, nat_lt, ◌==◌, ◌&&◌, if◌then◌else◌, Bool, true, false, not, List, [], ◌∷◌, ℤ, pos, negsuc, Option, Some, None}
 use Rattle.std.specs.Option.{option_map}
-use Rattle.edn_reader.specs.declared.element.ElementKind.TheVariants.{Atom}
-use Rattle.edn_reader.specs.Grammar.{Piece}
+use Rattle.edn_reader.specs.Grammar.{Piece, untagged}
+use Rattle.edn_reader.specs.Pairs.{is_atom}
 
 -- A decimal digit.
 abbrev pub is_digit : ℕ → Bool
@@ -41,6 +41,12 @@ integer_of (b ∷ bytes) =
     else if b == 43 then option_map pos (natural_of bytes)
     else option_map pos (natural_of (b ∷ bytes))
 
--- An element is an integer: an Atom whose bytes spell it.
-abbrev pub IsInteger : Piece → ℤ → Type 0
-IsInteger piece z = (piece.kind ≡ Atom) × (integer_of piece.text ≡ Some z)
+-- A number of 64 bits with a sign.
+abbrev pub fitting : Option ℤ → Option ℤ
+fitting None = None
+fitting (Some (pos n)) = if nat_lt n (2 ^ 63) then Some (pos n) else None
+fitting (Some (negsuc n)) = if nat_lt n (2 ^ 63) then Some (negsuc n) else None
+
+-- The integer that an element is behind its tags, where it fits: that of an Atom whose bytes spell it.
+abbrev pub int_of : Piece → Option ℤ
+int_of piece = if is_atom piece.core.kind then fitting (integer_of (untagged piece).text) else None

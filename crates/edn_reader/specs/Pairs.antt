@@ -1,5 +1,5 @@
 -- The elements between the brackets of an element; the pairs of a map, and its fields.
-use Rattle.std.specs.Prelude.{◌≡◌, ℕ, ◌≤◌, ◌==◌, ◌&&◌, if◌then◌else◌, Bool, true, false, List, [], ◌∷◌, length, map, filter, Option, Some, None}
+use Rattle.std.specs.Prelude.{◌≡◌, ℕ, ◌==◌, ◌&&◌, if◌then◌else◌, Bool, true, false, List, [], ◌∷◌, length, map, filter, Option, Some, None, codes}
 use Rattle.std.specs.Str.{bytes_eq}
 use Rattle.edn_reader.specs.declared.bytes.Bracket.{Bracket}
 use Rattle.edn_reader.specs.declared.element.ElementKind.{ElementKind}
@@ -109,15 +109,13 @@ keyword_of piece = if is_keyword piece then Some (untagged piece).text else None
 abbrev pub is_word : List ℕ → Piece → Bool
 is_word word piece = is_keyword piece && bytes_eq (untagged piece).text word
 
+-- The word nil, behind tags or not.
+abbrev pub is_nil : Piece → Bool
+is_nil piece = is_atom piece.core.kind && bytes_eq (untagged piece).text (codes "nil")
+
 -- The values of a field: those of the pairs whose key is the keyword with exactly these bytes.
 abbrev pub values_of : List ℕ → List (Piece × Piece) → List Piece
 values_of key pairs = map (λ pair. pair.1) (filter (λ pair. is_word key pair.0) pairs)
-
--- What a field of these values is.
-abbrev pub IsField : Field → List Piece → Type 0
-IsField Absent values = values ≡ []
-IsField (Once element) values = values ≡ piece_of element ∷ []
-IsField Twice values = 2 ≤ length values
 
 -- What a view gives of the pairs that it has left, and what it has left then.
 abbrev pub NextPair : Option (Element × Element) → MapView → List (Piece × Piece) → Type 0

@@ -1,7 +1,6 @@
 //! An element that is lent from its input.
 
-ghost use Rattle.std.specs.Prelude.{◌≡◌, ◌+◌, ◌≤◌, ◌<◌, ◌^◌, ◌↔◌, suc, length, IsTrue, List, MatchOption, IsSomeAnd, None, Some, codes, ℤ, FitsSigned};
-ghost use Rattle.std.specs.Int.{w64};
+ghost use Rattle.std.specs.Prelude.{◌≡◌, ◌+◌, ◌≤◌, ◌<◌, ◌^◌, ◌↔◌, suc, length, List, MatchOption, IsSomeAnd, None, Some};
 ghost use Rattle.std.specs.Option.{option_map};
 
 use crate::integer;
@@ -43,10 +42,10 @@ pub struct Element<'t> {
 
 impl<'t> Element<'t> {
     ghost use Rattle.edn_reader.specs.Grammar.{Piece, piece_of, untagged, IsElement};
-    ghost use Rattle.edn_reader.specs.Integer.{IsInteger};
+    ghost use Rattle.edn_reader.specs.Integer.{int_of};
     ghost use Rattle.edn_reader.specs.Skipping.{IsInside};
-    ghost use Rattle.edn_reader.specs.Pairs.{keyword_of, HasPairs, PairsLeft, HasMembers, MembersLeft};
-    ghost use Rattle.edn_reader.specs.declared.element.ElementKind.TheVariants.{Atom, Vector, Map};
+    ghost use Rattle.edn_reader.specs.Pairs.{keyword_of, is_nil, is_word, HasPairs, PairsLeft, HasMembers, MembersLeft};
+    ghost use Rattle.edn_reader.specs.declared.element.ElementKind.TheVariants.{Vector, Map};
 
     pub(crate) fn new(text: &'t [u8], start: usize, kind: ElementKind, core: Core) -> Element<'t>
         requires fits { start + length text.now < 2 ^ 64 }
@@ -101,7 +100,7 @@ impl<'t> Element<'t> {
 
     /// Whether it is the word `nil`, behind tags or not.
     pub fn is_nil(&self) -> bool
-        ensures { IsTrue result ↔ (((piece_of self.now).core.kind ≡ Atom) × ((untagged (piece_of self.now)).text ≡ codes "nil")) }
+        ensures { result ≡ is_nil (piece_of self.now) }
     {
         let bare = self.untagged();
         match bare.kind {
@@ -112,7 +111,7 @@ impl<'t> Element<'t> {
 
     /// The integer that it is, behind tags or not, where that fits.
     pub fn as_int(&self) -> Option<i64>
-        ensures { MatchOption result ((z : ℤ) → IsInteger (untagged (piece_of self.now)) z → FitsSigned w64 z → ⊥) (λ z. IsInteger (untagged (piece_of self.now)) z) }
+        ensures { result ≡ int_of (piece_of self.now) }
     {
         let bare = self.untagged();
         match bare.kind {
@@ -129,6 +128,16 @@ impl<'t> Element<'t> {
         match (bare.kind, bare.text) {
             (ElementKind::Atom, [b':', ..]) => Some(bare.text),
             _ => None,
+        }
+    }
+
+    /// Whether it is this keyword, behind tags or not. The keyword is given with its colon.
+    pub fn is_keyword(&self, keyword: &[u8]) -> bool
+        ensures { result ≡ is_word keyword.now (piece_of self.now) }
+    {
+        match self.as_keyword() {
+            Some(text) => text == keyword,
+            None => false,
         }
     }
 

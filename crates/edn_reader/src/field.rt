@@ -2,7 +2,7 @@
 
 ghost use Rattle.std.specs.Prelude.{◌≡◌, ◌++◌, List, [], ◌∷◌};
 ghost use Rattle.edn_reader.specs.Grammar.{Piece, piece_of};
-ghost use Rattle.edn_reader.specs.Pairs.{is_word, IsField};
+ghost use Rattle.edn_reader.specs.Given.{given, seen};
 
 use crate::element::Element;
 
@@ -14,17 +14,8 @@ pub enum Field<'t> {
     Twice,
 }
 
-pub fn is_key(name: &Element, key: &[u8]) -> bool
-    ensures { result ≡ is_word key.now (piece_of name.now) }
-{
-    match name.as_keyword() {
-        Some(text) => text == key,
-        None => false,
-    }
-}
-
 pub fn one_more<'t>(found: Field<'t>, value: Element<'t>) -> Field<'t>
-    ensures { (values : List Piece) → IsField found.entry values → IsField result (values ++ piece_of value.entry ∷ []) }
+    ensures { (values : List Piece) → seen found.entry ≡ given values → seen result ≡ given (values ++ piece_of value.entry ∷ []) }
 {
     match found {
         Field::Absent => Field::Once(value),

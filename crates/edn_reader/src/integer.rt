@@ -1,9 +1,8 @@
 //! Integers, as their bytes spell them.
 
-ghost use Rattle.std.specs.Prelude.{◌≡◌, ℤ, pos, ◌<◌, ◌≤◌, ◌^◌, ℕ, Some, MatchOption, FitsSigned, length};
-ghost use Rattle.std.specs.Int.{w64};
+ghost use Rattle.std.specs.Prelude.{◌≡◌, pos, ◌<◌, ◌≤◌, ◌^◌, ℕ, Some, MatchOption, length};
 ghost use Rattle.std.specs.Option.{option_map};
-ghost use Rattle.edn_reader.specs.Integer.{is_digit, is_suffix, digits_after, natural_of, integer_of, minus};
+ghost use Rattle.edn_reader.specs.Integer.{is_digit, is_suffix, digits_after, natural_of, integer_of, minus, fitting};
 
 /// From this number on one more digit passes the integers that are read.
 const TENTH: u64 = 922_337_203_685_477_580;
@@ -64,7 +63,7 @@ fn natural(bytes: &[u8]) -> Option<u64>
 }
 
 fn positive(bytes: &[u8]) -> Option<i64>
-    ensures { MatchOption result ((z : ℤ) → option_map pos (natural_of bytes.now) ≡ Some z → FitsSigned w64 z → ⊥) (λ z. option_map pos (natural_of bytes.now) ≡ Some z) }
+    ensures { result ≡ fitting (option_map pos (natural_of bytes.now)) }
 {
     match natural(bytes) {
         Some(n) => { if n < LIMIT { Some(n as i64) } else { None } }
@@ -73,7 +72,7 @@ fn positive(bytes: &[u8]) -> Option<i64>
 }
 
 fn negative(bytes: &[u8]) -> Option<i64>
-    ensures { MatchOption result ((z : ℤ) → option_map minus (natural_of bytes.now) ≡ Some z → FitsSigned w64 z → ⊥) (λ z. option_map minus (natural_of bytes.now) ≡ Some z) }
+    ensures { result ≡ fitting (option_map minus (natural_of bytes.now)) }
 {
     match natural(bytes) {
         Some(n) => {
@@ -92,7 +91,7 @@ fn negative(bytes: &[u8]) -> Option<i64>
 /// The integer that the bytes spell, where it fits.
 #[tactic(auto, unfolding(crate::specs::Integer::integer_of))]
 pub fn signed(bytes: &[u8]) -> Option<i64>
-    ensures { MatchOption result ((z : ℤ) → integer_of bytes.now ≡ Some z → FitsSigned w64 z → ⊥) (λ z. integer_of bytes.now ≡ Some z) }
+    ensures { result ≡ fitting (integer_of bytes.now) }
 {
     if bytes.is_empty() {
         return None;

@@ -475,6 +475,11 @@ fn words_and_integers(rt: HostRuntime) -> Result<(), Fail> {
     assert_eq!(rt; first(&rt, b":ok}")?.as_keyword(), Some(b":ok".as_slice()));
     assert_eq!(rt; first(&rt, b"ok")?.as_keyword(), None);
     assert_eq!(rt; first(&rt, b"\":ok\"")?.as_keyword(), None);
+    assert!(rt; first(&rt, b":ok}")?.is_keyword(b":ok"));
+    assert!(rt; first(&rt, b"#t :ok")?.is_keyword(b":ok"));
+    assert!(rt; !first(&rt, b":okay")?.is_keyword(b":ok"));
+    assert!(rt; !first(&rt, b":o")?.is_keyword(b":ok"));
+    assert!(rt; !first(&rt, b"\":ok\"")?.is_keyword(b":ok"));
     assert!(rt; first(&rt, b"ok")?.as_map().is_none());
     Ok(())
 }

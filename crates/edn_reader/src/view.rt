@@ -3,7 +3,7 @@
 ghost use Rattle.std.specs.Prelude.{◌≡◌, ◌+◌, ◌≤◌, ◌<◌, ◌^◌, List, [], ◌∷◌, length, MatchOption, IfSome};
 
 use crate::element::Element;
-use crate::field::{Field, is_key, one_more};
+use crate::field::{Field, one_more};
 use crate::parts::Parts;
 
 /// The pairs of a map that are left to go over.
@@ -20,7 +20,8 @@ pub struct VectorView<'t> {
 
 impl<'t> MapView<'t> {
     ghost use Rattle.edn_reader.specs.Grammar.{Piece, piece_of, IsElement};
-    ghost use Rattle.edn_reader.specs.Pairs.{PairsLeft, NextPair, bytes_left, values_of, IsField, IsWholeField};
+    ghost use Rattle.edn_reader.specs.Pairs.{PairsLeft, NextPair, bytes_left, values_of, IsWholeField};
+    ghost use Rattle.edn_reader.specs.Given.{given, seen};
 
     pub(crate) fn new(parts: Parts<'t>) -> MapView<'t>
         ensures { result.parts ≡ parts.entry }
@@ -47,13 +48,13 @@ impl<'t> MapView<'t> {
 
     /// What the pairs that are left have under a key, which is given with its colon.
     pub fn field(&self, key: &[u8]) -> Field<'t>
-        ensures values { (pairs : List (Piece × Piece)) → PairsLeft self.now pairs → IsField result (values_of key.now pairs) }
+        ensures values { (pairs : List (Piece × Piece)) → PairsLeft self.now pairs → seen result ≡ given (values_of key.now pairs) }
         ensures whole { (pairs : List (Piece × Piece)) → PairsLeft self.now pairs → IsWholeField result }
     {
         let mut view = *self;
         let mut found = Field::Absent;
         while let Some((name, value)) = view.next_pair() {
-            if is_key(&name, key) {
+            if name.is_keyword(key) {
                 found = one_more(found, value);
             }
         }
