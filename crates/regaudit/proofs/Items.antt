@@ -7,6 +7,8 @@ use Rattle.edn_reader.specs.declared.element.ElementKind.{ElementKind}
 use Rattle.edn_reader.specs.declared.element.ElementKind.TheVariants as kinds
 use Rattle.edn_reader.specs.Grammar.{Piece, IsElement}
 use Rattle.edn_reader.specs.Pairs.{is_word, values_of, HasMembers, HasPairs}
+use Rattle.edn_reader.specs.Given.{Given, One, given}
+use Rattle.edn_reader.specs.Integer.{int_of}
 use Rattle.regaudit.specs.declared.event.Action.{Action}
 use Rattle.regaudit.specs.declared.event.Stage.{Stage}
 use Rattle.regaudit.specs.declared.event.Item.{Item}
@@ -15,7 +17,7 @@ use Rattle.regaudit.specs.declared.event.FormField.TheVariants as fields
 use Rattle.regaudit.specs.declared.event.FormFault.{FormFault}
 use Rattle.regaudit.specs.declared.event.FormFault.TheVariants.{BadType, NotAMap}
 use Rattle.regaudit.specs.declared.form.Progress.{Progress}
-use Rattle.regaudit.specs.Item.{Given, One, given, Worth, Silent, Plain, Named, Repeated, IsWorth, silent, plain, named, repeated, Fields, fields_of, is_there, ◌>>=◌, needed, int_of, progress_of, action_of, stage_of, event_of, by_process, item_of, IsItem, no_map, of_map, lying_at}
+use Rattle.regaudit.specs.Item.{Worth, Silent, Plain, Named, Repeated, IsWorth, silent, plain, named, repeated, Fields, fields_of, is_there, ◌>>=◌, needed, progress_of, action_of, stage_of, event_of, by_process, item_of, IsItem, no_map, of_map, lying_at}
 
 -- what is known of vectors and maps
 abbrev pub SomeMembers : Type 0
@@ -38,7 +40,7 @@ ElementPairs = (piece : Piece) (pairs : List (Piece × Piece)) → HasPairs piec
 
 -- ---- one item at most
 
-one_worth : OneMembers → (found : Given) (first second : Worth) → IsWorth found first → IsWorth found second → first ≡ second
+one_worth : OneMembers → (found : Given Piece) (first second : Worth) → IsWorth found first → IsWorth found second → first ≡ second
 one_worth one found first second silent silent = refl
 one_worth one found first second (plain none) (plain other) = refl
 one_worth one found first second (plain none) (named name value members) = absurd (none name value members)

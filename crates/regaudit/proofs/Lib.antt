@@ -1,6 +1,5 @@
 pub mod Refusals
 pub mod Sessions
-pub mod Fields
 pub mod Worths
 pub mod Items
 pub mod SoFar

@@ -4,7 +4,8 @@ use Rattle.edn_reader.specs.declared.element.Element.{Element}
 use Rattle.edn_reader.specs.declared.view.VectorView.{VectorView}
 use Rattle.edn_reader.specs.Grammar.{Piece, piece_of}
 use Rattle.edn_reader.specs.Pairs.{HasMembers, MembersLeft, NextMember}
-use Rattle.regaudit.specs.Item.{IsWorth, One, Named, named}
+use Rattle.edn_reader.specs.Given.{One}
+use Rattle.regaudit.specs.Item.{IsWorth, Named, named}
 use Rattle.regaudit.specs.Form.{AreTheTwo}
 
 -- what a view gives of whatever it has left

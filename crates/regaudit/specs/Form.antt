@@ -2,10 +2,11 @@
 use Rattle.std.specs.Prelude.{◌≡◌, ◌∷◌, List, [], Option, None, Some}
 use Rattle.edn_reader.specs.declared.element.Element.{Element}
 use Rattle.edn_reader.specs.Grammar.{Piece, piece_of}
+use Rattle.edn_reader.specs.Given.{seen}
 use Rattle.regaudit.specs.declared.form.Form.{Form}
 use Rattle.regaudit.specs.declared.form.Said.{Said}
 use Rattle.regaudit.specs.declared.form.Said.TheVariants as said
-use Rattle.regaudit.specs.Item.{Fields, Worth, Silent, Plain, Named, Repeated, seen}
+use Rattle.regaudit.specs.Item.{Fields, Worth, Silent, Plain, Named, Repeated}
 
 -- each field as it was found, but for the value
 abbrev pub seen_all : Form → Fields

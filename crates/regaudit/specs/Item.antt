@@ -1,15 +1,14 @@
 -- The item of an element: its fields are looked at in one order, and the first refusal is the answer.
-use Rattle.std.specs.Prelude.{◌≡◌, ℕ, ◌^◌, ℤ, pos, negsuc, nat_lt, Bool, true, false, ◌&&◌, ◌||◌, List, [], ◌∷◌, Option, Some, None, Result, Ok, Err, codes, if◌then◌else◌}
+use Rattle.std.specs.Prelude.{◌≡◌, ℕ, ℤ, pos, negsuc, Bool, true, false, ◌||◌, List, [], ◌∷◌, Option, Some, None, Result, Ok, Err, codes, if◌then◌else◌}
 use Rattle.std.specs.Str.{bytes_eq}
 use Rattle.std.specs.Borrow.{Bor}
 use Rattle.intervals.specs.declared.operation.Moment.{Moment}
 use Rattle.intervals.specs.declared.operation.Value.{Value}
 use Rattle.intervals.specs.declared.operation.Value.TheVariants.{Nil, Int}
-use Rattle.edn_reader.specs.declared.field.Field.{Field}
-use Rattle.edn_reader.specs.declared.field.Field.TheVariants.{Absent, Once, Twice}
-use Rattle.edn_reader.specs.Grammar.{Piece, piece_of, untagged}
-use Rattle.edn_reader.specs.Pairs.{is_atom, is_word, values_of, HasMembers, HasPairs}
-use Rattle.edn_reader.specs.Integer.{integer_of}
+use Rattle.edn_reader.specs.Grammar.{Piece, untagged}
+use Rattle.edn_reader.specs.Pairs.{is_word, is_nil, values_of, HasMembers, HasPairs}
+use Rattle.edn_reader.specs.Given.{Given, Missing, One, Many, given}
+use Rattle.edn_reader.specs.Integer.{int_of}
 use Rattle.regaudit.specs.declared.event.Action.{Action}
 use Rattle.regaudit.specs.declared.event.Action.TheVariants.{Read, Write}
 use Rattle.regaudit.specs.declared.event.Stage.{Stage}
@@ -23,26 +22,8 @@ use Rattle.regaudit.specs.declared.event.FormFault.TheVariants.{NotAMap, Missing
 use Rattle.regaudit.specs.declared.form.Progress.{Progress}
 use Rattle.regaudit.specs.declared.form.Progress.TheVariants as progress
 
--- what a map has under a key: nothing, one value, or more
-pub data Given : Type 0 where
-  Missing : Given
-  One : (value : Piece) → Given
-  Many : Given
-
--- how many values there are
-abbrev pub given : List Piece → Given
-given [] = Missing
-given (value ∷ []) = One value
-given (value ∷ other ∷ values) = Many
-
--- what the program's field is
-abbrev pub seen : Field → Given
-seen Absent = Missing
-seen (Once element) = One (piece_of element)
-seen Twice = Many
-
 -- there is at least one value
-abbrev pub is_there : Given → Bool
+abbrev pub is_there : Given Piece → Bool
 is_there Missing = false
 is_there (One value) = true
 is_there Many = true
@@ -55,7 +36,7 @@ pub data Worth : Type 0 where
   Repeated : Worth
 
 -- a vector of exactly two elements, behind tags or not, is a name and a value; any other element is of the only register
-pub data IsWorth : Given → Worth → Type 0 where
+pub data IsWorth : Given Piece → Worth → Type 0 where
   silent : IsWorth Missing Silent
   plain : {piece : Piece} → ((name value : Piece) → HasMembers piece (name ∷ value ∷ []) → ⊥) → IsWorth (One piece) (Plain piece)
   named : {piece : Piece} (name value : Piece) → HasMembers piece (name ∷ value ∷ []) → IsWorth (One piece) (Named name value)
@@ -63,12 +44,12 @@ pub data IsWorth : Given → Worth → Type 0 where
 
 -- the fields of a map that are read, but for its value
 pub record Fields : Type 0 where
-  pub edit : Given
-  pub ask : Given
-  pub process : Given
-  pub stage : Given
-  pub action : Given
-  pub moment : Given
+  pub edit : Given Piece
+  pub ask : Given Piece
+  pub process : Given Piece
+  pub stage : Given Piece
+  pub action : Given Piece
+  pub moment : Given Piece
 
 -- the fields of a map of these pairs, by their keywords, but for its value
 abbrev pub fields_of : List (Piece × Piece) → Fields
@@ -93,24 +74,10 @@ Gives view (Ok x) wanted = wanted ≡ Ok (view x)
 Gives view (Err e) wanted = wanted ≡ Err e
 
 -- a field that must be there once
-abbrev pub needed : FormField → Given → Result Piece FormFault
+abbrev pub needed : FormField → Given Piece → Result Piece FormFault
 needed field Missing = Err (MissingField field)
 needed field (One value) = Ok value
 needed field Many = Err (DuplicateField field)
-
--- a number of 64 bits with a sign
-abbrev pub fitting : Option ℤ → Option ℤ
-fitting None = None
-fitting (Some (pos n)) = if nat_lt n (2 ^ 63) then Some (pos n) else None
-fitting (Some (negsuc n)) = if nat_lt n (2 ^ 63) then Some (negsuc n) else None
-
--- the integer that an element is behind its tags, where it fits
-abbrev pub int_of : Piece → Option ℤ
-int_of piece = if is_atom piece.core.kind then fitting (integer_of (untagged piece).text) else None
-
--- the word nil, behind tags or not
-abbrev pub is_nil : Piece → Bool
-is_nil piece = is_atom piece.core.kind && bytes_eq (untagged piece).text (codes "nil")
 
 -- the value that an integer is
 abbrev pub int_value : Option ℤ → Result Value FormFault
@@ -171,11 +138,11 @@ invoked_value Read worth = value_ignored worth
 invoked_value Write worth = value_given worth
 
 -- the moment that must be there
-abbrev pub moment_given : Given → Result Moment FormFault
+abbrev pub moment_given : Given Piece → Result Moment FormFault
 moment_given given = needed fields.Moment given >>= moment_of
 
 -- the value, and then the moment
-abbrev pub timed : (Value → Moment → Stage) → Result Value FormFault → Given → Result Stage FormFault
+abbrev pub timed : (Value → Moment → Stage) → Result Value FormFault → Given Piece → Result Stage FormFault
 timed stage value moment = value >>= (λ v. moment_given moment >>= (λ m. Ok (stage v m)))
 
 -- the stage: its value and moment where it is an invocation or an answer

@@ -2,8 +2,9 @@
 
 ghost use Rattle.std.specs.Prelude.{◌≡◌, List, codes};
 ghost use Rattle.edn_reader.specs.Grammar.{Piece, piece_of, IsElement};
-ghost use Rattle.edn_reader.specs.Pairs.{PairsLeft, MembersLeft, IsWholeField, values_of, is_word as is_that_word};
-ghost use Rattle.regaudit.specs.Item.{IsItem, IsWorth, One, Gives, given, seen, is_there as is_some_given, fields_of, needed as needed_of, int_of as integer_in, value_of as value_in, moment_of as moment_in, action_of as action_in, progress_of as progress_in, is_name as is_that_name, value_given, value_ignored, invoked_value as value_invoked, moment_given, stage_of as stage_in, event_of as event_in, item_of as item_in};
+ghost use Rattle.edn_reader.specs.Pairs.{PairsLeft, MembersLeft, IsWholeField, values_of};
+ghost use Rattle.edn_reader.specs.Given.{One, given, seen};
+ghost use Rattle.regaudit.specs.Item.{IsItem, IsWorth, Gives, is_there as is_some_given, fields_of, needed as needed_of, value_of as value_in, moment_of as moment_in, action_of as action_in, progress_of as progress_in, is_name as is_that_name, value_given, value_ignored, invoked_value as value_invoked, moment_given, stage_of as stage_in, event_of as event_in, item_of as item_in};
 ghost use Rattle.regaudit.specs.Form.{seen_all, worth_of, AreTheTwo};
 
 use crate::event::{Action, Event, FormFault, FormField, Item, Stage};
@@ -114,7 +115,7 @@ fn item_of<'t>(form: &Form<'t>, text: &'t [u8]) -> Result<Item<'t>, FormFault>
         return Err(FormFault::BadType);
     }
     let process = needed(&form.process, FormField::Process)?;
-    match int_of(&process) {
+    match process.as_int() {
         Some(process) => event_of(form, text, process),
         None => Ok(Item::Skipped),
     }
@@ -173,13 +174,13 @@ fn needed<'t>(field: &Field<'t>, name: FormField) -> Result<Element<'t>, FormFau
 fn progress_of(element: &Element) -> Result<Progress, FormFault>
     ensures { result ≡ progress_in (piece_of element.now) }
 {
-    if is_word(element, b":invoke") {
+    if element.is_keyword(b":invoke") {
         Ok(Progress::Invoked)
-    } else if is_word(element, b":ok") {
+    } else if element.is_keyword(b":ok") {
         Ok(Progress::Answered)
-    } else if is_word(element, b":fail") {
+    } else if element.is_keyword(b":fail") {
         Ok(Progress::Failed)
-    } else if is_word(element, b":info") {
+    } else if element.is_keyword(b":info") {
         Ok(Progress::Crashed)
     } else {
         Err(FormFault::BadType)
@@ -189,21 +190,12 @@ fn progress_of(element: &Element) -> Result<Progress, FormFault>
 fn action_of(element: &Element) -> Result<Action, FormFault>
     ensures { result ≡ action_in (piece_of element.now) }
 {
-    if is_word(element, b":read") {
+    if element.is_keyword(b":read") {
         Ok(Action::Read)
-    } else if is_word(element, b":write") {
+    } else if element.is_keyword(b":write") {
         Ok(Action::Write)
     } else {
         Err(FormFault::UnsupportedF)
-    }
-}
-
-fn is_word(element: &Element, word: &[u8]) -> bool
-    ensures { result ≡ is_that_word word.now (piece_of element.now) }
-{
-    match element.as_keyword() {
-        Some(text) => text == word,
-        None => false,
     }
 }
 
@@ -253,7 +245,7 @@ fn read_value(element: &Element) -> Result<Value, FormFault>
     if element.is_nil() {
         return Ok(Value::Nil);
     }
-    match int_of(element) {
+    match element.as_int() {
         Some(number) => Ok(Value::Int(number)),
         None => Err(FormFault::BadValue),
     }
@@ -268,14 +260,8 @@ fn moment_of(field: &Field) -> Result<Moment, FormFault>
 fn read_moment(element: &Element) -> Result<Moment, FormFault>
     ensures { result ≡ moment_in (piece_of element.now) }
 {
-    match int_of(element) {
+    match element.as_int() {
         Some(number) if number >= 0 => Ok(Moment(number as u64)),
         _ => Err(FormFault::BadMoment),
     }
-}
-
-fn int_of(element: &Element) -> Option<i64>
-    ensures { result ≡ integer_in (piece_of element.now) }
-{
-    element.as_int()
 }

@@ -1,12 +1,13 @@
 -- Each element is written in some form: a vector has its elements, a map its pairs, and another element is neither.
-use Rattle.std.proofs.Common.{◌≡◌, ◌≢◌, ◌⊎◌, inl, inr, ℕ, Bool, true, false, cond, List, [], ◌∷◌, Option, Some, None, refl, sym, ap, subst}
+use Rattle.std.proofs.Common.{◌≡◌, ◌≢◌, ◌⊎◌, inl, inr, ℕ, Bool, true, false, List, [], ◌∷◌, Option, Some, None, refl}
 use Rattle.std.specs.Prelude.{codes}
 use Rattle.std.specs.List.{AllByRecursion}
 use Rattle.edn_reader.specs.declared.element.ElementKind.{ElementKind}
 use Rattle.edn_reader.specs.declared.element.ElementKind.TheVariants as kinds
 use Rattle.edn_reader.specs.Grammar.{Piece, IsElement}
 use Rattle.edn_reader.specs.Pairs.{is_word, values_of, HasPairs, HasMembers}
-use Rattle.tower_file.specs.Form.{Given, Missing, One, Many, given, under, IsGiven, AreMembers, Each, IsVectorOf, IsMapOf, Sequence, IsSequence, RegisterForm, AreRegisterFields, IsRegister, LevelForm, AreLevelFields, IsLevel, FileForm, AreFileFields}
+use Rattle.edn_reader.specs.Given.{Given, Missing, One, Many, given}
+use Rattle.tower_file.specs.Form.{under, IsGiven, AreMembers, Each, IsVectorOf, IsMapOf, IsSequence, AreRegisterFields, IsRegister, AreLevelFields, IsLevel, AreFileFields}
 
 vector_or : (kind : ElementKind) → (kind ≡ kinds.Vector) ⊎ (kind ≢ kinds.Vector)
 vector_or kinds.Atom = inr (λ h. absurd cc)

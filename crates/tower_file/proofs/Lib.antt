@@ -1,4 +1,3 @@
-pub mod Fields
 pub mod Names
 pub mod Loops
 pub mod Vectors

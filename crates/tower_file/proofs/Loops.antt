@@ -1,5 +1,5 @@
 -- Going over a vector: what was gathered so far, and what the elements that are left will give.
-use Rattle.std.proofs.Common.{◌≡◌, ◌≢◌, List, [], ◌∷◌, ◌++◌, Option, Some, None, Result, Ok, Err, refl, sym, ap, subst, ◌∙◌, append_assoc, append-nil}
+use Rattle.std.proofs.Common.{◌≡◌, List, [], ◌∷◌, ◌++◌, Option, Some, None, Result, Ok, Err, refl, sym, ap, subst, ◌∙◌, append_assoc, append-nil}
 use Rattle.edn_reader.specs.declared.element.Element.{Element}
 use Rattle.edn_reader.specs.declared.view.VectorView.{VectorView}
 use Rattle.edn_reader.specs.Grammar.{Piece, piece_of}

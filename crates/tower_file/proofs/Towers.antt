@@ -1,5 +1,5 @@
 -- What a file says is answered, unless memory is refused.
-use Rattle.std.proofs.Common.{◌≡◌, ◌≢◌, ◌⊎◌, inl, inr, ℕ, List, [], ◌∷◌, length, ◌≤◌, Option, Some, None, Result, Ok, Err, refl, sym, ap, subst, ◌∙◌, arith}
+use Rattle.std.proofs.Common.{◌≡◌, ◌≢◌, ◌⊎◌, inl, inr, ℕ, List, [], ◌∷◌, Option, None, Result, Ok, Err, refl, sym, ap, subst, ◌∙◌}
 use Rattle.std.specs.Prelude.{IfOk, IfErr}
 use Rattle.edn_reader.specs.declared.fault.EdnFault.{EdnFault}
 use Rattle.edn_reader.specs.declared.element.Element.{Element}
@@ -8,8 +8,8 @@ use Rattle.edn_reader.specs.declared.field.Field.TheVariants.{Absent, Once, Twic
 use Rattle.edn_reader.specs.Grammar.{Piece, piece_of}
 use Rattle.edn_reader.specs.Text.{IsText}
 use Rattle.edn_reader.specs.Fault.{FaultOf}
-use Rattle.edn_reader.specs.Pairs.{IsField, IsWholeField}
-use Rattle.tower_file.specs.declared.fault.TowerField.{TowerField}
+use Rattle.edn_reader.specs.Pairs.{IsWholeField}
+use Rattle.edn_reader.specs.Given.{Missing, One, Many, given, seen}
 use Rattle.tower_file.specs.declared.fault.TowerField.TheVariants.{File}
 use Rattle.tower_file.specs.declared.fault.TowerFault.{TowerFault}
 use Rattle.tower_file.specs.declared.fault.TowerFault.TheVariants.{Edn, Shape, NameTaken, WriterCount, UnknownPart, EmptyDomain, InitialOutOfDomain, TooMany, Memory}
@@ -18,7 +18,7 @@ use Rattle.tower_file.specs.Contents.{Contents}
 use Rattle.tower_file.specs.Reading.{contents_of}
 use Rattle.tower_file.specs.Views.{GivesOrMemory}
 use Rattle.tower_file.proofs.Forms.{Some_form}
-use Rattle.tower_file.specs.Tower.{Says, IsTowerOf, HasTowerFault, IsTextFault}
+use Rattle.tower_file.specs.Tower.{IsTowerOf, HasTowerFault, IsTextFault}
 
 memory_or : (fault : TowerFault) → (fault ≡ Memory) ⊎ (fault ≢ Memory)
 memory_or (Edn e) = inr (λ h. absurd cc)
@@ -138,27 +138,33 @@ other_text bytes pieces division text h = record {
       ap contents_of (only_none pieces other h (subst (λ (ps : List Piece). IsFile ps other) (division written.0 pieces written.1 text) written.2));
 }
 
-pub none_of_nothing : (pieces : List Piece) → pieces ≡ [] → IsNotOne pieces
-none_of_nothing [] e = tt
-none_of_nothing (piece ∷ pieces) e = absurd cc
+only_one : (pieces : List Piece) (piece : Piece) → One piece ≡ given pieces → pieces ≡ piece ∷ []
+only_one [] piece e = absurd cc
+only_one (first ∷ []) piece e = let same : piece ≡ first = cc in cc
+only_one (first ∷ second ∷ pieces) piece e = absurd cc
 
-pub none_of_more : (pieces : List Piece) → 2 ≤ length pieces → IsNotOne pieces
-none_of_more [] h = tt
-none_of_more (piece ∷ []) h = absurd (omega arith)
-none_of_more (piece ∷ other ∷ pieces) h = tt
+none_of_nothing : (pieces : List Piece) → Missing ≡ given pieces → IsNotOne pieces
+none_of_nothing [] e = tt
+none_of_nothing (piece ∷ []) e = absurd cc
+none_of_nothing (piece ∷ other ∷ pieces) e = tt
+
+none_of_more : (pieces : List Piece) → Many ≡ given pieces → IsNotOne pieces
+none_of_more [] e = tt
+none_of_more (piece ∷ []) e = absurd cc
+none_of_more (piece ∷ other ∷ pieces) e = tt
 
 pub one_found : (bytes : List ℕ) (element : Element) (found : Field) (result : Result Contents TowerFault) → OneDivision bytes → found ≡ Once element
-    → (pieces : List Piece) × IsText bytes pieces × IsField found pieces → IsWholeField found → Some_form (IsMapOf AreFileFields)
+    → (pieces : List Piece) × IsText bytes pieces × (seen found ≡ given pieces) → IsWholeField found → Some_form (IsMapOf AreFileFields)
     → ((other : Option FileForm) → IsMapOf AreFileFields (piece_of element) other → GivesOrMemory (λ (tower : Contents). tower) result (contents_of other)) → IsAnswered bytes result
 one_found bytes element found result division e text whole some says =
-    let is = subst (λ (f : Field). IsField f text.0) e text.2 in
+    let is = only_one text.0 (piece_of element) (sym (ap seen e) ∙ text.2) in
     let form = some (piece_of element) (subst IsWholeField e whole) in
     one_element bytes (piece_of element) text.0 form.0 result division text.1 is form.1 says
 
-other_by : (bytes : List ℕ) (pieces : List Piece) (found : Field) → OneDivision bytes → IsText bytes pieces → IsField found pieces → (found ≡ Absent) ⊎ (found ≡ Twice) → IsNotOne pieces
-other_by bytes pieces found division text f (inl e) = none_of_nothing pieces (subst (λ (x : Field). IsField x pieces) e f)
-other_by bytes pieces found division text f (inr e) = none_of_more pieces (subst (λ (x : Field). IsField x pieces) e f)
+other_by : (bytes : List ℕ) (pieces : List Piece) (found : Field) → OneDivision bytes → IsText bytes pieces → seen found ≡ given pieces → (found ≡ Absent) ⊎ (found ≡ Twice) → IsNotOne pieces
+other_by bytes pieces found division text f (inl e) = none_of_nothing pieces (sym (ap seen e) ∙ f)
+other_by bytes pieces found division text f (inr e) = none_of_more pieces (sym (ap seen e) ∙ f)
 
-pub other_found : (bytes : List ℕ) (found : Field) → OneDivision bytes → (pieces : List Piece) × IsText bytes pieces × IsField found pieces → (found ≡ Absent) ⊎ (found ≡ Twice)
+pub other_found : (bytes : List ℕ) (found : Field) → OneDivision bytes → (pieces : List Piece) × IsText bytes pieces × (seen found ≡ given pieces) → (found ≡ Absent) ⊎ (found ≡ Twice)
     → IsAnswered bytes (Err (Shape File))
 other_found bytes found division text e = other_text bytes text.0 division text.1 (other_by bytes text.0 found division text.1 text.2 e)

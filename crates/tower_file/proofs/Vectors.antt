@@ -1,5 +1,5 @@
 -- What stands under a key, seen by the program and read further.
-use Rattle.std.proofs.Common.{◌≡◌, ◌≢◌, ◌↔◌, ℕ, ℤ, Bool, true, false, List, [], ◌∷◌, Option, Some, None, Result, Ok, Err, refl, sym, ap, subst, ◌∙◌}
+use Rattle.std.proofs.Common.{◌≡◌, ◌↔◌, ℕ, ℤ, false, List, Option, Some, None, Ok, Err, refl, ap, subst, ◌∙◌}
 use Rattle.std.specs.Prelude.{codes}
 use Rattle.intervals.specs.declared.claim.Kind.{Kind}
 use Rattle.intervals.specs.declared.operation.Value.{Value}
@@ -7,13 +7,14 @@ use Rattle.edn_reader.specs.declared.element.ElementKind.TheVariants.{Vector}
 use Rattle.edn_reader.specs.declared.view.VectorView.{VectorView}
 use Rattle.edn_reader.specs.Grammar.{Piece}
 use Rattle.edn_reader.specs.Pairs.{is_word, HasMembers, MembersLeft}
+use Rattle.edn_reader.specs.Given.{Given, Missing, One, Many}
 use Rattle.tower_file.specs.declared.fault.TowerField.{TowerField}
 use Rattle.tower_file.specs.declared.fault.TowerField.TheVariants.{Name, Writers}
 use Rattle.tower_file.specs.declared.fault.TowerFault.{TowerFault}
-use Rattle.tower_file.specs.declared.fault.TowerFault.TheVariants.{Shape, Memory}
-use Rattle.tower_file.specs.Form.{Given, Missing, One, Many, IsGiven, AreMembers, IsVectorOf, Sequence, IsSequence, RegisterForm}
+use Rattle.tower_file.specs.declared.fault.TowerFault.TheVariants.{Shape}
+use Rattle.tower_file.specs.Form.{IsGiven, AreMembers, IsVectorOf, Sequence, IsSequence, RegisterForm}
 use Rattle.tower_file.specs.Reading.{needed, each, process_of, writers_of, name_in, kind_in, writers_in, initial_in, domain_in, parts_in, said_by, vector_in}
-use Rattle.tower_file.specs.Stated.{FormsLeft, ShowsOrMemory}
+use Rattle.tower_file.specs.Stated.{FormsLeft}
 
 -- what is needed and not there once is not there once when it is read further
 pub not_needed : {Form : Type 0} (IsRead : Piece → Form → Type 0) (field : TowerField) (fault : TowerFault) (given : Given Piece) (read : Given (Option (List Form)))

@@ -4,18 +4,7 @@ use Rattle.edn_reader.specs.declared.element.ElementKind.TheVariants.{Vector, Ma
 use Rattle.edn_reader.specs.Grammar.{Piece}
 use Rattle.edn_reader.specs.Text.{IsText}
 use Rattle.edn_reader.specs.Pairs.{values_of, HasPairs, HasMembers}
-
--- What stands under a key: nothing, one thing, or more.
-pub data Given (X : Type 0) : Type 0 where
-  Missing : Given X
-  One : (value : X) → Given X
-  Many : Given X
-
--- The elements that stand under a key, as one of these.
-abbrev pub given : List Piece → Given Piece
-given [] = Missing
-given (value ∷ []) = One value
-given (value ∷ other ∷ values) = Many
+use Rattle.edn_reader.specs.Given.{Given, Missing, One, Many, given}
 
 -- What stands under a key of a map of these pairs.
 abbrev pub under : List ℕ → List (Piece × Piece) → Given Piece

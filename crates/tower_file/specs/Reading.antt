@@ -1,7 +1,6 @@
 -- What a file says: its levels and registers in file order, and the first fault that is met.
-use Rattle.std.specs.Prelude.{◌≡◌, ℕ, ◌^◌, ℤ, pos, negsuc, nat_lt, nat_le, ◌==◌, Bool, true, false, not, ◌&&◌, List, [], ◌∷◌, ◌++◌, length, Option, Some, None, Result, Ok, Err, codes, if◌then◌else◌, is_some}
+use Rattle.std.specs.Prelude.{ℕ, ℤ, nat_lt, nat_le, ◌==◌, Bool, true, false, not, List, [], ◌∷◌, ◌++◌, length, Option, Some, None, Result, Ok, Err, codes, if◌then◌else◌, is_some}
 use Rattle.std.specs.List.{list_any}
-use Rattle.std.specs.Str.{bytes_eq}
 use Rattle.intervals.specs.declared.operation.RegId.{RegId}
 use Rattle.intervals.specs.declared.operation.Value.{Value}
 use Rattle.intervals.specs.declared.operation.Value.TheVariants.{Nil, Int}
@@ -9,13 +8,14 @@ use Rattle.intervals.specs.declared.claim.Kind.{Kind}
 use Rattle.intervals.specs.declared.claim.Kind.TheVariants as kinds
 use Rattle.intervals.specs.Operation.{same_value}
 use Rattle.edn_reader.specs.Grammar.{Piece, untagged}
-use Rattle.edn_reader.specs.Pairs.{is_atom, is_word}
-use Rattle.edn_reader.specs.Integer.{integer_of}
+use Rattle.edn_reader.specs.Pairs.{is_word, is_nil}
+use Rattle.edn_reader.specs.Given.{Given, Missing, One, Many}
+use Rattle.edn_reader.specs.Integer.{int_of}
 use Rattle.tower_file.specs.declared.fault.TowerField.{TowerField}
 use Rattle.tower_file.specs.declared.fault.TowerField.TheVariants as fields
 use Rattle.tower_file.specs.declared.fault.TowerFault.{TowerFault}
 use Rattle.tower_file.specs.declared.fault.TowerFault.TheVariants.{Shape, NameTaken, WriterCount, UnknownPart, EmptyDomain, InitialOutOfDomain, TooMany}
-use Rattle.tower_file.specs.Form.{Given, Missing, One, Many, Sequence, RegisterForm, LevelForm, FileForm}
+use Rattle.tower_file.specs.Form.{Sequence, RegisterForm, LevelForm, FileForm}
 use Rattle.tower_file.specs.Contents.{Register, Contents, empty, number_of}
 
 infixl 10 ◌>>=◌
@@ -49,20 +49,6 @@ each read (x ∷ xs) = read x >>= (λ y. each read xs >>= (λ ys. Ok (y ∷ ys))
 -- The bytes of an element without its tags, which are the name that it gives.
 abbrev pub name_of : Piece → List ℕ
 name_of piece = (untagged piece).text
-
--- A number of 64 bits with a sign.
-abbrev pub fitting : Option ℤ → Option ℤ
-fitting None = None
-fitting (Some (pos n)) = if nat_lt n (2 ^ 63) then Some (pos n) else None
-fitting (Some (negsuc n)) = if nat_lt n (2 ^ 63) then Some (negsuc n) else None
-
--- The integer that an element is behind its tags, where it fits.
-abbrev pub int_of : Piece → Option ℤ
-int_of piece = if is_atom piece.core.kind then fitting (integer_of (untagged piece).text) else None
-
--- The word nil, behind tags or not.
-abbrev pub is_nil : Piece → Bool
-is_nil piece = is_atom piece.core.kind && bytes_eq (untagged piece).text (codes "nil")
 
 -- The value that an integer is.
 abbrev pub int_value : TowerField → Option ℤ → Result Value TowerFault

@@ -1,9 +1,10 @@
 -- What a program holds of the members of a register and of a vector that is left to go over.
-use Rattle.std.specs.Prelude.{◌≡◌, ◌≢◌, ℕ, List, [], Option, Some, None, Result, Ok, Err, Vec}
+use Rattle.std.specs.Prelude.{◌≡◌, ◌≢◌, List, [], Option, Some, None, Result, Ok, Err, Vec}
 use Rattle.std.specs.Option.{option_map}
 use Rattle.std.specs.declared.alloc.Global.{Global}
 use Rattle.edn_reader.specs.declared.view.VectorView.{VectorView}
 use Rattle.edn_reader.specs.Grammar.{Piece}
+use Rattle.edn_reader.specs.Given.{seen}
 use Rattle.edn_reader.specs.Pairs.{MembersLeft}
 use Rattle.intervals.specs.declared.operation.Value.{Value}
 use Rattle.intervals.specs.Terms.{writers_of}
@@ -13,7 +14,6 @@ use Rattle.tower_file.specs.declared.fault.TowerFault.{TowerFault}
 use Rattle.tower_file.specs.declared.fault.TowerFault.TheVariants.{Memory}
 use Rattle.tower_file.specs.Form.{RegisterForm, IsGiven, IsSequence, AreMembers, Each}
 use Rattle.tower_file.specs.Reading.{Said}
-use Rattle.tower_file.specs.Views.{seen}
 
 -- The program has looked up what stands under each key of a register.
 pub record AreFound (found : Fields) (form : RegisterForm) : Type 0 where

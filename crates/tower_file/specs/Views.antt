@@ -1,21 +1,11 @@
 -- What the program's values are, apart from where they lie in memory.
-use Rattle.std.specs.Prelude.{◌≡◌, ◌≢◌, ℕ, List, [], Option, Some, None, Result, Ok, Err, Vec, map}
+use Rattle.std.specs.Prelude.{◌≡◌, ◌≢◌, ℕ, List, Result, Ok, Err, Vec, map}
 use Rattle.std.specs.declared.alloc.Global.{Global}
-use Rattle.edn_reader.specs.declared.field.Field.{Field}
-use Rattle.edn_reader.specs.declared.field.Field.TheVariants.{Absent, Once, Twice}
-use Rattle.edn_reader.specs.Grammar.{Piece, piece_of}
 use Rattle.intervals.specs.Terms.{terms_of}
 use Rattle.tower_file.specs.declared.registers.Entry.{Entry}
 use Rattle.tower_file.specs.declared.fault.TowerFault.{TowerFault}
 use Rattle.tower_file.specs.declared.fault.TowerFault.TheVariants.{Memory}
-use Rattle.tower_file.specs.Form.{Given, Missing, One, Many}
 use Rattle.tower_file.specs.Contents.{Register, Contents}
-
--- What the program found under a key.
-abbrev pub seen : Field → Given Piece
-seen Absent = Missing
-seen (Once element) = One (piece_of element)
-seen Twice = Many
 
 -- A name with what the program keeps beside it.
 abbrev pub register_at : Vec ℕ Global × Entry → Register

@@ -2,9 +2,9 @@
 
 ghost use Rattle.std.specs.Prelude.{◌≡◌};
 ghost use Rattle.edn_reader.specs.Grammar.{Piece, piece_of};
-ghost use Rattle.edn_reader.specs.Pairs.{is_word as is_that_word};
-ghost use Rattle.tower_file.specs.Reading.{int_of as integer_in, value_of as value_in, process_of as process_in, kind_of as kind_that, name_of as name_that, needed as needed_of, name_in, kind_in, initial_in};
-ghost use Rattle.tower_file.specs.Views.{seen, Gives};
+ghost use Rattle.edn_reader.specs.Given.{seen};
+ghost use Rattle.tower_file.specs.Reading.{value_of as value_in, process_of as process_in, kind_of as kind_that, name_of as name_that, needed as needed_of, name_in, kind_in, initial_in};
+ghost use Rattle.tower_file.specs.Views.{Gives};
 
 use crate::fault::{TowerFault, TowerField};
 use edn_reader::{Element, Field};
@@ -42,23 +42,14 @@ pub fn read_kind(field: &Field) -> Result<Kind, TowerFault>
 fn kind_of(element: &Element) -> Result<Kind, TowerFault>
     ensures { result ≡ kind_that (piece_of element.now) }
 {
-    if is_word(element, b":safe") {
+    if element.is_keyword(b":safe") {
         Ok(Kind::Safe)
-    } else if is_word(element, b":regular") {
+    } else if element.is_keyword(b":regular") {
         Ok(Kind::Regular)
-    } else if is_word(element, b":atomic") {
+    } else if element.is_keyword(b":atomic") {
         Ok(Kind::Atomic)
     } else {
         Err(TowerFault::Shape(TowerField::Kind))
-    }
-}
-
-pub fn is_word(element: &Element, word: &[u8]) -> bool
-    ensures { result ≡ is_that_word word.now (piece_of element.now) }
-{
-    match element.as_keyword() {
-        Some(text) => text == word,
-        None => false,
     }
 }
 
@@ -79,7 +70,7 @@ pub fn value_of(element: &Element, name: TowerField) -> Result<Value, TowerFault
     if element.is_nil() {
         return Ok(Value::Nil);
     }
-    match int_of(element) {
+    match element.as_int() {
         Some(number) => Ok(Value::Int(number)),
         None => Err(TowerFault::Shape(name)),
     }
@@ -89,14 +80,8 @@ pub fn value_of(element: &Element, name: TowerField) -> Result<Value, TowerFault
 pub fn process_of(element: &Element) -> Result<i64, TowerFault>
     ensures { result ≡ process_in (piece_of element.now) }
 {
-    match int_of(element) {
+    match element.as_int() {
         Some(number) => Ok(number),
         None => Err(TowerFault::Shape(TowerField::Writers)),
     }
-}
-
-fn int_of(element: &Element) -> Option<i64>
-    ensures { result ≡ integer_in (piece_of element.now) }
-{
-    element.as_int()
 }

@@ -2,9 +2,10 @@
 
 ghost use Rattle.std.specs.Prelude.{◌≡◌, ◌≢◌, List, Option, Ok, Err, IfErr, OnOk};
 ghost use Rattle.edn_reader.specs.Grammar.{piece_of};
-ghost use Rattle.tower_file.specs.Form.{Given, RegisterForm, LevelForm, IsGiven, IsVectorOf, IsRegister, IsLevel};
+ghost use Rattle.edn_reader.specs.Given.{Given, seen};
+ghost use Rattle.tower_file.specs.Form.{RegisterForm, LevelForm, IsGiven, IsVectorOf, IsRegister, IsLevel};
 ghost use Rattle.tower_file.specs.Reading.{vector_in, level_after, levels_after};
-ghost use Rattle.tower_file.specs.Views.{seen, contents_with};
+ghost use Rattle.tower_file.specs.Views.{contents_with};
 ghost use Rattle.tower_file.specs.Stated.{FormsLeft, ShowsOrMemory};
 ghost use Rattle.tower_file.specs.declared.fault.TowerFault.TheVariants.{Memory};
 

@@ -2,14 +2,15 @@
 
 ghost use Rattle.std.specs.Prelude.{◌≡◌, List, Option};
 ghost use Rattle.edn_reader.specs.Grammar.{Piece};
+ghost use Rattle.edn_reader.specs.Given.{Given, seen};
 ghost use Rattle.edn_reader.specs.Pairs.{PairsLeft as PairsOfView, MembersLeft};
 ghost use Rattle.intervals.specs.Terms.{writers_of as listed_writers};
-ghost use Rattle.tower_file.specs.Form.{Given, Sequence, RegisterForm, AreRegisterFields, IsGiven, IsSequence, AreMembers};
+ghost use Rattle.tower_file.specs.Form.{Sequence, RegisterForm, AreRegisterFields, IsGiven, IsSequence, AreMembers};
 ghost use Rattle.tower_file.specs.Reading.{each, value_of as value_in, process_of as process_in, writers_in, domain_in, parts_in, said_by};
-ghost use Rattle.tower_file.specs.Views.{seen, GivesOrMemory};
+ghost use Rattle.tower_file.specs.Views.{GivesOrMemory};
 ghost use Rattle.tower_file.specs.Stated.{AreFound, PartsLeft, IsSaid, ShowsOrMemory, domain_items};
 
-use crate::element::{is_word, needed, process_of, read_initial, read_kind, read_name, value_of};
+use crate::element::{needed, process_of, read_initial, read_kind, read_name, value_of};
 use crate::fault::{TowerFault, TowerField};
 use edn_reader::{Field, MapView, VectorView};
 use intervals::{Kind, Value, Writers};
@@ -73,7 +74,7 @@ fn read_writers(alloc: Global, field: &Field) -> Result<Writers, TowerFault>
     ensures { (given : Given Sequence) → IsGiven IsSequence (seen field.now) given → GivesOrMemory listed_writers result (writers_in given) }
 {
     let element = needed(field, TowerField::Writers)?;
-    if is_word(&element, b":any") {
+    if element.is_keyword(b":any") {
         return Ok(Writers::Any);
     }
     match element.as_vector() {

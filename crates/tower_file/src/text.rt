@@ -4,7 +4,8 @@ ghost use Rattle.std.specs.Prelude.{◌≡◌, ◌++◌, ◌∷◌, [], List, If
 ghost use Rattle.edn_reader.specs.Grammar.{Piece, piece_of, IsElement};
 ghost use Rattle.edn_reader.specs.Text.{IsText};
 ghost use Rattle.edn_reader.specs.Fault.{FaultOf, IsMemory};
-ghost use Rattle.edn_reader.specs.Pairs.{IsField, IsWholeField};
+ghost use Rattle.edn_reader.specs.Given.{given, seen};
+ghost use Rattle.edn_reader.specs.Pairs.{IsWholeField};
 ghost use Rattle.tower_file.specs.Tower.{IsTextFault};
 
 use crate::fault::TowerFault;
@@ -13,7 +14,7 @@ use std::alloc::Global;
 
 /// What the text is made of: nothing, one element, or more.
 pub fn read_text(alloc: Global, bytes: &[u8]) -> Result<Field<'_>, TowerFault>
-    ensures text { IfOk result (λ found. (pieces : List Piece) × IsText bytes.now pieces × IsField found pieces) }
+    ensures text { IfOk result (λ found. (pieces : List Piece) × IsText bytes.now pieces × (seen found ≡ given pieces)) }
     ensures whole { IfOk result IsWholeField }
     ensures fault { IfErr result (IsTextFault bytes.now) }
 {
@@ -29,7 +30,7 @@ pub fn read_text(alloc: Global, bytes: &[u8]) -> Result<Field<'_>, TowerFault>
 }
 
 fn one_more<'t>(found: Field<'t>, element: Element<'t>) -> Field<'t>
-    ensures field { (pieces : List Piece) → IsField found.entry pieces → IsField result (pieces ++ piece_of element.entry ∷ []) }
+    ensures field { (pieces : List Piece) → seen found.entry ≡ given pieces → seen result ≡ given (pieces ++ piece_of element.entry ∷ []) }
     ensures whole { IsWholeField found.entry → IsElement (piece_of element.entry) → IsWholeField result }
 {
     match found {

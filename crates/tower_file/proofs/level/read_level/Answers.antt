@@ -1,10 +1,9 @@
-use Rattle.std.proofs.Common.{rules, ◌≡◌, ◌++◌, ◌∷◌, [], ℕ, List, Ok, Err, refl, sym, ap, subst, ◌∙◌, length, map}
+use Rattle.std.proofs.Common.{rules, ◌≡◌, ◌++◌, ◌∷◌, [], ℕ, List, Ok, Err, sym, ap, subst, ◌∙◌, length}
 use Rattle.std.proofs.lemmas.Result.{err_from_is_err_and}
-use Rattle.std.proofs.lemmas.List.{length-map, map_push}
 use Rattle.edn_reader.specs.Grammar.{piece_of}
-use Rattle.tower_file.specs.Contents.{Contents}
+use Rattle.edn_reader.specs.Given.{seen}
 use Rattle.tower_file.specs.Reading.{registers_after}
-use Rattle.tower_file.specs.Views.{seen, contents_with}
+use Rattle.tower_file.specs.Views.{contents_with}
 use Rattle.tower_file.proofs.Levels.{level_name, level_found, no_name, no_registers, to_registers, level_fails, level_ends, level_count, level_pushed}
 use Rattle.tower_file.proofs.level.read_level.Goals as goal
 

@@ -1,4 +1,3 @@
-use Rattle.std.proofs.Common.{◌≡◌}
 use Rattle.std.proofs.lemmas.Result.{err_from_is_err_and}
 use Rattle.tower_file.specs.Form.{IsLevel}
 use Rattle.tower_file.specs.Reading.{level_after}

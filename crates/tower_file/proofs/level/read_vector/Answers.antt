@@ -1,7 +1,6 @@
-use Rattle.std.proofs.Common.{◌≡◌}
 use Rattle.edn_reader.specs.Grammar.{piece_of}
+use Rattle.edn_reader.specs.Given.{seen}
 use Rattle.tower_file.specs.Form.{IsRegister, IsLevel}
-use Rattle.tower_file.specs.Views.{seen}
 use Rattle.tower_file.proofs.Vectors.{vector_shows, no_vector}
 use Rattle.tower_file.proofs.level.read_vector.Goals as goal
 

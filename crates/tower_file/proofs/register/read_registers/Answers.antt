@@ -1,9 +1,6 @@
-use Rattle.std.proofs.Common.{◌≡◌, ◌++◌, ◌∷◌, [], ℕ, List, Option, Ok, Err, Result, refl, sym, ap, subst, ◌∙◌, length}
+use Rattle.std.proofs.Common.{◌≡◌, ℕ, Ok, Err, sym, ap, subst, ◌∙◌}
 use Rattle.std.proofs.lemmas.Result.{err_from_is_err_and}
-use Rattle.edn_reader.specs.Grammar.{piece_of}
-use Rattle.tower_file.specs.declared.fault.TowerFault.{TowerFault}
-use Rattle.tower_file.specs.Form.{RegisterForm, IsRegister}
-use Rattle.tower_file.specs.Contents.{Register}
+use Rattle.tower_file.specs.Form.{IsRegister}
 use Rattle.tower_file.specs.Reading.{with_register, through}
 use Rattle.tower_file.proofs.Loops.{after_on, after_fails, after_ends}
 use Rattle.tower_file.proofs.Places.{one_more, no_more}

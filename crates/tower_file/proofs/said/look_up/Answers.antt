@@ -1,17 +1,17 @@
-use Rattle.std.proofs.Common.{◌≡◌, sym, subst, ◌∙◌}
+use Rattle.std.proofs.Common.{sym, subst, ◌∙◌}
 use Rattle.edn_reader.specs.Grammar.{Piece}
-use Rattle.tower_file.specs.Form.{Given, IsGiven, IsSequence, AreMembers}
-use Rattle.tower_file.proofs.Fields.{seen_given}
+use Rattle.edn_reader.specs.Given.{Given}
+use Rattle.tower_file.specs.Form.{IsGiven, IsSequence, AreMembers}
 use Rattle.tower_file.proofs.said.look_up.Goals as goal
 
 pub returns : goal.returns
 returns c pairs form h k =
-    let name = seen_given _ _ (c.field.ensures.values pairs h) in
-    let kind = seen_given _ _ (c.field-2.ensures.values pairs h) in
-    let writers = seen_given _ _ (c.field-3.ensures.values pairs h) in
-    let initial = seen_given _ _ (c.field-4.ensures.values pairs h) in
-    let domain = seen_given _ _ (c.field-5.ensures.values pairs h) in
-    let parts = seen_given _ _ (c.field-6.ensures.values pairs h) in
+    let name = c.field.ensures.values pairs h in
+    let kind = c.field-2.ensures.values pairs h in
+    let writers = c.field-3.ensures.values pairs h in
+    let initial = c.field-4.ensures.values pairs h in
+    let domain = c.field-5.ensures.values pairs h in
+    let parts = c.field-6.ensures.values pairs h in
     record {
       name = k.name ∙ sym name;
       kind = k.kind ∙ sym kind;

@@ -1,7 +1,5 @@
-use Rattle.std.proofs.Common.{◌≡◌, refl, sym, ap, ◌∙◌}
-use Rattle.edn_reader.specs.Grammar.{Piece}
+use Rattle.std.proofs.Common.{refl, sym, ap, ◌∙◌}
 use Rattle.tower_file.specs.declared.fault.TowerField.TheVariants.{Name}
-use Rattle.tower_file.specs.Form.{Given}
 use Rattle.tower_file.specs.Reading.{name_in, kind_in, initial_in}
 use Rattle.tower_file.proofs.Vectors.{all_said}
 use Rattle.tower_file.proofs.said.read_said.Goals as goal

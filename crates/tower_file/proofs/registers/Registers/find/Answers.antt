@@ -1,4 +1,4 @@
-use Rattle.std.proofs.Common.{◌≡◌, List, Some, None, sym, ap, ◌∙◌}
+use Rattle.std.proofs.Common.{List, Some, None, ap, ◌∙◌}
 use Rattle.tower_file.specs.Contents.{Register, number_of}
 use Rattle.tower_file.proofs.Names.{number_is}
 use Rattle.tower_file.proofs.registers.Registers.find.Goals as goal

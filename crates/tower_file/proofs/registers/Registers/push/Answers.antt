@@ -1,4 +1,4 @@
-use Rattle.std.proofs.Common.{◌≡◌, ◌++◌, ◌∷◌, [], List, ap, map, ◌∙◌}
+use Rattle.std.proofs.Common.{◌++◌, ◌∷◌, [], List, ap, map, ◌∙◌}
 use Rattle.tower_file.specs.Contents.{Register, number_of}
 use Rattle.tower_file.specs.Views.{register_at}
 use Rattle.tower_file.proofs.Names.{pushed, map_pushed}

@@ -1,4 +1,4 @@
-use Rattle.std.proofs.Common.{◌≡◌, Result, Ok, Err}
+use Rattle.std.proofs.Common.{Result, Ok, Err}
 use Rattle.std.proofs.lemmas.Result.{err_from_is_err_and}
 use Rattle.tower_file.specs.declared.fault.TowerField.TheVariants.{File}
 use Rattle.tower_file.specs.declared.fault.TowerFault.{TowerFault}
