@@ -1,0 +1,118 @@
+-- What a loop over the pairs of a map has found.
+use Rattle.std.proofs.Common.{◌≡◌, ℕ, Bool, true, false, ◌&&◌, cond, List, [], ◌∷◌, Option, Some, None, refl, sym, ap, ◌∙◌}
+use Rattle.std.specs.Prelude.{if◌then◌else◌, codes}
+use Rattle.std.specs.Str.{bytes_eq}
+use Rattle.edn_reader.specs.declared.element.Element.{Element}
+use Rattle.edn_reader.specs.declared.view.MapView.{MapView}
+use Rattle.edn_reader.specs.Grammar.{Piece, piece_of, untagged}
+use Rattle.edn_reader.specs.Pairs.{is_keyword, is_word, keyword_of, values_of, PairsLeft, NextPair}
+use Rattle.edn_reader.specs.Given.{Given, Missing, Many, given}
+use Rattle.jepsen_form.specs.declared.item.MomentField.{MomentField}
+use Rattle.jepsen_form.specs.declared.form.Form.{Form}
+use Rattle.jepsen_form.specs.Fields.{Fields, fields_of, moment_key}
+use Rattle.jepsen_form.specs.Form.{seen_all, nothing, one_more, more_if, is_key, noted}
+
+-- the fields with these pairs more
+abbrev pub after : MomentField → Fields → List (Piece × Piece) → Fields
+after chosen found [] = found
+after chosen found (pair ∷ pairs) = after chosen (noted chosen found (keyword_of pair.0) pair.1) pairs
+
+-- what stands under a key with these values more
+abbrev more : Given Piece → List Piece → Given Piece
+more found [] = found
+more found (value ∷ values) = more (one_more found value) values
+
+many_more : (values : List Piece) → more Many values ≡ Many
+many_more [] = refl
+many_more (value ∷ values) = many_more values
+
+more_than_none : (values : List Piece) → more Missing values ≡ given values
+more_than_none [] = refl
+more_than_none (value ∷ []) = refl
+more_than_none (value ∷ other ∷ values) = many_more values
+
+key_word : (key : List ℕ) (is : Bool) (text : List ℕ) → is_key key (if is then Some text else None) ≡ (is && bytes_eq text key)
+key_word key true text = refl
+key_word key false text = refl
+
+pub is_key_word : (key : List ℕ) (piece : Piece) → is_key key (keyword_of piece) ≡ is_word key piece
+is_key_word key piece = key_word key (is_keyword piece) (untagged piece).text
+
+one_value : (key : List ℕ) (pair : Piece × Piece) (pairs : List (Piece × Piece)) (t : Bool) → is_word key pair.0 ≡ t → values_of key (pair ∷ pairs) ≡ cond t (pair.1 ∷ values_of key pairs) (values_of key pairs)
+one_value key pair pairs true e = rw e refl
+one_value key pair pairs false e = rw e refl
+
+more_values : (t : Bool) (found : Given Piece) (value : Piece) (values : List Piece) → more (more_if t found value) values ≡ more found (cond t (value ∷ values) values)
+more_values true found value values = refl
+more_values false found value values = refl
+
+-- one of the fields, whose key is this one
+abbrev IsUnder : MomentField → (Fields → Given Piece) → List ℕ → Type 0
+IsUnder chosen slot key = (found : Fields) (word : Option (List ℕ)) (value : Piece) → slot (noted chosen found word value) ≡ more_if (is_key key word) (slot found) value
+
+slot_after : (chosen : MomentField) (slot : Fields → Given Piece) (key : List ℕ) → IsUnder chosen slot key → (found : Fields) (pairs : List (Piece × Piece)) → slot (after chosen found pairs) ≡ more (slot found) (values_of key pairs)
+slot_after chosen slot key under found [] = refl
+slot_after chosen slot key under found (pair ∷ pairs) =
+    slot_after chosen slot key under (noted chosen found (keyword_of pair.0) pair.1) pairs
+    ∙ ap (λ (given : Given Piece). more given (values_of key pairs)) (under found (keyword_of pair.0) pair.1)
+    ∙ ap (λ (t : Bool). more (more_if t (slot found) pair.1) (values_of key pairs)) (is_key_word key pair.0)
+    ∙ more_values (is_word key pair.0) (slot found) pair.1 (values_of key pairs)
+    ∙ ap (more (slot found)) (sym (one_value key pair pairs (is_word key pair.0) refl))
+
+slot_of : (chosen : MomentField) (slot : Fields → Given Piece) (key : List ℕ) → IsUnder chosen slot key → slot nothing ≡ Missing → (pairs : List (Piece × Piece)) → slot (after chosen nothing pairs) ≡ given (values_of key pairs)
+slot_of chosen slot key under none pairs =
+    slot_after chosen slot key under nothing pairs ∙ ap (λ (found : Given Piece). more found (values_of key pairs)) none ∙ more_than_none (values_of key pairs)
+
+same_fields : (found : Fields) (process stage action value moment edit of begin end ask : Given Piece) → found.process ≡ process → found.stage ≡ stage → found.action ≡ action → found.value ≡ value → found.moment ≡ moment → found.edit ≡ edit → found.of ≡ of → found.begin ≡ begin → found.end ≡ end → found.ask ≡ ask
+    → found ≡ record { process = process; stage = stage; action = action; value = value; moment = moment; edit = edit; of = of; begin = begin; end = end; ask = ask }
+same_fields found process stage action value moment edit of begin end ask is_process is_stage is_action is_value is_moment is_edit is_of is_begin is_end is_ask =
+    let all : record { process = found.process; stage = found.stage; action = found.action; value = found.value; moment = found.moment; edit = found.edit; of = found.of; begin = found.begin; end = found.end; ask = found.ask } ≡ record { process = process; stage = stage; action = action; value = value; moment = moment; edit = edit; of = of; begin = begin; end = end; ask = ask } = rw (is_process, is_stage, is_action, is_value, is_moment, is_edit, is_of, is_begin, is_end, is_ask) refl in all
+
+after_all : (chosen : MomentField) (pairs : List (Piece × Piece)) → after chosen nothing pairs ≡ fields_of chosen pairs
+after_all chosen pairs =
+    let process = slot_of chosen (λ found. found.process) (codes ":process") (λ found word value. refl) refl pairs in
+    let stage = slot_of chosen (λ found. found.stage) (codes ":type") (λ found word value. refl) refl pairs in
+    let action = slot_of chosen (λ found. found.action) (codes ":f") (λ found word value. refl) refl pairs in
+    let value = slot_of chosen (λ found. found.value) (codes ":value") (λ found word value. refl) refl pairs in
+    let moment = slot_of chosen (λ found. found.moment) (moment_key chosen) (λ found word value. refl) refl pairs in
+    let edit = slot_of chosen (λ found. found.edit) (codes ":edit") (λ found word value. refl) refl pairs in
+    let of = slot_of chosen (λ found. found.of) (codes ":of") (λ found word value. refl) refl pairs in
+    let begin = slot_of chosen (λ found. found.begin) (codes ":begin") (λ found word value. refl) refl pairs in
+    let end = slot_of chosen (λ found. found.end) (codes ":end") (λ found word value. refl) refl pairs in
+    let ask = slot_of chosen (λ found. found.ask) (codes ":ask") (λ found word value. refl) refl pairs in
+    same_fields (after chosen nothing pairs) _ _ _ _ _ _ _ _ _ _ process stage action value moment edit of begin end ask
+
+-- with the pairs that are left, the fields found are those of the map
+abbrev pub Found : MapView → MomentField → MapView → Form → Type 0
+Found first chosen view form =
+    (pairs : List (Piece × Piece)) → PairsLeft first pairs
+    → (left : List (Piece × Piece)) × PairsLeft view left × (after chosen (seen_all form) left ≡ fields_of chosen pairs)
+
+pub found_first : (first : MapView) (chosen : MomentField) (form : Form) → seen_all form ≡ nothing → Found first chosen first form
+found_first first chosen form none pairs h = (pairs, h, ap (λ (found : Fields). after chosen found pairs) none ∙ after_all chosen pairs)
+
+one_pair : (first view next : MapView) (chosen : MomentField) (form more : Form) (key value : Element) (pairs left : List (Piece × Piece)) → NextPair (Some (key, value)) next left
+    → seen_all more ≡ noted chosen (seen_all form) (keyword_of (piece_of key)) (piece_of value) → after chosen (seen_all form) left ≡ fields_of chosen pairs
+    → (rest : List (Piece × Piece)) × PairsLeft next rest × (after chosen (seen_all more) rest ≡ fields_of chosen pairs)
+one_pair first view next chosen form more key value pairs [] n e h = absurd n
+one_pair first view next chosen form more key value pairs (pair ∷ rest) n e h = (
+  rest,
+  n.2,
+  ap (λ (found : Fields). after chosen found rest) e
+      ∙ ap (λ (piece : Piece). after chosen (noted chosen (seen_all form) (keyword_of piece) (piece_of value)) rest) n.0
+      ∙ ap (λ (piece : Piece). after chosen (noted chosen (seen_all form) (keyword_of pair.0) piece) rest) n.1
+      ∙ h,
+)
+
+pub found_next : (first view next : MapView) (chosen : MomentField) (form more : Form) (key value : Element) → Found first chosen view form
+    → ((pairs : List (Piece × Piece)) → PairsLeft view pairs → NextPair (Some (key, value)) next pairs)
+    → seen_all more ≡ noted chosen (seen_all form) (keyword_of (piece_of key)) (piece_of value) → Found first chosen next more
+found_next first view next chosen form more key value found given e pairs h =
+    let k = found pairs h in one_pair first view next chosen form more key value pairs k.0 (given k.0 k.1) e k.2
+
+pub found_all : (first view next : MapView) (chosen : MomentField) (form : Form) → Found first chosen view form
+    → ((pairs : List (Piece × Piece)) → PairsLeft view pairs → NextPair None next pairs)
+    → (pairs : List (Piece × Piece)) → PairsLeft first pairs → seen_all form ≡ fields_of chosen pairs
+found_all first view next chosen form found ended pairs h =
+    let k = found pairs h in
+    ap (after chosen (seen_all form)) (sym (ended k.0 k.1)) ∙ k.2

@@ -1,0 +1,235 @@
+-- The item of an element: its fields are read in one order, and the first refusal is the answer.
+use Rattle.std.specs.Prelude.{◌≡◌, ◌==◌, ℕ, ℤ, pos, negsuc, Bool, true, false, List, length, Option, Some, None, Result, Ok, Err, codes, if◌then◌else◌}
+use Rattle.std.specs.Borrow.{Bor}
+use Rattle.edn_reader.specs.Grammar.{Piece, untagged}
+use Rattle.edn_reader.specs.Pairs.{is_word, is_nil, values_of, HasPairs}
+use Rattle.edn_reader.specs.Integer.{int_of}
+use Rattle.edn_reader.specs.Given.{Given, Missing, One, Many, given}
+use Rattle.intervals.specs.declared.edit.Change.{Change}
+use Rattle.intervals.specs.declared.edit.Lent.{Lent}
+use Rattle.intervals.specs.declared.edit.Lent.TheVariants.{Answer, Amendment}
+use Rattle.intervals.specs.declared.operation.Moment.{Moment}
+use Rattle.intervals.specs.declared.operation.RegId.{RegId}
+use Rattle.intervals.specs.declared.operation.Value.{Value}
+use Rattle.intervals.specs.declared.operation.Value.TheVariants.{Nil, Int}
+use Rattle.tower_file.specs.Contents.{Contents, number_of}
+use Rattle.jepsen_form.specs.declared.item.Action.{Action}
+use Rattle.jepsen_form.specs.declared.item.Action.TheVariants.{Read, Write}
+use Rattle.jepsen_form.specs.declared.item.Stage.{Stage}
+use Rattle.jepsen_form.specs.declared.item.Stage.TheVariants as stages
+use Rattle.jepsen_form.specs.declared.item.Event.{Event}
+use Rattle.jepsen_form.specs.declared.item.Item.{Item}
+use Rattle.jepsen_form.specs.declared.item.Item.TheVariants as items
+use Rattle.jepsen_form.specs.declared.item.MomentField.{MomentField}
+use Rattle.jepsen_form.specs.declared.fault.FormField.{FormField}
+use Rattle.jepsen_form.specs.declared.fault.FormField.TheVariants as fields
+use Rattle.jepsen_form.specs.declared.fault.FormFault.{FormFault}
+use Rattle.jepsen_form.specs.declared.fault.FormFault.TheVariants.{NotAMap, MissingField, DuplicateField, BadType, UnsupportedF, BadValue, BadMoment, NoRegister}
+use Rattle.jepsen_form.specs.Fields.{Fields, fields_of, Worth, Silent, Plain, Named, Repeated, IsWorth}
+
+infixl 10 ◌>>=◌
+-- One step after another, up to the first refusal.
+abbrev pub ◌>>=◌ : {A B : Type 0} → Result A FormFault → (A → Result B FormFault) → Result B FormFault
+(Ok x) >>= f = f x
+(Err fault) >>= f = Err fault
+
+-- A field that must be there, and once.
+abbrev pub the_one : FormField → Given Piece → Result Piece FormFault
+the_one field Missing = Err (MissingField field)
+the_one field (One value) = Ok value
+the_one field Many = Err (DuplicateField field)
+
+-- A field that may be there, and then once.
+abbrev pub at_most_one : {A : Type 0} → FormField → (Piece → Result A FormFault) → Given Piece → Result (Option A) FormFault
+at_most_one field read Missing = Ok None
+at_most_one field read (One value) = read value >>= (λ x. Ok (Some x))
+at_most_one field read Many = Err (DuplicateField field)
+
+-- The field is there, once or more often.
+abbrev pub is_there : Given Piece → Bool
+is_there Missing = false
+is_there (One value) = true
+is_there Many = true
+
+-- ---- single elements
+
+-- The type of an event.
+abbrev pub stage_of : Piece → Result Stage FormFault
+stage_of piece =
+    if is_word (codes ":invoke") piece then Ok stages.Invoke
+    else if is_word (codes ":ok") piece then Ok stages.Ok
+    else if is_word (codes ":fail") piece then Ok stages.Fail
+    else if is_word (codes ":info") piece then Ok stages.Info
+    else Err BadType
+
+-- What an operation does.
+abbrev pub action_of : Piece → Result Action FormFault
+action_of piece =
+    if is_word (codes ":read") piece then Ok Read
+    else if is_word (codes ":write") piece then Ok Write
+    else Err UnsupportedF
+
+-- The value that an integer is.
+abbrev pub int_value : Option ℤ → Result Value FormFault
+int_value None = Err BadValue
+int_value (Some z) = Ok (Int z)
+
+-- A value: nil, or an integer that fits.
+abbrev pub value_of : Piece → Result Value FormFault
+value_of piece = if is_nil piece then Ok Nil else int_value (int_of piece)
+
+-- A number from 0 on, or this refusal.
+abbrev pub natural_or : FormFault → Option ℤ → Result ℕ FormFault
+natural_or fault None = Err fault
+natural_or fault (Some (pos n)) = Ok n
+natural_or fault (Some (negsuc n)) = Err fault
+
+-- A moment: an integer from 0 on that fits.
+abbrev pub moment_of : Piece → Result Moment FormFault
+moment_of piece = natural_or BadMoment (int_of piece) >>= (λ n. Ok (record { 0 = n }))
+
+-- An end: a moment, or nil, which reopens the operation.
+abbrev pub end_of : Piece → Result (Option Moment) FormFault
+end_of piece = if is_nil piece then Ok None else moment_of piece >>= (λ moment. Ok (Some moment))
+
+-- The place of an element in its trace: an integer from 0 on that fits.
+abbrev pub place_of : Piece → Result ℕ FormFault
+place_of piece = natural_or BadValue (int_of piece)
+
+-- ---- registers
+
+-- A register that must be there.
+abbrev pub known : Option RegId → Result RegId FormFault
+known None = Err NoRegister
+known (Some id) = Ok id
+
+-- The register whose name is the text of an element without its tags.
+abbrev pub register_named : Contents → Piece → Result RegId FormFault
+register_named tower piece = known (number_of tower.registers (untagged piece).text)
+
+-- The only register of a tower that has one.
+abbrev pub only_register : Contents → Result RegId FormFault
+only_register tower = if length tower.registers == 1 then Ok (record { 0 = 0 }) else Err NoRegister
+
+-- The register of an event.
+abbrev pub register_of : Contents → Worth → Result RegId FormFault
+register_of tower Silent = only_register tower
+register_of tower (Plain value) = only_register tower
+register_of tower (Named name value) = register_named tower name
+register_of tower Repeated = Err (DuplicateField fields.Value)
+
+-- ---- events
+
+-- The value that an event gives; a missing one is nil.
+abbrev pub value_given : Worth → Result Value FormFault
+value_given Silent = Ok Nil
+value_given (Plain value) = value_of value
+value_given (Named name value) = value_of value
+value_given Repeated = Err (DuplicateField fields.Value)
+
+-- The value of an event. An invoked read has none yet, whatever stands there; one that failed or crashed tells none.
+abbrev pub value_told : Stage → Action → Worth → Result Value FormFault
+value_told stages.Invoke Read worth = Ok Nil
+value_told stages.Invoke Write worth = value_given worth
+value_told stages.Ok action worth = value_given worth
+value_told stages.Fail action worth = Ok Nil
+value_told stages.Info action worth = Ok Nil
+
+-- The moment that must be there.
+abbrev pub moment_given : Given Piece → Result Moment FormFault
+moment_given given = the_one fields.Moment given >>= moment_of
+
+-- The event with its register, its value and its moment, read in this order.
+abbrev pub told : Contents → Fields → Worth → Event → Result Event FormFault
+told tower found worth event =
+    register_of tower worth >>= (λ register.
+    value_told event.answer event.action worth >>= (λ value.
+    moment_given found.moment >>= (λ moment.
+    Ok (record event { register = Some register; value = value; moment = Some moment }))))
+
+-- Only invocations and answers that are :ok tell them.
+abbrev pub by_stage : Contents → Fields → Worth → Event → Stage → Result Event FormFault
+by_stage tower found worth event stages.Invoke = told tower found worth event
+by_stage tower found worth event stages.Ok = told tower found worth event
+by_stage tower found worth event stages.Fail = Ok event
+by_stage tower found worth event stages.Info = Ok event
+
+-- An event that tells no more than its process, its type and what it does.
+abbrev pub bare_event : ℤ → Stage → Action → Bor (List ℕ) → Event
+bare_event process stage action text =
+    record { process = process; answer = stage; action = action; register = None; value = Nil; moment = None; text = text }
+
+-- The event of a process.
+abbrev pub event_of : Contents → Fields → Worth → Bor (List ℕ) → ℤ → Result Item FormFault
+event_of tower found worth text process =
+    (the_one fields.Stage found.stage >>= stage_of) >>= (λ stage.
+    (the_one fields.Action found.action >>= action_of) >>= (λ action.
+    by_stage tower found worth (bare_event process stage action text) stage >>= (λ event.
+    Ok (items.Event event))))
+
+-- Where the process is no integer that fits, the event is skipped.
+abbrev pub by_process : Contents → Fields → Worth → Bor (List ℕ) → Option ℤ → Result Item FormFault
+by_process tower found worth text None = Ok items.Skipped
+by_process tower found worth text (Some process) = event_of tower found worth text process
+
+-- ---- edits and questions
+
+-- What an amendment gives: the value, the beginning and the end, those that are there, read in this order.
+abbrev pub change_of : Fields → Bor (List ℕ) → Result Change FormFault
+change_of found text =
+    at_most_one fields.Value value_of found.value >>= (λ value.
+    at_most_one fields.Begin moment_of found.begin >>= (λ begin.
+    at_most_one fields.End end_of found.end >>= (λ end.
+    Ok (record { value = value; begin = begin; end = end; lent = Amendment text }))))
+
+-- The place of the invocation that is edited.
+abbrev pub edited_place : Fields → Result ℕ FormFault
+edited_place found = the_one fields.Of found.of >>= place_of
+
+-- An edit, by its keyword.
+abbrev pub edit_by : Fields → Bor (List ℕ) → Piece → Result Item FormFault
+edit_by found text keyword =
+    if is_word (codes ":amend") keyword then
+    edited_place found >>= (λ of. change_of found text >>= (λ change. Ok (items.Amend of change)))
+    else if is_word (codes ":withdraw") keyword then
+    edited_place found >>= (λ of. Ok (items.Withdraw of))
+    else Err BadType
+
+-- The register that a question is about.
+abbrev pub question_of : Contents → Piece → Result Item FormFault
+question_of tower name = register_named tower name >>= (λ id. Ok (items.Ask id))
+
+-- ---- items
+
+-- The item of a map: an edit where :edit is there, else a question where :ask is, else an event.
+abbrev pub item_of : Contents → Fields → Worth → Bor (List ℕ) → Result Item FormFault
+item_of tower found worth text =
+    if is_there found.edit then the_one fields.Edit found.edit >>= edit_by found text
+    else if is_there found.ask then the_one fields.Ask found.ask >>= question_of tower
+    else the_one fields.Process found.process >>= (λ piece. by_process tower found worth text (int_of piece))
+
+-- The item of an element for a tower and the moment's field: none of an element that is no map, else that of its pairs.
+pub data IsItem (tower : Contents) (chosen : MomentField) : Piece → Result Item FormFault → Type 0 where
+  no_map : {piece : Piece} → ((pairs : List (Piece × Piece)) → HasPairs piece pairs → ⊥) → IsItem tower chosen piece (Err NotAMap)
+  of_map : {piece : Piece} (pairs : List (Piece × Piece)) (worth : Worth) (text : Bor (List ℕ)) → HasPairs piece pairs
+      → IsWorth (given (values_of (codes ":value") pairs)) worth → text.now ≡ piece.text
+      → IsItem tower chosen piece (item_of tower (fields_of chosen pairs) worth text)
+
+-- ---- where a text lies
+
+-- These bytes at this place in memory.
+abbrev pub text_at : ℕ × ℕ → Bor (List ℕ) → Bor (List ℕ)
+text_at place text = record { ref_ptr = place; now = text.now }
+
+abbrev pub lent_at : ℕ × ℕ → Lent → Lent
+lent_at place (Answer text) = Answer (text_at place text)
+lent_at place (Amendment text) = Amendment (text_at place text)
+
+-- An item whose text lies at this place in memory.
+abbrev pub lying_at : ℕ × ℕ → Result Item FormFault → Result Item FormFault
+lying_at place (Err fault) = Err fault
+lying_at place (Ok (items.Event event)) = Ok (items.Event (record event { text = text_at place event.text }))
+lying_at place (Ok (items.Amend of change)) = Ok (items.Amend of (record change { lent = lent_at place change.lent }))
+lying_at place (Ok (items.Withdraw of)) = Ok (items.Withdraw of)
+lying_at place (Ok (items.Ask id)) = Ok (items.Ask id)
+lying_at place (Ok items.Skipped) = Ok items.Skipped

@@ -1,0 +1,54 @@
+//! From the fields of a map to an edit.
+
+ghost use Rattle.std.specs.Prelude.{◌≡◌};
+ghost use Rattle.edn_reader.specs.Given.{seen};
+ghost use Rattle.edn_reader.specs.Grammar.{piece_of};
+ghost use Rattle.jepsen_form.specs.Item.{edit_by, edited_place, change_of};
+ghost use Rattle.jepsen_form.specs.Form.{seen_all};
+
+use crate::element::{given_begin, given_end, given_value, needed, read_place};
+use crate::fault::{FormFault, FormField};
+use crate::form::Form;
+use crate::item::Item;
+use edn_reader::Element;
+use intervals::{Change, Lent};
+
+/// The edit that a keyword names.
+pub fn read_edit<'t>(
+    form: &Form<'t>,
+    keyword: &Element<'t>,
+    text: &'t [u8],
+) -> Result<Item<'t>, FormFault>
+    ensures { result ≡ edit_by (seen_all form.now) text.entry (piece_of keyword.now) }
+{
+    if keyword.is_keyword(b":amend") {
+        let of = place_edited(form)?;
+        let change = read_change(form, text)?;
+        Ok(Item::Amend { of, change })
+    } else if keyword.is_keyword(b":withdraw") {
+        let of = place_edited(form)?;
+        Ok(Item::Withdraw { of })
+    } else {
+        Err(FormFault::BadType)
+    }
+}
+
+fn place_edited(form: &Form) -> Result<u64, FormFault>
+    ensures { result ≡ edited_place (seen_all form.now) }
+{
+    read_place(&needed(&form.of, FormField::Of)?)
+}
+
+fn read_change<'t>(form: &Form<'t>, text: &'t [u8]) -> Result<Change<'t>, FormFault>
+    ensures { result ≡ change_of (seen_all form.now) text.entry }
+{
+    let value = given_value(&form.value)?;
+    let begin = given_begin(&form.begin)?;
+    let end = given_end(&form.end)?;
+    Ok(Change {
+        value,
+        begin,
+        end,
+        lent: Lent::Amendment(text),
+    })
+}

@@ -1,0 +1,129 @@
+//! What single fields and elements say.
+
+ghost use Rattle.std.specs.Prelude.{◌≡◌};
+ghost use Rattle.edn_reader.specs.Grammar.{Piece, piece_of};
+ghost use Rattle.edn_reader.specs.Given.{seen};
+ghost use Rattle.jepsen_form.specs.Item.{the_one, at_most_one, is_there, stage_of, action_of, value_of, moment_of, end_of, place_of};
+ghost use Rattle.jepsen_form.specs.Form.{Gives};
+
+use crate::fault::{FormFault, FormField};
+use crate::item::{Action, Stage};
+use edn_reader::{Element, Field};
+use intervals::{Moment, Value};
+
+pub fn is_given(field: &Field) -> bool
+    ensures { result ≡ is_there (seen field.now) }
+{
+    match field {
+        Field::Absent => false,
+        Field::Once(_) | Field::Twice => true,
+    }
+}
+
+pub fn needed<'t>(field: &Field<'t>, name: FormField) -> Result<Element<'t>, FormFault>
+    ensures { Gives piece_of result (the_one name (seen field.now)) }
+{
+    match field {
+        Field::Absent => Err(FormFault::MissingField(name)),
+        Field::Once(element) => Ok(*element),
+        Field::Twice => Err(FormFault::DuplicateField(name)),
+    }
+}
+
+pub fn given_value(field: &Field) -> Result<Option<Value>, FormFault>
+    ensures { result ≡ at_most_one FormField.Value value_of (seen field.now) }
+{
+    match field {
+        Field::Absent => Ok(None),
+        Field::Once(element) => Ok(Some(read_value(element)?)),
+        Field::Twice => Err(FormFault::DuplicateField(FormField::Value)),
+    }
+}
+
+pub fn given_begin(field: &Field) -> Result<Option<Moment>, FormFault>
+    ensures { result ≡ at_most_one FormField.Begin moment_of (seen field.now) }
+{
+    match field {
+        Field::Absent => Ok(None),
+        Field::Once(element) => Ok(Some(read_moment(element)?)),
+        Field::Twice => Err(FormFault::DuplicateField(FormField::Begin)),
+    }
+}
+
+pub fn given_end(field: &Field) -> Result<Option<Option<Moment>>, FormFault>
+    ensures { result ≡ at_most_one FormField.End end_of (seen field.now) }
+{
+    match field {
+        Field::Absent => Ok(None),
+        Field::Once(element) => Ok(Some(read_end(element)?)),
+        Field::Twice => Err(FormFault::DuplicateField(FormField::End)),
+    }
+}
+
+pub fn read_stage(element: &Element) -> Result<Stage, FormFault>
+    ensures { result ≡ stage_of (piece_of element.now) }
+{
+    if element.is_keyword(b":invoke") {
+        Ok(Stage::Invoke)
+    } else if element.is_keyword(b":ok") {
+        Ok(Stage::Ok)
+    } else if element.is_keyword(b":fail") {
+        Ok(Stage::Fail)
+    } else if element.is_keyword(b":info") {
+        Ok(Stage::Info)
+    } else {
+        Err(FormFault::BadType)
+    }
+}
+
+pub fn read_action(element: &Element) -> Result<Action, FormFault>
+    ensures { result ≡ action_of (piece_of element.now) }
+{
+    if element.is_keyword(b":read") {
+        Ok(Action::Read)
+    } else if element.is_keyword(b":write") {
+        Ok(Action::Write)
+    } else {
+        Err(FormFault::UnsupportedF)
+    }
+}
+
+pub fn read_value(element: &Element) -> Result<Value, FormFault>
+    ensures { result ≡ value_of (piece_of element.now) }
+{
+    if element.is_nil() {
+        return Ok(Value::Nil);
+    }
+    match element.as_int() {
+        Some(number) => Ok(Value::Int(number)),
+        None => Err(FormFault::BadValue),
+    }
+}
+
+pub fn read_moment(element: &Element) -> Result<Moment, FormFault>
+    ensures { result ≡ moment_of (piece_of element.now) }
+{
+    match element.as_int() {
+        Some(number) if number >= 0 => Ok(Moment(number as u64)),
+        _ => Err(FormFault::BadMoment),
+    }
+}
+
+/// A moment, or nil for an operation that has no end.
+fn read_end(element: &Element) -> Result<Option<Moment>, FormFault>
+    ensures { result ≡ end_of (piece_of element.now) }
+{
+    if element.is_nil() {
+        return Ok(None);
+    }
+    Ok(Some(read_moment(element)?))
+}
+
+pub fn read_place(element: &Element) -> Result<u64, FormFault>
+    ensures { result ≡ place_of (piece_of element.now) }
+{
+    match element.as_int() {
+        Some(number) if number >= 0 => Ok(number as u64),
+        _ => Err(FormFault::BadValue),
+    }
+}

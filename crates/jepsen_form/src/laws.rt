@@ -1,0 +1,20 @@
+//! Laws of the elements of a trace. Each is proved, and does nothing.
+
+ghost use Rattle.std.specs.Prelude.{◌≡◌, ℕ, Result};
+ghost use Rattle.edn_reader.specs.Grammar.{Piece, IsElement};
+ghost use Rattle.tower_file.specs.Contents.{Contents};
+ghost use Rattle.jepsen_form.specs.declared.item.Item.{Item};
+ghost use Rattle.jepsen_form.specs.declared.item.MomentField.{MomentField};
+ghost use Rattle.jepsen_form.specs.declared.fault.FormFault.{FormFault};
+ghost use Rattle.jepsen_form.specs.Item.{IsItem, lying_at};
+
+use edn_reader::laws::{members_of_vector, pairs_of_map};
+
+/// For each tower and moment's field an element has one item, wherever its text lies in memory.
+pub fn one_item()
+    ensures some { (tower : Contents) (chosen : MomentField) (piece : Piece) → IsElement piece → (item : Result Item FormFault) × IsItem tower chosen piece item }
+    ensures one { (tower : Contents) (chosen : MomentField) (piece : Piece) (first second : Result Item FormFault) (place : ℕ × ℕ) → IsItem tower chosen piece first → IsItem tower chosen piece second → lying_at place first ≡ lying_at place second }
+{
+    pairs_of_map();
+    members_of_vector();
+}

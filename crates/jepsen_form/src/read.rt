@@ -1,0 +1,56 @@
+//! From an element to an item.
+
+ghost use Rattle.std.specs.Prelude.{◌≡◌};
+ghost use Rattle.edn_reader.specs.Given.{seen};
+ghost use Rattle.edn_reader.specs.Grammar.{piece_of, IsElement};
+ghost use Rattle.jepsen_form.specs.Fields.{Worth, IsWorth};
+ghost use Rattle.jepsen_form.specs.Item.{IsItem, item_of, question_of};
+ghost use Rattle.jepsen_form.specs.Form.{seen_all};
+
+use crate::edit::read_edit;
+use crate::element::{is_given, needed};
+use crate::event::read_event;
+use crate::fault::{FormFault, FormField};
+use crate::form::{Form, form_of};
+use crate::item::{Item, MomentField};
+use crate::said::find_register;
+use edn_reader::Element;
+use edn_reader::laws::{members_of_vector, pairs_of_map};
+use tower_file::Tower;
+
+/// The item of an element, or the first fault that it has in reading order. It takes no memory.
+pub fn read_item<'t>(
+    element: Element<'t>,
+    field: MomentField,
+    tower: &Tower,
+) -> Result<Item<'t>, FormFault>
+    ensures { IsElement (piece_of element.entry) → IsItem tower.now field (piece_of element.entry) result }
+{
+    pairs_of_map();
+    members_of_vector();
+    match element.as_map() {
+        Some(map) => item_in(&form_of(&map, field), element.text(), tower),
+        None => Err(FormFault::NotAMap),
+    }
+}
+
+fn item_in<'t>(form: &Form<'t>, text: &'t [u8], tower: &Tower) -> Result<Item<'t>, FormFault>
+    ensures { (worth : Worth) → IsWorth (seen form.now.value) worth → result ≡ item_of tower.now (seen_all form.now) worth text.entry }
+{
+    if is_given(&form.edit) {
+        let keyword = needed(&form.edit, FormField::Edit)?;
+        return read_edit(form, &keyword, text);
+    }
+    if is_given(&form.ask) {
+        let name = needed(&form.ask, FormField::Ask)?;
+        return question(&name, tower);
+    }
+    let process = needed(&form.process, FormField::Process)?;
+    read_event(form, process.as_int(), text, tower)
+}
+
+fn question<'t>(name: &Element, tower: &Tower) -> Result<Item<'t>, FormFault>
+    ensures { result ≡ question_of tower.now (piece_of name.now) }
+{
+    Ok(Item::Ask(find_register(name, tower)?))
+}
