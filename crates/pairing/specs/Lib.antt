@@ -1,0 +1,5 @@
+pub mod Whole
+pub mod Invocation
+pub mod Accepted
+pub mod Step
+pub mod Known
