@@ -1,2 +1,3 @@
 pub mod Rows
 pub mod Standing
+pub mod Turns

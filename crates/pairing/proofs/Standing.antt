@@ -118,7 +118,7 @@ invocation_by_place place event Fail register said is = cc
 invocation_by_place place event Info register said is = cc
 
 -- an invocation is kept with its own place
-invocation_place : (place : ℕ) (item : Item) → ForSome (invocation_of place item) (λ said. said.place ≡ place)
+pub invocation_place : (place : ℕ) (item : Item) → ForSome (invocation_of place item) (λ said. said.place ≡ place)
 invocation_place place (Event event) said is = invocation_by_place place event event.answer event.register said is
 invocation_place place (Amend of change) said is = cc
 invocation_place place (Withdraw of) said is = cc

@@ -3,3 +3,4 @@ pub mod Invocation
 pub mod Accepted
 pub mod Step
 pub mod Known
+pub mod Answering

@@ -3,6 +3,7 @@
 
 mod fault;
 mod invocation;
+pub mod laws;
 mod pairing;
 mod registers;
 mod step;
