@@ -25,12 +25,14 @@ comparisons_rise rows rising place = IsNonDecreasingBy-from_default (λ row. ord
 pub searched : (rows : List (ℕ × RegId)) → IsRising rows → (place : ℕ) (r : Result ℕ ℕ) → IsSearchInRange r (length rows) → IsBinarySearchResult (λ row. nat_cmp row.0 place) rows r → IfOk r (IsRowOf rows place) × IfErr r (IsGapFor rows place)
 searched rows rising place (Ok i) bound equal = (record { in_range = bound; has_place = ranked _ place _ (sym (equal no_row)) }, tt)
 searched rows rising place (Err i) bound parted =
-    let parts = parted (comparisons_rise rows rising place) in
-    (tt, record {
-      in_range = bound;
-      smaller_before = λ j lt. ranked _ place _ (sym (parts.0 j no_row (omega arith) lt));
-      greater_after = λ j le lt. ranked _ place _ (sym (parts.1 j no_row le lt));
-    })
+    let parts = parted (comparisons_rise rows rising place) in (
+      tt,
+      record {
+        in_range = bound;
+        smaller_before = λ j lt. ranked _ place _ (sym (parts.0 j no_row (omega arith) lt));
+        greater_after = λ j le lt. ranked _ place _ (sym (parts.1 j no_row le lt));
+      },
+    )
 
 -- a place that no row has is not found
 absent : (rows : List (ℕ × RegId)) (place : ℕ) → ((j : ℕ) → j < length rows → place_at rows j ≢ place) → register_at rows place ≡ None

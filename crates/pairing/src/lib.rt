@@ -11,3 +11,6 @@ mod step;
 pub use fault::PairFault;
 pub use pairing::Pairing;
 pub use step::Step;
+
+#[cfg(test)]
+mod tests;

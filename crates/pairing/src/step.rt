@@ -113,12 +113,7 @@ fn append<'t>(feeder: u32, place: u64, event: &Event<'t>, begin: Moment) -> Edit
     })
 }
 
-fn amendment<'t>(
-    feeder: u32,
-    invocation: &Invocation,
-    event: &Event<'t>,
-    end: Moment,
-) -> Edit<'t>
+fn amendment<'t>(feeder: u32, invocation: &Invocation, event: &Event<'t>, end: Moment) -> Edit<'t>
     ensures { result ≡ amendment_of feeder invocation.now event.now end }
 {
     Edit::Amend(

@@ -9,9 +9,9 @@ returns-then-is_err-clause-stands c fine items after =
     let known_is = sym c.self.view_is in
     let err = sym c.is_err.ensures.value ∙ c.if-is_err.true in
     after_refused _ items c.args.event c.args.item
-        (subst (λ (known : Known). ForSome known.last (λ last. last < c.args.event)) known_is c.requires.rises)
-        (subst (λ (known : Known). is_err (answer_beside known c.args.event c.args.item) ≡ true) known_is (subst (λ answer. is_err answer ≡ true) c.answer-answer.ensures err))
-        (subst (λ (known : Known). StandsAfter known items) known_is after)
+    (subst (λ (known : Known). ForSome known.last (λ last. last < c.args.event)) known_is c.requires.rises)
+    (subst (λ (known : Known). is_err (answer_beside known c.args.event c.args.item) ≡ true) known_is (subst (λ answer. is_err answer ≡ true) c.answer-answer.ensures err))
+    (subst (λ (known : Known). StandsAfter known items) known_is after)
 
 pub invariant_of-self-2 : goal.invariant_of-self-2
 invariant_of-self-2 c =
@@ -23,7 +23,7 @@ returns-clause-stands c fine items after =
     let known_is = sym c.self.view_is in
     let ok = sym c.is_err.ensures.value ∙ c.if-is_err.false in
     after_taken _ items c.args.event c.args.item
-        (subst (λ (known : Known). ForSome known.last (λ last. last < c.args.event)) known_is c.requires.rises)
-        (subst (λ (known : Known). is_err (answer_beside known c.args.event c.args.item) ≡ false) known_is (subst (λ answer. is_err answer ≡ false) c.answer-answer.ensures ok))
-        _ _ c.in_ok-remember.ensures.unanswered c.in_ok-remember.ensures.registers
-        (subst (λ (known : Known). StandsAfter known items) known_is after)
+    (subst (λ (known : Known). ForSome known.last (λ last. last < c.args.event)) known_is c.requires.rises)
+    (subst (λ (known : Known). is_err (answer_beside known c.args.event c.args.item) ≡ false) known_is (subst (λ answer. is_err answer ≡ false) c.answer-answer.ensures ok))
+    _ _ c.in_ok-remember.ensures.unanswered c.in_ok-remember.ensures.registers
+    (subst (λ (known : Known). StandsAfter known items) known_is after)
