@@ -9,7 +9,7 @@ use Rattle.std.proofs.lemmas.List.Sorted.{IsNonDecreasingBy-from_default}
 use Rattle.std.proofs.lemmas.Bool.Decides.{nat_tests}
 use Rattle.std.proofs.lemmas.Grind.{common_steps}
 use Rattle.intervals.specs.declared.operation.RegId.{RegId}
-use Rattle.pairing.specs.Known.{register_at, place_at, IsRising, IsRowOf, IsGapFor}
+use Rattle.pairing.specs.Registers.{register_at, place_at, IsRising, IsRowOf, IsGapFor}
 
 -- a row that is not there
 abbrev pub no_row : ℕ × RegId

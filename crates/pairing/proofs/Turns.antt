@@ -150,6 +150,62 @@ alternates items process earlier later next whole =
     let fine = accepted_each items (next.before ++ earlier ∷ next.between) later next.after parts in
     turn process (next.before ++ earlier ∷ next.between) later.item next.later_is fine ∙ ap is_none (unanswered_next (accepted items) process earlier later next) ∙ said_by earlier.place earlier.item whole
 
+-- the last event of a process among some items, where there is one
+record LastEvent (process : ℤ) (items : List Placed) : Type 0 where
+  front : List Placed
+  one : Placed
+  silent : List Placed
+  parts : items ≡ front ++ one ∷ silent
+  is_event : IsTrue (is_event_of process one.item)
+  quiet : IsSilent process silent
+
+last_event : (process : ℤ) (items : List Placed) → IsSilent process items ⊎ LastEvent process items
+last_event process [] = inl refl
+last_event process (one ∷ items) = elim (last_event process items) [
+  | inr last ↦ inr (record { front = one ∷ last.front; one = last.one; silent = last.silent; parts = ap (λ rest. one ∷ rest) last.parts; is_event = last.is_event; quiet = last.quiet })
+  | inl quiet ↦ here process one items quiet (is_event_of process one.item) refl
+]
+  where
+    here : (process : ℤ) (one : Placed) (items : List Placed) → IsSilent process items → (test : Bool) → is_event_of process one.item ≡ test → IsSilent process (one ∷ items) ⊎ LastEvent process (one ∷ items)
+    here process one items quiet true is = inr (record { front = []; one = one; silent = items; parts = refl; is_event = is; quiet = quiet })
+    here process one items quiet false is = inl (rw is quiet)
+
+invoked_stage : (place : ℕ) (event : AnEvent) (stage : Stage) (register : Option RegId) → is_none (invocation_by place event stage register) ≡ false → invokes stage ≡ true
+invoked_stage place event stages.Invoke register there = refl
+invoked_stage place event stages.Ok register there = cc
+invoked_stage place event stages.Fail register there = cc
+invoked_stage place event stages.Info register there = cc
+
+invoked_item : (place : ℕ) (item : Item) → is_none (invocation_of place item) ≡ false → is_invocation item ≡ true
+invoked_item place (Event event) there = invoked_stage place event event.answer event.register there
+invoked_item place (Amend of change) there = cc
+invoked_item place (Withdraw of) there = cc
+invoked_item place (Ask register) there = cc
+invoked_item place Skipped there = cc
+
+-- an accepted answer has an invocation of its process before it, and no event of the process between
+pub has_invocation : (items before after : List Placed) (process : ℤ) (answer : Placed) → accepted items ≡ before ++ answer ∷ after → IsTrue (is_event_of process answer.item) → is_invocation answer.item ≡ false → (earlier : Placed) × IsNext (accepted items) process earlier answer × IsTrue (is_invocation earlier.item)
+has_invocation items before after process answer parts is answers_it =
+    let fine = accepted_each items before answer after parts in
+    let waits : is_none (unanswered_of before process) ≡ false = sym (turn process before answer.item is fine) ∙ answers_it in
+    elim (last_event process before) [
+      | inl quiet ↦
+        let none : is_none (unanswered_of before process) ≡ true = ap (λ last. is_none (option_and_then invocation last)) (last_silent process [] before quiet) in
+        absurd (false≢true (sym waits ∙ none))
+      | inr last ↦
+        let next : IsNext (accepted items) process last.one answer = record {
+          before = last.front;
+          between = last.silent;
+          after = after;
+          parts = parts ∙ ap (λ front. front ++ answer ∷ after) last.parts ∙ append_assoc last.front (last.one ∷ last.silent) (answer ∷ after);
+          earlier_is = last.is_event;
+          later_is = is;
+          silent = last.quiet;
+        } in
+        let beside : unanswered_of before process ≡ invocation last.one = ap (λ front. unanswered_of front process) last.parts ∙ unanswered_next (accepted items) process last.one answer next in
+        (last.one, next, invoked_item last.one.place last.one.item (ap is_none (sym beside) ∙ waits))
+    ]
+
 id_by_ok : (feeder : ℕ) (said : Invocation) (event : AnEvent) (moment : Option Moment) (fault : Option PairFault) (step : Step) → unless fault (ok_step feeder said event moment) ≡ Ok (Some step) → step_id step ≡ Some (id_of feeder said.place)
 id_by_ok feeder said event moment (Some fault) step is = cc
 id_by_ok feeder said event None None step is = cc

@@ -1,5 +1,5 @@
 -- What a pairing knows of the items of a trace.
-use Rattle.std.specs.Prelude.{◌≡◌, ◌<◌, ◌≤◌, ℕ, ℤ, ◌==◌, List, [], ◌∷◌, ◌++◌, length, slice_index_or, Option, Some, None, Result, Ok, All}
+use Rattle.std.specs.Prelude.{◌≡◌, ◌≤◌, ℕ, ℤ, List, Option, Some, None, Result, Ok, All}
 use Rattle.std.specs.Ordering.{int_cmp}
 use Rattle.std.specs.BTreeMap.{is_at}
 use Rattle.std.specs.Map.{lookup}
@@ -12,6 +12,7 @@ use Rattle.pairing.specs.declared.invocation.Invocation.{Invocation}
 use Rattle.pairing.specs.declared.step.Step.{Step}
 use Rattle.pairing.specs.declared.step.Step.TheVariants as steps
 use Rattle.pairing.specs.Accepted.{Placed, accepted, unanswered_of, register_of, event_fault, edit_fault}
+use Rattle.pairing.specs.Registers.{register_at}
 use Rattle.pairing.specs.Step.{id_of, event_step, edit_step, unless}
 
 -- the place of the last item, the unanswered invocations by process, and the register of each accepted
@@ -26,10 +27,6 @@ pub record Known : Type 0 where
 abbrev pub unanswered_in : List (ℤ × Invocation) → ℤ → Option Invocation
 unanswered_in unanswered process = lookup (is_at (int_cmp process)) unanswered
 
--- the register that stands beside a place
-abbrev pub register_at : List (ℕ × RegId) → ℕ → Option RegId
-register_at registers place = lookup (λ other. other == place) registers
-
 -- the last place is there, and the place is not behind it
 abbrev pub IsUpTo : Option ℕ → ℕ → Type 0
 IsUpTo None place = ⊥
@@ -41,30 +38,6 @@ pub record StandsAfter (known : Known) (items : List Placed) : Type 0 where
   pub places : All (λ one. IsUpTo known.last one.place) items
   pub unanswered : (process : ℤ) → unanswered_in known.unanswered process ≡ unanswered_of (accepted items) process
   pub registers : (place : ℕ) → register_at known.registers place ≡ register_of (accepted items) place
-
--- the place of the row at that index
-abbrev pub place_at : List (ℕ × RegId) → ℕ → ℕ
-place_at registers i = let row = slice_index_or registers i (0, record { 0 = 0 }) in row.0
-
--- the places rise, so none stands twice
-abbrev pub IsRising : List (ℕ × RegId) → Type 0
-IsRising registers = (i j : ℕ) → i < j → j < length registers → place_at registers i < place_at registers j
-
--- the row at that index is the place's
-pub record IsRowOf (registers : List (ℕ × RegId)) (place i : ℕ) : Type 0 where
-  pub in_range : i < length registers
-  pub has_place : place_at registers i ≡ place
-
--- a row of the place would go before that index: smaller places stand before it and greater ones from it on
-pub record IsGapFor (registers : List (ℕ × RegId)) (place i : ℕ) : Type 0 where
-  pub in_range : i ≤ length registers
-  pub smaller_before : (j : ℕ) → j < i → place_at registers j < place
-  pub greater_after : (j : ℕ) → i ≤ j → j < length registers → place < place_at registers j
-
--- the rows with that of an invocation, where there is one, at their end
-abbrev pub with_row : List (ℕ × RegId) → Option Invocation → List (ℕ × RegId)
-with_row registers None = registers
-with_row registers (Some invocation) = registers ++ (invocation.place, invocation.register) ∷ []
 
 -- the step of an item beside what is known, or why it is refused
 abbrev pub answer_beside : Known → ℕ → Item → Result (Option Step) PairFault

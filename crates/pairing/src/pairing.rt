@@ -3,11 +3,12 @@
 ghost use Rattle.std.specs.Prelude.{◌≡◌, ◌≢◌, ◌<◌, ◌++◌, ◌∷◌, ℕ, ℤ, List, [], Some, None, Ok, Err, IsSome, IsOk, IfErr, OnOk, OnErr, if◌then◌else◌};
 ghost use Rattle.std.specs.Option.{ForSome};
 ghost use Rattle.std.specs.Ordering.{int_cmp, int_eq};
-ghost use Rattle.std.specs.BTreeMap.{get, IsUnchanged};
+ghost use Rattle.std.specs.BTreeMap.{get};
 ghost use Rattle.pairing.specs.Invocation.{invocation_of as invocation_at};
 ghost use Rattle.pairing.specs.Accepted.{Placed, accepted, is_event_of};
 ghost use Rattle.pairing.specs.Step.{step_of};
-ghost use Rattle.pairing.specs.Known.{StandsAfter, unanswered_in, register_at as register_beside, IsRising, with_row, answer_beside};
+ghost use Rattle.pairing.specs.Registers.{with_row};
+ghost use Rattle.pairing.specs.Known.{StandsAfter, answer_beside};
 ghost use Rattle.pairing.specs.Whole.{IsWhole};
 
 use crate::fault::PairFault;
@@ -31,7 +32,8 @@ pub struct Pairing {
 
 impl Model for Pairing {
     ghost use Rattle.std.specs.Prelude.{All};
-    ghost use Rattle.pairing.specs.Known.{Known, IsRising, IsUpTo};
+    ghost use Rattle.pairing.specs.Registers.{IsRising};
+    ghost use Rattle.pairing.specs.Known.{Known, IsUpTo};
 
     ghost Value = { Known };
 

@@ -1,7 +1,7 @@
 //! The registers of the accepted invocations, by place.
 
 ghost use Rattle.std.specs.Prelude.{◌≡◌, IfOk, IfErr};
-ghost use Rattle.pairing.specs.Known.{IsRising, IsRowOf, IsGapFor, register_at as register_beside};
+ghost use Rattle.pairing.specs.Registers.{IsRising, IsRowOf, IsGapFor, register_at as register_beside};
 
 use intervals::RegId;
 
