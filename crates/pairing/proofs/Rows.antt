@@ -1,15 +1,17 @@
 -- Rows of a place and a register whose places rise: what a binary search finds, and one more row.
-use Rattle.std.proofs.Common.{◌≡◌, ◌≢◌, ℕ, zero, suc, ◌+◌, ◌<◌, ◌≤◌, List, [], ◌∷◌, ◌++◌, length, get_or, Option, Some, None, Result, Ok, Err, IfOk, IfErr, All, length-append, refl, sym, ap, arith}
-use Rattle.std.specs.List.Sorted.{IsSearchInRange, IsBinarySearchResult, IsNonDecreasingBy}
+use Rattle.std.proofs.Common.{◌≡◌, ◌≢◌, ℕ, zero, suc, ◌<◌, ◌≤◌, List, [], ◌∷◌, ◌++◌, length, get_or, Some, None, All, length-append, refl, sym, ap, inl, inr, arith}
+use Rattle.std.specs.List.{HoldsAt}
+use Rattle.std.specs.List.Sorted.{IsNonDecreasingBy, IsPartitionPoint}
+use Rattle.std.specs.declared.cmp.Ordering.TheVariants.{Less, Equal, Greater}
 use Rattle.std.specs.Ordering.{nat_cmp, ordering_index}
+use Rattle.std.proofs.lemmas.Bool.{cases_lt}
 use Rattle.std.proofs.lemmas.Cmp.{ranked}
 use Rattle.std.proofs.Math.Seq.{get_or-append_seam}
 use Rattle.std.proofs.lemmas.List.{get_or_append_left}
 use Rattle.std.proofs.lemmas.List.Sorted.{IsNonDecreasingBy-from_default}
 use Rattle.std.proofs.lemmas.Bool.Decides.{nat_tests}
-use Rattle.std.proofs.lemmas.Grind.{common_steps}
 use Rattle.intervals.specs.declared.operation.RegId.{RegId}
-use Rattle.pairing.specs.Registers.{register_at, place_at, IsRising, IsRowOf, IsGapFor}
+use Rattle.pairing.specs.Registers.{register_at, place_at, IsRising}
 
 -- a row that is not there
 abbrev pub no_row : ℕ × RegId
@@ -21,19 +23,6 @@ comparisons_rise rows rising place = IsNonDecreasingBy-from_default (λ row. ord
     let not_less : place_at rows i ≤ place_at rows j = grind (arith, rising i j, λ (same : i ≡ j). ap (place_at rows) same) in
     grind (arith, nat_tests))
 
--- a binary search by place ends at the row of the place, or at the gap for it
-pub searched : (rows : List (ℕ × RegId)) → IsRising rows → (place : ℕ) (r : Result ℕ ℕ) → IsSearchInRange r (length rows) → IsBinarySearchResult (λ row. nat_cmp row.0 place) rows r → IfOk r (IsRowOf rows place) × IfErr r (IsGapFor rows place)
-searched rows rising place (Ok i) bound equal = (record { in_range = bound; has_place = ranked _ place _ (sym (equal no_row)) }, tt)
-searched rows rising place (Err i) bound parted =
-    let parts = parted (comparisons_rise rows rising place) in (
-      tt,
-      record {
-        in_range = bound;
-        smaller_before = λ j lt. ranked _ place _ (sym (parts.0 j no_row (omega arith) lt));
-        greater_after = λ j le lt. ranked _ place _ (sym (parts.1 j no_row le lt));
-      },
-    )
-
 -- a place that no row has is not found
 absent : (rows : List (ℕ × RegId)) (place : ℕ) → ((j : ℕ) → j < length rows → place_at rows j ≢ place) → register_at rows place ≡ None
 absent [] place none = refl
@@ -42,21 +31,27 @@ absent (row ∷ rows) place none =
     grind (arith, nat_tests, none 0 (omega arith), rest)
 
 -- the first row of a place gives the register
-first : (rows : List (ℕ × RegId)) (place i : ℕ) → IsRowOf rows place i → ((j : ℕ) → j < i → place_at rows j ≢ place) → register_at rows place ≡ Some (get_or rows i no_row).1
-first [] place i is none = absurd (omega (arith, is.in_range))
-first (row ∷ rows) place zero is none = grind (arith, nat_tests, is.has_place)
-first (row ∷ rows) place (suc i) is none =
-    let lower : IsRowOf rows place i = record { in_range = omega (arith, is.in_range); has_place = is.has_place } in
-    let rest = first rows place i lower (λ j lt. none (suc j) (omega arith)) in
+first : (rows : List (ℕ × RegId)) (place i : ℕ) → i < length rows → place_at rows i ≡ place → ((j : ℕ) → j < i → place_at rows j ≢ place) → register_at rows place ≡ Some (get_or rows i no_row).1
+first [] place i lt is none = absurd (omega arith)
+first (row ∷ rows) place zero lt is none = grind (arith, nat_tests, is)
+first (row ∷ rows) place (suc i) lt is none =
+    let rest = first rows place i (omega arith) is (λ j below. none (suc j) (omega arith)) in
     grind (arith, nat_tests, none 0 (omega arith), rest)
 
--- before a row of rising rows no other has its place
-pub register_in_row : (rows : List (ℕ × RegId)) → IsRising rows → (place i : ℕ) → IsRowOf rows place i → register_at rows place ≡ Some (get_or rows i no_row).1
-register_in_row rows rising place i is = first rows place i is (λ j lt same. omega (arith, rising j i lt is.in_range, is.has_place))
+-- where a binary search found a row, that row gives the register of the place
+pub found_row : (rows : List (ℕ × RegId)) → IsRising rows → (place i : ℕ) → i < length rows → HoldsAt (λ row. nat_cmp row.0 place ≡ Equal) rows i → register_at rows place ≡ Some (get_or rows i no_row).1
+found_row rows rising place i lt equal =
+    let is : place_at rows i ≡ place = ranked _ place _ (sym (equal no_row)) in
+    first rows place i lt is (λ j below same. omega (arith, rising j i below lt))
 
--- beside a gap for a place no row has it
-pub no_register_in_gap : (rows : List (ℕ × RegId)) (place i : ℕ) → IsGapFor rows place i → register_at rows place ≡ None
-no_register_in_gap rows place i gap = absent rows place (λ j lt same. grind (arith, gap.smaller_before j, gap.greater_after j))
+-- where it found none, the place has no register
+pub no_row_found : (rows : List (ℕ × RegId)) → IsRising rows → (place i : ℕ) → i ≤ length rows → (IsNonDecreasingBy (λ row. ordering_index (nat_cmp row.0 place)) rows → IsPartitionPoint (λ row. nat_cmp row.0 place ≡ Less) (λ row. nat_cmp row.0 place ≡ Greater) rows i) → register_at rows place ≡ None
+no_row_found rows rising place i le parted =
+    let parts = parted (comparisons_rise rows rising place) in
+    absent rows place (λ j lt same. elim (cases_lt j i) [
+      | inl below ↦ let less : place_at rows j < place = ranked _ place _ (sym (parts.0 j no_row (omega arith) below)) in omega arith
+      | inr above ↦ let greater : place < place_at rows j = ranked _ place _ (sym (parts.1 j no_row above lt)) in omega arith
+    ])
 
 -- rising rows go on rising with a row of a greater place
 pub rises_push : (rows : List (ℕ × RegId)) (row : ℕ × RegId) → IsRising rows → All (λ other. other.0 < row.0) rows → IsRising (rows ++ row ∷ [])

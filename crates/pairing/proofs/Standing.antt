@@ -1,11 +1,10 @@
 -- A pairing that stands after some items, and one item more.
-use Rattle.std.proofs.Common.{◌≡◌, ℕ, ℤ, ◌<◌, ◌≤◌, ◌==◌, Bool, true, false, List, [], ◌∷◌, ◌++◌, reverse, find, Option, Some, None, is_some, is_err, if◌then◌else◌, All, refl, sym, ◌∙◌, ap, arith}
+use Rattle.std.proofs.Common.{◌≡◌, ℕ, ℤ, ◌<◌, ◌≤◌, ◌==◌, true, false, List, [], ◌∷◌, ◌++◌, find, Option, Some, None, is_some, is_err, if◌then◌else◌, All, refl, sym, ◌∙◌, ap, arith}
 use Rattle.std.specs.List.{filter_map, cons_option}
 use Rattle.std.specs.Option.{option_map, option_or, option_and_then, ForSome}
 use Rattle.std.proofs.lemmas.List.{reverse-append}
 use Rattle.std.proofs.lemmas.List.Elements.{All-weaker, All-push, filter_map-append}
 use Rattle.std.proofs.lemmas.List.Sums.{fold_push}
-use Rattle.std.proofs.lemmas.Bool.Decides.{nat_tests}
 use Rattle.intervals.specs.declared.operation.RegId.{RegId}
 use Rattle.pairing.specs.declared.invocation.Invocation.{Invocation}
 use Rattle.jepsen_form.specs.declared.item.Event.{Event as AnEvent}

@@ -1,9 +1,8 @@
 -- The accepted events of a process take turns: an invocation, then its answer.
-use Rattle.std.proofs.Common.{◌≡◌, ℕ, ℤ, Bool, true, false, not, List, [], ◌∷◌, ◌++◌, reverse, find, ◌⊎◌, inl, inr, Option, Some, None, Result, Ok, Err, is_some, is_none, if◌then◌else◌, IsTrue, ◌||◌, refl, sym, ◌∙◌, ap, subst, append_assoc}
+use Rattle.std.proofs.Common.{◌≡◌, ℕ, ℤ, Bool, true, false, not, List, [], ◌∷◌, ◌++◌, find, ◌⊎◌, inl, inr, Option, Some, None, Ok, is_some, is_none, if◌then◌else◌, IsTrue, ◌||◌, refl, sym, ◌∙◌, ap, subst, append_assoc}
 use mathlib.Core.Bool.{false≢true}
 use Rattle.std.specs.List.{list_any, fold}
 use Rattle.std.specs.Option.{option_and_then, ForSome}
-use Rattle.std.specs.Ordering.{int_eq}
 use Rattle.std.proofs.lemmas.List.{reverse-append, append-nil}
 use Rattle.std.proofs.lemmas.Bool.Decides.{Decides-int_eq}
 use Rattle.intervals.specs.declared.operation.RegId.{RegId}
@@ -190,20 +189,20 @@ has_invocation items before after process answer parts is answers_it =
     let waits : is_none (unanswered_of before process) ≡ false = sym (turn process before answer.item is fine) ∙ answers_it in
     elim (last_event process before) [
       | inl quiet ↦
-        let none : is_none (unanswered_of before process) ≡ true = ap (λ last. is_none (option_and_then invocation last)) (last_silent process [] before quiet) in
-        absurd (false≢true (sym waits ∙ none))
+          let none : is_none (unanswered_of before process) ≡ true = ap (λ last. is_none (option_and_then invocation last)) (last_silent process [] before quiet) in
+          absurd (false≢true (sym waits ∙ none))
       | inr last ↦
-        let next : IsNext (accepted items) process last.one answer = record {
-          before = last.front;
-          between = last.silent;
-          after = after;
-          parts = parts ∙ ap (λ front. front ++ answer ∷ after) last.parts ∙ append_assoc last.front (last.one ∷ last.silent) (answer ∷ after);
-          earlier_is = last.is_event;
-          later_is = is;
-          silent = last.quiet;
-        } in
-        let beside : unanswered_of before process ≡ invocation last.one = ap (λ front. unanswered_of front process) last.parts ∙ unanswered_next (accepted items) process last.one answer next in
-        (last.one, next, invoked_item last.one.place last.one.item (ap is_none (sym beside) ∙ waits))
+          let next : IsNext (accepted items) process last.one answer = record {
+            before = last.front;
+            between = last.silent;
+            after = after;
+            parts = parts ∙ ap (λ front. front ++ answer ∷ after) last.parts ∙ append_assoc last.front (last.one ∷ last.silent) (answer ∷ after);
+            earlier_is = last.is_event;
+            later_is = is;
+            silent = last.quiet;
+          } in
+          let beside : unanswered_of before process ≡ invocation last.one = ap (λ front. unanswered_of front process) last.parts ∙ unanswered_next (accepted items) process last.one answer next in
+          (last.one, next, invoked_item last.one.place last.one.item (ap is_none (sym beside) ∙ waits))
     ]
 
 id_by_ok : (feeder : ℕ) (said : Invocation) (event : AnEvent) (moment : Option Moment) (fault : Option PairFault) (step : Step) → unless fault (ok_step feeder said event moment) ≡ Ok (Some step) → step_id step ≡ Some (id_of feeder said.place)

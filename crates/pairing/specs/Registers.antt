@@ -1,5 +1,5 @@
 -- The registers of accepted invocations by place, as rows of a place and a register.
-use Rattle.std.specs.Prelude.{◌≡◌, ◌<◌, ◌≤◌, ℕ, ◌==◌, List, [], ◌∷◌, ◌++◌, length, slice_index_or, Option, Some, None}
+use Rattle.std.specs.Prelude.{◌<◌, ℕ, ◌==◌, List, [], ◌∷◌, ◌++◌, length, slice_index_or, Option, Some, None}
 use Rattle.std.specs.Map.{lookup}
 use Rattle.intervals.specs.declared.operation.RegId.{RegId}
 use Rattle.pairing.specs.declared.invocation.Invocation.{Invocation}
@@ -15,17 +15,6 @@ place_at registers i = let row = slice_index_or registers i (0, record { 0 = 0 }
 -- the places rise, so none stands twice
 abbrev pub IsRising : List (ℕ × RegId) → Type 0
 IsRising registers = (i j : ℕ) → i < j → j < length registers → place_at registers i < place_at registers j
-
--- the row at that index is the place's
-pub record IsRowOf (registers : List (ℕ × RegId)) (place i : ℕ) : Type 0 where
-  pub in_range : i < length registers
-  pub has_place : place_at registers i ≡ place
-
--- a row of the place would go before that index: smaller places stand before it and greater ones from it on
-pub record IsGapFor (registers : List (ℕ × RegId)) (place i : ℕ) : Type 0 where
-  pub in_range : i ≤ length registers
-  pub smaller_before : (j : ℕ) → j < i → place_at registers j < place
-  pub greater_after : (j : ℕ) → i ≤ j → j < length registers → place < place_at registers j
 
 -- the rows with that of an invocation, where there is one, at their end
 abbrev pub with_row : List (ℕ × RegId) → Option Invocation → List (ℕ × RegId)

@@ -1,4 +1,4 @@
-use Rattle.std.proofs.Common.{◌≡◌, ◌<◌, Bool, true, false, List, sym, subst, ◌∙◌, is_err}
+use Rattle.std.proofs.Common.{◌≡◌, ◌<◌, true, false, sym, subst, ◌∙◌, is_err}
 use Rattle.std.specs.Option.{ForSome}
 use Rattle.pairing.specs.Known.{Known, StandsAfter, answer_beside}
 use Rattle.pairing.proofs.Standing.{after_refused, after_taken, rows_rise}
