@@ -1,0 +1,61 @@
+-- Which event answers which invocation, said of the accepted items as a whole.
+use Rattle.std.specs.Prelude.{◌≡◌, ℤ, Bool, true, false, List, ◌∷◌, ◌++◌, Option, Some, None, IsTrue}
+use Rattle.std.specs.List.{list_any}
+use Rattle.intervals.specs.declared.operation.OpId.{OpId}
+use Rattle.intervals.specs.declared.edit.Edit.{Edit}
+use Rattle.intervals.specs.declared.edit.Edit.TheVariants as edits
+use Rattle.jepsen_form.specs.declared.item.Item.{Item}
+use Rattle.jepsen_form.specs.declared.item.Item.TheVariants.{Event, Amend, Withdraw, Ask, Skipped}
+use Rattle.jepsen_form.specs.declared.item.Stage.{Stage}
+use Rattle.jepsen_form.specs.declared.item.Stage.TheVariants.{Invoke, Ok, Fail, Info}
+use Rattle.pairing.specs.declared.step.Step.{Step}
+use Rattle.pairing.specs.declared.step.Step.TheVariants as steps
+use Rattle.pairing.specs.Accepted.{Placed, is_event_of}
+
+-- the stage is an invocation's; the others are answers
+abbrev pub invokes : Stage → Bool
+invokes Invoke = true
+invokes Ok = false
+invokes Fail = false
+invokes Info = false
+
+-- the item is an invocation
+abbrev pub is_invocation : Item → Bool
+is_invocation (Event event) = invokes event.answer
+is_invocation (Amend of change) = false
+is_invocation (Withdraw of) = false
+is_invocation (Ask register) = false
+is_invocation Skipped = false
+
+-- none of these items is an event of the process
+abbrev pub IsSilent : ℤ → List Placed → Type 0
+IsSilent process items = list_any (λ one. is_event_of process one.item) items ≡ false
+
+-- the item is the first event of the process among these items
+pub record IsFirst (items : List Placed) (process : ℤ) (one : Placed) : Type 0 where
+  pub before : List Placed
+  pub after : List Placed
+  pub parts : items ≡ before ++ one ∷ after
+  pub is_event : IsTrue (is_event_of process one.item)
+  pub silent : IsSilent process before
+
+-- the later item is the first event of the process after the earlier one, which is an event of the process too
+pub record IsNext (items : List Placed) (process : ℤ) (earlier later : Placed) : Type 0 where
+  pub before : List Placed
+  pub between : List Placed
+  pub after : List Placed
+  pub parts : items ≡ before ++ earlier ∷ (between ++ later ∷ after)
+  pub earlier_is : IsTrue (is_event_of process earlier.item)
+  pub later_is : IsTrue (is_event_of process later.item)
+  pub silent : IsSilent process between
+
+-- the operation that an edit is of
+abbrev pub edit_id : Edit → OpId
+edit_id (edits.Append op) = op.id
+edit_id (edits.Amend id change) = id
+edit_id (edits.Withdraw id) = id
+
+-- the operation that a step edits, if it is no question
+abbrev pub step_id : Step → Option OpId
+step_id (steps.Edit register edit) = Some (edit_id edit)
+step_id (steps.Ask register) = None

@@ -1,0 +1,30 @@
+//! Laws of pairing. Each is proved, and does nothing.
+
+ghost use Rattle.std.specs.Prelude.{◌≡◌, ◌∷◌, ◌++◌, ℕ, ℤ, List, Some, Ok, false, not, IsTrue};
+ghost use Rattle.pairing.specs.declared.step.Step.{Step};
+ghost use Rattle.pairing.specs.Accepted.{Placed, accepted, is_event_of};
+ghost use Rattle.pairing.specs.Step.{step_of, id_of};
+ghost use Rattle.pairing.specs.Answering.{IsFirst, IsNext, is_invocation, step_id};
+ghost use Rattle.pairing.specs.Whole.{IsWhole};
+
+/// The accepted events of a process are an invocation, its answer, an invocation, its answer and so
+/// on: the answer of an accepted invocation is the first later accepted event of its process.
+pub fn answers_come_next()
+    ensures first { (items : List Placed) (process : ℤ) (one : Placed) → IsFirst (accepted items) process one → IsTrue (is_invocation one.item) }
+    ensures alternate { (items : List Placed) (process : ℤ) (earlier later : Placed) → IsNext (accepted items) process earlier later
+        → IsWhole earlier.item → is_invocation later.item ≡ not (is_invocation earlier.item) }
+{}
+
+/// Each accepted answer is the first accepted event of its process after an accepted invocation.
+pub fn answers_have_an_invocation()
+    ensures { (items before after : List Placed) (process : ℤ) (answer : Placed) → accepted items ≡ before ++ answer ∷ after
+        → IsTrue (is_event_of process answer.item) → is_invocation answer.item ≡ false
+        → (earlier : Placed) × IsNext (accepted items) process earlier answer × IsTrue (is_invocation earlier.item) }
+{}
+
+/// The step of an answer is on the operation of the invocation that it comes next to.
+pub fn answers_are_of_their_invocation()
+    ensures { (feeder : ℕ) (items : List Placed) (process : ℤ) (earlier later : Placed) → (next : IsNext (accepted items) process earlier later)
+        → IsWhole earlier.item → IsTrue (is_invocation earlier.item) → (step : Step)
+        → step_of feeder (next.before ++ earlier ∷ next.between) later.place later.item ≡ Ok (Some step) → step_id step ≡ Some (id_of feeder earlier.place) }
+{}
