@@ -3,7 +3,8 @@ use Rattle.std.proofs.Common.{◌≡◌, ℕ, List, [], ◌∷◌, Option, Some,
 use Rattle.edn_reader.specs.Grammar.{Piece}
 use Rattle.edn_reader.specs.Text.{IsText}
 use Rattle.edn_reader.specs.Pairs.{HasPairs, HasMembers}
-use Rattle.tower_file.specs.Form.{Missing, One, Many, IsGiven, AreMembers, Each, IsVectorOf, IsMapOf, Sequence, IsSequence, RegisterForm, AreRegisterFields, IsRegister, LevelForm, AreLevelFields, IsLevel, FileForm, AreFileFields, IsFile, IsFileOf}
+use Rattle.edn_reader.specs.Given.{Missing, One, Many}
+use Rattle.tower_file.specs.Form.{IsGiven, AreMembers, Each, IsVectorOf, IsMapOf, Sequence, IsSequence, RegisterForm, AreRegisterFields, IsRegister, LevelForm, AreLevelFields, IsLevel, FileForm, AreFileFields, IsFile, IsFileOf}
 
 -- one form at most
 abbrev pub One_form : {X Form : Type 0} → (X → Form → Type 0) → Type 0

@@ -3,15 +3,17 @@ use Rattle.std.proofs.Common.{ℕ, Bool, true, false, List, [], ◌∷◌, Optio
 use Rattle.std.specs.Prelude.{ℤ, if◌then◌else◌, not, nat_lt, nat_le, length, is_some}
 use Rattle.intervals.specs.declared.operation.RegId.{RegId}
 use Rattle.edn_reader.specs.Grammar.{Piece}
-use Rattle.edn_reader.specs.Pairs.{is_word}
+use Rattle.edn_reader.specs.Pairs.{is_word, is_nil}
+use Rattle.edn_reader.specs.Integer.{int_of}
+use Rattle.edn_reader.specs.Given.{Given, Missing, One, Many}
 use Rattle.std.specs.Prelude.{codes}
 use Rattle.tower_file.specs.declared.fault.TowerField.{TowerField}
 use Rattle.tower_file.specs.declared.fault.TowerField.TheVariants as fields
 use Rattle.tower_file.specs.declared.fault.TowerFault.{TowerFault}
 use Rattle.tower_file.specs.declared.fault.TowerFault.TheVariants.{Edn, Shape, NameTaken, WriterCount, UnknownPart, EmptyDomain, InitialOutOfDomain, TooMany, Memory}
-use Rattle.tower_file.specs.Form.{Given, Missing, One, Many, Sequence, RegisterForm, LevelForm, FileForm}
+use Rattle.tower_file.specs.Form.{Sequence, RegisterForm, LevelForm, FileForm}
 use Rattle.tower_file.specs.Contents.{Register, Contents, empty, number_of}
-use Rattle.tower_file.specs.Reading.{◌>>=◌, needed, optional, formed, each, is_nil, int_of, int_value, value_of, process_of, kind_of, processes_of, writers_of, values_of, name_in, kind_in, writers_in, initial_in, domain_in, parts_in, Said, said_by, has_its_writers, below, part_of, is_empty_domain, is_outside, refused_if, placed, register_of, through, with_register, registers_after, with_level, vector_in, level_after, levels_after, contents_of}
+use Rattle.tower_file.specs.Reading.{◌>>=◌, needed, optional, formed, each, int_value, value_of, process_of, kind_of, processes_of, writers_of, values_of, name_in, kind_in, writers_in, initial_in, domain_in, parts_in, Said, said_by, has_its_writers, below, part_of, is_empty_domain, is_outside, refused_if, placed, register_of, through, with_register, registers_after, with_level, vector_in, level_after, levels_after, contents_of}
 
 -- no want of memory
 abbrev pub IsOther : TowerFault → Type 0
