@@ -1,5 +1,5 @@
 #!/usr/bin/env python3
-"""Writes a correct trace of one safe register to standard output.
+"""Writes a correct trace of one safe register to standard output, and makes towers.
 
 Process 0 writes, one write after the other; the other processes read. A read
 during which no write is open returns what was written last, or 0 before the
@@ -49,6 +49,38 @@ def trace(events, seed=1, writes=0.5):
             overlapped = reading.pop(process)
             answer = chance.randint(0, 999) if overlapped else value
             yield EVENT % (process, "ok", "read", answer, index)
+
+
+LEVELS = ["bits", "safe", "regular", "atomic"]
+KINDS = ["safe", "safe", "regular", "atomic"]
+
+
+def levels(registers):
+    """The numbers of the registers of each level, the lowest first."""
+    edges = [registers * level // len(LEVELS) for level in range(len(LEVELS) + 1)]
+    return [range(first, end) for first, end in zip(edges, edges[1:])]
+
+
+def tower(registers):
+    """The pieces of a tower file of so many registers, a multiple of the number of levels."""
+    yield "{:levels ["
+    for level, numbers in enumerate(levels(registers)):
+        yield "{:name %s :registers [\n" % LEVELS[level]
+        for number in numbers:
+            parts = ""
+            if level:
+                below = number - len(numbers)
+                parts = " :domain [0 1 2] :of [register-%s register-%s]" % (below, number % len(numbers))
+            yield "{:name register-%s :kind :%s :writers [0] :initial 0%s}\n" % (number, KINDS[level], parts)
+        yield "]}\n"
+    yield "]}\n"
+
+
+def lines_of_tower(registers):
+    """What `regaudit tower` prints of it."""
+    for level, numbers in enumerate(levels(registers)):
+        for number in numbers:
+            yield "%s %s register-%s %s\n" % (number, LEVELS[level], number, KINDS[level])
 
 
 def main():
