@@ -2,7 +2,6 @@
 
 ghost use Rattle.std.specs.Prelude.{◌≡◌};
 ghost use Rattle.pairing.specs.Invocation.{invocation_of as invocation_at, answers, is_on as is_said_of, same_act};
-ghost use Rattle.pairing.specs.Whole.{IsWhole};
 
 use intervals::{RegId, Value};
 use jepsen_form::{Action, Event, Item, Stage};

@@ -1,6 +1,6 @@
 //! Worked traces as calls of a pairing, and what no clause says.
 
-ghost use Rattle.std.specs.Prelude.{◌≡◌, Some, IsTrue};
+ghost use Rattle.std.specs.Prelude.{IsTrue};
 ghost use Rattle.pairing.specs.Whole.{IsWhole, IsWholeEvent};
 
 use super::*;
