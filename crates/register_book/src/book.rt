@@ -130,7 +130,7 @@ impl<'t> RegisterBook<'t> {
         writes_alone_decide();
         let id = id_of(&edit);
         self.ops.admit(edit)?;
-        self.wrong = first_wrong_after(&self.judge, self.ops.operations(), self.wrong, id);
+        self.wrong = first_wrong_after(&self.judge, &self.ops, self.wrong, id);
         Ok(())
     }
 

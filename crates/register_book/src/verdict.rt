@@ -3,7 +3,6 @@
 ghost use Rattle.std.specs.Prelude.{◌≡◌, ◌&&◌, false, nat_lt};
 ghost use Rattle.std.specs.List.{list_any};
 ghost use Rattle.intervals.specs.Operation.{writes, same_id};
-ghost use Rattle.intervals.specs.Edit.{op_of};
 ghost use Rattle.intervals.specs.Judging.{first_wrong as first_wrong_of, end_number};
 ghost use Rattle.register_book.specs.Ids.{HasDistinctIds};
 ghost use Rattle.register_book.specs.Verdict.{id_of as edited_id, is_write_of as write_of, is_on_write as on_write, has_id as with_id, first_wrong_beside, wrong_of as wrong_one};
@@ -11,7 +10,7 @@ ghost use Rattle.register_book.specs.Verdict.{id_of as edited_id, is_write_of as
 use intervals::laws::{
     first_wrong_read_ended_first, none_wrong_without_a_first, writes_alone_decide,
 };
-use intervals::{Edit, Op, OpId};
+use intervals::{Edit, Op, OpBook, OpId};
 use safe_regular::SingleWriterJudge;
 
 /// The first wrong read to end, where the judge holds the writes.
@@ -27,7 +26,7 @@ pub fn first_wrong<'t>(judge: &SingleWriterJudge, ops: &[Op<'t>]) -> Option<Op<'
 /// unless the edited one was the first before, or two ended at one moment.
 pub fn first_wrong_after<'t>(
     judge: &SingleWriterJudge,
-    ops: &[Op<'t>],
+    ops: &OpBook<'t>,
     before: Option<Op<'t>>,
     id: OpId,
 ) -> Option<Op<'t>>
@@ -39,7 +38,7 @@ pub fn first_wrong_after<'t>(
     first_wrong_read_ended_first();
     none_wrong_without_a_first();
     if has_id(&before, id) {
-        return first_wrong(judge, ops);
+        return first_wrong(judge, ops.operations());
     }
     let Some(read) = wrong_of(judge, ops, id) else {
         return before;
@@ -52,28 +51,22 @@ pub fn first_wrong_after<'t>(
     } else if ended_before(&first, &read) {
         Some(first)
     } else {
-        first_wrong(judge, ops)
+        first_wrong(judge, ops.operations())
     }
 }
 
 /// The operation of that id, where it is a wrong read.
-fn wrong_of<'t>(judge: &SingleWriterJudge, ops: &[Op<'t>], id: OpId) -> Option<Op<'t>>
+fn wrong_of<'t>(judge: &SingleWriterJudge, ops: &OpBook<'t>, id: OpId) -> Option<Op<'t>>
     requires { judge.now.ops ≡ writes ops.now }
     ensures { result ≡ wrong_one judge.now.claim ops.now id }
 {
     writes_alone_decide();
-    let op = find_op(ops, id)?;
-    if judge.is_wrong(&op) {
-        Some(op)
+    let op = ops.get(id)?;
+    if judge.is_wrong(op) {
+        Some(*op)
     } else {
         None
     }
-}
-
-fn find_op<'t>(ops: &[Op<'t>], id: OpId) -> Option<Op<'t>>
-    ensures { result ≡ op_of ops.now id }
-{
-    ops.iter().find(|op| is_id(op, id)).copied()
 }
 
 fn is_id(op: &Op, id: OpId) -> bool
