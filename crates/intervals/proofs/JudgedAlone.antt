@@ -38,7 +38,7 @@ abbrev KeptOnly : (Op → Bool) → (Op → Bool) → Type 0
 KeptOnly keep test = (op : Op) → keep op ≡ false → test op ≡ false
 
 -- two tests that agree find the same
-pub least_same : (key : Op → ℕ) (p q : Op → Bool) → ((op : Op) → p op ≡ q op) → (found : Option Op) (ops : List Op) → least_from key p found ops ≡ least_from key q found ops
+least_same : (key : Op → ℕ) (p q : Op → Bool) → ((op : Op) → p op ≡ q op) → (found : Option Op) (ops : List Op) → least_from key p found ops ≡ least_from key q found ops
 least_same key p q same found [] = refl
 least_same key p q same found (op ∷ ops) = least_same key p q same (less_of key p found op) ops ∙ ap (λ (f : Option Op). least_from key q f ops) (rw (same op) refl)
 
