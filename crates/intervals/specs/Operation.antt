@@ -75,3 +75,7 @@ IsJudgedRead a = IsTrue (is_judged_read a)
 -- the operations that a verdict speaks of: the writes, and the reads that have an end
 abbrev pub judged : List Op → List Op
 judged ops = filter (λ a. is_write a || is_some a.end) ops
+
+-- the writes alone
+abbrev pub writes : List Op → List Op
+writes ops = filter is_write ops

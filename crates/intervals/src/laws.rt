@@ -8,9 +8,9 @@ ghost use Rattle.intervals.specs.declared.operation.Value.{Value};
 ghost use Rattle.intervals.specs.Terms.{Terms};
 ghost use Rattle.intervals.specs.declared.claim.Kind.TheVariants.{Safe, Regular, Atomic};
 ghost use Rattle.intervals.specs.declared.operation.Value.TheVariants.{Nil};
-ghost use Rattle.intervals.specs.Operation.{IsJudgedRead, judged};
+ghost use Rattle.intervals.specs.Operation.{IsJudgedRead, judged, writes};
 ghost use Rattle.intervals.specs.Refusal.{write_refusal, overlap_refusal, is_overlapped};
-ghost use Rattle.intervals.specs.Least.{IsLeast};
+ghost use Rattle.intervals.specs.Least.{IsLeast, least_by};
 ghost use Rattle.intervals.specs.Kind.{IsSafe, IsRegular, IsSafeRead, IsRegularRead, Arranges};
 ghost use Rattle.intervals.specs.Judging.{first_wrong, is_wrong_read, end_number};
 ghost use Rattle.intervals.specs.Histories.{number, claim_of, read_after_write, read_within_write, digits, new_before_old, older_of_two, old_before_new, unfinished_write, write_between};
@@ -31,6 +31,12 @@ pub fn regular_without_wrong_reads()
 pub fn first_wrong_read_ended_first()
     ensures { (claim : Terms) (ops : List Op) (r : Op) → first_wrong claim ops ≡ Some r
         → IsLeast end_number (is_wrong_read claim ops) ops r }
+{}
+
+/// Where no wrong read ended first, no read is wrong.
+pub fn none_wrong_without_a_first()
+    ensures { (claim : Terms) (ops : List Op) → first_wrong claim ops ≡ None
+        → All (λ r. ¬ IsTrue (is_wrong_read claim ops r)) ops }
 {}
 
 /// A read is wrong exactly when it is judged and breaks the sentence of its register's kind.
@@ -56,6 +62,14 @@ pub fn judged_operations_alone_count()
     ensures regular { (claim : Terms) (ops : List Op) → IsRegular claim (judged ops) ↔ IsRegular claim ops }
     ensures refusal { (claim : Terms) (ops : List Op) (op : Op) → claim.kind ≢ Atomic
         → write_refusal claim (judged ops) op ≡ write_refusal claim ops op }
+{}
+
+/// The writes alone decide what a read is judged, and which writes are refused.
+pub fn writes_alone_decide()
+    ensures read { (claim : Terms) (ops : List Op) (r : Op) → is_wrong_read claim (writes ops) r ≡ is_wrong_read claim ops r }
+    ensures fault { (claim : Terms) (ops : List Op) → least_by end_number (is_wrong_read claim (writes ops)) ops ≡ first_wrong claim ops }
+    ensures refusal { (claim : Terms) (ops : List Op) (op : Op) → claim.kind ≢ Atomic
+        → write_refusal claim (writes ops) op ≡ write_refusal claim ops op }
 {}
 
 /// Safe registers: which reads are right after a write, and within one.

@@ -1,6 +1,6 @@
 -- Ids stay distinct under edits that are accepted, and an operation that stands is found by its id.
 use Rattle.std.proofs.Common.{◌≡◌, ◌==◌, ℕ, zero, suc, ◌<◌, Bool, true, false, not, List, [], ◌∷◌, ◌++◌, length, Option, Some, None, Decides, refl, sym, ap, ◌∙◌, cond, subst, arith}
-use Rattle.std.specs.Prelude.{map, filter, Contains, IfSome, is_some, option_map, slice_index_or}
+use Rattle.std.specs.Prelude.{map, filter, Contains, IfSome, is_some, slice_index_or}
 use Rattle.std.proofs.lemmas.Bool.Decides.{Decides-and, Decides-eqb}
 use Rattle.intervals.specs.declared.operation.Op.{Op}
 use Rattle.intervals.specs.declared.operation.OpId.{OpId}
@@ -24,7 +24,7 @@ same_numbers f e g h p q = rw (p, q) refl
 Decides-same_id : (a b : OpId) → Decides (same_id a b) ((a.feeder ≡ b.feeder) × (a.event ≡ b.event))
 Decides-same_id a b = Decides-and (a.feeder == b.feeder) (a.event == b.event) (Decides-eqb a.feeder b.feeder) (Decides-eqb a.event b.event)
 
-same_id-refl : (a : OpId) → same_id a a ≡ true
+pub same_id-refl : (a : OpId) → same_id a a ≡ true
 same_id-refl a = (Decides-same_id a a).1 (refl, refl)
 
 same_id-sym : (a b : OpId) → same_id a b ≡ true → same_id b a ≡ true
@@ -37,7 +37,7 @@ other_way a b e = by_cases (same_id b a) refl
     by_cases false p = refl
     by_cases true p = absurd (let q = same_id-sym b a p in cc)
 
-found_alike : (ops : List Op) (a b : OpId) → same_id a b ≡ true → op_of ops a ≡ op_of ops b
+pub found_alike : (ops : List Op) (a b : OpId) → same_id a b ≡ true → op_of ops a ≡ op_of ops b
 found_alike ops a b t = let h = (Decides-same_id a b).0 t in ap (op_of ops) (same_numbers a.feeder a.event b.feeder b.event h.0 h.1)
 
 -- what is not found in a list is neither its first operation nor found in the rest
@@ -129,11 +129,6 @@ found_at (a ∷ ops) op (suc k) d lt e = found_later a ops op d.0 (found_at ops 
 
 pub found_by_id : (ops : List Op) (op : Op) → HasDistinctIds ops → Contains ops op → op_of ops op.id ≡ Some op
 found_by_id ops op d h = found_at ops op h.0 d h.1 h.2
-
--- the operation of the id that an operation was named by
-pub named : (ops : List Op) (o : Option Op) (id : OpId) → Some id ≡ option_map (λ op. op.id) o → ((r : Op) → o ≡ Some r → op_of ops r.id ≡ Some r) → op_of ops id ≡ o
-named ops None id e stands = absurd (cc)
-named ops (Some r) id e stands = let same : id ≡ r.id = cc in ap (op_of ops) same ∙ stands r refl
 
 pub each_stands : (ops : List Op) (x o : Option Op) → x ≡ o → ((r : Op) → o ≡ Some r → op_of ops r.id ≡ Some r) → IfSome x (λ op. op_of ops op.id ≡ Some op)
 each_stands ops None o e stands = tt

@@ -1,3 +1,5 @@
 pub mod Refusals
 pub mod Verdicts
 pub mod Ids
+pub mod Beside
+pub mod ReadEdits

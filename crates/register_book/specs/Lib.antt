@@ -1,3 +1,4 @@
 pub mod Ids
+pub mod Verdict
 pub mod Reply
 pub mod Fault

@@ -1,19 +1,21 @@
-ghost use Rattle.std.specs.Prelude.{◌≡◌, ◌≢◌, ◌↔◌, [], Some, None, length, IfOk, IfSome, OnOk, OnErr, IsNone, IsTrue, option_copied, option_map};
+ghost use Rattle.std.specs.Prelude.{◌≡◌, ◌≢◌, ◌↔◌, [], Some, None, false, length, IfOk, IfSome, OnOk, OnErr, IsNone, IsTrue, option_copied, option_map};
 ghost use Rattle.intervals.specs.Terms.{terms_of};
 ghost use Rattle.intervals.specs.Edit.{op_of, edited};
 ghost use Rattle.intervals.specs.Refusal.{reply_to, after_edit, first_refusal};
 ghost use Rattle.intervals.specs.Kind.{Holds};
-ghost use Rattle.intervals.specs.Judging.{first_wrong};
+ghost use Rattle.intervals.specs.Judging.{first_wrong as first_wrong_of};
+ghost use Rattle.register_book.specs.Verdict.{is_on_write as on_write};
 ghost use Rattle.register_book.specs.Reply.{IsReply};
 ghost use Rattle.register_book.specs.Fault.{fault_of, witness_of, Shows};
 
 use crate::claim::copy_of;
-use crate::judged::judge_after;
 use crate::refused::refusal_of;
+use crate::verdict::{first_wrong, first_wrong_after, id_of, is_on_write};
+use crate::writes::judge_after;
 use crate::{Fault, Reply, Witness};
 use intervals::laws::{
-    first_wrong_read_ended_first, judged_operations_alone_count, regular_without_wrong_reads,
-    safe_without_wrong_reads,
+    first_wrong_read_ended_first, regular_without_wrong_reads, safe_without_wrong_reads,
+    writes_alone_decide,
 };
 use intervals::{Claim, Edit, Kind, Memory, Op, OpBook, OpId};
 use safe_regular::SingleWriterJudge;
@@ -27,21 +29,25 @@ pub struct RegisterBook<'t> {
     alloc: Global,
     claim: Claim,
     ops: OpBook<'t>,
+    /// The judge of the writes.
     judge: SingleWriterJudge<'t>,
+    /// The wrong read that ended first.
+    wrong: Option<Op<'t>>,
 }
 
 impl<'t> Model for RegisterBook<'t> {
     ghost use Rattle.std.specs.Prelude.{◌≡◌, ◌≢◌};
     ghost use Rattle.intervals.specs.Terms.{Claimed, terms_of};
-    ghost use Rattle.intervals.specs.Operation.{judged};
+    ghost use Rattle.intervals.specs.Operation.{writes};
     ghost use Rattle.intervals.specs.declared.claim.Kind.TheVariants.{Atomic};
+    ghost use Rattle.intervals.specs.Judging.{first_wrong};
     ghost use Rattle.register_book.specs.Ids.{HasDistinctIds};
 
     ghost Value = { Claimed };
 
     ghost view = { λ b. record { claim = terms_of b.claim; ops = b.ops } };
 
-    ghost invariant = { λ b. (b.claim.kind ≢ Atomic) × HasDistinctIds b.ops × (b.judge ≡ record { claim = terms_of b.claim; ops = judged b.ops }) };
+    ghost invariant = { λ b. (b.claim.kind ≢ Atomic) × HasDistinctIds b.ops × (b.judge ≡ record { claim = terms_of b.claim; ops = writes b.ops }) × (b.wrong ≡ first_wrong (terms_of b.claim) b.ops) };
 }
 
 impl<'t> RegisterBook<'t> {
@@ -55,6 +61,7 @@ impl<'t> RegisterBook<'t> {
             claim: copy_of(alloc, claim)?,
             ops: OpBook::new(alloc),
             judge: SingleWriterJudge::new(alloc, claim)?,
+            wrong: None,
         })
     }
 
@@ -88,8 +95,20 @@ impl<'t> RegisterBook<'t> {
         })
     }
 
-    /// Builds the judge of what the edit leaves before it changes anything.
     fn carry_out(&mut self, edit: Edit<'t>) -> Result<(), Memory>
+        requires { first_refusal self.old.ops edit ≡ None }
+        ensures ok { OnOk result (self.new ≡ record self.old { ops = edited self.old.ops edit.entry }) }
+        ensures err { OnErr result (self.new ≡ self.old) }
+    {
+        if is_on_write(self.ops.operations(), &edit) {
+            self.edit_write(edit)
+        } else {
+            self.edit_read(edit)
+        }
+    }
+
+    /// Builds the judge of what the edit leaves before it changes anything, and judges each read anew.
+    fn edit_write(&mut self, edit: Edit<'t>) -> Result<(), Memory>
         requires { first_refusal self.old.ops edit ≡ None }
         ensures ok { OnOk result (self.new ≡ record self.old { ops = edited self.old.ops edit.entry }) }
         ensures err { OnErr result (self.new ≡ self.old) }
@@ -97,6 +116,21 @@ impl<'t> RegisterBook<'t> {
         let judge = judge_after(self.alloc, &self.claim, self.ops.operations(), &edit)?;
         self.ops.admit(edit)?;
         let _old = mem::replace(&mut self.judge, judge);
+        self.wrong = first_wrong(&self.judge, self.ops.operations());
+        Ok(())
+    }
+
+    /// The writes stay, and so does what each other read is judged.
+    fn edit_read(&mut self, edit: Edit<'t>) -> Result<(), Memory>
+        requires accepted { first_refusal self.old.ops edit ≡ None }
+        requires read { on_write self.old.ops edit ≡ false }
+        ensures ok { OnOk result (self.new ≡ record self.old { ops = edited self.old.ops edit.entry }) }
+        ensures err { OnErr result (self.new ≡ self.old) }
+    {
+        writes_alone_decide();
+        let id = id_of(&edit);
+        self.ops.admit(edit)?;
+        self.wrong = first_wrong_after(&self.judge, &self.ops, self.wrong, id);
         Ok(())
     }
 
@@ -126,22 +160,19 @@ impl<'t> RegisterBook<'t> {
     }
 
     fn wrong_id(&self) -> Option<OpId>
-        ensures id { result ≡ option_map (λ op. op.id) (first_wrong self.now.claim self.now.ops) }
+        ensures id { result ≡ option_map (λ op. op.id) (first_wrong_of self.now.claim self.now.ops) }
         ensures none { IsNone result ↔ Holds self.now.claim self.now.ops }
     {
-        judged_operations_alone_count();
         safe_without_wrong_reads();
         regular_without_wrong_reads();
-        self.judge.first_fault()
+        self.wrong.map(|op| op.id)
     }
 
     fn wrong_op(&self) -> Option<Op<'t>>
-        ensures op { result ≡ first_wrong self.now.claim self.now.ops }
+        ensures op { result ≡ first_wrong_of self.now.claim self.now.ops }
         ensures stands { IfSome result (λ op. op_of self.now.ops op.id ≡ Some op) }
     {
         first_wrong_read_ended_first();
-        let id = self.wrong_id()?;
-        let found = self.ops.get(id);
-        found.copied()
+        self.wrong
     }
 }

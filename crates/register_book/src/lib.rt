@@ -5,9 +5,10 @@
 mod book;
 mod claim;
 mod fault;
-mod judged;
 mod refused;
 mod reply;
+mod verdict;
+mod writes;
 
 pub use book::RegisterBook;
 pub use fault::{Fault, Side, Witness};

@@ -1,22 +1,22 @@
 //! Which edits are refused.
 
 ghost use Rattle.std.specs.Prelude.{◌≡◌, ◌≢◌, option_map};
-ghost use Rattle.intervals.specs.Operation.{judged};
+ghost use Rattle.intervals.specs.Operation.{writes};
 ghost use Rattle.intervals.specs.Edit.{op_of, new_op as new_one, changed as after_change};
 ghost use Rattle.intervals.specs.Refusal.{reply_to, first_refusal, new_write_refusal, write_refusal};
 
-use intervals::laws::judged_operations_alone_count;
+use intervals::laws::writes_alone_decide;
 use intervals::{Change, Edit, Kind, Op, OpBook, OpId, Refusal, changed};
 use safe_regular::SingleWriterJudge;
 
-/// The first refusal that holds of the edit, where the judge is that of the book's operations.
+/// The first refusal that holds of the edit, where the judge holds the writes that stand.
 pub fn refusal_of<'t>(
     ops: &OpBook<'t>,
     judge: &SingleWriterJudge<'t>,
     edit: &Edit<'t>,
 ) -> Option<Refusal>
     requires one_writer { judge.now.claim.kind ≢ Kind.Atomic }
-    requires judged { judge.now.ops ≡ judged ops.now }
+    requires writes { judge.now.ops ≡ writes ops.now }
     ensures { result ≡ reply_to judge.now.claim ops.now edit.now }
 {
     let refusal = list_refusal(ops, edit);
@@ -41,10 +41,10 @@ fn new_write_refusal_of<'t>(
     edit: &Edit<'t>,
 ) -> Option<Refusal>
     requires one_writer { judge.now.claim.kind ≢ Kind.Atomic }
-    requires judged { judge.now.ops ≡ judged ops.now }
+    requires writes { judge.now.ops ≡ writes ops.now }
     ensures { result ≡ new_write_refusal judge.now.claim ops.now (new_one ops.now edit.now) }
 {
-    judged_operations_alone_count();
+    writes_alone_decide();
     match new_op(ops, edit) {
         Some(op) => judged_refusal(judge, &op),
         None => None,

@@ -3,7 +3,9 @@
 use super::*;
 use intervals::{
     Act, Change, Claim, Edit, Kind, Lent, Memory, Moment, Op, OpId, Parts, Refusal, Value, Writers,
+    changed,
 };
+use safe_regular::SingleWriterJudge;
 use std::process::Abort;
 use std::test::Fail;
 
@@ -506,5 +508,128 @@ fn refused_memory_changes_nothing(rt: HostRuntime) -> Result<(), Fail> {
         assert_eq!(rt; carry_out(&rt, &mut register, edit)?, reply);
     }
     ends(&rt, &register, 1, None);
+    Ok(())
+}
+
+/// A row of numbers without a pattern, the same each time.
+#[derive(Drop)]
+struct Dice {
+    state: u64,
+}
+
+impl Dice {
+    fn roll(&mut self) -> u64 {
+        self.state = self
+            .state
+            .wrapping_mul(6364136223846793005)
+            .wrapping_add(1442695040888963407);
+        self.state >> 33
+    }
+
+    fn value(&mut self) -> i64 {
+        match self.roll() % 3 {
+            0 => 0,
+            1 => 1,
+            _ => 2,
+        }
+    }
+
+    /// An edit of one of few operations at few moments, so that many are accepted and many refused.
+    fn edit(&mut self) -> Edit<'static> {
+        let event = self.roll() % 12;
+        let begin = self.roll() % 64;
+        let end = begin + 1 + self.roll() % 12;
+        let value = self.value();
+        match self.roll() % 9 {
+            0 => invoke(event, 1, read(), begin),
+            1 => invoke(event, 0, write(value), begin),
+            2 => whole(event, 1, Act::Read(Value::Int(value)), begin, end),
+            3 => whole(event, 0, write(value), begin, end),
+            4 => written(event, end),
+            5 => returned(event, value, end),
+            6 => begins(event, begin),
+            7 => reopens(event),
+            _ => withdraw(event),
+        }
+    }
+}
+
+/// What stands after an edit that is accepted.
+fn list_after<R: AllocGlobal>(
+    rt: &R,
+    ops: &[Op<'static>],
+    edit: &Edit<'static>,
+) -> Result<Vec<Op<'static>>, Memory> {
+    let mut after = Vec::new(rt.alloc());
+    for op in ops {
+        match edit {
+            Edit::Amend(id, change) if *id == op.id => after.push(changed(op, change))?,
+            Edit::Withdraw(id) if *id == op.id => {}
+            _ => after.push(*op)?,
+        }
+    }
+    if let Edit::Append(op) = edit {
+        after.push(*op)?;
+    }
+    Ok(after)
+}
+
+/// The fault of the whole list by a judge of its own.
+fn fault_anew<R: AllocGlobal + Abort>(
+    rt: &R,
+    claim: &Claim,
+    ops: &[Op<'static>],
+) -> Result<Option<Fault>, Memory> {
+    assert!(rt; claim.kind != Kind::Atomic);
+    let mut judge = SingleWriterJudge::new(rt.alloc(), claim)?;
+    for op in ops {
+        if op.is_write() {
+            judge.admit_write(op)?;
+        } else if op.end.is_some() {
+            judge.admit_read(op)?;
+        }
+    }
+    Ok(judge.first_fault().map(|id| Fault::Wrong(id)))
+}
+
+/// After each of many edits the fault is that of the list judged anew. Answers how many edits were
+/// accepted, and how often there was another fault than before.
+fn judged_anew<R: AllocGlobal + Abort>(
+    rt: &R,
+    kind: Kind,
+    seed: u64,
+) -> Result<(u32, u32), Memory> {
+    let claim = claim(rt, kind, Value::Int(0), &[0, 1])?;
+    let mut register = book(rt, kind, Value::Int(0), &[0, 1])?;
+    let mut ops = Vec::new(rt.alloc());
+    let mut dice = Dice { state: seed };
+    let mut accepted: u32 = 0;
+    let mut turns: u32 = 0;
+    for _ in 0..600 {
+        let edit = dice.edit();
+        let before = register.fault();
+        if let Reply::Accepted { holds } = register.apply(edit)? {
+            ops = list_after(rt, ops.as_slice(), &edit)?;
+            accepted = accepted.saturating_add(1);
+            assert_eq!(rt; holds, register.fault().is_none());
+        }
+        let after = fault_anew(rt, &claim, ops.as_slice())?;
+        ends(rt, &register, ops.len(), after);
+        if after != before {
+            turns = turns.saturating_add(1);
+        }
+    }
+    Ok((accepted, turns))
+}
+
+#[test]
+fn each_verdict_is_that_of_the_list_judged_anew(rt: HostRuntime) -> Result<(), Fail> {
+    for kind in [Kind::Safe, Kind::Regular] {
+        for seed in [1, 2, 3] {
+            let (accepted, turns) = judged_anew(&rt, kind, seed)?;
+            assert!(rt; accepted > 100, "{accepted}");
+            assert!(rt; turns > 20, "{turns}");
+        }
+    }
     Ok(())
 }

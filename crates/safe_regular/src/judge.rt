@@ -3,12 +3,13 @@ ghost use Rattle.intervals.specs.Operation.{IsWrite, IsJudgedRead, is_write as w
 ghost use Rattle.intervals.specs.Terms.{terms_of, writers_of};
 ghost use Rattle.intervals.specs.Kind.{IsSafe, IsRegular};
 ghost use Rattle.intervals.specs.Refusal.{write_refusal, ok_unless};
-ghost use Rattle.intervals.specs.Judging.{first_wrong as first_wrong_of};
+ghost use Rattle.intervals.specs.Judging.{first_wrong as first_wrong_of, is_wrong_read as wrong_read, end_number};
+ghost use Rattle.intervals.specs.Least.{least_by};
 ghost use Rattle.std.specs.declared.alloc.Global.{Global};
 ghost use Rattle.intervals.specs.declared.operation.Value.{Value};
 ghost use Rattle.safe_regular.specs.Judge.{without_write, without_read};
 
-use crate::reads::first_wrong;
+use crate::reads::{first_wrong_among, is_wrong_read};
 use crate::writes::check_write;
 use intervals::laws::{regular_without_wrong_reads, safe_without_wrong_reads};
 use intervals::{Claim, Kind, Memory, Op, OpId, Refusal, Value, Writers};
@@ -85,6 +86,21 @@ impl<'t> SingleWriterJudge<'t> {
         drop_read(&mut self.ops, id);
     }
 
+    /// Whether it is a read with an end that breaks the sentence of the claimed kind beside the
+    /// operations that were admitted. It need not be one of them.
+    pub fn is_wrong(&self, read: &Op) -> bool
+        ensures { result ≡ wrong_read self.now.claim self.now.ops read.now }
+    {
+        is_wrong_read(&self.claim, self.ops.as_slice(), read)
+    }
+
+    /// Of those operations the wrong read that ended first. None of them need have been admitted.
+    pub fn first_wrong_among<'r>(&self, reads: &[Op<'r>]) -> Option<Op<'r>>
+        ensures { result ≡ least_by end_number (wrong_read self.now.claim self.now.ops) reads.now }
+    {
+        first_wrong_among(&self.claim, self.ops.as_slice(), reads)
+    }
+
     /// Of the reads that break the sentence of the claimed kind the one that ended first.
     pub fn first_fault(&self) -> Option<OpId>
         ensures fault { result ≡ option_map (λ op. op.id) (first_wrong_of self.now.claim self.now.ops) }
@@ -93,7 +109,7 @@ impl<'t> SingleWriterJudge<'t> {
     {
         safe_without_wrong_reads();
         regular_without_wrong_reads();
-        first_wrong(&self.claim, self.ops.as_slice()).map(|op| op.id)
+        self.first_wrong_among(self.ops.as_slice()).map(|op| op.id)
     }
 }
 

@@ -4,8 +4,8 @@ ghost use Rattle.std.specs.Prelude.{◌≡◌, ◌&&◌, not};
 ghost use Rattle.std.specs.List.{list_any};
 ghost use Rattle.intervals.specs.Operation.{is_judged_read as judged_read, same_value};
 ghost use Rattle.intervals.specs.Terms.{terms_of};
-ghost use Rattle.intervals.specs.Least.{less_of};
-ghost use Rattle.intervals.specs.Judging.{is_write_before as write_before, later_of as later_one, last_before as last_one_before, is_returned_at as returned_at, returns_last as returns_the_last, is_write_over as write_over, overlaps_write as overlaps_some, is_allowed as allowed, is_safe_read as safe_read, is_returned_over as returned_over, is_regular_read as regular_read, is_right_read as right_read, is_wrong_read as wrong_read, end_number as end_of, first_wrong as first_wrong_of};
+ghost use Rattle.intervals.specs.Least.{less_of, least_by};
+ghost use Rattle.intervals.specs.Judging.{is_write_before as write_before, later_of as later_one, last_before as last_one_before, is_returned_at as returned_at, returns_last as returns_the_last, is_write_over as write_over, overlaps_write as overlaps_some, is_allowed as allowed, is_safe_read as safe_read, is_returned_over as returned_over, is_regular_read as regular_read, is_right_read as right_read, is_wrong_read as wrong_read, end_number as end_of};
 
 use intervals::{Claim, Kind, Moment, Op, Value, overlaps, precedes};
 
@@ -21,18 +21,18 @@ pub fn is_same(a: Value, b: Value) -> bool
     a == b
 }
 
-/// The first wrong read to end.
-pub fn first_wrong<'t>(claim: &Claim, ops: &[Op<'t>]) -> Option<Op<'t>>
-    ensures { result ≡ first_wrong_of (terms_of claim.now) ops.now }
+/// Of those reads the wrong one that ended first, beside the operations.
+pub fn first_wrong_among<'r>(claim: &Claim, ops: &[Op], reads: &[Op<'r>]) -> Option<Op<'r>>
+    ensures { result ≡ least_by end_of (wrong_read (terms_of claim.now) ops.now) reads.now }
 {
     let mut found = None;
-    for op in ops {
+    for op in reads {
         found = first_of(claim, ops, found, op);
     }
     found
 }
 
-fn first_of<'t>(claim: &Claim, ops: &[Op<'t>], found: Option<Op<'t>>, op: &Op<'t>) -> Option<Op<'t>>
+fn first_of<'r>(claim: &Claim, ops: &[Op], found: Option<Op<'r>>, op: &Op<'r>) -> Option<Op<'r>>
     ensures { result ≡ less_of end_of (wrong_read (terms_of claim.now) ops.now) found.entry op.now }
 {
     let is_first = match found {
@@ -55,7 +55,7 @@ fn end_number(op: &Op) -> u64
     }
 }
 
-fn is_wrong_read(claim: &Claim, ops: &[Op], read: &Op) -> bool
+pub fn is_wrong_read(claim: &Claim, ops: &[Op], read: &Op) -> bool
     ensures { result ≡ wrong_read (terms_of claim.now) ops.now read.now }
 {
     is_judged_read(read) && !is_right_read(claim, ops, read)

@@ -9,5 +9,5 @@ pub returns-clause-none : goal.returns-clause-none
 returns-clause-none c =
     let book = c.args.self.now in
     let one_writer : book.claim.kind ≢ Atomic = search rules in
-    let id : c.first_fault.result ≡ option_map (λ op. op.id) (first_wrong book.claim book.ops) = search rules in
-    none_exactly book.claim book.ops c.first_fault.result one_writer id (c.safe_without_wrong_reads.ensures book.claim book.ops) (c.regular_without_wrong_reads.ensures book.claim book.ops)
+    let id : c.map.result ≡ option_map (λ op. op.id) (first_wrong book.claim book.ops) = search rules in
+    none_exactly book.claim book.ops c.map.result one_writer id (c.safe_without_wrong_reads.ensures book.claim book.ops) (c.regular_without_wrong_reads.ensures book.claim book.ops)

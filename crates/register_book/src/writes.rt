@@ -1,7 +1,7 @@
-//! The judge of the operations that an edit leaves, built beside the old one.
+//! The judge of the writes that an edit leaves, built beside the old one.
 
 ghost use Rattle.std.specs.Prelude.{◌≡◌, ◌≢◌, ◌++◌, ◌∷◌, [], IfOk, OnOk};
-ghost use Rattle.intervals.specs.Operation.{judged, same_id};
+ghost use Rattle.intervals.specs.Operation.{writes, same_id};
 ghost use Rattle.intervals.specs.Terms.{terms_of};
 ghost use Rattle.intervals.specs.Edit.{edited, amended as op_amended};
 
@@ -9,7 +9,7 @@ use intervals::{Change, Claim, Edit, Kind, Memory, Op, OpId, changed};
 use safe_regular::SingleWriterJudge;
 use std::alloc::Global;
 
-/// The judge of what stands after the edit.
+/// The judge of the writes that stand after the edit.
 pub fn judge_after<'t>(
     alloc: Global,
     claim: &Claim,
@@ -17,7 +17,7 @@ pub fn judge_after<'t>(
     edit: &Edit<'t>,
 ) -> Result<SingleWriterJudge<'t>, Memory>
     requires { claim.now.kind ≢ Kind.Atomic }
-    ensures { IfOk result (λ judge. judge ≡ record { claim = terms_of claim.now; ops = judged (edited ops.now edit.now) }) }
+    ensures { IfOk result (λ judge. judge ≡ record { claim = terms_of claim.now; ops = writes (edited ops.now edit.now) }) }
 {
     let mut judge = SingleWriterJudge::new(alloc, claim)?;
     match edit {
@@ -28,22 +28,22 @@ pub fn judge_after<'t>(
     Ok(judge)
 }
 
-/// Admits the operations, and then one more.
+/// Admits the writes of the operations, and then one more if it is one.
 fn admit_appended<'t>(
     judge: &mut SingleWriterJudge<'t>,
     ops: &[Op<'t>],
     op: &Op<'t>,
 ) -> Result<(), Memory>
     requires { judge.old.ops ≡ [] }
-    ensures { OnOk result (judge.new ≡ record judge.old { ops = judged (edited ops.now (Edit.Append op.now)) }) }
+    ensures { OnOk result (judge.new ≡ record judge.old { ops = writes (edited ops.now (Edit.Append op.now)) }) }
 {
     for standing in ops {
-        admit_judged(judge, standing)?;
+        admit_if_write(judge, standing)?;
     }
-    admit_judged(judge, op)
+    admit_if_write(judge, op)
 }
 
-/// Admits the operations, the one of that id changed.
+/// Admits the writes, the one of that id changed.
 fn admit_amended<'t>(
     judge: &mut SingleWriterJudge<'t>,
     ops: &[Op<'t>],
@@ -51,22 +51,22 @@ fn admit_amended<'t>(
     change: &Change<'t>,
 ) -> Result<(), Memory>
     requires { judge.old.ops ≡ [] }
-    ensures { OnOk result (judge.new ≡ record judge.old { ops = judged (edited ops.now (Edit.Amend id change.now)) }) }
+    ensures { OnOk result (judge.new ≡ record judge.old { ops = writes (edited ops.now (Edit.Amend id change.now)) }) }
 {
     for op in ops {
-        admit_judged(judge, &amended(op, id, change))?;
+        admit_if_write(judge, &amended(op, id, change))?;
     }
     Ok(())
 }
 
-/// Admits the operations but the one of that id.
+/// Admits the writes but the one of that id.
 fn admit_others<'t>(
     judge: &mut SingleWriterJudge<'t>,
     ops: &[Op<'t>],
     id: OpId,
 ) -> Result<(), Memory>
     requires { judge.old.ops ≡ [] }
-    ensures { OnOk result (judge.new ≡ record judge.old { ops = judged (edited ops.now (Edit.Withdraw id)) }) }
+    ensures { OnOk result (judge.new ≡ record judge.old { ops = writes (edited ops.now (Edit.Withdraw id)) }) }
 {
     for op in ops {
         admit_other(judge, op, id)?;
@@ -74,14 +74,14 @@ fn admit_others<'t>(
     Ok(())
 }
 
-/// Admits the operation unless it has that id.
+/// Admits a write unless it has that id.
 fn admit_other<'t>(judge: &mut SingleWriterJudge<'t>, op: &Op<'t>, id: OpId) -> Result<(), Memory>
-    ensures { OnOk result (judge.new ≡ record judge.old { ops = judge.old.ops ++ judged (edited (op.now ∷ []) (Edit.Withdraw id)) }) }
+    ensures { OnOk result (judge.new ≡ record judge.old { ops = judge.old.ops ++ writes (edited (op.now ∷ []) (Edit.Withdraw id)) }) }
 {
     if is_id(op, id) {
         Ok(())
     } else {
-        admit_judged(judge, op)
+        admit_if_write(judge, op)
     }
 }
 
@@ -102,14 +102,12 @@ fn is_id(op: &Op, id: OpId) -> bool
     op.id == id
 }
 
-/// Admits a write or an ended read; no other operation is judged.
-fn admit_judged<'t>(judge: &mut SingleWriterJudge<'t>, op: &Op<'t>) -> Result<(), Memory>
-    ensures { OnOk result (judge.new ≡ record judge.old { ops = judge.old.ops ++ judged (op.now ∷ []) }) }
+/// Admits a write, and no read.
+fn admit_if_write<'t>(judge: &mut SingleWriterJudge<'t>, op: &Op<'t>) -> Result<(), Memory>
+    ensures { OnOk result (judge.new ≡ record judge.old { ops = judge.old.ops ++ writes (op.now ∷ []) }) }
 {
     if op.is_write() {
         judge.admit_write(op)
-    } else if op.end.is_some() {
-        judge.admit_read(op)
     } else {
         Ok(())
     }
