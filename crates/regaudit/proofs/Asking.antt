@@ -2,8 +2,8 @@
 use Rattle.std.proofs.Common.{◌≡◌, ◌==◌, ◌||◌, ℕ, Bool, true, false, not, List, [], ◌∷◌, length, Option, Some, None, refl, sym, subst, arith, codes}
 use Rattle.std.proofs.lemmas.Bool.{eqb-true}
 use Rattle.clap.proofs.OnLiterals.{clap_on_literals}
-use Rattle.clap.specs.Words.{Text}
-use Rattle.regaudit.specs.Words.{Asked, Safe, Tower, asked, is_plain}
+use Rattle.clap.specs.Words.{Text, takes}
+use Rattle.regaudit.specs.Words.{Asked, Safe, Tower, asked, command_line, is_plain}
 
 pub input : (program : Text) → asked (program ∷ codes "safe" ∷ []) ≡ Some (Safe None)
 unfolding clap_on_literals
@@ -13,9 +13,39 @@ pub alone : (program : Text) → asked (program ∷ []) ≡ None
 unfolding clap_on_literals
 alone program = refl
 
-pub behind_hyphens : (program name : Text) → asked (program ∷ codes "tower" ∷ codes "--" ∷ name ∷ []) ≡ Some (Tower name)
+pub any_trace : (program name : Text) → asked (program ∷ codes "safe" ∷ codes "--" ∷ name ∷ []) ≡ Some (Safe (Some name))
 unfolding clap_on_literals
-behind_hyphens program name = refl
+any_trace program name = refl
+
+pub any_tower : (program name : Text) → asked (program ∷ codes "tower" ∷ codes "--" ∷ name ∷ []) ≡ Some (Tower name)
+unfolding clap_on_literals
+any_tower program name = refl
+
+pub other : (program : Text) → asked (program ∷ codes "check" ∷ []) ≡ None
+unfolding clap_on_literals
+other program = refl
+
+pub help : (program : Text) → asked (program ∷ codes "--help" ∷ []) ≡ None
+unfolding clap_on_literals
+help program = refl
+
+pub no_file : (program : Text) → asked (program ∷ codes "tower" ∷ []) ≡ None
+unfolding clap_on_literals
+no_file program = refl
+
+pub nothing : asked [] ≡ None
+unfolding clap_on_literals
+nothing = refl
+
+pub refused : (takes command_line (codes "regaudit" ∷ codes "safe" ∷ codes "a" ∷ codes "b" ∷ []) ≡ false) × (takes command_line (codes "regaudit" ∷ codes "safe" ∷ codes "-x" ∷ []) ≡ false)
+    × (takes command_line (codes "regaudit" ∷ codes "tower" ∷ []) ≡ false) × (takes command_line (codes "regaudit" ∷ codes "help" ∷ []) ≡ false) × (takes command_line (codes "regaudit" ∷ []) ≡ false)
+unfolding clap_on_literals
+refused = (refl, refl, refl, refl, refl)
+
+pub taken : (takes command_line (codes "regaudit" ∷ codes "safe" ∷ []) ≡ true) × (takes command_line (codes "regaudit" ∷ codes "safe" ∷ codes "a" ∷ []) ≡ true)
+    × (takes command_line (codes "regaudit" ∷ codes "tower" ∷ codes "a" ∷ []) ≡ true) × (takes command_line (codes "regaudit" ∷ codes "tower" ∷ codes "--" ∷ codes "-x" ∷ []) ≡ true)
+unfolding clap_on_literals
+taken = (refl, refl, refl, refl)
 
 abbrev AsksSafe : Text → Text → Type 0
 AsksSafe program name = asked (program ∷ codes "safe" ∷ name ∷ []) ≡ Some (Safe (Some name))

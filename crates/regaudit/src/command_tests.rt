@@ -1,9 +1,11 @@
 //! The program's commands over fake files: what is printed where, and the status.
 
-use crate::files::{Files, Missing};
-use crate::run::run;
+use crate::fault::RunFault;
+use crate::files::{Files, HostFiles, Missing};
+use crate::run::{conclude, run};
 use crate::tests::{Full, Source};
-use std::io::Write;
+use crate::words::no_text;
+use std::io::{Read, Write};
 use std::process::Abort;
 use std::test::Fail;
 
@@ -206,6 +208,41 @@ fn a_trace_is_read_where_it_is_named(rt: HostRuntime) -> Result<(), Fail> {
     expect(&rt, &["regaudit", "safe", "--", "-x"], &files, none, "", 3)?;
     expect(&rt, &["regaudit", "safe", ""], &files, none, "", 0)?;
     expect(&rt, &["regaudit", "safe", "half"], &files, one, "", 2)
+}
+
+#[test]
+fn the_files_of_the_machine_are_opened_by_their_names(rt: HostRuntime) -> Result<(), Fail> {
+    let mut files = HostFiles::new(&rt);
+    let mut byte = [1u8];
+    let Ok(mut empty) = files.open("/dev/null") else {
+        return Err(Fail::from("/dev/null"));
+    };
+    assert_eq!(rt; empty.read(&mut byte)?, 0);
+    let Ok(mut zeros) = files.open("/dev/zero") else {
+        return Err(Fail::from("/dev/zero"));
+    };
+    assert_eq!(rt; zeros.read(&mut byte)?, 1);
+    assert_eq!(rt; byte, [0]);
+    assert!(rt; files.open("/dev/null/lost").is_err());
+    Ok(())
+}
+
+#[test]
+fn words_that_are_no_text_have_the_usage_too(rt: HostRuntime) -> Result<(), Fail> {
+    let mut said = Vec::new(rt.alloc());
+    let fault = RunFault::of_words(no_text(rt.alloc()));
+    assert_eq!(rt; conclude(Err(fault), &mut said), 2);
+    assert_eq!(rt;
+        said.as_slice(),
+        b"error: invalid UTF-8 was detected in one or more arguments
+
+Usage: regaudit <COMMAND>
+
+For more information, try '--help'.
+"
+            .as_slice()
+    );
+    Ok(())
 }
 
 #[test]

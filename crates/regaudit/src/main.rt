@@ -21,6 +21,7 @@ mod words;
 
 use crate::fault::RunFault;
 use crate::files::HostFiles;
+use crate::words::no_text;
 use std::process::ExitCode;
 use std::rt::Env;
 use std::{env, io};
@@ -36,7 +37,10 @@ fn main(rt: HostRuntime) -> ExitCode {
             &mut rt.stdout(),
             &mut err,
         ),
-        Err(_) => run::conclude(Err(RunFault::Memory), &mut err),
+        Err(error) if error.kind() == io::ErrorKind::OutOfMemory => {
+            run::conclude(Err(RunFault::Memory), &mut err)
+        }
+        Err(_) => run::conclude(Err(RunFault::of_words(no_text(rt.alloc()))), &mut err),
     };
     ExitCode::from(status)
 }

@@ -1,9 +1,9 @@
 //! The program's commands, over files, an input and two outputs.
 
-ghost use Rattle.std.specs.Prelude.{◌≡◌, ◌≢◌, OnOk, IfOk, IfSome, MatchOption, MatchResult, map};
+ghost use Rattle.std.specs.Prelude.{◌≡◌, ◌≢◌, OnOk, IfOk, IfSome, MatchOption, MatchResult, Some, None, map};
 ghost use Rattle.std.specs.Io.KnownBytes.{Appends, Keeps};
 ghost use Rattle.regaudit.specs.Audit.{IsAudited, register_line, status_of};
-ghost use Rattle.regaudit.specs.Words.{asked_of};
+ghost use Rattle.regaudit.specs.Words.{Safe, asked, asked_of};
 ghost use Rattle.regaudit.specs.Run.{IsListed, IsCarriedOut, IsDone};
 
 use crate::audit::{Audit, audit_trace};
@@ -35,6 +35,7 @@ pub fn run<'a, A: AllocGlobal, S: AsStr, F: Files, R: Read, W: Write, E: Write>(
 ) -> u8
     ensures done { result ≢ BROKEN → IsDone (map S.text words.entry.now) (F.held files.old) (R.remaining input.old) result (W.contents out.old) (W.contents out.new) }
     ensures silent { result ≢ BROKEN → Keeps (E.contents err.old) (E.contents err.new) }
+    ensures input { asked (map S.text words.entry.now) ≢ Some (Safe None) → input.new ≡ input.old }
 {
     let outcome = run_words(rt, words, files, input, out);
     conclude(outcome, err)
@@ -74,7 +75,8 @@ fn run_words<'a, A: AllocGlobal, S: AsStr, F: Files, R: Read, W: Write>(
     input: &mut R,
     out: &mut W,
 ) -> Result<u8, RunFault<'a>>
-    ensures { IfOk result (λ status. status ≢ BROKEN → IsDone (map S.text words.entry.now) (F.held files.old) (R.remaining input.old) status (W.contents out.old) (W.contents out.new)) }
+    ensures done { IfOk result (λ status. status ≢ BROKEN → IsDone (map S.text words.entry.now) (F.held files.old) (R.remaining input.old) status (W.contents out.old) (W.contents out.new)) }
+    ensures input { asked (map S.text words.entry.now) ≢ Some (Safe None) → input.new ≡ input.old }
 {
     match read_words(rt.alloc(), words) {
         Ok(command) => carry_out(rt, command, files, input, out),
@@ -89,7 +91,8 @@ fn carry_out<'a, A: AllocGlobal, F: Files, R: Read, W: Write>(
     input: &mut R,
     out: &mut W,
 ) -> Result<u8, RunFault<'a>>
-    ensures { IfOk result (λ status. status ≢ BROKEN → IsCarriedOut (asked_of command.entry) (F.held files.old) (R.remaining input.old) status (W.contents out.old) (W.contents out.new)) }
+    ensures done { IfOk result (λ status. status ≢ BROKEN → IsCarriedOut (asked_of command.entry) (F.held files.old) (R.remaining input.old) status (W.contents out.old) (W.contents out.new)) }
+    ensures input { asked_of command.entry ≢ Safe None → input.new ≡ input.old }
 {
     match command {
         Command::Safe(None) => judge(rt, "-", input, out),

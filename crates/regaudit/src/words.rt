@@ -32,6 +32,18 @@ pub fn read_words<'a, S: AsStr>(alloc: Global, words: &'a [S]) -> Result<Command
     }
 }
 
+/// The fault of words of which one is not UTF-8.
+pub fn no_text(alloc: Global) -> Error {
+    match usage_fault(alloc, "invalid UTF-8 was detected in one or more arguments") {
+        Ok(error) => error,
+        Err(error) => Error::from(error),
+    }
+}
+
+fn usage_fault(alloc: Global, message: &str) -> Result<Error, AllocError> {
+    command_line(alloc)?.error(ErrorKind::InvalidValue, message)
+}
+
 fn command_of<'a>(matches: &ArgMatches<'a>) -> Option<Command<'a>>
     ensures { option_map asked_of result ≡ asked_by (subcommand_rows_of matches.now) }
 {

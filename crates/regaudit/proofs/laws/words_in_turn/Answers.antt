@@ -1,4 +1,4 @@
-use Rattle.regaudit.proofs.Asking.{input, trace, tower, behind_hyphens, alone}
+use Rattle.regaudit.proofs.Asking.{input, trace, tower, any_trace, any_tower}
 use Rattle.regaudit.proofs.laws.words_in_turn.Goals as goal
 
 pub returns-clause-input : goal.returns-clause-input
@@ -10,8 +10,8 @@ returns-clause-trace c = trace
 pub returns-clause-tower : goal.returns-clause-tower
 returns-clause-tower c = tower
 
-pub returns-clause-hyphens : goal.returns-clause-hyphens
-returns-clause-hyphens c = behind_hyphens
+pub returns-clause-any_trace : goal.returns-clause-any_trace
+returns-clause-any_trace c = any_trace
 
-pub returns-clause-alone : goal.returns-clause-alone
-returns-clause-alone c = alone
+pub returns-clause-any_tower : goal.returns-clause-any_tower
+returns-clause-any_tower c = any_tower
