@@ -1,6 +1,6 @@
 //! The books of a tower's registers, and what is noted of a trace by place.
 
-ghost use Rattle.std.specs.Prelude.{◌≡◌, ◌≢◌, ◌∷◌, ◌++◌, [], IfOk, IfSome, OnOk};
+ghost use Rattle.std.specs.Prelude.{◌≡◌, ◌≢◌, ◌∷◌, ◌++◌, [], IfOk, IfSome, OnOk, option_copied};
 ghost use Rattle.std.specs.Option.{option_map_or};
 ghost use Rattle.std.specs.List.{slice_get};
 ghost use Rattle.regaudit.specs.Replay.{Outcome, HasNoAtomic, IsAnswer, unwritten, opened, edited_at, reply_of, with_refusal, with_edit, with_question, with_step};
@@ -71,12 +71,18 @@ impl<'t> Log<'t> {
     fn answer(&mut self, place: u64, register: RegId) -> Result<(), Memory>
         ensures { OnOk result ((outcome : Outcome) → Shows self.old outcome → Shows self.new (with_question place register (slice_get outcome.registers register.0) outcome)) }
     {
-        let Some(book) = self.books.get(register.0 as usize) else {
+        let Some(book) = book_of(&self.books, register) else {
             return Ok(());
         };
         self.answers.push(answer_by(book, place, register))?;
         Ok(())
     }
+}
+
+fn book_of<'a, 't>(books: &'a [RegisterBook<'t>], register: RegId) -> Option<&'a RegisterBook<'t>>
+    ensures { option_copied result ≡ slice_get books.now register.0 }
+{
+    books.get(register.0 as usize)
 }
 
 fn answer_by(book: &RegisterBook, place: u64, register: RegId) -> Answer
