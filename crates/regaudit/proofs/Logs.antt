@@ -22,9 +22,9 @@ use Rattle.regaudit.proofs.Replays.{zip_push}
 
 -- behind an edit that its register refuses
 pub refused_edit : (old new : Log) (books : Vec Claimed Global) (place : ℕ) (register : RegId) (edit : Edit) (refusal : Refusal) (result : Result (Unit {0}) Memory)
-  → books.items ≡ edited_at register.0 edit old.books.items → Some refusal ≡ reply_of edit (slice_get old.books.items register.0)
-  → OnOk result ((outcome : Outcome) → Shows (record old { books = books }) outcome → Shows new (with_refusal place (Register refusal) outcome))
-  → OnOk result ((outcome : Outcome) → Shows old outcome → Shows new (with_edit place register edit outcome))
+    → books.items ≡ edited_at register.0 edit old.books.items → Some refusal ≡ reply_of edit (slice_get old.books.items register.0)
+    → OnOk result ((outcome : Outcome) → Shows (record old { books = books }) outcome → Shows new (with_refusal place (Register refusal) outcome))
+    → OnOk result ((outcome : Outcome) → Shows old outcome → Shows new (with_edit place register edit outcome))
 refused_edit old new books place register edit refusal (Err memory) after reply noted = tt
 refused_edit old new books place register edit refusal (Ok done) after reply noted = λ outcome shows.
     let answered : Some refusal ≡ reply_of edit (slice_get outcome.registers register.0) =
@@ -38,16 +38,16 @@ refused_edit old new books place register edit refusal (Ok done) after reply not
 
 -- behind a question
 pub asked_on : (old : Log) (answers : Vec Answer Global) (place : ℕ) (register : RegId) (held : Claimed) (answer : Answer)
-  → slice_get old.books.items register.0 ≡ Some held → answers.items ≡ old.answers.items ++ answer ∷ []
-  → IsAnswer (record { place = place; register = register; held = held }) answer
-  → (outcome : Outcome) → Shows old outcome → Shows (record old { answers = answers }) (with_question place register (slice_get outcome.registers register.0) outcome)
+    → slice_get old.books.items register.0 ≡ Some held → answers.items ≡ old.answers.items ++ answer ∷ []
+    → IsAnswer (record { place = place; register = register; held = held }) answer
+    → (outcome : Outcome) → Shows old outcome → Shows (record old { answers = answers }) (with_question place register (slice_get outcome.registers register.0) outcome)
 asked_on old answers place register held answer there pushed is outcome shows =
     let found : slice_get outcome.registers register.0 ≡ Some held =
     ap (λ (all : List Claimed). slice_get all register.0) (sym shows.books) ∙ there in
     subst (λ (o : Option Claimed). Shows (record old { answers = answers }) (with_question place register o outcome)) (sym found) (record {
       books = shows.books;
       answers = subst (AllZip IsAnswer (outcome.asked ++ record { place = place; register = register; held = held } ∷ [])) (sym pushed)
-      (zip_push IsAnswer outcome.asked old.answers.items (record { place = place; register = register; held = held }) answer shows.answers is);
+          (zip_push IsAnswer outcome.asked old.answers.items (record { place = place; register = register; held = held }) answer shows.answers is);
       refused = shows.refused;
     })
 

@@ -15,12 +15,12 @@ use Rattle.regaudit.specs.Log.{Shows}
 use Rattle.regaudit.specs.Progress.{IsAt}
 
 pub paired : (old : Progress) (pairing : Known) (log : Log) (item : Item) (step : Result (Option Step) PairFault) (result : Result (Unit {0}) Memory)
-  → step ≢ Err pairs.Memory
-  → (step ≢ Err pairs.Memory → (items : List Placed) → StandsAfter old.pairing items → step ≡ step_of old.pairing.feeder (accepted items) old.place item)
-  → (step ≢ Err pairs.Memory → (items : List Placed) → StandsAfter old.pairing items → StandsAfter pairing (items ++ record { place = old.place; item = item } ∷ []))
-  → pairing.feeder ≡ old.pairing.feeder
-  → OnOk result ((outcome : Outcome) → Shows old.log outcome → Shows log (with_step old.place step outcome))
-  → OnOk result ((course : Course) → IsAt old course → IsAt (record { place = old.place + 1; pairing = pairing; log = log }) (with_item course (Ok item)))
+    → step ≢ Err pairs.Memory
+    → (step ≢ Err pairs.Memory → (items : List Placed) → StandsAfter old.pairing items → step ≡ step_of old.pairing.feeder (accepted items) old.place item)
+    → (step ≢ Err pairs.Memory → (items : List Placed) → StandsAfter old.pairing items → StandsAfter pairing (items ++ record { place = old.place; item = item } ∷ []))
+    → pairing.feeder ≡ old.pairing.feeder
+    → OnOk result ((outcome : Outcome) → Shows old.log outcome → Shows log (with_step old.place step outcome))
+    → OnOk result ((course : Course) → IsAt old course → IsAt (record { place = old.place + 1; pairing = pairing; log = log }) (with_item course (Ok item)))
 paired old pairing log item step (Err memory) other gives stands same followed = tt
 paired old pairing log item step (Ok done) other gives stands same followed = λ course at.
     let is : step ≡ step_of feeder (accepted course.items) course.count item =
@@ -32,5 +32,5 @@ paired old pairing log item step (Ok done) other gives stands same followed = λ
       feeder_is = same ∙ at.feeder_is;
       pairing = subst (λ (n : ℕ). StandsAfter pairing (course.items ++ record { place = n; item = item } ∷ [])) at.place (stands other course.items at.pairing);
       log = subst (λ (s : Result (Option Step) PairFault). Shows log (with_step course.count s course.outcome)) is
-      (subst (λ (n : ℕ). Shows log (with_step n step course.outcome)) at.place (followed course.outcome at.log));
+          (subst (λ (n : ℕ). Shows log (with_step n step course.outcome)) at.place (followed course.outcome at.log));
     }

@@ -30,6 +30,7 @@ const Y: RegId = RegId(1);
 
 /// What a trace is to come to: of each register whether it holds and how many operations stand, the
 /// answers, the refusals, and where the trace broke.
+#[derive(Clone, Copy)]
 struct Wanted<'a> {
     registers: &'a [(bool, usize)],
     answers: &'a [Answer],

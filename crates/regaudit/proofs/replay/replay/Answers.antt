@@ -20,7 +20,7 @@ loop-element-init c =
       place = omega (arith, at, c.in_ok-progress.ensures.place);
       ahead = c.in_ok-progress.ensures.ahead;
       so_far = subst (λ (n : ℕ). HasRead c.args.tower.now c.args.field c.args.trace.now n c.in_ok-progress.progress) (sym at)
-      (begun c.args.tower.now c.args.field c.args.trace.now c.in_ok-progress.progress c.new-reader.ensures.begins c.in_ok-progress.ensures.at);
+          (begun c.args.tower.now c.args.field c.args.trace.now c.in_ok-progress.progress c.new-reader.ensures.begins c.in_ok-progress.ensures.at);
     }
 
 pub take-requires-clause-whole : goal.take-requires-clause-whole
@@ -42,7 +42,7 @@ loop-element-preserved c =
       place = omega (arith, forward.0, place, before);
       ahead = c.in_ok-take-in-Ok-Some.ensures.ahead;
       so_far = read_on c.args.tower.now c.args.field input c.loop-element.reader.at c.next.new.self.at c.loop-element.progress c.take.new.self piece c.read_item.result
-      c.loop-element.invariant.so_far goes (c.read_item.ensures is_element) c.in_ok-take-in-Ok-Some.ensures.taken;
+          c.loop-element.invariant.so_far goes (c.read_item.ensures is_element) c.in_ok-take-in-Ok-Some.ensures.taken;
     }
 
 pub returns-in-Ok-None : goal.returns-in-Ok-None
