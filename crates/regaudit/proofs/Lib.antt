@@ -1,3 +1,7 @@
+pub mod Logs
+pub mod Steps
+pub mod Wholes
+pub mod Replays
 pub mod Refusals
 pub mod Sessions
 pub mod Worths

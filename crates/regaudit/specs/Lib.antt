@@ -4,6 +4,9 @@ pub mod Form
 pub mod Trace
 pub mod Session
 pub mod Audit
+pub mod Replay
+pub mod Log
+pub mod Progress
 pub mod Input
 pub mod Words
 pub mod Listing

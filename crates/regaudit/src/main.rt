@@ -11,8 +11,14 @@ mod form;
 mod input;
 pub mod laws;
 mod listing;
+mod log;
+mod outcome;
 mod pairing;
+mod progress;
 mod register;
+mod replay;
+#[cfg(test)]
+mod replay_tests;
 mod run;
 mod session;
 #[cfg(test)]

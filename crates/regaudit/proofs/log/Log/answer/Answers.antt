@@ -1,0 +1,11 @@
+use Rattle.std.proofs.Common.{List, sym, ap, ◌∙◌}
+use Rattle.std.specs.List.{slice_get}
+use Rattle.intervals.specs.Terms.{Claimed}
+use Rattle.regaudit.proofs.Logs.{asked_on}
+use Rattle.regaudit.proofs.log.Log.answer.Goals as goal
+
+pub returns : goal.returns
+returns c =
+    asked_on c.args.self.now c.push.new.self c.args.place c.args.register c.in-Some.book.now c.answer_by.result
+    (sym (ap (λ (books : List Claimed). slice_get books c.args.register.0) c.deref.ensures.value) ∙ sym c.in-Some.ensures)
+    c.in_ok-push.ensures.items c.answer_by.ensures

@@ -1,0 +1,145 @@
+//! The books of a tower's registers, and what is noted of a trace by place.
+
+ghost use Rattle.std.specs.Prelude.{◌≡◌, ◌≢◌, ◌∷◌, ◌++◌, [], IfOk, IfSome, OnOk, option_copied};
+ghost use Rattle.std.specs.Option.{option_map_or};
+ghost use Rattle.std.specs.List.{slice_get};
+ghost use Rattle.regaudit.specs.Replay.{Outcome, HasNoAtomic, IsAnswer, unwritten, opened, edited_at, reply_of, with_refusal, with_edit, with_question, with_step};
+ghost use Rattle.regaudit.specs.Log.{Shows};
+
+use crate::outcome::{Answer, Code, Refused};
+use intervals::{Edit, Kind, Memory, Refusal, RegId};
+use pairing::{PairFault, Step};
+use register_book::{RegisterBook, Reply};
+use std::alloc::Global;
+use tower_file::Tower;
+
+/// A book for each register of a tower, by number, with the answers and the refusals so far.
+#[derive(Drop)]
+pub struct Log<'t> {
+    pub books: Vec<RegisterBook<'t>>,
+    pub answers: Vec<Answer>,
+    pub refused: Vec<Refused>,
+}
+
+impl<'t> Log<'t> {
+    /// Before the first step.
+    pub fn new(alloc: Global, tower: &Tower) -> Result<Self, Memory>
+        requires { HasNoAtomic tower.now }
+        ensures { IfOk result (λ log. Shows log (record { registers = opened tower.now; asked = []; refused = [] })) }
+    {
+        Ok(Log {
+            books: open_books(alloc, tower)?,
+            answers: Vec::new(alloc),
+            refused: Vec::new(alloc),
+        })
+    }
+
+    /// Carries out the step of the item at a place, or notes why it is refused. Where memory is
+    /// refused the replay is over: the log then stands for nothing.
+    pub fn follow(
+        &mut self,
+        place: u64,
+        step: Result<Option<Step<'t>>, PairFault>,
+    ) -> Result<(), Memory>
+        ensures { OnOk result ((outcome : Outcome) → Shows self.old outcome → Shows self.new (with_step place step.entry outcome)) }
+    {
+        match step {
+            Err(fault) => self.refuse(place, Code::Pair(fault)),
+            Ok(None) => Ok(()),
+            Ok(Some(Step::Edit(register, edit))) => self.apply(place, register, edit),
+            Ok(Some(Step::Ask(register))) => self.answer(place, register),
+        }
+    }
+
+    /// Notes a refusal.
+    pub fn refuse(&mut self, place: u64, code: Code) -> Result<(), Memory>
+        ensures { OnOk result ((outcome : Outcome) → Shows self.old outcome → Shows self.new (with_refusal place code outcome)) }
+    {
+        self.refused.push(Refused { place, code })?;
+        Ok(())
+    }
+
+    fn apply(&mut self, place: u64, register: RegId, edit: Edit<'t>) -> Result<(), Memory>
+        ensures { OnOk result ((outcome : Outcome) → Shows self.old outcome → Shows self.new (with_edit place register edit.entry outcome)) }
+    {
+        match apply_to(&mut self.books, register, edit)? {
+            Some(refusal) => self.refuse(place, Code::Register(refusal)),
+            None => Ok(()),
+        }
+    }
+
+    fn answer(&mut self, place: u64, register: RegId) -> Result<(), Memory>
+        ensures { OnOk result ((outcome : Outcome) → Shows self.old outcome → Shows self.new (with_question place register (slice_get outcome.registers register.0) outcome)) }
+    {
+        let Some(book) = book_of(&self.books, register) else {
+            return Ok(());
+        };
+        self.answers.push(answer_by(book, place, register))?;
+        Ok(())
+    }
+}
+
+fn book_of<'a, 't>(books: &'a [RegisterBook<'t>], register: RegId) -> Option<&'a RegisterBook<'t>>
+    ensures { option_copied result ≡ slice_get books.now register.0 }
+{
+    books.get(register.0 as usize)
+}
+
+fn answer_by(book: &RegisterBook, place: u64, register: RegId) -> Answer
+    ensures { IsAnswer (record { place = place; register = register; held = book.now }) result }
+{
+    Answer {
+        place,
+        register,
+        holds: book.holds(),
+        operations: book.len() as u64,
+    }
+}
+
+/// A book of no operations for each register, by number.
+fn open_books<'t>(alloc: Global, tower: &Tower) -> Result<Vec<RegisterBook<'t>>, Memory>
+    requires { HasNoAtomic tower.now }
+    ensures { IfOk result (λ books. books.items ≡ opened tower.now) }
+{
+    let mut books = Vec::new(alloc);
+    for number in 0..tower.len() {
+        open_book(alloc, tower, RegId(number as u32), &mut books)?;
+    }
+    Ok(books)
+}
+
+/// One book more, where there is a register of that number.
+fn open_book<'t>(
+    alloc: Global,
+    tower: &Tower,
+    id: RegId,
+    books: &mut Vec<RegisterBook<'t>>,
+) -> Result<(), Memory>
+    requires { IfSome (slice_get tower.now.registers id.0) (λ register. register.claim.kind ≢ Kind.Atomic) }
+    ensures { OnOk result (books.new.items ≡ books.old.items ++ option_map_or (λ register. unwritten register ∷ []) (slice_get tower.now.registers id.0) []) }
+{
+    let Some(claim) = tower.claim(id) else {
+        return Ok(());
+    };
+    books.push(RegisterBook::new(alloc, claim)?)?;
+    Ok(())
+}
+
+/// Applies an edit to the book of a register, and says why it is refused, where it is. Nothing where
+/// there is no register of that number.
+fn apply_to<'t>(
+    books: &mut Vec<RegisterBook<'t>>,
+    register: RegId,
+    edit: Edit<'t>,
+) -> Result<Option<Refusal>, Memory>
+    ensures books { OnOk result (books.new.items ≡ edited_at register.0 edit.entry books.old.items) }
+    ensures reply { IfOk result (λ refusal. refusal ≡ reply_of edit.entry (slice_get books.old.items register.0)) }
+{
+    let Some(book) = books.get_mut(register.0 as usize) else {
+        return Ok(None);
+    };
+    match book.apply(edit)? {
+        Reply::Accepted { .. } => Ok(None),
+        Reply::Refused(refusal) => Ok(Some(refusal)),
+    }
+}
