@@ -55,6 +55,7 @@ writes_withdrawn id (a ∷ ops) e = by_cases (same_id a.id id) refl (writes_with
   where
     others : List Op
     others = filter (λ op. not (same_id op.id id)) ops
+
     by_cases : (t : Bool) → same_id a.id id ≡ t → writes others ≡ writes ops → (is_write a && t) ≡ false → writes (cond (not t) (a ∷ others) others) ≡ writes (a ∷ ops)
     by_cases false s rest n = ap (λ (rest : List Op). cond (is_write a) (a ∷ rest) rest) rest
     by_cases true s rest n = let r = no_write (is_write a) n in rw r rest
@@ -91,6 +92,7 @@ module _ (key : Op → ℕ) (test : Op → Bool) where
     where
       others : List Op
       others = filter (λ op. not (same_id op.id id)) ops
+
       by_cases : (t : Bool) → same_id a.id id ≡ t → ((f : Option Op) → least_from key (beside test id) f others ≡ least_from key (beside test id) f ops) → least_from key (beside test id) found (cond (not t) (a ∷ others) others) ≡ least_from key (beside test id) (less_of key (beside test id) found a) ops
       by_cases false s rest = rest (less_of key (beside test id) found a)
       by_cases true s rest = rest found ∙ sym (ap (λ (f : Option Op). least_from key (beside test id) f ops) (passed_over id found a s))

@@ -62,11 +62,7 @@ fn wrong_of<'t>(judge: &SingleWriterJudge, ops: &OpBook<'t>, id: OpId) -> Option
 {
     writes_alone_decide();
     let op = ops.get(id)?;
-    if judge.is_wrong(op) {
-        Some(*op)
-    } else {
-        None
-    }
+    if judge.is_wrong(op) { Some(*op) } else { None }
 }
 
 fn is_id(op: &Op, id: OpId) -> bool

@@ -37,8 +37,7 @@ invariant_of-self-2 c =
     let none : first_refusal c.self.inside.ops c.args.edit ≡ None = search rules in
     let read : is_on_write c.self.inside.ops c.args.edit ≡ false = search rules in
     let claim : c.self.inside.judge.claim ≡ terms_of c.self.inside.claim = search rules in
-    let kept = writes_edited c.self.inside.ops c.args.edit read in
-    (
+    let kept = writes_edited c.self.inside.ops c.args.edit read in (
       c.self.invariant.0,
       subst HasDistinctIds (sym after) (distinct_edited c.self.inside.ops c.args.edit c.self.invariant.1 none),
       rw (after, kept) c.self.invariant.2,
