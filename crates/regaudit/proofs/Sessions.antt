@@ -8,8 +8,8 @@ use Rattle.intervals.specs.declared.edit.Edit.{Edit}
 use Rattle.intervals.specs.Terms.{Terms}
 use Rattle.intervals.specs.Refusal.{reply_to, after_edit, standing}
 use Rattle.regaudit.specs.declared.event.Event.{Event}
-use Rattle.regaudit.specs.declared.pairing.Open.{Open}
-use Rattle.regaudit.specs.declared.pairing.Pairing.{Pairing}
+use Rattle.regaudit.specs.declared.invocations.Open.{Open}
+use Rattle.regaudit.specs.declared.invocations.Pairing.{Pairing}
 use Rattle.regaudit.specs.declared.session.Session.{Session}
 use Rattle.intervals.specs.Terms.{Claimed}
 use Rattle.regaudit.specs.Pairing.{Accepted, later_or, last_of, left_open, opening_of, open_of, step_of, StandsAfter}

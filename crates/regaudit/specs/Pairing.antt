@@ -16,10 +16,10 @@ use Rattle.regaudit.specs.declared.event.Action.{Action}
 use Rattle.regaudit.specs.declared.event.Action.TheVariants.{Read, Write}
 use Rattle.regaudit.specs.declared.event.Stage.{Stage}
 use Rattle.regaudit.specs.declared.event.Stage.TheVariants as stages
-use Rattle.regaudit.specs.declared.pairing.Open.{Open}
-use Rattle.regaudit.specs.declared.pairing.Pairing.{Pairing}
-use Rattle.regaudit.specs.declared.pairing.PairFault.{PairFault}
-use Rattle.regaudit.specs.declared.pairing.PairFault.TheVariants.{ProcessBusy, NoInvocation, AnswerMismatch}
+use Rattle.regaudit.specs.declared.invocations.Open.{Open}
+use Rattle.regaudit.specs.declared.invocations.Pairing.{Pairing}
+use Rattle.regaudit.specs.declared.invocations.PairFault.{PairFault}
+use Rattle.regaudit.specs.declared.invocations.PairFault.TheVariants.{ProcessBusy, NoInvocation, AnswerMismatch}
 
 -- an event that was accepted, with its place in the trace
 pub record Accepted : Type 0 where

@@ -11,7 +11,7 @@ use Rattle.regaudit.specs.declared.event.Event.{Event}
 use Rattle.regaudit.specs.declared.event.Item.{Item}
 use Rattle.regaudit.specs.declared.event.Item.TheVariants as items
 use Rattle.regaudit.specs.declared.event.FormFault.{FormFault}
-use Rattle.regaudit.specs.declared.pairing.PairFault.{PairFault}
+use Rattle.regaudit.specs.declared.invocations.PairFault.{PairFault}
 use Rattle.regaudit.specs.Pairing.{Accepted, open_of, step_of}
 
 -- the items of a trace so far: how many they are, the events that were accepted, their edits in order,

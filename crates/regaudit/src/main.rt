@@ -13,7 +13,7 @@ pub mod laws;
 mod listing;
 mod log;
 mod outcome;
-mod pairing;
+mod invocations;
 mod progress;
 mod register;
 mod replay;

@@ -7,7 +7,7 @@ ghost use Rattle.regaudit.specs.Trace.{Paired, with_item, paired, safe_register}
 ghost use Rattle.regaudit.specs.Session.{StandsFor};
 
 use crate::event::{Event, FormFault, Item};
-use crate::pairing::{PairFault, Pairing};
+use crate::invocations::{PairFault, Pairing};
 use crate::register::Register;
 use intervals::{Claim, Edit, Kind, Memory, Value, Writers};
 use std::alloc::Global;

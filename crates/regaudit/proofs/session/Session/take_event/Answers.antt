@@ -2,7 +2,7 @@ use Rattle.std.proofs.Common.{refl, ◌≡◌, Option, Some, None, Result, Ok, s
 use Rattle.std.specs.Ordering.{int_cmp}
 use Rattle.std.specs.BTreeMap.{get}
 use Rattle.intervals.specs.declared.edit.Edit.{Edit}
-use Rattle.regaudit.specs.declared.pairing.PairFault.{PairFault}
+use Rattle.regaudit.specs.declared.invocations.PairFault.{PairFault}
 use Rattle.regaudit.specs.declared.session.Session.{Session}
 use Rattle.regaudit.specs.Pairing.{open_of, step_of}
 use Rattle.regaudit.specs.Trace.{feeder, with_step}
