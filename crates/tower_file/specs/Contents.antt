@@ -1,5 +1,5 @@
 -- What a tower says, apart from where it lies in memory.
-use Rattle.std.specs.Prelude.{ℕ, List, [], Option, map, position}
+use Rattle.std.specs.Prelude.{ℕ, List, [], ◌∷◌, Option, map, position}
 use Rattle.std.specs.Option.{option_map}
 use Rattle.std.specs.Str.{bytes_eq}
 use Rattle.intervals.specs.declared.operation.RegId.{RegId}
@@ -20,6 +20,13 @@ pub record Contents : Type 0 where
 -- No levels.
 abbrev pub empty : Contents
 empty = record { levels = []; registers = [] }
+
+-- One register on one level, made of no others.
+abbrev pub alone : List ℕ → List ℕ → Terms → Contents
+alone level name claim = record {
+  levels = level ∷ [];
+  registers = record { name = name; claim = claim; level = 0; parts = [] } ∷ [];
+}
 
 -- The number of the first register that has this name, byte for byte.
 abbrev pub number_of : List Register → List ℕ → Option RegId

@@ -2,7 +2,7 @@
 
 use crate::{Tower, TowerFault, TowerField};
 use edn_reader::EdnFault;
-use intervals::{Kind, RegId, Value, Writers};
+use intervals::{Claim, Kind, Memory, RegId, Value, Writers};
 use std::alloc::Global;
 use std::process::Abort;
 use std::test::Fail;
@@ -532,6 +532,33 @@ fn claims(
     Ok(())
 }
 
+/// A tower of the register `r` alone, which process 0 writes.
+fn made(alloc: Global) -> Result<Tower, Memory> {
+    let claim = Claim {
+        kind: Kind::Safe,
+        writers: Writers::Listed(Vec::from_slice(alloc, &[0])?),
+        initial: Value::Int(0),
+        domain: None,
+    };
+    Tower::of_register(alloc, b"top", b"r", claim)
+}
+
+/// The tower of one register looks up as the file that says the same.
+#[test]
+fn one_register_without_a_file(rt: HostRuntime) -> Result<(), Fail> {
+    let text =
+        b"{:levels [{:name top :registers [{:name r :kind :safe :writers [0] :initial 0}]}]}";
+    for tower in [Tower::read(rt.alloc(), text)?, made(rt.alloc())?] {
+        assert_eq!(rt; tower.len(), 1);
+        assert!(rt; is_level(&tower, 0, b"top"));
+        assert!(rt; tower.level_name(1).is_none());
+        looks_up(&rt, &tower, 0, (b"r", 0, &[0], &[]));
+        claims(&rt, &tower, 0, (Kind::Safe, Value::Int(0), &[]))?;
+        assert!(rt; tower.claim(RegId(1)).is_none());
+    }
+    Ok(())
+}
+
 /// Where memory is refused the same call is made again.
 fn read_at_last(alloc: Global, bytes: &[u8]) -> Result<Tower, TowerFault> {
     match Tower::read(alloc, bytes) {
@@ -553,5 +580,9 @@ fn refused_memory_changes_nothing(rt: HostRuntime) -> Result<(), Fail> {
         read_at_last(rt.alloc(), CUT_OFF).err(),
         Some(TowerFault::Edn(EdnFault::Truncated(41)))
     );
+    let Ok(alone) = made(rt.alloc()).or_else(|_| made(rt.alloc())) else {
+        return Err(Fail::from("out of memory"));
+    };
+    looks_up(&rt, &alone, 0, (b"r", 0, &[0], &[]));
     Ok(())
 }
