@@ -1,12 +1,9 @@
+pub mod Gathering
+pub mod Registers
+pub mod Replays
 pub mod Logs
 pub mod Steps
 pub mod Wholes
-pub mod Replays
-pub mod Refusals
-pub mod Sessions
-pub mod Worths
-pub mod Items
-pub mod SoFar
 pub mod Audits
 pub mod Endings
 pub mod Commands

@@ -1,41 +1,42 @@
--- What an audit of a trace of the safe register says.
-use Rattle.std.specs.Prelude.{◌≡◌, ◌↔◌, ℕ, Bool, List, [], ◌∷◌, ◌++◌, length, Option, Some, None, Result, IsTrue, codes, if◌then◌else◌}
-use Rattle.std.specs.List.{AllZip}
+-- What the command `safe` says of a trace.
+use Rattle.std.specs.Prelude.{◌≡◌, ◌≢◌, ◌↔◌, ℕ, pos, Bool, List, [], ◌∷◌, ◌++◌, length, Option, Some, None, Result, IsTrue, codes, if◌then◌else◌}
 use Rattle.std.specs.Fmt.{decimal}
 use Rattle.std.specs.Io.KnownBytes.{Appends}
-use Rattle.edn_reader.specs.declared.fault.EdnFault.{EdnFault}
-use Rattle.edn_reader.specs.Grammar.{Piece}
-use Rattle.edn_reader.specs.Text.{IsText}
-use Rattle.edn_reader.specs.Fault.{FaultOf, AreElementsBefore}
+use Rattle.intervals.specs.declared.claim.Kind.TheVariants.{Safe}
+use Rattle.intervals.specs.declared.operation.Op.{Op}
+use Rattle.intervals.specs.declared.operation.Value.TheVariants.{Int}
 use Rattle.intervals.specs.Kind.{Holds}
-use Rattle.regaudit.specs.declared.event.Item.{Item}
-use Rattle.regaudit.specs.declared.event.FormFault.{FormFault}
+use Rattle.intervals.specs.Refusal.{standing}
+use Rattle.intervals.specs.Terms.{Terms}
+use Rattle.tower_file.specs.Contents.{Contents, alone}
+use Rattle.jepsen_form.specs.declared.fault.FormFault.{FormFault}
+use Rattle.jepsen_form.specs.declared.item.Item.{Item}
+use Rattle.jepsen_form.specs.declared.item.MomentField.TheVariants.{Index}
 use Rattle.regaudit.specs.declared.audit.Audit.{Audit}
-use Rattle.regaudit.specs.Item.{IsItem}
-use Rattle.regaudit.specs.Trace.{Paired, paired, safe_register, standing_of, is_refused}
+use Rattle.regaudit.specs.Steps.{AreItems, steps_of}
+use Rattle.regaudit.specs.Replay.{edits_to, refusals}
 
--- the elements of an input: those of a text, or those before its first fault
-abbrev pub AreElements : List ℕ → Option EdnFault → List Piece → Type 0
-AreElements input None pieces = IsText input pieces
-AreElements input (Some fault) pieces = FaultOf input fault × AreElementsBefore input pieces
+-- the register that a trace is judged by: safe, written by process 0, at first 0
+abbrev pub safe_register : Terms
+safe_register = record { kind = Safe; writers = Some (pos 0 ∷ []); initial = Int (pos 0); domain = None }
 
--- the trace that these elements make, with an item for each of them in order
-pub record IsTrace (input : List ℕ) (fault : Option EdnFault) (trace : Paired) : Type 0 where
-  pub pieces : List Piece
-  pub elements : AreElements input fault pieces
-  pub items : List (Result Item FormFault)
-  pub read : AllZip IsItem pieces items
-  pub is : trace ≡ paired items
+-- its tower: it is named r, and stands alone
+abbrev pub safe_tower : Contents
+safe_tower = alone (codes "top") (codes "r") safe_register
 
--- the verdict on what stands after the trace, how much stands, and whether an element was refused
-pub record IsVerdict (trace : Paired) (holds refused : Bool) (operations : ℕ) : Type 0 where
-  pub verdict : IsTrue holds ↔ Holds safe_register (standing_of trace)
-  pub count : operations ≡ length (standing_of trace)
-  pub refusals : refused ≡ is_refused trace
+-- the operations that stand after the steps of these elements
+abbrev pub standing_of : List (Result Item FormFault) → List Op
+standing_of items = standing safe_register [] (edits_to 0 (steps_of items))
 
--- an audit says the verdict on the trace that its input makes
+-- the verdict on what stands after these elements, how much stands, and whether one of them was refused
+pub record IsVerdict (items : List (Result Item FormFault)) (holds refused : Bool) (operations : ℕ) : Type 0 where
+  pub verdict : IsTrue holds ↔ Holds safe_register (standing_of items)
+  pub count : operations ≡ length (standing_of items)
+  pub refusals : IsTrue refused ↔ (refusals safe_tower (steps_of items) ≢ [])
+
+-- an audit says the verdict on the elements of its input, up to the end or the first fault
 abbrev pub IsAudit : List ℕ → Audit → Type 0
-IsAudit input audit = (trace : Paired) × IsTrace input audit.fault trace × IsVerdict trace audit.holds audit.refused audit.operations
+IsAudit input audit = (items : List (Result Item FormFault)) × AreItems safe_tower Index input audit.broken items × IsVerdict items audit.holds audit.refused audit.operations
 
 -- the word of a verdict
 abbrev pub verdict_word : Bool → List ℕ
@@ -51,11 +52,11 @@ status_of holds refused = if holds then (if refused then 3 else 0) else 1
 
 -- an input that is a text was audited: the line was written, and the status says what it says
 pub record IsAudited (input : List ℕ) (status : ℕ) (old new : Option (List ℕ)) : Type 0 where
-  pub trace : Paired
-  pub is_trace : IsTrace input None trace
+  pub items : List (Result Item FormFault)
+  pub are : AreItems safe_tower Index input None items
   pub holds : Bool
   pub refused : Bool
   pub operations : ℕ
-  pub verdict : IsVerdict trace holds refused operations
+  pub verdict : IsVerdict items holds refused operations
   pub written : Appends old new (register_line holds operations)
   pub status_is : status ≡ status_of holds refused

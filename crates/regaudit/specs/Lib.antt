@@ -1,12 +1,8 @@
-pub mod Pairing
-pub mod Item
-pub mod Form
-pub mod Trace
-pub mod Session
-pub mod Audit
+pub mod Steps
 pub mod Replay
 pub mod Log
 pub mod Progress
+pub mod Audit
 pub mod Input
 pub mod Words
 pub mod Listing

@@ -1,10 +1,12 @@
 //! The books of a tower's registers, and what is noted of a trace by place.
 
-ghost use Rattle.std.specs.Prelude.{◌≡◌, ◌≢◌, ◌∷◌, ◌++◌, [], IfOk, IfSome, OnOk, option_copied};
+ghost use Rattle.std.specs.Prelude.{◌≡◌, ◌≢◌, ◌∷◌, ◌++◌, [], map, Ok, Err, Some, IfOk, IfSome, OnOk, option_copied};
 ghost use Rattle.std.specs.Option.{option_map_or};
 ghost use Rattle.std.specs.List.{slice_get};
-ghost use Rattle.regaudit.specs.Replay.{Outcome, HasNoAtomic, IsAnswer, unwritten, opened, edited_at, reply_of, with_refusal, with_edit, with_question, with_step};
-ghost use Rattle.regaudit.specs.Log.{Shows};
+ghost use Rattle.pairing.specs.declared.step.Step.TheVariants.{Edit as ToEdit, Ask};
+ghost use Rattle.regaudit.specs.Steps.{by_pairing};
+ghost use Rattle.regaudit.specs.Replay.{HasNoAtomic, IsAnswer, reply_of};
+ghost use Rattle.regaudit.specs.Log.{GoesOn, Shows, edited_at, unwritten};
 
 use crate::outcome::{Answer, Code, Refused};
 use intervals::{Edit, Kind, Memory, Refusal, RegId};
@@ -25,7 +27,7 @@ impl<'t> Log<'t> {
     /// Before the first step.
     pub fn new(alloc: Global, tower: &Tower) -> Result<Self, Memory>
         requires { HasNoAtomic tower.now }
-        ensures { IfOk result (λ log. Shows log (record { registers = opened tower.now; asked = []; refused = [] })) }
+        ensures { IfOk result (λ log. Shows tower.now [] log) }
     {
         Ok(Log {
             books: open_books(alloc, tower)?,
@@ -41,40 +43,56 @@ impl<'t> Log<'t> {
         place: u64,
         step: Result<Option<Step<'t>>, PairFault>,
     ) -> Result<(), Memory>
-        ensures { OnOk result ((outcome : Outcome) → Shows self.old outcome → Shows self.new (with_step place step.entry outcome)) }
+        ensures { OnOk result (GoesOn self.old self.new place (by_pairing step.entry)) }
     {
         match step {
+            Ok(step) => self.carry_out(place, step),
             Err(fault) => self.refuse(place, Code::Pair(fault)),
-            Ok(None) => Ok(()),
-            Ok(Some(Step::Edit(register, edit))) => self.apply(place, register, edit),
-            Ok(Some(Step::Ask(register))) => self.answer(place, register),
         }
     }
 
-    /// Notes a refusal.
-    pub fn refuse(&mut self, place: u64, code: Code) -> Result<(), Memory>
-        ensures { OnOk result ((outcome : Outcome) → Shows self.old outcome → Shows self.new (with_refusal place code outcome)) }
+    fn carry_out(&mut self, place: u64, step: Option<Step<'t>>) -> Result<(), Memory>
+        ensures { OnOk result (GoesOn self.old self.new place (Ok step.entry)) }
     {
-        self.refused.push(Refused { place, code })?;
-        Ok(())
+        match step {
+            Some(Step::Edit(register, edit)) => self.apply(place, register, edit),
+            Some(Step::Ask(register)) => self.answer(place, register),
+            None => Ok(()),
+        }
+    }
+
+    /// Notes that the element at a place is refused before it reaches a register.
+    pub fn refuse(&mut self, place: u64, code: Code) -> Result<(), Memory>
+        ensures { OnOk result (GoesOn self.old self.new place (Err code)) }
+    {
+        self.note(place, code)
     }
 
     fn apply(&mut self, place: u64, register: RegId, edit: Edit<'t>) -> Result<(), Memory>
-        ensures { OnOk result ((outcome : Outcome) → Shows self.old outcome → Shows self.new (with_edit place register edit.entry outcome)) }
+        ensures { OnOk result (GoesOn self.old self.new place (Ok (Some (ToEdit register edit.entry)))) }
     {
         match apply_to(&mut self.books, register, edit)? {
-            Some(refusal) => self.refuse(place, Code::Register(refusal)),
+            Some(refusal) => self.note(place, Code::Register(refusal)),
             None => Ok(()),
         }
     }
 
     fn answer(&mut self, place: u64, register: RegId) -> Result<(), Memory>
-        ensures { OnOk result ((outcome : Outcome) → Shows self.old outcome → Shows self.new (with_question place register (slice_get outcome.registers register.0) outcome)) }
+        ensures { OnOk result (GoesOn self.old self.new place (Ok (Some (Ask register)))) }
     {
         let Some(book) = book_of(&self.books, register) else {
             return Ok(());
         };
         self.answers.push(answer_by(book, place, register))?;
+        Ok(())
+    }
+
+    fn note(&mut self, place: u64, code: Code) -> Result<(), Memory>
+        ensures refused { OnOk result (self.new.refused.items ≡ self.old.refused.items ++ record { place = place; code = code } ∷ []) }
+        ensures books { self.new.books ≡ self.old.books }
+        ensures answers { self.new.answers ≡ self.old.answers }
+    {
+        self.refused.push(Refused { place, code })?;
         Ok(())
     }
 }
@@ -99,7 +117,7 @@ fn answer_by(book: &RegisterBook, place: u64, register: RegId) -> Answer
 /// A book of no operations for each register, by number.
 fn open_books<'t>(alloc: Global, tower: &Tower) -> Result<Vec<RegisterBook<'t>>, Memory>
     requires { HasNoAtomic tower.now }
-    ensures { IfOk result (λ books. books.items ≡ opened tower.now) }
+    ensures { IfOk result (λ books. books.items ≡ map unwritten tower.now.registers) }
 {
     let mut books = Vec::new(alloc);
     for number in 0..tower.len() {

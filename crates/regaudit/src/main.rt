@@ -4,23 +4,18 @@
 mod audit;
 #[cfg(test)]
 mod command_tests;
-mod event;
 mod fault;
 mod files;
-mod form;
 mod input;
-mod invocations;
 pub mod laws;
 mod listing;
 mod log;
 mod outcome;
 mod progress;
-mod register;
 mod replay;
 #[cfg(test)]
 mod replay_tests;
 mod run;
-mod session;
 #[cfg(test)]
 mod tests;
 mod words;

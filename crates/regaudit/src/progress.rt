@@ -1,10 +1,9 @@
 //! The state of a replay between two elements.
 
-ghost use Rattle.std.specs.Prelude.{◌≡◌, ◌↔◌, ◌+◌, ◌<◌, ◌^◌, OnOk, IfOk, Ok, Err, Some, IsTrue};
-ghost use Rattle.pairing.specs.Accepted.{accepted};
-ghost use Rattle.pairing.specs.Step.{step_of};
+ghost use Rattle.std.specs.Prelude.{◌≡◌, ◌↔◌, ◌+◌, ◌<◌, ◌^◌, ◌∷◌, ◌++◌, [], List, Result, OnOk, IfOk, Ok, Err, Some, IsTrue};
 ghost use Rattle.pairing.specs.Whole.{IsWhole};
-ghost use Rattle.regaudit.specs.Replay.{Course, HasNoAtomic, with_item, beginning};
+ghost use Rattle.tower_file.specs.Contents.{Contents};
+ghost use Rattle.regaudit.specs.Replay.{HasNoAtomic};
 ghost use Rattle.regaudit.specs.Progress.{IsAhead, IsAt};
 
 use crate::log::Log;
@@ -30,7 +29,7 @@ impl<'t> Progress<'t> {
         requires { HasNoAtomic tower.now }
         ensures place { IfOk result (λ progress. progress.place ≡ 0) }
         ensures ahead { IfOk result (λ progress. IsAhead progress) }
-        ensures at { IfOk result (λ progress. IsAt progress (beginning tower.now)) }
+        ensures at { IfOk result (λ progress. IsAt tower.now [] progress) }
     {
         Ok(Progress {
             place: 0,
@@ -47,7 +46,7 @@ impl<'t> Progress<'t> {
         requires whole { IfOk item (λ item. IsWhole item) }
         ensures place { OnOk result (self.new.place ≡ self.old.place + 1) }
         ensures ahead { OnOk result (IsAhead self.new) }
-        ensures taken { OnOk result ((course : Course) → IsAt self.old course → IsAt self.new (with_item course item.entry)) }
+        ensures taken { OnOk result ((tower : Contents) (items : List (Result Item FormFault)) → IsAt tower items self.old → IsAt tower (items ++ item.entry ∷ []) self.new) }
     {
         match item {
             Err(fault) => self.log.refuse(self.place, Code::Form(fault))?,
@@ -62,7 +61,7 @@ impl<'t> Progress<'t> {
         requires whole { IsWhole item }
         ensures place { OnOk result (self.new.place ≡ self.old.place) }
         ensures last { OnOk result (self.new.pairing.last ≡ Some self.old.place) }
-        ensures taken { OnOk result ((course : Course) → IsAt self.old course → IsAt (record self.new { place = self.new.place + 1 }) (with_item course (Ok item.entry))) }
+        ensures taken { OnOk result ((tower : Contents) (items : List (Result Item FormFault)) → IsAt tower items self.old → IsAt tower (items ++ Ok item.entry ∷ []) (record self.new { place = self.new.place + 1 })) }
     {
         let step = self.pairing.take(item, self.place);
         if wants_memory(&step) {

@@ -151,9 +151,9 @@ fn list<'a, A: AllocGlobal, R: Read, W: Write>(
 }
 
 fn status(audit: &Audit) -> u8
-    ensures { MatchOption audit.now.fault (result ≡ status_of audit.now.holds audit.now.refused) (λ fault. result ≡ BROKEN) }
+    ensures { MatchOption audit.now.broken (result ≡ status_of audit.now.holds audit.now.refused) (λ fault. result ≡ BROKEN) }
 {
-    if audit.fault.is_some() {
+    if audit.broken.is_some() {
         BROKEN
     } else if !audit.holds {
         1

@@ -4,9 +4,8 @@ use Rattle.edn_reader.specs.Reading.{Reading}
 use Rattle.edn_reader.specs.Grammar.{Piece, piece_of}
 use Rattle.edn_reader.specs.Text.{IsFront}
 use Rattle.edn_reader.specs.Fault.{IsMemory}
-use Rattle.regaudit.specs.Audit.{AreElements}
-use Rattle.regaudit.proofs.Audits.{broken}
-use Rattle.regaudit.proofs.Replays.{HasRead, begun, read_on, ends}
+use Rattle.regaudit.specs.Steps.{AreElements}
+use Rattle.regaudit.proofs.Replays.{HasRead, begun, read_on, ends, broken}
 use Rattle.regaudit.proofs.Wholes.{whole}
 use Rattle.regaudit.proofs.replay.replay.Goals as goal
 
