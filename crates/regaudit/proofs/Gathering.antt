@@ -1,5 +1,5 @@
 -- A list with one member more: what its members come to, and the edits and steps among them.
-use Rattle.std.proofs.Common.{◌≡◌, ◌≢◌, ◌==◌, ℕ, Bool, true, false, List, [], ◌∷◌, ◌++◌, length, Option, Some, None, Result, Ok, Err, refl, sym, ap, ◌∙◌, append-nil}
+use Rattle.std.proofs.Common.{◌≡◌, ℕ, suc, List, [], ◌∷◌, ◌++◌, length, Option, Some, None, Result, Ok, Err, refl, sym, ap, ◌∙◌, append-nil}
 use Rattle.std.specs.Prelude.{option_to_list, filter_map}
 use Rattle.std.proofs.lemmas.List.{append_assoc}
 use Rattle.std.proofs.lemmas.List.Elements.{filter_map-append}
@@ -13,15 +13,19 @@ use Rattle.pairing.specs.Accepted.{Placed}
 use Rattle.regaudit.specs.Steps.{Taken, gathered_behind, gathered, placed_behind, placed, step_behind, taken_behind, steps_of}
 use Rattle.regaudit.specs.Replay.{edit_to, edits_to}
 
-behind_push : {A B : Type 0} (f : List A → A → Option B) (before left : List A) (x : A) → gathered_behind f before (left ++ x ∷ []) ≡ gathered_behind f before left ++ option_to_list (f (before ++ left) x)
-behind_push f before [] x = append-nil (option_to_list (f before x)) ∙ ap (λ all. option_to_list (f all x)) (sym (append-nil before))
-behind_push f before (y ∷ left) x =
-    ap (λ rest. option_to_list (f before y) ++ rest) (behind_push f (before ++ y ∷ []) left x)
-    ∙ ap (λ all. option_to_list (f before y) ++ (gathered_behind f (before ++ y ∷ []) left ++ option_to_list (f all x))) (append_assoc before (y ∷ []) left)
-    ∙ sym (append_assoc (option_to_list (f before y)) (gathered_behind f (before ++ y ∷ []) left) (option_to_list (f (before ++ y ∷ left) x)))
+behind_more : {A B : Type 0} (f : List A → A → Option B) (before left more : List A) → gathered_behind f before (left ++ more) ≡ gathered_behind f before left ++ gathered_behind f (before ++ left) more
+behind_more f before [] more = ap (λ all. gathered_behind f all more) (sym (append-nil before))
+behind_more f before (x ∷ left) more =
+    ap (λ rest. option_to_list (f before x) ++ rest) (behind_more f (before ++ x ∷ []) left more)
+    ∙ ap (λ all. option_to_list (f before x) ++ (gathered_behind f (before ++ x ∷ []) left ++ gathered_behind f all more)) (append_assoc before (x ∷ []) left)
+    ∙ sym (append_assoc (option_to_list (f before x)) (gathered_behind f (before ++ x ∷ []) left) (gathered_behind f (before ++ x ∷ left) more))
+
+-- what those before come to stays in front
+pub stays_in_front : {A B : Type 0} (f : List A → A → Option B) (all more : List A) → gathered f (all ++ more) ≡ gathered f all ++ gathered_behind f all more
+stays_in_front f all more = behind_more f [] all more
 
 pub gathered_push : {A B : Type 0} (f : List A → A → Option B) (all : List A) (x : A) → gathered f (all ++ x ∷ []) ≡ gathered f all ++ option_to_list (f all x)
-gathered_push f all x = behind_push f [] all x
+gathered_push f all x = stays_in_front f all (x ∷ []) ∙ ap (λ rest. gathered f all ++ rest) (append-nil (option_to_list (f all x)))
 
 pub nothing_more : {A B : Type 0} (f : List A → A → Option B) (all : List A) (x : A) → f all x ≡ None → gathered f (all ++ x ∷ []) ≡ gathered f all
 nothing_more f all x none = gathered_push f all x ∙ ap (λ o. gathered f all ++ option_to_list o) none ∙ append-nil (gathered f all)
@@ -34,6 +38,13 @@ not_placed items fault = nothing_more placed_behind items (Err fault) refl
 
 pub steps_on : (items : List (Result Item FormFault)) (item : Result Item FormFault) → steps_of (items ++ item ∷ []) ≡ steps_of items ++ record { place = length items; step = step_behind items item } ∷ []
 steps_on items item = gathered_push taken_behind items item
+
+one_each : (before items : List (Result Item FormFault)) → length (gathered_behind taken_behind before items) ≡ length items
+one_each before [] = refl
+one_each before (item ∷ items) = ap suc (one_each (before ++ item ∷ []) items)
+
+pub one_step_each : (items : List (Result Item FormFault)) → length (steps_of items) ≡ length items
+one_step_each items = one_each [] items
 
 edits_on : (number : ℕ) (taken : List Taken) (one : Taken) → edits_to number (taken ++ one ∷ []) ≡ edits_to number taken ++ edits_to number (one ∷ [])
 edits_on number taken one = filter_map-append (λ (t : Taken). edit_to number t.step) taken (one ∷ [])

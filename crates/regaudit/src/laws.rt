@@ -1,8 +1,24 @@
-//! Laws of the words of the command line. Each is proved, and does nothing.
+//! Laws of the steps of a trace, and of the words of the command line. Each is proved, and does
+//! nothing.
 
-ghost use Rattle.std.specs.Prelude.{◌≡◌, ℕ, true, false, List, [], ◌∷◌, Some, None, codes};
+ghost use Rattle.std.specs.Prelude.{◌≡◌, ℕ, true, false, List, [], ◌∷◌, ◌++◌, length, Result, Some, None, codes};
+ghost use Rattle.tower_file.specs.Contents.{Contents};
+ghost use Rattle.jepsen_form.specs.declared.fault.FormFault.{FormFault};
+ghost use Rattle.jepsen_form.specs.declared.item.Item.{Item};
+ghost use Rattle.regaudit.specs.declared.outcome.Refused.{Refused};
+ghost use Rattle.regaudit.specs.Steps.{Taken, steps_of};
+ghost use Rattle.regaudit.specs.Replay.{Asked, questions, refusals};
 ghost use Rattle.clap.specs.Words.{takes};
 ghost use Rattle.regaudit.specs.Words.{Safe, Tower, asked, command_line, is_plain};
+
+/// Each element of a trace has one step, and what follows changes no step, no refusal and no
+/// question of those before it.
+pub fn what_follows_changes_nothing_before()
+    ensures each { (items : List (Result Item FormFault)) → length (steps_of items) ≡ length items }
+    ensures steps { (items more : List (Result Item FormFault)) → (rest : List Taken) × (steps_of (items ++ more) ≡ steps_of items ++ rest) }
+    ensures refusals { (tower : Contents) (taken more : List Taken) → (rest : List Refused) × (refusals tower (taken ++ more) ≡ refusals tower taken ++ rest) }
+    ensures questions { (tower : Contents) (taken more : List Taken) → (rest : List Asked) × (questions tower (taken ++ more) ≡ questions tower taken ++ rest) }
+{}
 
 /// What words ask for, whatever the program's name: the command is named behind it, and then its
 /// file. A file whose name begins with a hyphen stands behind `--`.

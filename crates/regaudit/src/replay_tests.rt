@@ -3,7 +3,7 @@
 use crate::outcome::{Answer, Code, Refused, Replay};
 use crate::replay::{has_no_atomic, replay};
 use edn_reader::EdnFault;
-use intervals::{Memory, Refusal, RegId};
+use intervals::{Memory, OpId, Refusal, RegId};
 use jepsen_form::{FormFault, FormField, MomentField};
 use pairing::PairFault;
 use std::alloc::Global;
@@ -57,6 +57,11 @@ fn by_register(place: u64, refusal: Refusal) -> Refused {
         place,
         code: Code::Register(refusal),
     }
+}
+
+/// The operation that was invoked at a place.
+fn operation(event: u64) -> OpId {
+    OpId { feeder: 0, event }
 }
 
 fn answer(place: u64, register: RegId, holds: bool, operations: u64) -> Answer {
@@ -227,6 +232,84 @@ fn an_invocation_of_a_busy_process_is_not_there(rt: HostRuntime) -> Result<(), F
             pair(1, PairFault::ProcessBusy),
             pair(2, PairFault::AnswerMismatch),
         ],
+    )
+}
+
+#[test]
+fn an_edit_of_no_earlier_invocation_is_not_there(rt: HostRuntime) -> Result<(), Fail> {
+    stands(
+        &rt,
+        REGULAR,
+        b"{:process 0 :type :invoke :f :write :value 1 :index 0}
+{:process 0 :type :ok :f :write :value 1 :index 1}
+{:edit :amend :of 1 :value 2}
+{:edit :withdraw :of 5}
+{:edit :amend :of 99 :end nil}
+{:process 1 :type :invoke :f :read :index 5}
+{:edit :withdraw :of 0}
+{:edit :amend :of 0 :value 2}
+{:process 1 :type :ok :f :read :value nil :index 6}",
+        (true, 1),
+        &[
+            pair(2, PairFault::NoInvocation),
+            pair(3, PairFault::NoInvocation),
+            pair(4, PairFault::NoInvocation),
+            by_register(7, Refusal::UnknownOp),
+        ],
+    )
+}
+
+#[test]
+fn a_process_that_crashed_comes_again(rt: HostRuntime) -> Result<(), Fail> {
+    stands(
+        &rt,
+        REGULAR,
+        b"{:process 1 :type :invoke :f :read :index 0}
+{:process 1 :type :info :f :read}
+{:process 1 :type :ok :f :read :value 1 :index 1}
+{:process 1 :type :invoke :f :read :index 2}
+{:process 1 :type :ok :f :read :value nil :index 3}
+{:process 0 :type :invoke :f :write :value 1 :index 4}
+{:process 0 :type :info :f :write}
+{:process 0 :type :invoke :f :write :value 2 :index 6}
+{:process 1 :type :invoke :f :read :index 8}
+{:process 1 :type :ok :f :read :value 1 :index 9}
+{:edit :amend :of 5 :end 5}
+{:process 0 :type :fail :f :write}",
+        (true, 4),
+        &[
+            pair(2, PairFault::NoInvocation),
+            by_register(7, Refusal::WritesOverlap(operation(5))),
+            by_register(11, Refusal::UnknownOp),
+        ],
+    )
+}
+
+/// A run over the keys `x` and `"y"`, whose moments are its times.
+#[test]
+fn keys_as_jepsen_prints_them(rt: HostRuntime) -> Result<(), Fail> {
+    let wanted = Wanted {
+        registers: &[(true, 3), (false, 2)],
+        answers: &[],
+        refused: &[form(8, FormFault::NoRegister)],
+        broken: None,
+    };
+    comes_to_by(
+        &rt,
+        TWO,
+        b"#jepsen.history.Op{:index 0, :time 2210935412, :type :invoke, :process 0, :f :write, :value [x 4]}
+#jepsen.history.Op{:index 1, :time 2211140985, :type :invoke, :process 1, :f :write, :value [\"y\" 4]}
+#jepsen.history.Op{:index 2, :time 2214627019, :type :ok, :process 1, :f :write, :value [\"y\" 4]}
+#jepsen.history.Op{:index 3, :time 2217034446, :type :info, :process :nemesis, :f :kill, :value {\"n1\" :killed}}
+#jepsen.history.Op{:index 4, :time 2217134446, :type :invoke, :process 3, :f :read, :value [x nil]}
+#jepsen.history.Op{:index 5, :time 2217934446, :type :ok, :process 3, :f :read, :value [x 7]}
+#jepsen.history.Op{:index 6, :time 2218034446, :type :info, :process 0, :f :write, :value [x 4], :error [:timeout \"n3\"]}
+#jepsen.history.Op{:index 7, :time 2219034446, :type :invoke, :process 3, :f :read, :value [\"y\" nil]}
+#jepsen.history.Op{:index 8, :time 2219134446, :type :invoke, :process 4, :f :read, :value [z nil]}
+#jepsen.history.Op{:index 9, :time 2219234446, :type :ok, :process 3, :f :read, :value [\"y\" 0]}
+#jepsen.history.Op{:index 10, :time 2219334446, :type :invoke, :process 4, :f :read, :value [x nil]}",
+        MomentField::Time,
+        &wanted,
     )
 }
 
