@@ -1,0 +1,6 @@
+mod EdgeOrder
+mod Pairs
+mod TwoZones
+mod Farthest
+mod OneFirst
+mod Places
