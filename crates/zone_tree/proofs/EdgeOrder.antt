@@ -1,6 +1,6 @@
 -- Edges are in one strict order.
-use Rattle.std.proofs.Common.{◌≡◌, ℕ, ◌<◌, ◌⊎◌, inl, inr, Bool, true, false, not, ltb, eqb, Decides, refl, sym, ap, subst, arith}
-use Rattle.std.proofs.lemmas.Bool.{ltb-true, lt-ltb, cases_order, false_from_ne_true, both_ways}
+use Rattle.std.proofs.Common.{◌≡◌, ℕ, ◌<◌, ◌⊎◌, inl, inr, false, Decides, refl, sym, ap, subst, arith}
+use Rattle.std.proofs.lemmas.Bool.{ltb-true, lt-ltb, cases_order, false_from_ne_true}
 use Rattle.std.proofs.lemmas.Bool.Decides.{Decides-eqb}
 use Rattle.intervals.specs.declared.operation.Moment.{Moment}
 use Rattle.zone_tree.specs.declared.edge.Edge.{Edge}
@@ -66,9 +66,6 @@ not_before_by a b c n q (inr (inr p)) = absurd (n p)
 
 pub not_after_before : (a b c : Edge) → ¬ ComesBefore b a → ComesBefore b c → ComesBefore a c
 not_after_before a b c n q = not_before_by a b c n q (before_cases a b)
-
-pub not_after_transitive : (a b c : Edge) → ¬ ComesBefore b a → ¬ ComesBefore c b → ¬ ComesBefore c a
-not_after_transitive a b c p q h = q (before_not_after c a b h p)
 
 pub before-false : (a b : Edge) → ¬ ComesBefore a b → comes_before a b ≡ false
 before-false a b n = false_from_ne_true (comes_before a b) n

@@ -1,11 +1,10 @@
 -- The farthest forward zone of those before decides whether a zone conflicts with one of them.
-use Rattle.std.proofs.Common.{◌≡◌, ◌↔◌, ◌⊎◌, inl, inr, ℕ, suc, ◌+◌, ◌<◌, Bool, true, false, ◌&&◌, List, [], ◌∷◌, ◌++◌, length, get_or, take, drop, Option, Some, None, refl, sym, ap, subst, ◌∙◌, arith}
+use Rattle.std.proofs.Common.{◌≡◌, ◌↔◌, ◌⊎◌, inl, inr, ℕ, suc, ◌+◌, ◌<◌, Bool, true, false, List, [], ◌∷◌, ◌++◌, length, get_or, take, drop, Option, Some, None, refl, sym, ap, subst, ◌∙◌, arith}
 use Rattle.std.specs.Prelude.{All, Contains, IsSomeAnd, if◌then◌else◌, slice_index_or}
-use Rattle.std.specs.List.{AllPairs}
 use Rattle.std.proofs.lemmas.Bool.{cases_Bool, and_parts, and_from, both_ways}
 use Rattle.std.proofs.Math.Seq.{split_at}
 use Rattle.std.proofs.lemmas.List.{take-append-drop, take_more}
-use Rattle.std.proofs.lemmas.List.Elements.{All-nil, All-cons, All-head, All-push, All-weaker, All-contains, Contains-push, Contains-append_left}
+use Rattle.std.proofs.lemmas.List.Elements.{All-head, All-push, All-weaker, All-contains, Contains-push, Contains-append_left}
 use Rattle.std.proofs.lemmas.List.Quantifiers.{all_pairs_push}
 use Rattle.zone_tree.specs.declared.edge.Edge.{Edge}
 use Rattle.zone_tree.specs.declared.zone.Zone.{Zone}
@@ -15,7 +14,7 @@ use Rattle.zone_tree.specs.Conflict.{IsClean, KeepsClearOfForward, IsFarthestFor
 use Rattle.zone_tree.specs.Order.{IsByLeft, StandInOrder}
 use Rattle.zone_tree.proofs.EdgeOrder.{before_irreflexive, before_transitive}
 use Rattle.zone_tree.proofs.Pairs.{pairs_front, pairs_across, All-front, All-back}
-use Rattle.zone_tree.proofs.TwoZones.{earlier_is_forward, conflict_farther, clear_ends_before}
+use Rattle.zone_tree.proofs.TwoZones.{earlier_is_forward, conflict_farther}
 
 -- what is found is the farthest forward zone of the list, or nothing where none is forward
 abbrev pub IsFarthest : Option Zone → List Zone → Type 0
@@ -28,9 +27,6 @@ Meets found zone = IsSomeAnd found (λ earlier. Conflicts earlier zone)
 
 abbrev Ends : Edge → Zone → Type 0
 Ends right other = IsForward other → ¬ ComesBefore right other.right
-
-pub farthest_nil : IsFarthest None []
-farthest_nil = All-nil (λ z. ¬ IsForward z)
 
 taken : (found : Option Zone) (z : Zone) → is_farther found z ≡ true → farther_of found z ≡ Some z
 taken found z e = ap (λ (b : Bool). if b then Some z else found) e

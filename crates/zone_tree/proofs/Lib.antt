@@ -4,3 +4,4 @@ mod TwoZones
 mod Farthest
 mod OneFirst
 mod Places
+mod OneOrder

@@ -1,16 +1,17 @@
 -- A zone's place among zones by left edge.
-use Rattle.std.proofs.Common.{◌≡◌, ◌≢◌, ◌↔◌, ◌⊎◌, inl, inr, ℕ, suc, ◌+◌, ◌-◌, ◌<◌, ◌≤◌, Bool, true, false, not, cond, ltb, List, [], ◌∷◌, ◌++◌, length, get_or, take, drop, Option, Some, None, refl, sym, ap, subst, ◌∙◌, arith}
+use Rattle.std.proofs.Common.{◌≡◌, ◌≢◌, ◌↔◌, ◌⊎◌, inl, inr, ℕ, suc, ◌+◌, ◌<◌, ◌≤◌, Bool, true, false, not, cond, ltb, List, [], ◌∷◌, ◌++◌, length, get_or, take, drop, Some, None, refl, sym, ap, subst, ◌∙◌, arith}
 use Rattle.std.specs.Prelude.{All, filter, slice_index_or}
 use Rattle.std.specs.List.{AllWithin, find, position, position_or_len, insert, remove}
 use Rattle.std.specs.List.Sorted.{IsPartitionedBy, IsPermutation}
 use Rattle.std.proofs.Math.Seq.{split_at}
-use Rattle.std.proofs.lemmas.Bool.{cases_Bool, cases_eq, both_ways, not_from_true, not_from_false, false_from_ne_true, ltb-false}
+use Rattle.std.proofs.lemmas.Bool.{cases_Bool, cases_eq, both_ways, not_from_true, not_from_false, not-true, false_from_ne_true, ltb-false, lt-ltb, cond-true}
 use Rattle.std.proofs.lemmas.List.{append-nil, take-append-drop, take_at, drop_at, length-append, length-take, length-drop, get_or-take, get_or-drop, get_or_default}
-use Rattle.std.proofs.lemmas.List.Elements.{All-nil, All-cons, All-head, All-tail, All-append, All-weaker, All-take, All-drop, filter-append, filter_passes}
+use Rattle.std.proofs.lemmas.List.Elements.{All-nil, All-cons, All-head, All-tail, All-append, All-weaker, All-filter, filter-append, filter_passes}
 use Rattle.std.proofs.lemmas.List.Folds.{find_at}
 use Rattle.std.proofs.lemmas.List.Quantifiers.{position-Some}
-use Rattle.std.proofs.lemmas.List.Sorted.{IsPermutation-sym, IsPermutation-middle}
-use Rattle.std.proofs.lemmas.Option.{slice_get_past}
+use Rattle.std.proofs.lemmas.List.Sorted.{IsPermutation-sym, IsPermutation-middle, IsPermutation-remove}
+use Rattle.std.proofs.lemmas.List.Kept.{AllPairs-filter}
+use Rattle.std.proofs.lemmas.Option.{slice_get_past, slice_get_within, get_or_from_slice_get}
 use Rattle.zone_tree.specs.declared.edge.Edge.{Edge}
 use Rattle.zone_tree.specs.declared.zone.Zone.{Zone}
 use Rattle.zone_tree.specs.Edge.{ComesBefore, comes_before, same_edge}
@@ -86,17 +87,6 @@ order_between z xs ys order edges less more = record {
       (pairs_cons Left z ys more (pairs_back Left xs ys order.by_left))
       (λ k d lt. All-cons (Left (slice_index_or xs k d)) z ys (less k d lt) (pairs_across Left xs ys order.by_left k d lt));
   edges = All-append HasOrderedEdges xs (z ∷ ys) (All-front HasOrderedEdges xs ys order.edges) (All-cons HasOrderedEdges z ys edges (All-back HasOrderedEdges xs ys order.edges));
-}
-
-order_without : (z : Zone) (xs ys : List Zone) → StandInOrder (xs ++ z ∷ ys) → StandInOrder (xs ++ ys)
-order_without z xs ys order = record {
-  by_left =
-      pairs_append Left xs ys (pairs_front Left xs (z ∷ ys) order.by_left)
-      (pairs_back Left (z ∷ []) ys (pairs_back Left xs (z ∷ ys) order.by_left))
-      (λ k d lt. All-tail (Left (slice_index_or xs k d)) z ys (pairs_across Left xs (z ∷ ys) order.by_left k d lt));
-  edges =
-      All-append HasOrderedEdges xs ys (All-front HasOrderedEdges xs (z ∷ ys) order.edges)
-      (All-tail HasOrderedEdges z ys (All-back HasOrderedEdges xs (z ∷ ys) order.edges));
 }
 
 -- what passes up to a place and fails from there is kept up to that place
@@ -219,3 +209,30 @@ members_with zone zones order new =
     let more = above zone.left zones in
     subst (λ zs. IsPermutation (zone ∷ zs) (less ++ zone ∷ more)) (sym (parts zone.left zones order.by_left new))
     (IsPermutation-sym (less ++ zone ∷ more) (zone ∷ (less ++ more)) (IsPermutation-middle less zone more))
+
+pub none_without : (left : Edge) (zones : List Zone) → HasNoZoneAt left (without_zone_at left zones)
+none_without left zones =
+    All-weaker (λ z. not (same_edge z.left left) ≡ true) (λ z. z.left ≢ left)
+    (λ z e same. both_ways (same_edge z.left left) (not-true (same_edge z.left left) e) ((Decides-same_edge z.left left).1 same))
+    (without_zone_at left zones) (filter_passes (λ z. not (same_edge z.left left)) zones)
+
+pub order_left : (left : Edge) (zones : List Zone) → StandInOrder zones → StandInOrder (without_zone_at left zones)
+order_left left zones order = record {
+  by_left = AllPairs-filter Left (λ z. not (same_edge z.left left)) zones order.by_left;
+  edges = All-filter (λ z. not (same_edge z.left left)) HasOrderedEdges zones order.edges;
+}
+
+-- the place of what a search finds
+found_at : {X : Type 0} (p : X → Bool) (xs : List X) (x : X) → find p xs ≡ Some x → (position p xs ≡ Some (position_or_len p xs)) × (position_or_len p xs < length xs) × (x ≡ get_or xs (position_or_len p xs) x)
+found_at p xs x e =
+    let i = position_or_len p xs in
+    let read = sym (find_at p xs) ∙ e in
+    let within = slice_get_within xs i x read in
+    (cond-true (ltb i (length xs)) (Some i) None (lt-ltb i (length xs) within), within, sym (get_or_from_slice_get xs i x x read))
+
+pub members_without : (left : Edge) (zones : List Zone) (zone : Zone) → StandInOrder zones → zone_at left zones ≡ Some zone → IsPermutation zones (zone ∷ without_zone_at left zones)
+members_without left zones zone order e =
+    let place = found_at (λ z. same_edge z.left left) zones zone e in
+    let is = is_at left zones (position_or_len (λ z. same_edge z.left left) zones) zone order.by_left place.0 place.2 in
+    subst (λ zs. IsPermutation zones (zone ∷ zs)) (sym is.others)
+    (IsPermutation-remove zones (position_or_len (λ z. same_edge z.left left) zones) zone place.1 place.2)

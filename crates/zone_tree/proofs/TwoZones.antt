@@ -1,12 +1,12 @@
 -- When two zones conflict.
-use Rattle.std.proofs.Common.{◌≡◌, ◌↔◌, ◌⊎◌, inl, inr, Bool, true, false, refl, sym, ap, subst}
+use Rattle.std.proofs.Common.{◌≡◌, ◌↔◌, ◌⊎◌, inl, inr, Bool, true, false, ap}
 use Rattle.std.specs.Prelude.{if◌then◌else◌}
 use Rattle.std.proofs.lemmas.Bool.{cases_Bool, false_from_ne_true, both_ways}
 use Rattle.zone_tree.specs.declared.edge.Edge.{Edge}
 use Rattle.zone_tree.specs.declared.zone.Zone.{Zone}
 use Rattle.zone_tree.specs.Edge.{ComesBefore}
 use Rattle.zone_tree.specs.Zone.{IsForward, least_end, greatest_begin, HasOrderedEdges, Conflicts, Overlaps, LiesInside}
-use Rattle.zone_tree.proofs.EdgeOrder.{before_irreflexive, before_transitive, not_both_ways, before_not_after, not_after_before}
+use Rattle.zone_tree.proofs.EdgeOrder.{before_transitive, not_both_ways, before_not_after, not_after_before}
 
 least_end-forward : (z : Zone) → IsForward z → least_end z ≡ z.left
 least_end-forward z e = ap (λ (b : Bool). if b then z.left else z.right) e

@@ -1,12 +1,12 @@
 //! Laws of the definitions. Each is the contract of a function that does nothing.
 
-ghost use Rattle.std.specs.Prelude.{◌≡◌, ◌↔◌, ◌⊎◌, ◌∷◌, List};
+ghost use Rattle.std.specs.Prelude.{◌≡◌, ◌↔◌, ◌⊎◌, ◌∷◌, Contains, List, Some};
 ghost use Rattle.zone_tree.specs.declared.edge.Edge.{Edge};
 ghost use Rattle.zone_tree.specs.declared.zone.Zone.{Zone};
 ghost use Rattle.zone_tree.specs.Edge.{ComesBefore};
 ghost use Rattle.zone_tree.specs.Zone.{IsForward, HasOrderedEdges, Conflicts, Overlaps, LiesInside, least_end, greatest_begin};
 ghost use Rattle.zone_tree.specs.Conflict.{IsClean, KeepsClearOfForward, IsFirstConflict};
-ghost use Rattle.zone_tree.specs.Order.{StandInOrder, HasNoZoneAt, with_zone};
+ghost use Rattle.zone_tree.specs.Order.{IsByLeft, StandInOrder, HasNoZoneAt, with_zone, without_zone_at, zone_at};
 ghost use Rattle.std.specs.List.Sorted.{IsPermutation};
 
 /// Edges are in one strict order: none comes before itself, and of two different ones exactly one
@@ -42,6 +42,12 @@ pub fn conflicts_go_both_ways()
     ensures { (a b : Zone) → Conflicts a b → Conflicts b a }
 {}
 
+/// The same zones stand by their left edges in one way.
+pub fn zones_have_one_order()
+    ensures { (zones others : List Zone) → IsByLeft zones → IsByLeft others
+        → ((z : Zone) → Contains zones z ↔ Contains others z) → zones ≡ others }
+{}
+
 /// Where zones stand in order, no two of them conflict exactly where none conflicts with an earlier
 /// forward one.
 pub fn conflicts_begin_with_forward_zones()
@@ -61,4 +67,12 @@ pub fn a_new_zone_has_one_place()
         → IsPermutation (zone ∷ zones) (with_zone zone zones) }
     ensures order { (zone : Zone) (zones : List Zone) → StandInOrder zones → HasNoZoneAt zone.left zones
         → HasOrderedEdges zone → StandInOrder (with_zone zone zones) }
+{}
+
+/// Without the zone of a left edge no zone has that edge, and the others stand in order.
+pub fn a_removed_zone_leaves_the_others()
+    ensures gone { (left : Edge) (zones : List Zone) → HasNoZoneAt left (without_zone_at left zones) }
+    ensures zones { (left : Edge) (zones : List Zone) (zone : Zone) → StandInOrder zones
+        → zone_at left zones ≡ Some zone → IsPermutation zones (zone ∷ without_zone_at left zones) }
+    ensures order { (left : Edge) (zones : List Zone) → StandInOrder zones → StandInOrder (without_zone_at left zones) }
 {}

@@ -1,4 +1,4 @@
-use Rattle.std.proofs.Common.{◌≡◌, ◌≤◌, ◌∙◌, sym, ap, subst, length, arith, rules}
+use Rattle.std.proofs.Common.{◌≡◌, ◌∙◌, sym, ap, subst, length, arith, rules}
 use Rattle.std.specs.List.{insert}
 use Rattle.zone_tree.specs.Order.{StandInOrder, HasNoZoneAt, below, with_zone}
 use Rattle.zone_tree.proofs.Places.{place_within, insert_at_place, order_with}

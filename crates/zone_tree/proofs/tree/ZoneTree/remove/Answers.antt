@@ -1,4 +1,4 @@
-use Rattle.std.proofs.Common.{◌≡◌, ◌∙◌, Option, Some, None, sym, ap, rules}
+use Rattle.std.proofs.Common.{◌≡◌, ◌∙◌, Some, None, sym, ap, rules}
 use Rattle.std.specs.List.{position}
 use Rattle.zone_tree.specs.Edge.{same_edge}
 use Rattle.zone_tree.specs.Order.{zone_at, without_zone_at}
