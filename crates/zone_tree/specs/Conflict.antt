@@ -1,0 +1,39 @@
+-- Conflicts in a list of zones that stand by their left edges.
+use Rattle.std.specs.Prelude.{◌≡◌, Bool, ◌&&◌, All, Contains, List, ◌∷◌, ◌++◌, Option, Some, None, if◌then◌else◌}
+use Rattle.std.specs.List.{AllPairs}
+use Rattle.zone_tree.specs.declared.zone.Zone.{Zone}
+use Rattle.zone_tree.specs.Edge.{ComesBefore, comes_before}
+use Rattle.zone_tree.specs.Zone.{IsForward, Conflicts}
+
+-- no two zones conflict
+abbrev pub IsClean : List Zone → Type 0
+IsClean zones = AllPairs (λ a b. ¬ Conflicts a b) zones
+
+-- no zone conflicts with an earlier forward one
+abbrev pub KeepsClearOfForward : List Zone → Type 0
+KeepsClearOfForward zones = AllPairs (λ earlier later. IsForward earlier → ¬ Conflicts earlier later) zones
+
+-- of the forward zones it is one of greatest right edge
+pub record IsFarthestForward (zones : List Zone) (zone : Zone) : Type 0 where
+  pub stands : Contains zones zone
+  pub forward : IsForward zone
+  pub farthest : All (λ other. IsForward other → ¬ ComesBefore zone.right other.right) zones
+
+-- the second zone is the first by left edge that conflicts with an earlier forward one, and the
+-- first zone is of the earlier forward ones the one of greatest right edge
+pub record IsFirstConflict (zones : List Zone) (first second : Zone) : Type 0 where
+  pub earlier : List Zone
+  pub later : List Zone
+  pub parts : zones ≡ earlier ++ second ∷ later
+  pub clear : KeepsClearOfForward earlier
+  pub farthest : IsFarthestForward earlier first
+  pub conflict : Conflicts first second
+
+-- the zone is forward, and no forward zone was found yet or one of a lesser right edge
+abbrev pub is_farther : Option Zone → Zone → Bool
+is_farther None zone = zone.forward
+is_farther (Some found) zone = zone.forward && comes_before found.right zone.right
+
+-- the farthest forward zone after one more zone
+abbrev pub farther_of : Option Zone → Zone → Option Zone
+farther_of found zone = if is_farther found zone then Some zone else found

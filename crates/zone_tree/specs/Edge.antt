@@ -1,0 +1,30 @@
+-- The edges of zones: one before every moment, the moments themselves, and one after them.
+use Rattle.std.specs.Prelude.{Bool, true, false, ◌==◌, nat_lt, IsTrue}
+use Rattle.zone_tree.specs.declared.edge.Edge.{Edge}
+use Rattle.zone_tree.specs.declared.edge.Edge.TheVariants.{Before, At, Never}
+
+-- the order of edges: Before, then the moments one after another, then Never
+abbrev pub comes_before : Edge → Edge → Bool
+comes_before Before Before = false
+comes_before Before (At n) = true
+comes_before Before Never = true
+comes_before (At m) Before = false
+comes_before (At m) (At n) = nat_lt m.0 n.0
+comes_before (At m) Never = true
+comes_before Never b = false
+
+-- the same as a fact
+abbrev pub ComesBefore : Edge → Edge → Type 0
+ComesBefore a b = IsTrue (comes_before a b)
+
+-- two edges are one
+abbrev pub same_edge : Edge → Edge → Bool
+same_edge Before Before = true
+same_edge Before (At n) = false
+same_edge Before Never = false
+same_edge (At m) Before = false
+same_edge (At m) (At n) = m.0 == n.0
+same_edge (At m) Never = false
+same_edge Never Before = false
+same_edge Never (At n) = false
+same_edge Never Never = true

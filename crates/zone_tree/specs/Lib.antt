@@ -1,0 +1,4 @@
+pub mod Edge
+pub mod Zone
+pub mod Conflict
+pub mod Order

@@ -1,0 +1,35 @@
+ghost use Rattle.std.specs.Prelude.{◌≡◌};
+ghost use Rattle.zone_tree.specs.Edge.{comes_before as before, same_edge};
+
+use intervals::Moment;
+
+/// An end of a zone. A write that ended before all events has its edges at `Before`, a write
+/// without an end has its end at `Never`.
+#[derive(Clone, Copy, Debug, PartialEq, Eq)]
+pub enum Edge {
+    Before,
+    At(Moment),
+    Never,
+}
+
+impl Edge {
+    pub fn comes_before(self, other: Edge) -> bool
+        ensures { result ≡ before self other }
+    {
+        match (self, other) {
+            (Edge::Before, Edge::Before) => false,
+            (Edge::Before, _) => true,
+            (Edge::At(earlier), Edge::At(later)) => earlier.0 < later.0,
+            (Edge::At(_), Edge::Never) => true,
+            (Edge::At(_), Edge::Before) => false,
+            (Edge::Never, _) => false,
+        }
+    }
+}
+
+/// Whether the two edges are one.
+pub fn is_same(a: Edge, b: Edge) -> bool
+    ensures { result ≡ same_edge a b }
+{
+    a == b
+}
