@@ -1,5 +1,7 @@
 pub mod Refusals
 pub mod Verdicts
 pub mod Ids
-pub mod Beside
+pub mod Split
+pub mod Bearing
 pub mod ReadEdits
+pub mod Untouched

@@ -1,4 +1,5 @@
 pub mod Ids
+pub mod Touch
 pub mod Verdict
 pub mod Reply
 pub mod Fault

@@ -10,12 +10,12 @@ ghost use Rattle.register_book.specs.Fault.{fault_of, witness_of, Shows};
 
 use crate::claim::copy_of;
 use crate::refused::refusal_of;
-use crate::verdict::{first_wrong, first_wrong_after, id_of, is_on_write};
+use crate::touch::touch_of;
+use crate::verdict::{first_wrong_after, is_on_write};
 use crate::writes::judge_after;
 use crate::{Fault, Reply, Witness};
 use intervals::laws::{
     first_wrong_read_ended_first, regular_without_wrong_reads, safe_without_wrong_reads,
-    writes_alone_decide,
 };
 use intervals::{Claim, Edit, Kind, Memory, Op, OpBook, OpId};
 use safe_regular::SingleWriterJudge;
@@ -107,30 +107,30 @@ impl<'t> RegisterBook<'t> {
         }
     }
 
-    /// Builds the judge of what the edit leaves before it changes anything, and judges each read anew.
+    /// Builds the judge of what the edit leaves before it changes anything.
     fn edit_write(&mut self, edit: Edit<'t>) -> Result<(), Memory>
         requires { first_refusal self.old.ops edit ≡ None }
         ensures ok { OnOk result (self.new ≡ record self.old { ops = edited self.old.ops edit.entry }) }
         ensures err { OnErr result (self.new ≡ self.old) }
     {
         let judge = judge_after(self.alloc, &self.claim, self.ops.operations(), &edit)?;
+        let touch = touch_of(&self.ops, &edit);
         self.ops.admit(edit)?;
         let _old = mem::replace(&mut self.judge, judge);
-        self.wrong = first_wrong(&self.judge, self.ops.operations());
+        self.wrong = first_wrong_after(&self.judge, self.ops.operations(), self.wrong, &touch);
         Ok(())
     }
 
-    /// The writes stay, and so does what each other read is judged.
+    /// The writes stay, and so does their judge.
     fn edit_read(&mut self, edit: Edit<'t>) -> Result<(), Memory>
         requires accepted { first_refusal self.old.ops edit ≡ None }
         requires read { on_write self.old.ops edit ≡ false }
         ensures ok { OnOk result (self.new ≡ record self.old { ops = edited self.old.ops edit.entry }) }
         ensures err { OnErr result (self.new ≡ self.old) }
     {
-        writes_alone_decide();
-        let id = id_of(&edit);
+        let touch = touch_of(&self.ops, &edit);
         self.ops.admit(edit)?;
-        self.wrong = first_wrong_after(&self.judge, &self.ops, self.wrong, id);
+        self.wrong = first_wrong_after(&self.judge, self.ops.operations(), self.wrong, &touch);
         Ok(())
     }
 

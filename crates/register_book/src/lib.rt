@@ -7,6 +7,7 @@ mod claim;
 mod fault;
 mod refused;
 mod reply;
+mod touch;
 mod verdict;
 mod writes;
 

@@ -59,7 +59,7 @@ fn judged_refusal(judge: &SingleWriterJudge, op: &Op) -> Option<Refusal>
 }
 
 /// The operation that the edit adds or changes, as it is afterwards.
-fn new_op<'t>(ops: &OpBook<'t>, edit: &Edit<'t>) -> Option<Op<'t>>
+pub fn new_op<'t>(ops: &OpBook<'t>, edit: &Edit<'t>) -> Option<Op<'t>>
     ensures { result ≡ new_one ops.now edit.now }
 {
     match edit {

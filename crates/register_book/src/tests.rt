@@ -89,6 +89,32 @@ fn begins(event: u64, begin: u64) -> Edit<'static> {
     )
 }
 
+/// Another beginning and another end.
+fn moves(event: u64, begin: u64, end: u64) -> Edit<'static> {
+    Edit::Amend(
+        id(event),
+        Change {
+            value: None,
+            begin: Some(Moment(begin)),
+            end: Some(Some(Moment(end))),
+            lent: Lent::Amendment(b"amended"),
+        },
+    )
+}
+
+/// Another value.
+fn revalues(event: u64, value: i64) -> Edit<'static> {
+    Edit::Amend(
+        id(event),
+        Change {
+            value: Some(Value::Int(value)),
+            begin: None,
+            end: None,
+            lent: Lent::Amendment(b"amended"),
+        },
+    )
+}
+
 fn reopens(event: u64) -> Edit<'static> {
     Edit::Amend(
         id(event),
@@ -540,7 +566,7 @@ impl Dice {
         let begin = self.roll() % 64;
         let end = begin + 1 + self.roll() % 12;
         let value = self.value();
-        match self.roll() % 9 {
+        match self.roll() % 11 {
             0 => invoke(event, 1, read(), begin),
             1 => invoke(event, 0, write(value), begin),
             2 => whole(event, 1, Act::Read(Value::Int(value)), begin, end),
@@ -549,6 +575,8 @@ impl Dice {
             5 => returned(event, value, end),
             6 => begins(event, begin),
             7 => reopens(event),
+            8 => moves(event, begin, end),
+            9 => revalues(event, value),
             _ => withdraw(event),
         }
     }
@@ -620,6 +648,85 @@ fn judged_anew<R: AllocGlobal + Abort>(
         }
     }
     Ok((accepted, turns))
+}
+
+/// Each edit of a register is accepted and leaves the fault that is given, and so does the list judged
+/// anew.
+fn leaves<R: AllocGlobal + Abort>(
+    rt: &R,
+    kind: Kind,
+    cases: &[(Edit<'static>, Option<Fault>)],
+) -> Result<(), Memory> {
+    let claim = claim(rt, kind, Value::Int(0), &[0, 1, 2])?;
+    let mut register = book(rt, kind, Value::Int(0), &[0, 1, 2])?;
+    let mut ops = Vec::new(rt.alloc());
+    for (edit, fault) in cases {
+        let holds = fault.is_none();
+        assert_eq!(rt; register.apply(*edit)?, Reply::Accepted { holds });
+        ops = list_after(rt, ops.as_slice(), edit)?;
+        ends(rt, &register, ops.len(), *fault);
+        assert_eq!(rt; fault_anew(rt, &claim, ops.as_slice())?, *fault);
+    }
+    Ok(())
+}
+
+/// Two reads of values that nothing wrote, and the fault of the first.
+fn two_wrong_reads() -> [(Edit<'static>, Option<Fault>); 2] {
+    [
+        (
+            whole(4, 2, Act::Read(Value::Int(2)), 40, 49),
+            Some(Fault::Wrong(id(4))),
+        ),
+        (
+            whole(2, 1, Act::Read(Value::Int(1)), 20, 29),
+            Some(Fault::Wrong(id(2))),
+        ),
+    ]
+}
+
+#[test]
+fn an_edit_of_a_write_mends_faults_and_makes_them(rt: HostRuntime) -> Result<(), Fail> {
+    let [first, second] = two_wrong_reads();
+    let cases = [
+        first,
+        second,
+        // The write begins after the first fault has ended.
+        (whole(3, 0, write(2), 30, 35), Some(Fault::Wrong(id(2)))),
+        (whole(1, 0, write(1), 10, 15), None),
+        (withdraw(3), Some(Fault::Wrong(id(4)))),
+        (withdraw(1), Some(Fault::Wrong(id(2)))),
+        (whole(5, 0, write(0), 50, 55), Some(Fault::Wrong(id(2)))),
+        (withdraw(5), Some(Fault::Wrong(id(2)))),
+        // It overlaps both reads, then precedes the second one.
+        (invoke(6, 0, write(1), 25), Some(Fault::Wrong(id(4)))),
+        (written(6, 35), Some(Fault::Wrong(id(4)))),
+        (revalues(6, 2), Some(Fault::Wrong(id(2)))),
+        (withdraw(2), None),
+        (withdraw(6), Some(Fault::Wrong(id(4)))),
+    ];
+    leaves(&rt, Kind::Regular, &cases)?;
+    Ok(())
+}
+
+#[test]
+fn a_write_is_moved_before_reads_and_behind_them(rt: HostRuntime) -> Result<(), Fail> {
+    let [first, second] = two_wrong_reads();
+    let cases = [
+        first,
+        second,
+        (whole(1, 0, write(1), 10, 15), Some(Fault::Wrong(id(4)))),
+        (moves(1, 50, 55), Some(Fault::Wrong(id(2)))),
+        (moves(1, 60, 65), Some(Fault::Wrong(id(2)))),
+        (moves(1, 21, 22), Some(Fault::Wrong(id(4)))),
+        (whole(3, 0, write(2), 50, 51), Some(Fault::Wrong(id(4)))),
+        (begins(3, 48), None),
+        (begins(1, 5), None),
+        (moves(3, 1, 2), Some(Fault::Wrong(id(4)))),
+        (moves(3, 30, 31), None),
+        (moves(1, 32, 33), Some(Fault::Wrong(id(2)))),
+    ];
+    leaves(&rt, Kind::Regular, &cases)?;
+    Ok(())
 }
 
 #[test]

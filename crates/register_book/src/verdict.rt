@@ -1,20 +1,20 @@
-//! The wrong read that ended first, and what an edit of a read makes of it.
+//! The wrong read that ended first, and what an edit makes of it.
 
 ghost use Rattle.std.specs.Prelude.{◌≡◌, ◌&&◌, false, nat_lt};
 ghost use Rattle.std.specs.List.{list_any};
-ghost use Rattle.intervals.specs.Operation.{writes, same_id};
+ghost use Rattle.intervals.specs.Operation.{writes};
+ghost use Rattle.intervals.specs.Least.{less_of, least_by};
 ghost use Rattle.intervals.specs.Judging.{first_wrong as first_wrong_of, end_number};
-ghost use Rattle.register_book.specs.Ids.{HasDistinctIds};
-ghost use Rattle.register_book.specs.Verdict.{id_of as edited_id, is_write_of as write_of, is_on_write as on_write, has_id as with_id, first_wrong_beside, wrong_of as wrong_one};
+ghost use Rattle.register_book.specs.Touch.{is_touched as touched, passes};
+ghost use Rattle.register_book.specs.Verdict.{is_write_of as write_of, is_on_write as on_write, is_wrong_touched, first_wrong_untouched};
 
-use intervals::laws::{
-    first_wrong_read_ended_first, none_wrong_without_a_first, writes_alone_decide,
-};
-use intervals::{Edit, Op, OpBook, OpId};
+use crate::touch::{Touch, is_id};
+use intervals::laws::writes_alone_decide;
+use intervals::{Edit, Op, OpId};
 use safe_regular::SingleWriterJudge;
 
 /// The first wrong read to end, where the judge holds the writes.
-pub fn first_wrong<'t>(judge: &SingleWriterJudge, ops: &[Op<'t>]) -> Option<Op<'t>>
+fn first_wrong<'t>(judge: &SingleWriterJudge, ops: &[Op<'t>]) -> Option<Op<'t>>
     requires { judge.now.ops ≡ writes ops.now }
     ensures { result ≡ first_wrong_of judge.now.claim ops.now }
 {
@@ -22,25 +22,23 @@ pub fn first_wrong<'t>(judge: &SingleWriterJudge, ops: &[Op<'t>]) -> Option<Op<'
     judge.first_wrong_among(ops)
 }
 
-/// The first wrong read to end, after an edit of the read of that id: no other read is judged anew,
-/// unless the edited one was the first before, or two ended at one moment.
+/// The first wrong read to end, after an edit: no read that it does not touch is judged anew, unless
+/// it touches the one that was the first before, or two ended at one moment.
 pub fn first_wrong_after<'t>(
     judge: &SingleWriterJudge,
-    ops: &OpBook<'t>,
+    ops: &[Op<'t>],
     before: Option<Op<'t>>,
-    id: OpId,
+    touch: &Touch,
 ) -> Option<Op<'t>>
     requires writes { judge.now.ops ≡ writes ops.now }
-    requires ids { HasDistinctIds ops.now }
-    requires others { with_id before id ≡ false → before ≡ first_wrong_beside judge.now.claim ops.now id }
+    requires others { passes (touched touch.now) before ≡ false → before ≡ first_wrong_untouched judge.now.claim ops.now touch.now }
     ensures { result ≡ first_wrong_of judge.now.claim ops.now }
 {
-    first_wrong_read_ended_first();
-    none_wrong_without_a_first();
-    if has_id(&before, id) {
-        return first_wrong(judge, ops.operations());
+    writes_alone_decide();
+    if is_touched(touch, &before) {
+        return first_wrong(judge, ops);
     }
-    let Some(read) = wrong_of(judge, ops, id) else {
+    let Some(read) = first_wrong_touched(judge, ops, touch) else {
         return before;
     };
     let Some(first) = before else {
@@ -51,32 +49,50 @@ pub fn first_wrong_after<'t>(
     } else if ended_before(&first, &read) {
         Some(first)
     } else {
-        first_wrong(judge, ops.operations())
+        first_wrong(judge, ops)
     }
 }
 
-/// The operation of that id, where it is a wrong read.
-fn wrong_of<'t>(judge: &SingleWriterJudge, ops: &OpBook<'t>, id: OpId) -> Option<Op<'t>>
-    requires { judge.now.ops ≡ writes ops.now }
-    ensures { result ≡ wrong_one judge.now.claim ops.now id }
-{
-    writes_alone_decide();
-    let op = ops.get(id)?;
-    if judge.is_wrong(op) { Some(*op) } else { None }
-}
-
-fn is_id(op: &Op, id: OpId) -> bool
-    ensures { result ≡ same_id op.now.id id }
-{
-    op.id == id
-}
-
-fn has_id(op: &Option<Op>, id: OpId) -> bool
-    ensures { result ≡ with_id op.now id }
+fn is_touched(touch: &Touch, op: &Option<Op>) -> bool
+    ensures { result ≡ passes (touched touch.now) op.now }
 {
     match op {
-        Some(op) => is_id(op, id),
+        Some(op) => touch.touches(op),
         None => false,
+    }
+}
+
+/// The first wrong read to end of those that the edit touches.
+fn first_wrong_touched<'t>(
+    judge: &SingleWriterJudge,
+    ops: &[Op<'t>],
+    touch: &Touch,
+) -> Option<Op<'t>>
+    ensures { result ≡ least_by end_number (is_wrong_touched judge.now.claim judge.now.ops touch.now) ops.now }
+{
+    let mut found = None;
+    for op in ops {
+        found = first_of(judge, touch, found, op);
+    }
+    found
+}
+
+fn first_of<'t>(
+    judge: &SingleWriterJudge,
+    touch: &Touch,
+    found: Option<Op<'t>>,
+    op: &Op<'t>,
+) -> Option<Op<'t>>
+    ensures { result ≡ less_of end_number (is_wrong_touched judge.now.claim judge.now.ops touch.now) found.entry op.now }
+{
+    let is_first = match found {
+        Some(earlier) => ended_before(op, &earlier),
+        None => true,
+    };
+    if touch.touches(op) && judge.is_wrong(op) && is_first {
+        Some(*op)
+    } else {
+        found
     }
 }
 
@@ -92,17 +108,6 @@ fn end_of(op: &Op) -> u64
     match op.end {
         Some(end) => end.0,
         None => 0,
-    }
-}
-
-/// The id of the operation that the edit adds, changes or takes out.
-pub fn id_of(edit: &Edit) -> OpId
-    ensures { result ≡ edited_id edit.now }
-{
-    match edit {
-        Edit::Append(op) => op.id,
-        Edit::Amend(id, _) => *id,
-        Edit::Withdraw(id) => *id,
     }
 }
 
