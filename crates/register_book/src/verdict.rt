@@ -1,6 +1,6 @@
 //! The wrong read that ended first, and what an edit makes of it.
 
-ghost use Rattle.std.specs.Prelude.{◌≡◌, ◌&&◌, false, nat_lt};
+ghost use Rattle.std.specs.Prelude.{◌≡◌, false, nat_lt};
 ghost use Rattle.std.specs.List.{list_any};
 ghost use Rattle.intervals.specs.Operation.{writes};
 ghost use Rattle.intervals.specs.Least.{less_of, least_by};

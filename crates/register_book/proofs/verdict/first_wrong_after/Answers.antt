@@ -1,6 +1,5 @@
 use Rattle.std.proofs.Common.{◌≡◌, Some, None, true, false, nat_lt, rules, sym, ◌∙◌}
 use Rattle.std.proofs.lemmas.Bool.Decides.{Decides-ltb}
-use Rattle.intervals.specs.declared.operation.Op.{Op}
 use Rattle.intervals.specs.Least.{least_by}
 use Rattle.intervals.specs.Judging.{first_wrong, end_number}
 use Rattle.register_book.specs.Touch.{passes, is_touched}
