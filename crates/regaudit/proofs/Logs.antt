@@ -21,8 +21,8 @@ use Rattle.regaudit.specs.declared.outcome.Code.{Code}
 use Rattle.regaudit.specs.declared.outcome.Code.TheVariants.{Register}
 use Rattle.regaudit.specs.declared.outcome.Refused.{Refused}
 use Rattle.regaudit.specs.Steps.{Taken, gathered}
-use Rattle.regaudit.specs.Replay.{Asked, IsAnswer, reply_of, registers_after, refused_behind, refusals, asked_behind, questions}
-use Rattle.regaudit.specs.Log.{Shows, GoesOn, unwritten, edited_at}
+use Rattle.regaudit.specs.Replay.{Question, IsAnswer, reply_of, registers_after, refused_behind, refusals, question_behind, questions}
+use Rattle.regaudit.specs.Log.{Shows, GoesOn, unedited, edited_at}
 use Rattle.regaudit.proofs.Gathering.{gathered_push, nothing_more}
 use Rattle.regaudit.proofs.Registers.{none_yet, no_edit, an_edit}
 use Rattle.regaudit.proofs.Replays.{zip_push}
@@ -33,15 +33,15 @@ where_ok (Ok done) follows holds = follows holds
 where_ok (Err fault) follows holds = tt
 
 -- before the first step
-pub nothing_taken : (tower : Contents) (log : Log) → log.books.items ≡ map unwritten tower.registers → log.answers.items ≡ [] → log.refused.items ≡ [] → Shows tower [] log
+pub nothing_taken : (tower : Contents) (log : Log) → log.books.items ≡ map unedited tower.registers → log.answers.items ≡ [] → log.refused.items ≡ [] → Shows tower [] log
 nothing_taken tower log books answers refused = record {
   books = books ∙ sym (none_yet 0 tower.registers);
   answers = subst (AllZip IsAnswer []) (sym answers) tt;
   refused = refused;
 }
 
-no_question : (tower : Contents) (taken : List Taken) (one : Taken) (answers : List Answer) → asked_behind tower taken one ≡ None → AllZip IsAnswer (questions tower taken) answers → AllZip IsAnswer (questions tower (taken ++ one ∷ [])) answers
-no_question tower taken one answers none are = subst (λ (asked : List Asked). AllZip IsAnswer asked answers) (sym (nothing_more (asked_behind tower) taken one none)) are
+no_question : (tower : Contents) (taken : List Taken) (one : Taken) (answers : List Answer) → question_behind tower taken one ≡ None → AllZip IsAnswer (questions tower taken) answers → AllZip IsAnswer (questions tower (taken ++ one ∷ [])) answers
+no_question tower taken one answers none are = subst (λ (asked : List Question). AllZip IsAnswer asked answers) (sym (nothing_more (question_behind tower) taken one none)) are
 
 refusals_on : (tower : Contents) (taken : List Taken) (one : Taken) (refused : Option Refused) → refused_behind tower taken one ≡ refused → refusals tower (taken ++ one ∷ []) ≡ refusals tower taken ++ option_to_list refused
 refusals_on tower taken one refused is = gathered_push (refused_behind tower) taken one ∙ ap (λ (o : Option Refused). refusals tower taken ++ option_to_list o) is
@@ -98,15 +98,15 @@ pub asked_on : (old : Log) (answers : Vec Answer Global) (place : ℕ) (register
     → GoesOn old (record old { answers = answers }) place (Ok (Some (steps.Ask register)))
 asked_on old answers place register held answer there pushed is tower taken shows =
     let one : Taken = record { place = place; step = Ok (Some (steps.Ask register)) } in
-    let question : Asked = record { place = place; register = register; held = held } in
+    let question : Question = record { place = place; register = register; held = held } in
     let found : slice_get (registers_after tower taken) register.0 ≡ Some held =
     ap (λ (all : List Claimed). slice_get all register.0) (sym shows.books) ∙ there in
     let asked : questions tower (taken ++ one ∷ []) ≡ questions tower taken ++ question ∷ [] =
-    gathered_push (asked_behind tower) taken one
+    gathered_push (question_behind tower) taken one
     ∙ ap (λ (o : Option Claimed). questions tower taken ++ option_to_list (option_map (λ (h : Claimed). record { place = place; register = register; held = h }) o)) found in
     record {
       books = shows.books ∙ sym (no_edit tower taken one (λ n. refl));
-      answers = subst (λ (all : List Asked). AllZip IsAnswer all answers.items) (sym asked)
+      answers = subst (λ (all : List Question). AllZip IsAnswer all answers.items) (sym asked)
           (subst (AllZip IsAnswer (questions tower taken ++ question ∷ [])) (sym pushed)
           (zip_push IsAnswer (questions tower taken) old.answers.items question answer shows.answers is));
       refused = shows.refused ∙ sym (nothing_more (refused_behind tower) taken one refl);
@@ -131,20 +131,20 @@ not_atomic (first ∷ registers) zero none = none 0 first (omega arith)
 not_atomic (first ∷ registers) (suc n) none = not_atomic registers n (λ i d within. none (suc i) d (omega (arith, within)))
 
 abbrev book_at : List Said → ℕ → List Claimed
-book_at registers n = option_map_or (λ (register : Said). unwritten register ∷ []) (slice_get registers n) []
+book_at registers n = option_map_or (λ (register : Said). unedited register ∷ []) (slice_get registers n) []
 
-opened_from : (registers : List Said) (n : ℕ) → n < length registers → book_at registers n ++ drop (suc n) (map unwritten registers) ≡ drop n (map unwritten registers)
+opened_from : (registers : List Said) (n : ℕ) → n < length registers → book_at registers n ++ drop (suc n) (map unedited registers) ≡ drop n (map unedited registers)
 opened_from [] n within = absurd (omega arith)
 opened_from (register ∷ registers) zero within = refl
 opened_from (register ∷ registers) (suc n) within = opened_from registers n (omega arith)
 
 -- the books so far and those that are left are the tower's
-pub opened_on : (registers : List Said) (n : ℕ) (old new : List Claimed) → n < length registers → new ≡ old ++ book_at registers n → old ++ drop n (map unwritten registers) ≡ map unwritten registers → new ++ drop (n + 1) (map unwritten registers) ≡ map unwritten registers
+pub opened_on : (registers : List Said) (n : ℕ) (old new : List Claimed) → n < length registers → new ≡ old ++ book_at registers n → old ++ drop n (map unedited registers) ≡ map unedited registers → new ++ drop (n + 1) (map unedited registers) ≡ map unedited registers
 opened_on registers n old new within is so_far =
     let next : n + 1 ≡ suc n = omega arith in
-    subst (λ (k : ℕ). new ++ drop k (map unwritten registers) ≡ map unwritten registers) (sym next)
-    (ap (λ (books : List Claimed). books ++ drop (suc n) (map unwritten registers)) is
-    ∙ append_assoc old (book_at registers n) (drop (suc n) (map unwritten registers))
+    subst (λ (k : ℕ). new ++ drop k (map unedited registers) ≡ map unedited registers) (sym next)
+    (ap (λ (books : List Claimed). books ++ drop (suc n) (map unedited registers)) is
+    ∙ append_assoc old (book_at registers n) (drop (suc n) (map unedited registers))
     ∙ ap (λ (left : List Claimed). old ++ left) (opened_from registers n within)
     ∙ so_far)
 

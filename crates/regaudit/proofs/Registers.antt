@@ -12,13 +12,13 @@ use Rattle.tower_file.specs.Contents.{Contents, Register as Said}
 use Rattle.pairing.specs.declared.step.Step.TheVariants as steps
 use Rattle.regaudit.specs.Steps.{Taken}
 use Rattle.regaudit.specs.Replay.{edit_to, edits_to, held_after, held_from, registers_after}
-use Rattle.regaudit.specs.Log.{unwritten, edited, with_held, edited_at}
+use Rattle.regaudit.specs.Log.{unedited, changed_by, with_held, edited_at}
 use Rattle.regaudit.proofs.Gathering.{stands_still, goes_on_by}
 
 -- before any step
-pub none_yet : (number : ℕ) (registers : List Said) → held_from [] number registers ≡ map unwritten registers
+pub none_yet : (number : ℕ) (registers : List Said) → held_from [] number registers ≡ map unedited registers
 none_yet number [] = refl
-none_yet number (register ∷ registers) = ap (λ (rest : List Claimed). unwritten register ∷ rest) (none_yet (number + 1) registers)
+none_yet number (register ∷ registers) = ap (λ (rest : List Claimed). unedited register ∷ rest) (none_yet (number + 1) registers)
 
 -- a step that is no edit of a register
 still : (taken : List Taken) (one : Taken) (number : ℕ) (register : Said) → edit_to number one.step ≡ None → held_after (taken ++ one ∷ []) number register ≡ held_after taken number register
@@ -60,7 +60,7 @@ behind_it taken place register edit number (first ∷ registers) behind =
     ∙ ap (λ (rest : List Claimed). held_after taken number first ∷ rest) (behind_it taken place register edit (number + 1) registers (omega (arith, behind)))
 
 -- an edit behind the first register
-edited_behind : (found : Option Claimed) (n : ℕ) (edit : Edit) (first : Claimed) (rest : List Claimed) → with_held (suc n) (option_map (edited edit) found) (first ∷ rest) ≡ first ∷ with_held n (option_map (edited edit) found) rest
+edited_behind : (found : Option Claimed) (n : ℕ) (edit : Edit) (first : Claimed) (rest : List Claimed) → with_held (suc n) (option_map (changed_by edit) found) (first ∷ rest) ≡ first ∷ with_held n (option_map (changed_by edit) found) rest
 edited_behind None n edit first rest = refl
 edited_behind (Some held) n edit first rest = refl
 
@@ -69,7 +69,7 @@ from_it taken place register edit n number [] is = refl
 from_it taken place register edit zero number (first ∷ registers) is =
     ap (λ (held : Claimed). held ∷ held_from (taken ++ edit_of place register edit ∷ []) (number + 1) registers)
     (ap (λ (ops : List Op). record { claim = first.claim; ops = ops }) (goes_on_by first.claim number taken (edit_of place register edit) edit (to_it place register edit number (omega (arith, is)))))
-    ∙ ap (λ (rest : List Claimed). edited edit (held_after taken number first) ∷ rest) (behind_it taken place register edit (number + 1) registers (omega (arith, is)))
+    ∙ ap (λ (rest : List Claimed). changed_by edit (held_after taken number first) ∷ rest) (behind_it taken place register edit (number + 1) registers (omega (arith, is)))
 from_it taken place register edit (suc n) number (first ∷ registers) is =
     ap (λ (held : Claimed). held ∷ held_from (taken ++ edit_of place register edit ∷ []) (number + 1) registers)
     (still taken (edit_of place register edit) number first (to_another place register edit number (λ same. omega (arith, is, same))))

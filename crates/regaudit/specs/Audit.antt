@@ -2,6 +2,7 @@
 use Rattle.std.specs.Prelude.{◌≡◌, ◌≢◌, ◌↔◌, ℕ, pos, Bool, List, [], ◌∷◌, ◌++◌, length, Option, Some, None, Result, IsTrue, codes, if◌then◌else◌}
 use Rattle.std.specs.Fmt.{decimal}
 use Rattle.std.specs.Io.KnownBytes.{Appends}
+use Rattle.edn_reader.specs.declared.fault.EdnFault.{EdnFault}
 use Rattle.intervals.specs.declared.claim.Kind.TheVariants.{Safe}
 use Rattle.intervals.specs.declared.operation.Op.{Op}
 use Rattle.intervals.specs.declared.operation.Value.TheVariants.{Int}
@@ -43,20 +44,22 @@ abbrev pub verdict_word : Bool → List ℕ
 verdict_word holds = if holds then codes "holds" else codes "fails"
 
 -- the line of the register, with its line end
-abbrev pub register_line : Bool → ℕ → List ℕ
-register_line holds operations = codes "register r safe " ++ verdict_word holds ++ codes " " ++ decimal operations ++ 10 ∷ []
+abbrev pub verdict_line : Bool → ℕ → List ℕ
+verdict_line holds operations = codes "register r safe " ++ verdict_word holds ++ codes " " ++ decimal operations ++ 10 ∷ []
 
--- 1 where the register fails, else 3 where an element was refused, else 0
-abbrev pub status_of : Bool → Bool → ℕ
-status_of holds refused = if holds then (if refused then 3 else 0) else 1
+-- 2 where the trace broke, else 1 where the register fails, else 3 where an element was refused, else 0
+abbrev pub status_of : Option EdnFault → Bool → Bool → ℕ
+status_of (Some fault) holds refused = 2
+status_of None holds refused = if holds then (if refused then 3 else 0) else 1
 
--- an input that is a text was audited: the line was written, and the status says what it says
+-- an input was audited up to its end or its first fault: the line was written, and the status says what it says
 pub record IsAudited (input : List ℕ) (status : ℕ) (old new : Option (List ℕ)) : Type 0 where
+  pub broken : Option EdnFault
   pub items : List (Result Item FormFault)
-  pub are : AreItems safe_tower Index input None items
+  pub are : AreItems safe_tower Index input broken items
   pub holds : Bool
   pub refused : Bool
   pub operations : ℕ
   pub verdict : IsVerdict items holds refused operations
-  pub written : Appends old new (register_line holds operations)
-  pub status_is : status ≡ status_of holds refused
+  pub written : Appends old new (verdict_line holds operations)
+  pub status_is : status ≡ status_of broken holds refused

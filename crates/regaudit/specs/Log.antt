@@ -22,12 +22,12 @@ abbrev pub GoesOn : Log → Log → ℕ → Result (Option Step) Code → Type 0
 GoesOn old new place step = (tower : Contents) (taken : List Taken) → Shows tower taken old → Shows tower (taken ++ record { place = place; step = step } ∷ []) new
 
 -- a register of a tower before any edit
-abbrev pub unwritten : Said → Claimed
-unwritten register = record { claim = register.claim; ops = [] }
+abbrev pub unedited : Said → Claimed
+unedited register = record { claim = register.claim; ops = [] }
 
 -- a register after one edit
-abbrev pub edited : Edit → Claimed → Claimed
-edited edit held = record held { ops = after_edit held.claim held.ops edit }
+abbrev pub changed_by : Edit → Claimed → Claimed
+changed_by edit held = record held { ops = after_edit held.claim held.ops edit }
 
 -- the registers with one of them replaced, where it is there
 abbrev pub with_held : ℕ → Option Claimed → List Claimed → List Claimed
@@ -36,4 +36,4 @@ with_held number (Some held) registers = slice_set registers number held
 
 -- the registers after an edit of the one of this number
 abbrev pub edited_at : ℕ → Edit → List Claimed → List Claimed
-edited_at number edit registers = with_held number (option_map (edited edit) (slice_get registers number)) registers
+edited_at number edit registers = with_held number (option_map (changed_by edit) (slice_get registers number)) registers

@@ -65,28 +65,28 @@ abbrev pub refusals : Contents → List Taken → List Refused
 refusals tower taken = gathered (refused_behind tower) taken
 
 -- a question of a trace: its place, its register, and what that register claims and what stands of it then
-pub record Asked : Type 0 where
+pub record Question : Type 0 where
   pub place : ℕ
   pub register : RegId
   pub held : Claimed
 
 -- the register that a step behind these asks for, as it stands
-abbrev pub asked_of : Contents → List Taken → ℕ → Result (Option Step) Code → Option Asked
-asked_of tower before place (Err code) = None
-asked_of tower before place (Ok None) = None
-asked_of tower before place (Ok (Some (steps.Edit register edit))) = None
-asked_of tower before place (Ok (Some (steps.Ask register))) =
+abbrev pub question_of : Contents → List Taken → ℕ → Result (Option Step) Code → Option Question
+question_of tower before place (Err code) = None
+question_of tower before place (Ok None) = None
+question_of tower before place (Ok (Some (steps.Edit register edit))) = None
+question_of tower before place (Ok (Some (steps.Ask register))) =
     option_map (λ held. record { place = place; register = register; held = held }) (slice_get (registers_after tower before) register.0)
 
-abbrev pub asked_behind : Contents → List Taken → Taken → Option Asked
-asked_behind tower before one = asked_of tower before one.place one.step
+abbrev pub question_behind : Contents → List Taken → Taken → Option Question
+question_behind tower before one = question_of tower before one.place one.step
 
 -- the questions, in order
-abbrev pub questions : Contents → List Taken → List Asked
-questions tower taken = gathered (asked_behind tower) taken
+abbrev pub questions : Contents → List Taken → List Question
+questions tower taken = gathered (question_behind tower) taken
 
 -- the answer to a question: whether the register keeps its claim then, and how many operations stand
-pub record IsAnswer (asked : Asked) (answer : Answer) : Type 0 where
+pub record IsAnswer (asked : Question) (answer : Answer) : Type 0 where
   pub place : answer.place ≡ asked.place
   pub register : answer.register ≡ asked.register
   pub verdict : IsTrue answer.holds ↔ Holds asked.held.claim asked.held.ops

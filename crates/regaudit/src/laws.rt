@@ -7,7 +7,7 @@ ghost use Rattle.jepsen_form.specs.declared.fault.FormFault.{FormFault};
 ghost use Rattle.jepsen_form.specs.declared.item.Item.{Item};
 ghost use Rattle.regaudit.specs.declared.outcome.Refused.{Refused};
 ghost use Rattle.regaudit.specs.Steps.{Taken, steps_of};
-ghost use Rattle.regaudit.specs.Replay.{Asked, questions, refusals};
+ghost use Rattle.regaudit.specs.Replay.{Question, questions, refusals};
 ghost use Rattle.clap.specs.Words.{takes};
 ghost use Rattle.regaudit.specs.Words.{Safe, Tower, asked, command_line, is_plain};
 
@@ -17,7 +17,7 @@ pub fn what_follows_changes_nothing_before()
     ensures each { (items : List (Result Item FormFault)) → length (steps_of items) ≡ length items }
     ensures steps { (items more : List (Result Item FormFault)) → (rest : List Taken) × (steps_of (items ++ more) ≡ steps_of items ++ rest) }
     ensures refusals { (tower : Contents) (taken more : List Taken) → (rest : List Refused) × (refusals tower (taken ++ more) ≡ refusals tower taken ++ rest) }
-    ensures questions { (tower : Contents) (taken more : List Taken) → (rest : List Asked) × (questions tower (taken ++ more) ≡ questions tower taken ++ rest) }
+    ensures questions { (tower : Contents) (taken more : List Taken) → (rest : List Question) × (questions tower (taken ++ more) ≡ questions tower taken ++ rest) }
 {}
 
 /// What words ask for, whatever the program's name: the command is named behind it, and then its

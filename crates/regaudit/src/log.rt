@@ -6,7 +6,7 @@ ghost use Rattle.std.specs.List.{slice_get};
 ghost use Rattle.pairing.specs.declared.step.Step.TheVariants.{Edit as ToEdit, Ask};
 ghost use Rattle.regaudit.specs.Steps.{by_pairing};
 ghost use Rattle.regaudit.specs.Replay.{HasNoAtomic, IsAnswer, reply_of};
-ghost use Rattle.regaudit.specs.Log.{GoesOn, Shows, edited_at, unwritten};
+ghost use Rattle.regaudit.specs.Log.{GoesOn, Shows, edited_at, unedited};
 
 use crate::outcome::{Answer, Code, Refused};
 use intervals::{Edit, Kind, Memory, Refusal, RegId};
@@ -117,7 +117,7 @@ fn answer_by(book: &RegisterBook, place: u64, register: RegId) -> Answer
 /// A book of no operations for each register, by number.
 fn open_books<'t>(alloc: Global, tower: &Tower) -> Result<Vec<RegisterBook<'t>>, Memory>
     requires { HasNoAtomic tower.now }
-    ensures { IfOk result (λ books. books.items ≡ map unwritten tower.now.registers) }
+    ensures { IfOk result (λ books. books.items ≡ map unedited tower.now.registers) }
 {
     let mut books = Vec::new(alloc);
     for number in 0..tower.len() {
@@ -134,7 +134,7 @@ fn open_book<'t>(
     books: &mut Vec<RegisterBook<'t>>,
 ) -> Result<(), Memory>
     requires { IfSome (slice_get tower.now.registers id.0) (λ register. register.claim.kind ≢ Kind.Atomic) }
-    ensures { OnOk result (books.new.items ≡ books.old.items ++ option_map_or (λ register. unwritten register ∷ []) (slice_get tower.now.registers id.0) []) }
+    ensures { OnOk result (books.new.items ≡ books.old.items ++ option_map_or (λ register. unedited register ∷ []) (slice_get tower.now.registers id.0) []) }
 {
     let Some(claim) = tower.claim(id) else {
         return Ok(());

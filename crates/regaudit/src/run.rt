@@ -1,8 +1,8 @@
 //! The program's commands, over files, an input and two outputs.
 
-ghost use Rattle.std.specs.Prelude.{◌≡◌, ◌≢◌, OnOk, IfOk, IfSome, MatchOption, MatchResult, Some, None, map};
+ghost use Rattle.std.specs.Prelude.{◌≡◌, ◌≢◌, OnOk, IfOk, IfSome, MatchResult, Some, None, map};
 ghost use Rattle.std.specs.Io.KnownBytes.{Appends, Keeps};
-ghost use Rattle.regaudit.specs.Audit.{IsAudited, register_line, status_of};
+ghost use Rattle.regaudit.specs.Audit.{IsAudited, verdict_line, status_of};
 ghost use Rattle.regaudit.specs.Words.{Safe, asked, asked_of};
 ghost use Rattle.regaudit.specs.Run.{IsListed, IsCarriedOut, IsDone};
 
@@ -75,7 +75,7 @@ fn run_words<'a, A: AllocGlobal, S: AsStr, F: Files, R: Read, W: Write>(
     input: &mut R,
     out: &mut W,
 ) -> Result<u8, RunFault<'a>>
-    ensures done { IfOk result (λ status. status ≢ BROKEN → IsDone (map S.text words.entry.now) (F.held files.old) (R.remaining input.old) status (W.contents out.old) (W.contents out.new)) }
+    ensures done { IfOk result (λ status. IsDone (map S.text words.entry.now) (F.held files.old) (R.remaining input.old) status (W.contents out.old) (W.contents out.new)) }
     ensures input { asked (map S.text words.entry.now) ≢ Some (Safe None) → input.new ≡ input.old }
 {
     match read_words(rt.alloc(), words) {
@@ -91,7 +91,7 @@ fn carry_out<'a, A: AllocGlobal, F: Files, R: Read, W: Write>(
     input: &mut R,
     out: &mut W,
 ) -> Result<u8, RunFault<'a>>
-    ensures done { IfOk result (λ status. status ≢ BROKEN → IsCarriedOut (asked_of command.entry) (F.held files.old) (R.remaining input.old) status (W.contents out.old) (W.contents out.new)) }
+    ensures done { IfOk result (λ status. IsCarriedOut (asked_of command.entry) (F.held files.old) (R.remaining input.old) status (W.contents out.old) (W.contents out.new)) }
     ensures input { asked_of command.entry ≢ Safe None → input.new ≡ input.old }
 {
     match command {
@@ -114,7 +114,7 @@ fn judge<'a, A: AllocGlobal, R: Read, W: Write>(
     input: &mut R,
     out: &mut W,
 ) -> Result<u8, RunFault<'a>>
-    ensures { IfOk result (λ status. status ≢ BROKEN → IfSome (R.remaining input.old) (λ bytes. IsAudited bytes status (W.contents out.old) (W.contents out.new))) }
+    ensures { IfOk result (λ status. IfSome (R.remaining input.old) (λ bytes. IsAudited bytes status (W.contents out.old) (W.contents out.new))) }
 {
     let bytes = match read_whole(rt.alloc(), input) {
         Ok(bytes) => bytes,
@@ -151,7 +151,7 @@ fn list<'a, A: AllocGlobal, R: Read, W: Write>(
 }
 
 fn status(audit: &Audit) -> u8
-    ensures { MatchOption audit.now.broken (result ≡ status_of audit.now.holds audit.now.refused) (λ fault. result ≡ BROKEN) }
+    ensures { result ≡ status_of audit.now.broken audit.now.holds audit.now.refused }
 {
     if audit.broken.is_some() {
         BROKEN
@@ -165,7 +165,7 @@ fn status(audit: &Audit) -> u8
 }
 
 fn write_line<W: Write>(out: &mut W, holds: bool, operations: usize) -> io::Result<()>
-    ensures { OnOk result (Appends (W.contents out.old) (W.contents out.new) (register_line holds operations)) }
+    ensures { OnOk result (Appends (W.contents out.old) (W.contents out.new) (verdict_line holds operations)) }
 {
     let verdict = if holds { "holds" } else { "fails" };
     writeln!(out, "register r safe {verdict} {operations}")?;

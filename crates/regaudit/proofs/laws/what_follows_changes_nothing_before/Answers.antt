@@ -1,5 +1,5 @@
 use Rattle.regaudit.specs.Steps.{taken_behind}
-use Rattle.regaudit.specs.Replay.{refused_behind, asked_behind}
+use Rattle.regaudit.specs.Replay.{refused_behind, question_behind}
 use Rattle.regaudit.proofs.Gathering.{one_step_each, stays_in_front}
 use Rattle.regaudit.proofs.laws.what_follows_changes_nothing_before.Goals as goal
 
@@ -13,4 +13,4 @@ pub returns-clause-refusals : goal.returns-clause-refusals
 returns-clause-refusals c tower taken more = (_, stays_in_front (refused_behind tower) taken more)
 
 pub returns-clause-questions : goal.returns-clause-questions
-returns-clause-questions c tower taken more = (_, stays_in_front (asked_behind tower) taken more)
+returns-clause-questions c tower taken more = (_, stays_in_front (question_behind tower) taken more)
