@@ -10,8 +10,8 @@ use Rattle.edn_reader.specs.declared.token.Token.TheVariants.{Opens}
 use Rattle.edn_reader.specs.declared.token.Opener.{Opener}
 use Rattle.edn_reader.specs.declared.token.Opener.TheVariants as openers
 use Rattle.edn_reader.specs.Grammar.{Piece, IsToken, IsGap, nothing, discarded, IsElementAt, tagged, IsElements, waits}
-use Rattle.edn_reader.specs.Text.{IsText, StandsOpen, outermost, within, waiting}
-use Rattle.edn_reader.specs.Taking.{Taken, on, ends, fails, one_more, is_tag, behind_tag, completed, piece_in}
+use Rattle.edn_reader.specs.Text.{IsText, StandsOpen, outermost, opened}
+use Rattle.edn_reader.specs.Taking.{Taken, on, ends, fails, with_one, is_tag, behind_tag, completed, piece_in}
 use Rattle.edn_reader.proofs.Places.{moved_element, moved_elements, moved_stands, core_within}
 use Rattle.edn_reader.proofs.Steps.{stands_gap, stands_inside, stands_outermost, Waited, stands_waited}
 use Rattle.edn_reader.proofs.Runs.{goes, settled, settles}
@@ -38,8 +38,7 @@ stands_end {q = q} {input = input} {rest = rest} s =
 
 pub stands_room : {q : ℕ} {pieces : List Piece} (opens : List Open) {input rest : List ℕ} → StandsOpen input pieces opens q rest → length opens ≤ 64
 stands_room [] s = omega arith
-stands_room (item ∷ opens) (within s token bracket full els gap) = omega (arith, full)
-stands_room (item ∷ opens) (waiting s token bracket full gap) = omega (arith, full)
+stands_room (item ∷ opens) (opened s token full inside) = omega (arith, full)
 
 pub stands_text : {p : ℕ} {pieces : List Piece} {input : List ℕ} → StandsOpen input pieces [] p [] → IsText input pieces
 stands_text {p} {pieces} {input} (outermost {place = at} els gap) =
@@ -134,7 +133,7 @@ stands_completed {input} {b} {pieces} [] span a stands element =
           (stands_outermost span.kind span.core t.bytes stands el t.whole),
     )
 stands_completed {input} {b} {pieces} (item ∷ opens) span a stands element =
-    completed_by input pieces span.end b (is_tag item.opener) (waits item.opener) (completed (behind_tag item span) opens) opens (one_more item ∷ opens)
+    completed_by input pieces span.end b (is_tag item.opener) (waits item.opener) (completed (behind_tag item span) opens) opens (with_one item ∷ opens)
     (λ t. let w = tag_waits item.opener t in let s = stands_waited w stands in
     stands_completed opens (behind_tag item span) s.bytes s.before (tag_over span.start w (is_the_tag item.opener t) s element))
     (λ t w. discard_over span.start w (is_the_discard item.opener t w) stands element)

@@ -11,3 +11,4 @@ pub mod Reading
 pub mod Skipping
 pub mod Views
 pub mod Integers
+pub mod Lent

@@ -8,7 +8,7 @@ use Rattle.edn_reader.specs.declared.token.Token.{Token}
 use Rattle.edn_reader.specs.declared.token.Token.TheVariants.{Gap, Leaf, Opens, Closes, Unfinished}
 use Rattle.edn_reader.specs.Bytes.{is_run, is_in_comment, Ends}
 use Rattle.edn_reader.specs.Grammar.{Piece, IsStretch, ended, more, IsQuoted, closing, taken, other, IsTag, IsToken, white, comment, run, hashed, character, text, hash_text, opening, set, discard, tag, close, IsGap, nothing, skipped, discarded, IsElementAt, leaf, bracketed, tagged, IsElements, none, next}
-use Rattle.edn_reader.specs.Text.{StandsOpen, outermost, within, waiting}
+use Rattle.edn_reader.specs.Text.{within, waiting, StandsOpen, outermost, opened}
 
 -- What the one list goes on with, the other goes on with too: a run, a comment, or neither; and a # makes a tag before both.
 abbrev pub Follows : List ℕ → List ℕ → Type 0
@@ -206,17 +206,17 @@ moved_stands (outermost els gap) e f =
     let g = moved_gap gap e f in
     let m = moved_elements els g.0 (follows_before g.2 f) in
     (m.0, outermost m.1 g.1, replaced_then m.2 g.2)
-moved_stands (within stands token bracket room els gap) e f =
+moved_stands (opened stands token room (within bracket els gap)) e f =
     let g = moved_gap gap e f in
     let m = moved_elements els g.0 (follows_before g.2 f) in
     let t = moved_token token m.0 (follows_before m.2 (follows_before g.2 f)) in
     let s = moved_stands stands t.bytes t.begins in
-    (s.0, within s.1 t.token bracket room m.1 g.1, replaced_then s.2 (replaced_then t.place (replaced_then m.2 g.2)))
-moved_stands (waiting stands token bracket room gap) e f =
+    (s.0, opened s.1 t.token room (within bracket m.1 g.1), replaced_then s.2 (replaced_then t.place (replaced_then m.2 g.2)))
+moved_stands (opened stands token room (waiting bracket gap)) e f =
     let g = moved_gap gap e f in
     let t = moved_token token g.0 (follows_before g.2 f) in
     let s = moved_stands stands t.bytes t.begins in
-    (s.0, waiting s.1 t.token bracket room g.1, replaced_then s.2 (replaced_then t.place g.2))
+    (s.0, opened s.1 t.token room (waiting bracket g.1), replaced_then s.2 (replaced_then t.place g.2))
 
 -- ---- room
 

@@ -4,7 +4,7 @@ use Rattle.std.proofs.lemmas.Bool.Decides.{nat_tests}
 use Rattle.std.proofs.Math.ListN.{drop_of_length-le}
 use Rattle.edn_reader.specs.declared.bytes.ByteClass.TheVariants.{Plain, Hash, Quote, Opens, Closes}
 use Rattle.edn_reader.specs.declared.bytes.Bracket.{Bracket}
-use Rattle.edn_reader.specs.declared.bytes.Bracket.TheVariants.{Round, Square, Curly}
+use Rattle.edn_reader.specs.declared.bytes.Bracket.TheVariants.{Curly}
 use Rattle.edn_reader.specs.declared.fault.EdnFault.{EdnFault}
 use Rattle.edn_reader.specs.declared.fault.EdnFault.TheVariants as faults
 use Rattle.edn_reader.specs.declared.nesting.Open.{Open}
@@ -17,9 +17,9 @@ use Rattle.edn_reader.specs.declared.token.Opener.TheVariants as openers
 use Rattle.edn_reader.specs.Bytes.{class_of}
 use Rattle.edn_reader.specs.Grammar.{Piece, IsToken, opening, set, discard, tag, close, nothing, skipped, IsElementAt, leaf, IsElements, none, waits, fits, is_paired, kind_of}
 use Rattle.edn_reader.specs.Text.{IsFront, IsText, StandsOpen, outermost}
-use Rattle.edn_reader.specs.Fault.{Refuses, too_deep, too_deep_hash, stray_close, wrong_close, no_element, odd_map, FaultOf, IsMemory, AreElementsBefore, innermost}
+use Rattle.edn_reader.specs.Fault.{by_bracket, by_hash, Refuses, too_deep, closing, FaultOf, IsMemory, CanWantMemory, MemoryOnlyThere, AreElementsBefore, innermost}
 use Rattle.edn_reader.specs.Token.{found_at, lexed}
-use Rattle.edn_reader.specs.Taking.{Taken, on, ends, fails, one_more, is_tag, behind_tag, completed, EndsOne, plain_span, fault_before, closed, taken, piece_in, Reads}
+use Rattle.edn_reader.specs.Taking.{Taken, on, ends, fails, with_one, is_tag, behind_tag, completed, EndsOne, plain_span, fault_before, closed, taken, GrowthRefused, piece_in, Reads}
 use Rattle.edn_reader.proofs.Lexing.{token_lexed, lexed_some, unfinished_long, finishing}
 use Rattle.edn_reader.proofs.Places.{moved_elements}
 use Rattle.edn_reader.proofs.Steps.{stands_gap, stands_opened, stands_closed}
@@ -65,13 +65,13 @@ says_completed {input} {b} {pieces} opens span a s element =
 deep_refused : {opener : Opener} {p q : ℕ} {a b : List ℕ} {opens : List Open} → IsToken (tokens.Opens opener) p a q b → length opens ≡ 64
     → (at : ℕ) × Refuses opens p a at (faults.TooDeep p)
 unfolding class_of
-deep_refused {p = p} (opening e) full = (p, too_deep e full)
-deep_refused {p = p} (set v w) full = (suc p, too_deep_hash v (λ h. let both : Opens Curly ≡ Hash = sym w ∙ h in cc) (λ h. let both : Opens Curly ≡ Quote = sym w ∙ h in cc) full)
+deep_refused {p = p} (opening e) full = (p, too_deep full (by_bracket e))
+deep_refused {p = p} (set v w) full = (suc p, too_deep full (by_hash v (λ h. let both : Opens Curly ≡ Hash = sym w ∙ h in cc) (λ h. let both : Opens Curly ≡ Quote = sym w ∙ h in cc)))
 deep_refused {p = p} (discard {c = c} v w) full =
     let plain : class_of c ≡ Plain = ap class_of w in
-    (suc p, too_deep_hash v (λ h. let both : Plain ≡ Hash = sym plain ∙ h in cc) (λ h. let both : Plain ≡ Quote = sym plain ∙ h in cc) full)
+    (suc p, too_deep full (by_hash v (λ h. let both : Plain ≡ Hash = sym plain ∙ h in cc) (λ h. let both : Plain ≡ Quote = sym plain ∙ h in cc)))
 deep_refused {p = p} (tag {bytes = []} v n g) full = absurd n
-deep_refused {p = p} (tag {bytes = c ∷ bytes} v n g) full = (suc p, too_deep_hash v n.0 n.1 full)
+deep_refused {p = p} (tag {bytes = c ∷ bytes} v n g) full = (suc p, too_deep full (by_hash v n.0 n.1))
 
 says_opened : {p q : ℕ} {input a b : List ℕ} {pieces : List Piece} (opener : Opener) (opens : List Open) (t : Bool) → eqb (length opens) 64 ≡ t → StandsOpen input pieces opens p a → IsToken (tokens.Opens opener) p a q b
     → Says input pieces q b (cond t (fails (faults.TooDeep p)) (on (record { place = p; opener = opener; odd = false } ∷ opens)))
@@ -84,17 +84,6 @@ says_opened opener opens false e s token =
 
 -- ---- a closing bracket
 
--- What holds pairs is closed by a brace.
-paired_curly : (opener : Opener) (bracket : Bracket) → is_paired opener ≡ true → fits opener bracket ≡ true → bracket ≡ Curly
-paired_curly openers.List bracket m f = absurd cc
-paired_curly openers.Vector bracket m f = absurd cc
-paired_curly openers.Map Round m f = absurd cc
-paired_curly openers.Map Square m f = absurd cc
-paired_curly openers.Map Curly m f = refl
-paired_curly openers.Set bracket m f = absurd cc
-paired_curly openers.Tag bracket m f = absurd cc
-paired_curly openers.Discard bracket m f = absurd cc
-
 record Closing (bracket : Bracket) (p : ℕ) (a : List ℕ) (q : ℕ) (b : List ℕ) : Type 0 where
   byte : ℕ
   is : class_of byte ≡ Closes bracket
@@ -103,30 +92,22 @@ record Closing (bracket : Bracket) (p : ℕ) (a : List ℕ) (q : ℕ) (b : List 
 closing_of : {bracket : Bracket} {p q : ℕ} {a b : List ℕ} → IsToken (tokens.Closes bracket) p a q b → Closing bracket p a q b
 closing_of (close {b = x} e) = record { byte = x; is = e; bytes = refl }
 
-both_true : (x y : Bool) → x && y ≡ true → (x ≡ true) × (y ≡ true)
-both_true true y e = (refl, e)
-both_true false y e = absurd cc
-
-odd_at : {p byte : ℕ} {b : List ℕ} {bracket : Bracket} (item : Open) (opens : List Open) → class_of byte ≡ Closes bracket → (is_paired item.opener ≡ true) × (item.odd ≡ true) → fits item.opener bracket ≡ true
-    → Refuses (item ∷ opens) p (byte ∷ b) p (faults.OddMap p)
-odd_at {bracket = bracket} item opens e m f = odd_map (e ∙ ap Closes (paired_curly item.opener bracket m.0 f)) m.0 m.1
-
 refuses_at : {p at : ℕ} {a b : List ℕ} {opens : List Open} {fault : EdnFault} → a ≡ b → Refuses opens p b at fault → Refuses opens p a at fault
 refuses_at {p} {at} {opens = opens} {fault = fault} e r = subst (λ (x : List ℕ). Refuses opens p x at fault) (sym e) r
 
 says_before : {p q : ℕ} {input a b : List ℕ} {pieces : List Piece} {bracket : Bracket} (item inner : Open) (opens : List Open) (t : Bool) → fits inner.opener bracket ≡ t → waits item.opener ≡ true → innermost opens ≡ Some inner
     → StandsOpen input pieces (item ∷ opens) p a → Closing bracket p a q b → Fails input pieces (cond t (faults.TagWithoutElement item.place) (faults.WrongClose p))
-says_before item inner opens true f w e s c = says_refused s (refuses_at c.bytes (no_element c.is w e f))
-says_before item inner opens false f w e s c = says_refused s (refuses_at c.bytes (wrong_close {inner = inner} c.is (rw w e) f))
+says_before item inner opens true f w e s c = says_refused s (refuses_at c.bytes (closing c.is (rw (w, e, f, w) refl)))
+says_before item inner opens false f w e s c = says_refused s (refuses_at c.bytes (closing c.is (rw (w, e, f) refl)))
 
 says_waiting : {p q : ℕ} {input a b : List ℕ} {pieces : List Piece} {bracket : Bracket} (item : Open) (opens : List Open) (o : Option Open) → innermost opens ≡ o → waits item.opener ≡ true
     → StandsOpen input pieces (item ∷ opens) p a → Closing bracket p a q b → Fails input pieces (fault_before p bracket item o)
-says_waiting item opens None e w s c = says_refused s (refuses_at c.bytes (stray_close c.is (rw w e)))
+says_waiting item opens None e w s c = says_refused s (refuses_at c.bytes (closing c.is (rw (w, e) refl)))
 says_waiting {bracket = bracket} item opens (Some inner) e w s c = says_before item inner opens (fits inner.opener bracket) refl w e s c
 
 says_paired : {p q : ℕ} {input a b : List ℕ} {pieces : List Piece} {bracket : Bracket} (item : Open) (opens : List Open) (t : Bool) → is_paired item.opener && item.odd ≡ t → waits item.opener ≡ false → fits item.opener bracket ≡ true
     → StandsOpen input pieces (item ∷ opens) p a → IsToken (tokens.Closes bracket) p a q b → Says input pieces q b (cond t (fails (faults.OddMap p)) (completed (plain_span (kind_of item.opener) item.place q) opens))
-says_paired item opens true e w f s token = let c = closing_of token in says_refused s (refuses_at c.bytes (odd_at item opens c.is (both_true (is_paired item.opener) item.odd e) f))
+says_paired item opens true e w f s token = let c = closing_of token in says_refused s (refuses_at c.bytes (closing c.is (rw (w, f, w, e) refl)))
 says_paired {q = q} item opens false e w f s token =
     let c = stands_closed w s token f e in
     says_completed opens (plain_span (kind_of item.opener) item.place q) c.bytes c.before c.element
@@ -137,12 +118,12 @@ says_closed_by : {p q : ℕ} {input a b : List ℕ} {pieces : List Piece} {brack
     (cond f (cond (is_paired item.opener && item.odd) (fails (faults.OddMap p)) (completed (plain_span (kind_of item.opener) item.place q) opens)) (fails (faults.WrongClose p))))
 says_closed_by item opens true f w g s token = says_waiting item opens (innermost opens) refl w s (closing_of token)
 says_closed_by item opens false true w g s token = says_paired item opens (is_paired item.opener && item.odd) refl w g s token
-says_closed_by item opens false false w g s token = let c = closing_of token in says_refused s (refuses_at c.bytes (wrong_close {inner = item} c.is (rw w refl) g))
+says_closed_by item opens false false w g s token = let c = closing_of token in says_refused s (refuses_at c.bytes (closing c.is (rw (w, g) refl)))
 
 says_closed : {p q : ℕ} {input a b : List ℕ} {pieces : List Piece} (bracket : Bracket) (opens : List Open) → StandsOpen input pieces opens p a → IsToken (tokens.Closes bracket) p a q b
     → Says input pieces q b (closed p q bracket opens)
 unfolding closed
-says_closed bracket [] s token = let c = closing_of token in says_refused s (refuses_at c.bytes (stray_close c.is refl))
+says_closed bracket [] s token = let c = closing_of token in says_refused s (refuses_at c.bytes (closing c.is refl))
 says_closed bracket (item ∷ opens) s token = says_closed_by item opens (waits item.opener) (fits item.opener bracket) refl refl s token
 
 -- ---- each token
@@ -216,7 +197,7 @@ completed_ends : (opens : List Open) (span s : Span) → completed span opens �
 unfolding completed
 completed_ends [] span s e = let same : span ≡ s = cc in ap (λ (x : Span). x.end) (sym same)
 completed_ends (item ∷ opens) span s e =
-    ends_by (is_tag item.opener) (waits item.opener) (completed (behind_tag item span) opens) opens (one_more item ∷ opens) s span.end (completed_ends opens (behind_tag item span) s) e
+    ends_by (is_tag item.opener) (waits item.opener) (completed (behind_tag item span) opens) opens (with_one item ∷ opens) s span.end (completed_ends opens (behind_tag item span) s) e
 
 closed_by : (w f o : Bool) (x : Taken) (a b c : EdnFault) (s : Span) (n : ℕ) → (x ≡ ends s → s.end ≡ n) → cond w (fails a) (cond f (cond o (fails b) x) (fails c)) ≡ ends s → s.end ≡ n
 closed_by true f o x a b c s n h e = absurd cc
@@ -265,6 +246,31 @@ pub reads_fault : (input : List ℕ) (from at : ℕ) (found : Found) (fault : Ed
 reads_fault input from at found fault opens after lt s e (inl memory) = inl memory
 reads_fault input from at found fault opens after lt s e (inr f) =
     inr (λ pieces front. before_fault input from pieces fault front (said input from at found opens (fails fault) lt s e f pieces front))
+
+-- Where a growth was refused.
+pub memory_there : (input : List ℕ) (from at : ℕ) (found : Found) (fault : EdnFault) (opens : List Open) → at < length input → StandsFrom input from opens at
+    → found ≡ found_at at (lexed (drop at input)) → GrowthRefused found.token at opens fault → (pieces : List Piece) → IsFront input pieces from → MemoryOnlyThere input pieces fault
+memory_there input from at found (faults.Memory place) opens lt s e (same, opener, token, many, room) pieces front =
+    let left = drop at input in
+    let is : (lexed left).0 ≡ tokens.Opens opener = sym (ap (λ (f : Found). f.token) e) ∙ token in
+    subst (λ (n : ℕ). CanWantMemory input pieces n) (sym same)
+    (record {
+      opens = opens;
+      bytes = left;
+      opener = opener;
+      inner = at + (lexed left).1;
+      left = drop (lexed left).1 left;
+      stands = s pieces front;
+      begins = token_lexed at left (tokens.Opens opener) is (λ h. cc);
+      many = many;
+      room = omega (arith, stands_room opens (s pieces front));
+    })
+memory_there input from at found (faults.Truncated place) opens lt s e refused pieces front = tt
+memory_there input from at found (faults.StrayClose place) opens lt s e refused pieces front = tt
+memory_there input from at found (faults.WrongClose place) opens lt s e refused pieces front = tt
+memory_there input from at found (faults.TooDeep place) opens lt s e refused pieces front = tt
+memory_there input from at found (faults.OddMap place) opens lt s e refused pieces front = tt
+memory_there input from at found (faults.TagWithoutElement place) opens lt s e refused pieces front = tt
 
 nothing_left : (at : ℕ) (input : List ℕ) → length input ≤ at → drop at input ≡ []
 nothing_left at input le = drop_of_length-le input le
@@ -322,13 +328,13 @@ no_tag_by openers.Set x y z h = refl
 no_tag_by openers.Tag x y z h = absurd (h refl)
 no_tag_by openers.Discard x y z h = refl
 
-completed_one : (span : Span) (item : Open) (opens : List Open) → (item.opener ≡ openers.Tag → ⊥) → completed span (item ∷ opens) ≡ on (cond (waits item.opener) opens (one_more item ∷ opens))
+completed_one : (span : Span) (item : Open) (opens : List Open) → (item.opener ≡ openers.Tag → ⊥) → completed span (item ∷ opens) ≡ on (cond (waits item.opener) opens (with_one item ∷ opens))
 unfolding completed
-completed_one span item opens h = no_tag_by item.opener (completed (behind_tag item span) opens) opens (one_more item ∷ opens) h
+completed_one span item opens h = no_tag_by item.opener (completed (behind_tag item span) opens) opens (with_one item ∷ opens) h
 
 pub tag_ended : (span : Span) (item : Open) (before after : List Open) → EndsOne (Some item) before after → item.opener ≡ openers.Tag → completed span before ≡ completed (behind_tag item span) after
 tag_ended span item before after (others, whole, rest) e =
-    ap (completed span) whole ∙ completed_tag span item others e ∙ ap (completed (behind_tag item span)) (sym (rest ∙ ap (λ (o : Opener). cond (waits o) others (one_more item ∷ others)) e))
+    ap (completed span) whole ∙ completed_tag span item others e ∙ ap (completed (behind_tag item span)) (sym (rest ∙ ap (λ (o : Opener). cond (waits o) others (with_one item ∷ others)) e))
 
 pub one_ended : (span : Span) (item : Open) (before after : List Open) → EndsOne (Some item) before after → (item.opener ≡ openers.Tag → ⊥) → completed span before ≡ on after
 one_ended span item before after (others, whole, rest) h = ap (completed span) whole ∙ completed_one span item others h ∙ ap on (sym rest)
@@ -339,5 +345,5 @@ none_ended span before after (empty, also) = ap (completed span) empty
 
 pub ends_shorter : (item : Open) (before after : List Open) → EndsOne (Some item) before after → item.opener ≡ openers.Tag → length after < length before
 ends_shorter item before after (others, whole, rest) e =
-    let left : after ≡ others = rest ∙ ap (λ (o : Opener). cond (waits o) others (one_more item ∷ others)) e in
+    let left : after ≡ others = rest ∙ ap (λ (o : Opener). cond (waits o) others (with_one item ∷ others)) e in
     omega (arith, ap length whole, ap length left)

@@ -16,9 +16,9 @@ use Rattle.edn_reader.specs.declared.token.Token.TheVariants.{Gap, Leaf, Opens, 
 use Rattle.edn_reader.specs.declared.token.Opener.{Opener}
 use Rattle.edn_reader.specs.declared.token.Opener.TheVariants as openers
 use Rattle.edn_reader.specs.Grammar.{Piece, IsToken, IsGap, nothing, skipped, discarded, IsElementAt, leaf, bracketed, tagged, IsElements, none, next, is_odd, waits, fits, is_paired, kind_of}
-use Rattle.edn_reader.specs.Text.{StandsOpen, outermost, within, waiting}
+use Rattle.edn_reader.specs.Text.{within, waiting, StandsOpen, outermost, opened}
 use Rattle.edn_reader.specs.Token.{lexed}
-use Rattle.edn_reader.specs.Taking.{Taken, on, ends, fails, one_more, is_tag, behind_tag, completed, plain_span, closed, taken}
+use Rattle.edn_reader.specs.Taking.{Taken, on, ends, fails, with_one, is_tag, behind_tag, completed, plain_span, closed, taken}
 use Rattle.edn_reader.proofs.Lexing.{lexed_token}
 
 -- What is open and what is given next; none where it fails.
@@ -104,7 +104,7 @@ leads_opening {p} room opener opens given token fit =
 -- What is open and what is given behind an element.
 unfoldable pub settled : Span → List Open → List Open × List Span
 settled span [] = ([], span ∷ [])
-settled span (item ∷ opens) = cond (is_tag item.opener) (settled (behind_tag item span) opens) (cond (waits item.opener) (opens, []) (one_more item ∷ opens, []))
+settled span (item ∷ opens) = cond (is_tag item.opener) (settled (behind_tag item span) opens) (cond (waits item.opener) (opens, []) (with_one item ∷ opens, []))
 
 settles_by : (t w : Bool) (x y z : Taken) (u v m : List Open × List Span) → goes x ≡ Some u → goes y ≡ Some v → goes z ≡ Some m → goes (cond t x (cond w y z)) ≡ Some (cond t u (cond w v m))
 settles_by true w x y z u v m e f g = e
@@ -115,7 +115,7 @@ pub settles : (span : Span) (opens : List Open) → goes (completed span opens) 
 unfolding completed settled
 settles span [] = refl
 settles span (item ∷ opens) =
-    settles_by (is_tag item.opener) (waits item.opener) (completed (behind_tag item span) opens) (on opens) (on (one_more item ∷ opens)) (settled (behind_tag item span) opens) (opens, []) (one_more item ∷ opens, [])
+    settles_by (is_tag item.opener) (waits item.opener) (completed (behind_tag item span) opens) (on opens) (on (with_one item ∷ opens)) (settled (behind_tag item span) opens) (opens, []) (with_one item ∷ opens, [])
     (settles (behind_tag item span) opens) refl refl
 
 abbrev pub span_at : ElementKind → Core → ℕ → ℕ → Span
@@ -139,7 +139,7 @@ no_wait openers.Set bracket e = refl
 no_wait openers.Tag bracket e = absurd cc
 no_wait openers.Discard bracket e = absurd cc
 
-settled_inside : (span : Span) (item : Open) (opens : List Open) → waits item.opener ≡ false → settled span (item ∷ opens) ≡ (one_more item ∷ opens, [])
+settled_inside : (span : Span) (item : Open) (opens : List Open) → waits item.opener ≡ false → settled span (item ∷ opens) ≡ (with_one item ∷ opens, [])
 unfolding settled
 settled_inside span item opens w = rw (no_tag item.opener w, w) refl
 
@@ -176,7 +176,7 @@ leads_leaf {p} {q} {kind = kind} opens given token = leads_token opens given (se
 -- A bracket with so many elements more.
 abbrev pub counted_in : List Piece → Open → Open
 counted_in [] item = item
-counted_in (piece ∷ pieces) item = counted_in pieces (one_more item)
+counted_in (piece ∷ pieces) item = counted_in pieces (with_one item)
 
 not-not : (t : Bool) → not (not t) ≡ t
 not-not true = refl
@@ -227,8 +227,8 @@ mutual
   leads_inside (next {ended = over} {piece = piece} gap element whole els) item opens given w fit =
       let span = span_at piece.kind piece.core piece.start over in
       leads_then (leads_gap gap (item ∷ opens) given (omega arith))
-      (leads_then (leads_same (append-nil given) (leads_settled (settled span (item ∷ opens)) (one_more item ∷ opens, []) (settled_inside span item opens w) (leads_element element (item ∷ opens) given (omega arith))))
-      (leads_inside els (one_more item) opens given w fit))
+      (leads_then (leads_same (append-nil given) (leads_settled (settled span (item ∷ opens)) (with_one item ∷ opens, []) (settled_inside span item opens w) (leads_element element (item ∷ opens) given (omega arith))))
+      (leads_inside els (with_one item) opens given w fit))
 
 -- Outermost elements are given, as many as there are.
 pub record Outermost (p : ℕ) (a : List ℕ) (given : List Span) (q : ℕ) (b : List ℕ) (opens : List Open) (pieces : List Piece) : Type 0 where
@@ -262,7 +262,7 @@ pub leads_stands : {p : ℕ} {input a : List ℕ} {pieces : List Piece} {opens :
 leads_stands (outermost els gap) =
     let o = leads_outermost els [] (omega arith) in
     record { spans = o.spans; run = leads_then o.run (leads_gap gap [] o.spans (omega arith)); many = o.many }
-leads_stands (within {room = room} {place = place} {inside = inside} {opens = opens} {opener = opener} stands token bracket full els gap) =
+leads_stands (opened {room = room} {place = place} {opens = opens} {opener = opener} stands token full (within {inside = inside} bracket els gap)) =
     let o = leads_stands stands in
     record {
       spans = o.spans;
@@ -271,7 +271,7 @@ leads_stands (within {room = room} {place = place} {inside = inside} {opens = op
           (leads_gap gap (record { place = place; opener = opener; odd = is_odd inside } ∷ opens) o.spans (omega arith))));
       many = o.many;
     }
-leads_stands (waiting {room = room} {place = place} {opens = opens} {opener = opener} stands token bracket full gap) =
+leads_stands (opened {room = room} {place = place} {opens = opens} {opener = opener} stands token full (waiting bracket gap)) =
     let o = leads_stands stands in
     record {
       spans = o.spans;

@@ -7,7 +7,7 @@ use Rattle.edn_reader.specs.declared.nesting.Open.{Open}
 use Rattle.edn_reader.specs.declared.token.Opener.{Opener}
 use Rattle.edn_reader.specs.declared.token.Token.TheVariants.{Opens, Closes}
 use Rattle.edn_reader.specs.Grammar.{Piece, IsToken, IsGap, nothing, skipped, discarded, IsElementAt, bracketed, IsElements, none, next, is_odd, waits, fits, is_paired, kind_of}
-use Rattle.edn_reader.specs.Text.{StandsOpen, outermost, within, waiting}
+use Rattle.edn_reader.specs.Text.{within, waiting, StandsOpen, outermost, opened}
 
 pub gap_then : {room p q r : ℕ} {a b c : List ℕ} → IsGap room p a q b → IsGap room q b r c → IsGap room p a r c
 gap_then nothing more = more
@@ -28,24 +28,24 @@ is_odd-more (x ∷ pieces) piece = ap not (is_odd-more pieces piece)
 pub stands_gap : {p q : ℕ} {input a b : List ℕ} {pieces : List Piece} {opens : List Open} → StandsOpen input pieces opens p a
     → ((room : ℕ) → room + length opens ≡ 64 → IsGap room p a q b) → StandsOpen input pieces opens q b
 stands_gap (outermost els gap) more = outermost els (gap_then gap (more 64 refl))
-stands_gap (within {room = room} stands token bracket full els gap) more = within stands token bracket full els (gap_then gap (more room full))
-stands_gap (waiting {room = room} stands token bracket full gap) more = waiting stands token bracket full (gap_then gap (more room full))
+stands_gap (opened {room = room} stands token full (within bracket els gap)) more = opened stands token full (within bracket els (gap_then gap (more room full)))
+stands_gap (opened {room = room} stands token full (waiting bracket gap)) more = opened stands token full (waiting bracket (gap_then gap (more room full)))
 
 -- One more bracket, tag or discard that opens.
 pub stands_opened : {p q : ℕ} {input a b : List ℕ} {pieces : List Piece} {opens : List Open} (opener : Opener) (w : Bool) → waits opener ≡ w → StandsOpen input pieces opens p a
     → IsToken (Opens opener) p a q b → length opens < 64 → StandsOpen input pieces (record { place = p; opener = opener; odd = false } ∷ opens) q b
-stands_opened {opens = opens} opener true w stands token room = waiting {room = 63 - length opens} stands token w (omega arith) nothing
-stands_opened {opens = opens} opener false w stands token room = within {room = 63 - length opens} stands token w (omega arith) none nothing
+stands_opened {opens = opens} opener true w stands token room = opened {room = 63 - length opens} stands token (omega arith) (waiting w nothing)
+stands_opened {opens = opens} opener false w stands token room = opened {room = 63 - length opens} stands token (omega arith) (within w none nothing)
 
 -- One more element of the innermost bracket.
 pub stands_inside : {p q : ℕ} {input a b : List ℕ} {pieces : List Piece} {innermost : Open} {opens : List Open} (kind : ElementKind) (core : Core) (text : List ℕ)
     → waits innermost.opener ≡ false → StandsOpen input pieces (innermost ∷ opens) p a → ((room : ℕ) → room + suc (length opens) ≡ 64 → IsElementAt room kind core p a q b)
     → a ≡ text ++ b → StandsOpen input pieces (record { place = innermost.place; opener = innermost.opener; odd = not innermost.odd } ∷ opens) q b
-stands_inside {p} {q} {input} {a} {b} {pieces} {innermost} {opens} kind core text w (within {room = room} {place = place} {inside = inside} {opener = opener} stands token bracket full els gap) element whole =
+stands_inside {p} {q} {input} {a} {b} {pieces} {innermost} {opens} kind core text w (opened {room = room} {place = place} {opener = opener} stands token full (within {inside = inside} bracket els gap)) element whole =
     let piece : Piece = record { kind = kind; start = p; text = text; core = core } in
     let longer = elements_more piece els gap (element room full) whole in
-    subst (λ (odd : Bool). StandsOpen input pieces (record { place = place; opener = opener; odd = odd } ∷ opens) q b) (is_odd-more inside piece) (within stands token bracket full longer nothing)
-stands_inside kind core text w (waiting stands token bracket full gap) element whole = absurd cc
+    subst (λ (odd : Bool). StandsOpen input pieces (record { place = place; opener = opener; odd = odd } ∷ opens) q b) (is_odd-more inside piece) (opened stands token full (within bracket longer nothing))
+stands_inside kind core text w (opened stands token full (waiting bracket gap)) element whole = absurd cc
 
 -- One more outermost element.
 pub stands_outermost : {p q : ℕ} {input a b : List ℕ} {pieces : List Piece} (kind : ElementKind) (core : Core) (text : List ℕ)
@@ -63,14 +63,14 @@ pub stands_closed : {p q : ℕ} {input a b : List ℕ} {pieces : List Piece} {in
     → waits innermost.opener ≡ false → StandsOpen input pieces (innermost ∷ opens) p a → IsToken (Closes bracket) p a q b
     → fits innermost.opener bracket ≡ true → is_paired innermost.opener && innermost.odd ≡ false
     → Closed input pieces innermost opens q b
-stands_closed {q = q} {b = b} {opens = opens} w (within {room = inner_room} {place = place} {bytes = bytes} {opener = opener} stands token square full els gap) last fit even = record {
+stands_closed {q = q} {b = b} {opens = opens} w (opened {room = inner_room} {place = place} {bytes = bytes} {opener = opener} stands token full (within square els gap)) last fit even = record {
   bytes = bytes;
   before = stands;
   element = λ room enough.
       let same : suc inner_room ≡ room = omega arith in
       subst (λ (n : ℕ). IsElementAt n (kind_of opener) (record { kind = kind_of opener; start = place }) place bytes q b) same (bracketed token els gap last fit even);
 }
-stands_closed w (waiting stands token square full gap) last fit even = absurd cc
+stands_closed w (opened stands token full (waiting square gap)) last fit even = absurd cc
 
 -- What a tag or a discard that waits stands behind.
 pub record Waited (input : List ℕ) (pieces : List Piece) (innermost : Open) (opens : List Open) (p : ℕ) (a : List ℕ) : Type 0 where
@@ -85,8 +85,8 @@ pub record Waited (input : List ℕ) (pieces : List Piece) (innermost : Open) (o
 
 pub stands_waited : {p : ℕ} {input a : List ℕ} {pieces : List Piece} {innermost : Open} {opens : List Open} → waits innermost.opener ≡ true → StandsOpen input pieces (innermost ∷ opens) p a
     → Waited input pieces innermost opens p a
-stands_waited w (within stands token bracket full els gap) = absurd cc
-stands_waited w (waiting {room = room} {inner = inner} {bytes = bytes} {left = left} stands token bracket full gap) = record {
+stands_waited w (opened stands token full (within bracket els gap)) = absurd cc
+stands_waited w (opened {room = room} {inner = inner} {bytes = bytes} {left = left} stands token full (waiting bracket gap)) = record {
   bytes = bytes;
   before = stands;
   room = room;

@@ -1,5 +1,5 @@
 -- One run from one place: so what an element is and where it ends follows from the bytes, and a text has one division.
-use Rattle.std.proofs.Common.{◌≡◌, ◌≢◌, inl, inr, ℕ, ◌+◌, ◌-◌, ◌≤◌, Bool, true, false, cond, eqb, List, [], ◌∷◌, ◌++◌, length, drop, Option, Some, None, refl, sym, ap, subst, ◌∙◌, arith, length-append}
+use Rattle.std.proofs.Common.{◌≡◌, ◌≢◌, inl, inr, ℕ, ◌+◌, ◌-◌, ◌≤◌, Bool, true, false, not, cond, ◌&&◌, eqb, List, [], ◌∷◌, ◌++◌, length, drop, Option, Some, None, refl, sym, ap, subst, ◌∙◌, arith, length-append}
 use Rattle.std.proofs.Math.Seq.{drop-append_seam}
 use Rattle.std.proofs.lemmas.Bool.Decides.{nat_tests}
 use Rattle.std.proofs.lemmas.List.{append-nil}
@@ -20,7 +20,7 @@ use Rattle.edn_reader.specs.declared.token.Opener.TheVariants as openers
 use Rattle.edn_reader.specs.Bytes.{class_of}
 use Rattle.edn_reader.specs.Grammar.{Piece, IsToken, IsGap, IsElementAt, IsElements, none, next, opener_of, waits, fits, is_paired}
 use Rattle.edn_reader.specs.Text.{StandsOpen}
-use Rattle.edn_reader.specs.Fault.{Refuses, too_deep, too_deep_hash, stray_close, wrong_close, no_element, odd_map, IsBeginning, innermost}
+use Rattle.edn_reader.specs.Fault.{by_bracket, by_hash, fault_in, fault_of_close, Refuses, too_deep, closing, IsBeginning, innermost}
 use Rattle.edn_reader.specs.Token.{lexed, class_token, hash_token, after_hash, tag_token}
 use Rattle.edn_reader.specs.Taking.{Taken, fails, on, closed, taken, fault_before}
 use Rattle.edn_reader.proofs.Places.{Replaced, replaced_then, cancel_end, moved_gap, moved_element}
@@ -120,46 +120,32 @@ after_of : (c : ℕ) (bytes : List ℕ) → after_hash (c ∷ bytes) ≡ hash_to
 unfolding after_hash
 after_of c bytes = refl
 
-stray_by : (p : ℕ) (bracket : Bracket) (item : Open) (o : Option Open) (x : Taken) (w : Bool) → cond w o (Some item) ≡ None
-    → cond w (fails (fault_before p bracket item o)) x ≡ fails (faults.StrayClose p)
-stray_by p bracket item o x true n = ap (λ (i : Option Open). fails (fault_before p bracket item i)) n
-stray_by p bracket item o x false n = absurd cc
+-- Behind what waits, and at the innermost bracket itself, the fault of a closing bracket is that of its definition.
+waits_first : (t w o : Bool) (wrong tag odd fault : EdnFault) → w ≡ true → cond (not t) (Some wrong) (cond w (Some tag) (cond o (Some odd) None)) ≡ Some fault
+    → fails (cond t tag wrong) ≡ fails fault
+waits_first true true o wrong tag odd fault w e = let same : tag ≡ fault = cc in ap fails same
+waits_first true false o wrong tag odd fault w e = absurd cc
+waits_first false w o wrong tag odd fault h e = let same : wrong ≡ fault = cc in ap fails same
 
-closes_stray : (p q : ℕ) (bracket : Bracket) (opens : List Open) → innermost opens ≡ None → closed p q bracket opens ≡ fails (faults.StrayClose p)
+bracket_first : (t w o : Bool) (x : Taken) (wrong tag odd fault : EdnFault) → w ≡ false → cond (not t) (Some wrong) (cond w (Some tag) (cond o (Some odd) None)) ≡ Some fault
+    → cond t (cond o (fails odd) x) (fails wrong) ≡ fails fault
+bracket_first true true o x wrong tag odd fault w e = absurd cc
+bracket_first true false true x wrong tag odd fault w e = let same : odd ≡ fault = cc in ap fails same
+bracket_first true false false x wrong tag odd fault w e = absurd cc
+bracket_first false w o x wrong tag odd fault h e = let same : wrong ≡ fault = cc in ap fails same
+
+closes_by : (p : ℕ) (bracket : Bracket) (item : Open) (o : Option Open) (x : Taken) (fault : EdnFault) (w : Bool) → waits item.opener ≡ w → fault_in p bracket item (cond w o (Some item)) ≡ Some fault
+    → cond w (fails (fault_before p bracket item o)) (cond (fits item.opener bracket) (cond (is_paired item.opener && item.odd) (fails (faults.OddMap p)) x) (fails (faults.WrongClose p))) ≡ fails fault
+closes_by p bracket item None x fault true w e = let same : faults.StrayClose p ≡ fault = cc in ap fails same
+closes_by p bracket item (Some inner) x fault true w e =
+    waits_first (fits inner.opener bracket) (waits item.opener) (is_paired item.opener && item.odd) _ _ _ fault w e
+closes_by p bracket item o x fault false w e =
+    bracket_first (fits item.opener bracket) (waits item.opener) (is_paired item.opener && item.odd) x _ _ _ fault w e
+
+closes_refused : (p q : ℕ) (bracket : Bracket) (opens : List Open) (fault : EdnFault) → fault_of_close p bracket opens ≡ Some fault → closed p q bracket opens ≡ fails fault
 unfolding closed
-closes_stray p q bracket [] e = refl
-closes_stray p q bracket (item ∷ opens) e = stray_by p bracket item (innermost opens) _ (waits item.opener) e
-
-wrong_by : (p : ℕ) (bracket : Bracket) (item inner : Open) (o : Option Open) (x : Taken) (w : Bool) → cond w o (Some item) ≡ Some inner → fits inner.opener bracket ≡ false
-    → cond w (fails (fault_before p bracket item o)) (cond (fits item.opener bracket) x (fails (faults.WrongClose p))) ≡ fails (faults.WrongClose p)
-wrong_by p bracket item inner o x true e f =
-    ap (λ (i : Option Open). fails (fault_before p bracket item i)) e ∙ ap (λ (t : Bool). fails (cond t (faults.TagWithoutElement item.place) (faults.WrongClose p))) f
-wrong_by p bracket item inner o x false e f =
-    let same : item ≡ inner = cc in
-    let test : fits item.opener bracket ≡ false = ap (λ (i : Open). fits i.opener bracket) same ∙ f in
-    ap (λ (t : Bool). cond t x (fails (faults.WrongClose p))) test
-
-closes_wrong : (p q : ℕ) (bracket : Bracket) (inner : Open) (opens : List Open) → innermost opens ≡ Some inner → fits inner.opener bracket ≡ false → closed p q bracket opens ≡ fails (faults.WrongClose p)
-unfolding closed
-closes_wrong p q bracket inner [] e f = absurd cc
-closes_wrong p q bracket inner (item ∷ opens) e f = wrong_by p bracket item inner (innermost opens) _ (waits item.opener) e f
-
-closes_waiting : (p q : ℕ) (bracket : Bracket) (waiting inner : Open) (opens : List Open) → waits waiting.opener ≡ true → innermost opens ≡ Some inner → fits inner.opener bracket ≡ true
-    → closed p q bracket (waiting ∷ opens) ≡ fails (faults.TagWithoutElement waiting.place)
-unfolding closed
-closes_waiting p q bracket waiting inner opens w e f = rw (w, e, f) refl
-
-paired_curly : (opener : Opener) → is_paired opener ≡ true → (waits opener ≡ false) × (fits opener Curly ≡ true)
-paired_curly openers.List e = absurd cc
-paired_curly openers.Vector e = absurd cc
-paired_curly openers.Map e = (refl, refl)
-paired_curly openers.Set e = absurd cc
-paired_curly openers.Tag e = absurd cc
-paired_curly openers.Discard e = absurd cc
-
-closes_odd : (p q : ℕ) (inner : Open) (opens : List Open) → is_paired inner.opener ≡ true → inner.odd ≡ true → closed p q Curly (inner ∷ opens) ≡ fails (faults.OddMap p)
-unfolding closed
-closes_odd p q inner opens m o = let c = paired_curly inner.opener m in rw (c.0, c.1, m, o) refl
+closes_refused p q bracket [] fault e = let same : faults.StrayClose p ≡ fault = cc in ap fails same
+closes_refused p q bracket (item ∷ opens) fault e = closes_by p bracket item (innermost opens) _ fault (waits item.opener) refl e
 
 closes_taken : (p q : ℕ) (bracket : Bracket) (opens : List Open) → taken (tokens.Closes bracket) p q opens ≡ closed p q bracket opens
 unfolding taken
@@ -169,16 +155,13 @@ closing_taken : (p b : ℕ) (bytes : List ℕ) (bracket : Bracket) (opens : List
 closing_taken p b bytes bracket opens e = taken_of p (b ∷ bytes) opens (tokens.Closes bracket, 1) (lexed_of b bytes (Closes bracket) e) ∙ closes_taken p (p + 1) bracket opens
 
 pub refused_taken : {p at : ℕ} {bytes : List ℕ} {opens : List Open} {fault : EdnFault} → Refuses opens p bytes at fault → front_taken p bytes opens ≡ fails fault
-refused_taken {p} {opens = opens} (too_deep {b = b} {bytes = bytes} {bracket = bracket} e full) =
+refused_taken {p} {opens = opens} (too_deep full (by_bracket {b = b} {bytes = bytes} {bracket = bracket} e)) =
     taken_of p (b ∷ bytes) opens (tokens.Opens (opener_of bracket), 1) (lexed_of b bytes (Opens bracket) e) ∙ full_opens (opener_of bracket) p (p + 1) opens full
-refused_taken {opens = opens} (too_deep_hash {b = b} {c = c} {place = place} {bytes = bytes} e h q full) =
+refused_taken {p} {opens = opens} (too_deep full (by_hash {b = b} {c = c} {bytes = bytes} e h q)) =
     let token = hash_token (class_of c) c bytes in
-    taken_of place (b ∷ c ∷ bytes) opens token (lexed_of b (c ∷ bytes) Hash e ∙ after_of c bytes) ∙ full_some token place (place + token.1) opens (hash_opens (class_of c) c bytes h q) full
-refused_taken {p} {opens = opens} (stray_close {b = b} {bytes = bytes} {bracket = bracket} e n) = closing_taken p b bytes bracket opens e ∙ closes_stray p (p + 1) bracket opens n
-refused_taken {p} {opens = opens} (wrong_close {inner = inner} {b = b} {bytes = bytes} {bracket = bracket} e n f) = closing_taken p b bytes bracket opens e ∙ closes_wrong p (p + 1) bracket inner opens n f
-refused_taken {p} (no_element {opens = opens} {waiting = waiting} {inner = inner} {b = b} {bytes = bytes} {bracket = bracket} e w n f) =
-    closing_taken p b bytes bracket (waiting ∷ opens) e ∙ closes_waiting p (p + 1) bracket waiting inner opens w n f
-refused_taken {p} (odd_map {opens = opens} {inner = inner} {b = b} {bytes = bytes} e m o) = closing_taken p b bytes Curly (inner ∷ opens) e ∙ closes_odd p (p + 1) inner opens m o
+    taken_of p (b ∷ c ∷ bytes) opens token (lexed_of b (c ∷ bytes) Hash e ∙ after_of c bytes) ∙ full_some token p (p + token.1) opens (hash_opens (class_of c) c bytes h q) full
+refused_taken {p} {opens = opens} {fault = fault} (closing {b = b} {bytes = bytes} {bracket = bracket} e r) =
+    closing_taken p b bytes bracket opens e ∙ closes_refused p (p + 1) bracket opens fault r
 
 -- ---- one ending
 

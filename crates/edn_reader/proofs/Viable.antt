@@ -17,8 +17,8 @@ use Rattle.edn_reader.specs.declared.token.Token.TheVariants as tokens
 use Rattle.edn_reader.specs.Bytes.{class_of, is_run, Ends}
 use Rattle.edn_reader.specs.Grammar.{Piece, ended, IsToken, white, run, hashed, close, IsGap, nothing, skipped, IsElementAt, leaf, fits, waits, is_paired, kind_of}
 use Rattle.edn_reader.specs.Text.{IsText, IsViable, StandsOpen, outermost}
-use Rattle.edn_reader.specs.Fault.{Refuses, too_deep, too_deep_hash, stray_close, wrong_close, no_element, odd_map, FaultOf, truncated, refused}
-use Rattle.edn_reader.specs.Taking.{fails, one_more, is_tag}
+use Rattle.edn_reader.specs.Fault.{by_bracket, by_hash, Refuses, too_deep, closing, FaultOf, truncated, refused}
+use Rattle.edn_reader.specs.Taking.{fails, with_one, is_tag}
 use Rattle.edn_reader.proofs.Stretches.{take_all}
 use Rattle.edn_reader.proofs.Lexing.{Finishing}
 use Rattle.edn_reader.proofs.Places.{Follows, moved_stands}
@@ -61,7 +61,7 @@ letter_run = run letter (ended refl)
 -- What is open behind one more element.
 unfoldable pub after_one : List Open → List Open
 after_one [] = []
-after_one (item ∷ opens) = cond (is_tag item.opener) (after_one opens) (cond (waits item.opener) opens (one_more item ∷ opens))
+after_one (item ∷ opens) = cond (is_tag item.opener) (after_one opens) (cond (waits item.opener) opens (with_one item ∷ opens))
 
 both_by : (t w : Bool) (x y : List Open × List Span) (z u : List Open) → x.0 ≡ z → y.0 ≡ u → (m : List Open × List Span) (n : List Open) → m.0 ≡ n → (cond t x (cond w y m)).0 ≡ cond t z (cond w u n)
 both_by true w x y z u e f m n g = e
@@ -72,7 +72,7 @@ settled_after : (span : Span) (opens : List Open) → (settled span opens).0 ≡
 unfolding settled after_one
 settled_after span [] = refl
 settled_after span (item ∷ opens) =
-    both_by (is_tag item.opener) (waits item.opener) _ (opens, []) (after_one opens) opens (settled_after _ opens) refl (one_more item ∷ opens, []) (one_more item ∷ opens) refl
+    both_by (is_tag item.opener) (waits item.opener) _ (opens, []) (after_one opens) opens (settled_after _ opens) refl (with_one item ∷ opens, []) (with_one item ∷ opens) refl
 
 after_short_by : (t w : Bool) (x y z : List Open) (n : ℕ) → length x ≤ n → length y ≤ n → length z ≤ suc n → length (cond t x (cond w y z)) ≤ suc n
 after_short_by true w x y z n e f g = omega (arith, e)
@@ -83,7 +83,7 @@ after_short : (opens : List Open) → length (after_one opens) ≤ length opens
 unfolding after_one
 after_short [] = omega arith
 after_short (item ∷ opens) =
-    after_short_by (is_tag item.opener) (waits item.opener) (after_one opens) opens (one_more item ∷ opens) (length opens) (after_short opens) (omega arith) (omega arith)
+    after_short_by (is_tag item.opener) (waits item.opener) (after_one opens) opens (with_one item ∷ opens) (length opens) (after_short opens) (omega arith) (omega arith)
 
 after_waiting_by : (t w : Bool) (x y z : List Open) (n : ℕ) → w ≡ true → length x ≤ n → length y ≤ n → length (cond t x (cond w y z)) ≤ n
 after_waiting_by true w x y z n h e f = e
@@ -92,7 +92,7 @@ after_waiting_by false false x y z n h e f = absurd cc
 
 after_waiting : (item : Open) (opens : List Open) → waits item.opener ≡ true → length (after_one (item ∷ opens)) ≤ length opens
 unfolding after_one
-after_waiting item opens w = after_waiting_by (is_tag item.opener) (waits item.opener) (after_one opens) opens (one_more item ∷ opens) (length opens) w (after_short opens) (omega arith)
+after_waiting item opens w = after_waiting_by (is_tag item.opener) (waits item.opener) (after_one opens) opens (with_one item ∷ opens) (length opens) w (after_short opens) (omega arith)
 
 no_tag : (opener : Opener) → waits opener ≡ false → is_tag opener ≡ false
 no_tag openers.List e = refl
@@ -102,7 +102,7 @@ no_tag openers.Set e = refl
 no_tag openers.Tag e = absurd cc
 no_tag openers.Discard e = absurd cc
 
-after_bracket : (item : Open) (opens : List Open) → waits item.opener ≡ false → after_one (item ∷ opens) ≡ one_more item ∷ opens
+after_bracket : (item : Open) (opens : List Open) → waits item.opener ≡ false → after_one (item ∷ opens) ≡ with_one item ∷ opens
 unfolding after_one
 after_bracket item opens w = rw (no_tag item.opener w, w) refl
 
@@ -170,7 +170,7 @@ one_even false o e = absurd cc
 completed_bracket : (t : Bool) (item : Open) (opens : List Open) → waits item.opener ≡ false → is_paired item.opener && item.odd ≡ t → Completion (after_one opens) → Completion (item ∷ opens)
 completed_bracket false item opens w e c = completed_even item opens w e c
 completed_bracket true item opens w e c =
-    completed_element (item ∷ opens) (subst Completion (sym (after_bracket item opens w)) (completed_even (one_more item) opens w (one_even (is_paired item.opener) item.odd e) c))
+    completed_element (item ∷ opens) (subst Completion (sym (after_bracket item opens w)) (completed_even (with_one item) opens w (one_even (is_paired item.opener) item.odd e) c))
 
 completion_by : (n : ℕ) (w : Bool) (item : Open) (opens : List Open) → ((others : List Open) → length others ≤ n → Completion others) → waits item.opener ≡ w → length opens ≤ n
     → Completion (item ∷ opens)
@@ -232,13 +232,10 @@ one_byte : {opens : List Open} {b p : ℕ} {rest : List ℕ} {fault : EdnFault} 
 one_byte {b = b} {rest = rest} f = record { first = b; mark = []; rest = rest; here = refl; place = omega arith; again = f }
 
 mark_of : {opens : List Open} {p at : ℕ} {bytes : List ℕ} {fault : EdnFault} → Refuses opens p bytes at fault → Mark opens p bytes at fault
-mark_of (too_deep e full) = one_byte (λ more. too_deep e full)
-mark_of (too_deep_hash {b = b} {c = c} {bytes = bytes} e h q full) =
-    record { first = b; mark = c ∷ []; rest = bytes; here = refl; place = omega arith; again = λ more. too_deep_hash e h q full }
-mark_of (stray_close e n) = one_byte (λ more. stray_close e n)
-mark_of (wrong_close e n f) = one_byte (λ more. wrong_close e n f)
-mark_of (no_element e w n f) = one_byte (λ more. no_element e w n f)
-mark_of (odd_map e m o) = one_byte (λ more. odd_map e m o)
+mark_of (too_deep full (by_bracket e)) = one_byte (λ more. too_deep full (by_bracket e))
+mark_of (too_deep full (by_hash {b = b} {c = c} {bytes = bytes} e h q)) =
+    record { first = b; mark = c ∷ []; rest = bytes; here = refl; place = omega arith; again = λ more. too_deep full (by_hash e h q) }
+mark_of (closing e r) = one_byte (λ more. closing e r)
 
 pub ending_text : {input : List ℕ} {pieces : List Piece} → IsText input pieces → (after : ℕ) × Ending input after [] [] pieces
 ending_text (at, after, front, gap) = (after, ending_end (outermost front gap))
@@ -260,12 +257,9 @@ not_viable {p} {at} {input} {bytes} {pieces} {opens} {fault} s r (more, others, 
 
 viable_before : {p at : ℕ} {input bytes : List ℕ} {pieces : List Piece} {opens : List Open} {fault : EdnFault} → StandsOpen input pieces opens p bytes → Refuses opens p bytes at fault
     → IsViable (take at input)
-viable_before s (too_deep e full) = viable s
-viable_before s (too_deep_hash e h q full) = viable_hash s e
-viable_before s (stray_close e n) = viable s
-viable_before s (wrong_close e n f) = viable s
-viable_before s (no_element e w n f) = viable s
-viable_before s (odd_map e m o) = viable s
+viable_before s (too_deep full (by_bracket e)) = viable s
+viable_before s (too_deep full (by_hash e h q)) = viable_hash s e
+viable_before s (closing e r) = viable s
 
 pub fault_refused : {p at : ℕ} {input bytes : List ℕ} {pieces : List Piece} {opens : List Open} {fault : EdnFault} → StandsOpen input pieces opens p bytes → Refuses opens p bytes at fault
     → FaultOf input fault

@@ -12,7 +12,6 @@ use Rattle.edn_reader.specs.declared.element.ElementKind.TheVariants as kinds
 use Rattle.edn_reader.specs.declared.element.Core.{Core}
 use Rattle.edn_reader.specs.declared.element.Element.{Element}
 use Rattle.edn_reader.specs.declared.field.Field.{Field}
-use Rattle.edn_reader.specs.declared.field.Field.TheVariants.{Absent, Once, Twice}
 use Rattle.edn_reader.specs.declared.parts.Parts.{Parts}
 use Rattle.edn_reader.specs.declared.token.Token.{Token}
 use Rattle.edn_reader.specs.declared.token.Token.TheVariants.{Leaf, Opens, Closes}
@@ -20,12 +19,13 @@ use Rattle.edn_reader.specs.declared.token.Opener.{Opener}
 use Rattle.edn_reader.specs.declared.token.Opener.TheVariants as openers
 use Rattle.edn_reader.specs.declared.view.MapView.{MapView}
 use Rattle.edn_reader.specs.Bytes.{class_of}
-use Rattle.edn_reader.specs.Grammar.{Piece, piece_of, untagged, IsToken, white, comment, run, hashed, character, text, hash_text, opening, set, discard, tag, close, opener_of, kind_of, fits, is_paired, is_odd, IsGap, nothing, IsElementAt, leaf, bracketed, tagged, IsElements, none, next, IsElement}
+use Rattle.edn_reader.specs.Grammar.{Piece, untagged, IsToken, white, comment, run, hashed, character, text, hash_text, opening, set, discard, tag, close, opener_of, kind_of, fits, is_paired, is_odd, IsGap, nothing, IsElementAt, leaf, bracketed, tagged, IsElements, none, next, IsElement}
 use Rattle.edn_reader.specs.Text.{IsFront}
 use Rattle.edn_reader.specs.Token.{lexed}
 use Rattle.edn_reader.specs.Skipping.{kind_token, NoGap, SkipsElement, SkipsGap, SkipsTags, IsInside}
-use Rattle.edn_reader.specs.Pairs.{PartsFrom, HasParts, PartsLeft, NextPart, in_turn, HasPairs, PairsLeft, NextPair, is_word, values_of, IsWholeField}
-use Rattle.edn_reader.specs.Given.{One, given, seen as seen_of}
+use Rattle.edn_reader.specs.Pairs.{PartsFrom, HasParts, in_turn, HasPairs, is_word, values_of}
+use Rattle.edn_reader.specs.Lent.{piece_of, PartsLeft, NextPart, PairsLeft, NextPair}
+use Rattle.edn_reader.specs.Given.{given, seen as seen_of}
 use Rattle.edn_reader.proofs.Lexing.{lexed_token}
 use Rattle.edn_reader.proofs.Places.{moved_element, cancel_end, wider_element}
 use Rattle.edn_reader.proofs.Skipping.{core_at, element_no_gap, element_kind, beyond_gap, beyond_element}
@@ -110,13 +110,13 @@ no_bracket : (x : Opener) (bracket : Bracket) → is_bracket x ≡ false → x �
 no_bracket x bracket e same = let both : false ≡ true = sym e ∙ ap is_bracket same ∙ bracket_opener bracket in absurd cc
 
 -- The byte that opens so, and what is behind it.
-record OpenedBy (bracket : Bracket) (p : ℕ) (a : List ℕ) (q : ℕ) (b : List ℕ) : Type 0 where
-  byte : ℕ
-  bytes : a ≡ byte ∷ b
-  class : class_of byte ≡ classes.Opens bracket
-  place : q ≡ suc p
+pub record OpenedBy (bracket : Bracket) (p : ℕ) (a : List ℕ) (q : ℕ) (b : List ℕ) : Type 0 where
+  pub byte : ℕ
+  pub bytes : a ≡ byte ∷ b
+  pub class : class_of byte ≡ classes.Opens bracket
+  pub place : q ≡ suc p
 
-opened_by : {token : Token} {p q : ℕ} {a b : List ℕ} (bracket : Bracket) → IsToken token p a q b → token ≡ Opens (opener_of bracket) → OpenedBy bracket p a q b
+pub opened_by : {token : Token} {p q : ℕ} {a b : List ℕ} (bracket : Bracket) → IsToken token p a q b → token ≡ Opens (opener_of bracket) → OpenedBy bracket p a q b
 opened_by bracket (white v) e = absurd cc
 opened_by bracket (comment v g) e = absurd cc
 opened_by bracket (run v g) e = absurd cc
@@ -159,7 +159,7 @@ square = record { opens = opens_square; alone = square_is }
 pub curly : OneByte Curly 123
 curly = record { opens = opens_curly; alone = curly_is }
 
-tail_same : {x y : ℕ} {a b : List ℕ} → x ∷ a ≡ y ∷ b → a ≡ b
+pub tail_same : {x y : ℕ} {a b : List ℕ} → x ∷ a ≡ y ∷ b → a ≡ b
 tail_same e = cc
 
 pub parts_of_inside : (bracket : Bracket) (byte : ℕ) → OneByte bracket byte → (parts : Parts) (piece : Piece) → IsInside (Some parts) piece (kind_of (opener_of bracket)) byte
@@ -278,7 +278,7 @@ not-not true = refl
 not-not false = refl
 
 -- Every map has its pairs.
-paired : (pieces : List Piece) → is_odd pieces ≡ false → (pairs : List (Piece × Piece)) × (in_turn pairs ≡ pieces)
+pub paired : (pieces : List Piece) → is_odd pieces ≡ false → (pairs : List (Piece × Piece)) × (in_turn pairs ≡ pieces)
 paired [] e = ([], refl)
 paired (p ∷ []) e = absurd cc
 paired (p ∷ q ∷ pieces) e =
@@ -393,14 +393,18 @@ same_piece x y e f g h i =
     ∙ ap (λ (k : ElementKind). record { kind = y.kind; start = y.start; text = y.text; core = record { kind = k; start = x.core.start } }) h
     ∙ ap (λ (n : ℕ). record { kind = y.kind; start = y.start; text = y.text; core = record { kind = y.core.kind; start = n } }) i
 
--- The element that is found is the first one, and the others are left.
-pub next_part : (opener : Opener) (old after : Parts) (element : Element) (start middle end : ℕ) (kind inner : ElementKind) → SkipsGap old.left.now 0 start → SkipsTags old.left.now start middle
+abbrev pub FoundPart : Opener → Piece → Parts → List Piece → Type 0
+FoundPart opener found after [] = ⊥
+FoundPart opener found after (piece ∷ pieces) = (found ≡ piece) × PartsLeft opener after pieces
+
+-- What is found is the first element, and the others are left.
+pub found_part : (opener : Opener) (old after : Parts) (start middle end : ℕ) (kind inner : ElementKind) → SkipsGap old.left.now 0 start → SkipsTags old.left.now start middle
     → SkipsElement old.left.now middle end → start ≤ middle → middle ≤ end → Some kind ≡ kind_token (lexed (drop start old.left.now)).0
-    → Some inner ≡ kind_token (lexed (drop middle old.left.now)).0 → piece_of element ≡ found_piece old start middle end kind inner
-    → after.at ≡ old.at + end → after.left.now ≡ drop end old.left.now → (pieces : List Piece) → PartsLeft opener old pieces → NextPart opener (Some element) after pieces
-next_part opener old after element start middle end kind inner skips tags ends low high first second found at left [] h =
+    → Some inner ≡ kind_token (lexed (drop middle old.left.now)).0
+    → after.at ≡ old.at + end → after.left.now ≡ drop end old.left.now → (pieces : List Piece) → PartsLeft opener old pieces → FoundPart opener (found_piece old start middle end kind inner) after pieces
+found_part opener old after start middle end kind inner skips tags ends low high first second at left [] h =
     absurd (no_kind (sym first) (no_first_kind opener old.at old.left.now start h skips))
-next_part opener old after element start middle end kind inner skips tags ends low high first second found at left (piece ∷ pieces) h =
+found_part opener old after start middle end kind inner skips tags ends low high first second at left (piece ∷ pieces) h =
     let bytes = old.left.now in
     let f = first_of h.elements in
     let r = reached piece start middle f.gap f.element skips tags in
@@ -419,17 +423,16 @@ next_part opener old after element start middle end kind inner skips tags ends l
     let rest : after.left.now ≡ f.behind = left ∙ behind in
     let others : IsElements 63 after.at after.left.now pieces h.ends h.beyond =
     subst (λ (p : ℕ). IsElements 63 p after.left.now pieces h.ends h.beyond) (sym ended) (subst (λ (a : List ℕ). IsElements 63 f.ended a pieces h.ends h.beyond) (sym rest) f.others) in (
-      found ∙ same,
+      same,
       record { ends = h.ends; beyond = h.beyond; begins = h.begins; behind = h.behind; after = h.after; bracket = h.bracket; elements = others; gap = h.gap; close = h.close; closes = h.closes },
     )
 
+pub next_part : (opener : Opener) (after : Parts) (element : Element) (found : Piece) → piece_of element ≡ found → (pieces : List Piece) → FoundPart opener found after pieces → NextPart opener (Some element) after pieces
+next_part opener after element found same [] h = absurd h
+next_part opener after element found same (piece ∷ pieces) h = (same ∙ h.0, h.1)
+
 pub parts_are_elements : {opener : Opener} {place : ℕ} {bytes : List ℕ} {pieces : List Piece} → PartsFrom opener place bytes pieces → AllByRecursion IsElement pieces
 parts_are_elements h = let low : 63 ≤ 64 = omega arith in each_is_element low h.elements
-
--- What is given is an element.
-pub given_is_element : (opener : Opener) (old after : Parts) (element : Element) (pieces : List Piece) → PartsLeft opener old pieces → NextPart opener (Some element) after pieces → IsElement (piece_of element)
-given_is_element opener old after element [] h n = absurd n
-given_is_element opener old after element (piece ∷ pieces) h n = subst IsElement (sym n.0) (parts_are_elements h).0
 
 -- ---- pairs
 
@@ -462,19 +465,7 @@ pub pairs_are_elements : {opener : Opener} {place : ℕ} {bytes : List ℕ} (pai
     → AllByRecursion (λ pair. IsElement pair.0 × IsElement pair.1) pairs
 pairs_are_elements pairs h = pairs_each pairs (parts_are_elements h)
 
-pub given_are_elements : (view after : MapView) (pairs : List (Piece × Piece)) (key value : Element) → PairsLeft view pairs → NextPair (Some (key, value)) after pairs → IsElement (piece_of key) × IsElement (piece_of value)
-given_are_elements view after [] key value h n = absurd n
-given_are_elements view after (pair ∷ pairs) key value h n =
-    let each = (pairs_are_elements (pair ∷ pairs) h).0 in
-    (subst IsElement (sym n.0) each.0, subst IsElement (sym n.1) each.1)
-
 -- ---- fields
-
--- One value that is given is the only one.
-one_given : (values : List Piece) (value : Piece) → One value ≡ given values → values ≡ value ∷ []
-one_given [] value e = absurd cc
-one_given (first ∷ []) value e = let same : value ≡ first = cc in cc
-one_given (first ∷ second ∷ values) value e = absurd cc
 
 abbrev IsOf : Field → List Piece → Type 0
 IsOf found values = seen_of found ≡ given values
@@ -546,20 +537,6 @@ seen_end first view after key found s n pairs h =
     let k = s pairs h in
     let e : pairs ≡ k.0 = k.2 ∙ ap (λ (left : List (Piece × Piece)). k.0 ++ left) (n k.1 k.3) ∙ append-nil k.0 in
     subst (λ (ps : List (Piece × Piece)). IsOf found (values_of key ps)) (sym e) k.4
-
-values_are_by : (key : List ℕ) (pair : Piece × Piece) (pairs : List (Piece × Piece)) (t : Bool) → fits_key key pair ≡ t → IsElement pair.1 → AllByRecursion IsElement (values_of key pairs) → AllByRecursion IsElement (values_of key (pair ∷ pairs))
-values_are_by key pair pairs true e h k = subst (AllByRecursion IsElement) (sym (one_value key pair pairs true e)) (h, k)
-values_are_by key pair pairs false e h k = subst (AllByRecursion IsElement) (sym (one_value key pair pairs false e)) k
-
-values_are : (key : List ℕ) (pairs : List (Piece × Piece)) → AllByRecursion AreElements pairs → AllByRecursion IsElement (values_of key pairs)
-values_are key [] h = tt
-values_are key (pair ∷ pairs) h = values_are_by key pair pairs (fits_key key pair) refl h.0.1 (values_are key pairs h.1)
-
--- A value that is given once is an element.
-pub whole_field : (view : MapView) (key : List ℕ) (pairs : List (Piece × Piece)) (found : Field) → PairsLeft view pairs → IsOf found (values_of key pairs) → IsWholeField found
-whole_field view key pairs Absent h f = tt
-whole_field view key pairs (Once element) h f = (subst (AllByRecursion IsElement) (one_given (values_of key pairs) (piece_of element) f) (values_are key pairs (pairs_are_elements pairs h))).0
-whole_field view key pairs Twice h f = tt
 
 -- ---- one list of parts
 

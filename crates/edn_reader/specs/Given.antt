@@ -2,7 +2,8 @@
 use Rattle.std.specs.Prelude.{List, [], ◌∷◌}
 use Rattle.edn_reader.specs.declared.field.Field.{Field}
 use Rattle.edn_reader.specs.declared.field.Field.TheVariants.{Absent, Once, Twice}
-use Rattle.edn_reader.specs.Grammar.{Piece, piece_of}
+use Rattle.edn_reader.specs.Grammar.{Piece}
+use Rattle.edn_reader.specs.Lent.{piece_of}
 
 -- What stands under a key: nothing, one thing, or more.
 pub data Given (X : Type 0) : Type 0 where
@@ -21,3 +22,9 @@ abbrev pub seen : Field → Given Piece
 seen Absent = Missing
 seen (Once element) = One (piece_of element)
 seen Twice = Many
+
+-- What stands under a key with one value more.
+abbrev pub one_more : Given Piece → Piece → Given Piece
+one_more Missing value = One value
+one_more (One first) value = Many
+one_more Many value = Many

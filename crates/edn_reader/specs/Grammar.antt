@@ -7,7 +7,6 @@ use Rattle.edn_reader.specs.declared.bytes.Bracket.TheVariants.{Round, Square, C
 use Rattle.edn_reader.specs.declared.element.ElementKind.{ElementKind}
 use Rattle.edn_reader.specs.declared.element.ElementKind.TheVariants as kinds
 use Rattle.edn_reader.specs.declared.element.Core.{Core}
-use Rattle.edn_reader.specs.declared.element.Element.{Element}
 use Rattle.edn_reader.specs.declared.token.Token.{Token}
 use Rattle.edn_reader.specs.declared.token.Token.TheVariants.{Gap, Leaf, Opens as Opening, Closes as Closing}
 use Rattle.edn_reader.specs.declared.token.Opener.{Opener}
@@ -21,10 +20,6 @@ pub record Piece : Type 0 where
   pub start : ℕ
   pub text : List ℕ
   pub core : Core
-
--- What an element of the program is.
-abbrev pub piece_of : Element → Piece
-piece_of element = record { kind = element.kind; start = element.start; text = element.text.now; core = element.core }
 
 -- An element without its tags.
 abbrev pub untagged : Piece → Piece
@@ -85,16 +80,19 @@ pub data IsToken : Token → ℕ → List ℕ → ℕ → List ℕ → Type 0 wh
   close : {b place : ℕ} {rest : List ℕ} {bracket : Bracket} → class_of b ≡ Closes bracket
       → IsToken (Closing bracket) place (b ∷ rest) (suc place) rest
 
+-- One of ( and ).
 abbrev pub is_round : Bracket → Bool
 is_round Round = true
 is_round Square = false
 is_round Curly = false
 
+-- One of [ and ].
 abbrev pub is_square : Bracket → Bool
 is_square Round = false
 is_square Square = true
 is_square Curly = false
 
+-- One of { and }.
 abbrev pub is_curly : Bracket → Bool
 is_curly Round = false
 is_curly Square = false
@@ -118,7 +116,7 @@ waits openers.Set = false
 waits openers.Tag = true
 waits openers.Discard = true
 
--- What holds an even number of elements.
+-- What holds an even number of elements, or none: a map.
 abbrev pub is_paired : Opener → Bool
 is_paired openers.List = false
 is_paired openers.Vector = false
@@ -153,7 +151,7 @@ mutual
         → IsElementAt room kind core begins beyond ends behind → IsGap (suc room) ends behind after rest
         → IsGap (suc room) place bytes after rest
 
-  -- An element of a kind and with a core, within which so many brackets, tags and discards may open (the EDN format):
+  -- An element of a kind and with a core, within which so many brackets, tags and discards may open (this project's profile of the EDN format):
   -- one without parts; elements between brackets that fit; a tag, a gap and one element.
   pub data IsElementAt : ℕ → ElementKind → Core → ℕ → List ℕ → ℕ → List ℕ → Type 0 where
     leaf : {room place after : ℕ} {bytes rest : List ℕ} {kind : ElementKind} → IsToken (Leaf kind) place bytes after rest

@@ -41,7 +41,7 @@ integer_of (b ∷ bytes) =
     else if b == 43 then option_map pos (natural_of bytes)
     else option_map pos (natural_of (b ∷ bytes))
 
--- A number of 64 bits with a sign.
+-- A number of 64 bits with a sign, and no other (this project's profile).
 abbrev pub fitting : Option ℤ → Option ℤ
 fitting None = None
 fitting (Some (pos n)) = if nat_lt n (2 ^ 63) then Some (pos n) else None

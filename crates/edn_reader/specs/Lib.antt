@@ -4,6 +4,7 @@ pub mod Text
 pub mod Fault
 pub mod Integer
 pub mod Pairs
+pub mod Lent
 pub mod Given
 pub mod Reading
 pub mod Token

@@ -17,6 +17,7 @@ abbrev pub ended_at : ℕ → ℕ → Counts
 ended_at zero elements = record { brackets = 0; elements = pred elements }
 ended_at (suc brackets) elements = record { brackets = suc brackets; elements = elements }
 
+-- The same of what is still to end.
 abbrev pub ended_one : Counts → Counts
 ended_one counts = ended_at counts.brackets counts.elements
 
@@ -25,10 +26,12 @@ abbrev pub wanted_at : ℕ → ℕ → Counts
 wanted_at zero elements = record { brackets = 0; elements = suc elements }
 wanted_at (suc brackets) elements = record { brackets = suc brackets; elements = elements }
 
+-- A bracket closed, and with it an element ended; where none is open all has ended.
 abbrev pub closed_at : ℕ → ℕ → Counts
 closed_at zero elements = record { brackets = 0; elements = 0 }
 closed_at (suc brackets) elements = ended_at brackets elements
 
+-- Something opened: a bracket, a discard that wants an element, or a tag, which changes nothing.
 abbrev pub opened_with : Opener → Counts → Counts
 opened_with openers.List counts = record { brackets = suc counts.brackets; elements = counts.elements }
 opened_with openers.Vector counts = record { brackets = suc counts.brackets; elements = counts.elements }

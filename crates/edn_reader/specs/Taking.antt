@@ -1,10 +1,10 @@
 -- What a token leads to where these stand open. No public clause speaks of it.
-use Rattle.std.specs.Prelude.{◌≡◌, ◌<◌, ◌≤◌, ◌-◌, ◌⊎◌, ℕ, Bool, true, false, ◌==◌, ◌&&◌, if◌then◌else◌, not, List, [], ◌∷◌, ◌++◌, length, take, drop, Option, Some, None, Result, Ok, Err}
+use Rattle.std.specs.Prelude.{◌≡◌, ◌≢◌, ◌<◌, ◌≤◌, ◌-◌, ◌⊎◌, ℕ, Bool, true, false, ◌==◌, ◌&&◌, if◌then◌else◌, not, List, [], ◌∷◌, ◌++◌, length, take, drop, Option, Some, None, Result, Ok, Err}
 use Rattle.edn_reader.specs.declared.bytes.Bracket.{Bracket}
 use Rattle.edn_reader.specs.declared.element.ElementKind.{ElementKind}
 use Rattle.edn_reader.specs.declared.element.ElementKind.TheVariants.{Tagged}
 use Rattle.edn_reader.specs.declared.fault.EdnFault.{EdnFault}
-use Rattle.edn_reader.specs.declared.fault.EdnFault.TheVariants.{Truncated, StrayClose, WrongClose, TooDeep, OddMap, TagWithoutElement}
+use Rattle.edn_reader.specs.declared.fault.EdnFault.TheVariants.{Truncated, StrayClose, WrongClose, TooDeep, OddMap, TagWithoutElement, Memory}
 use Rattle.edn_reader.specs.declared.nesting.Open.{Open}
 use Rattle.edn_reader.specs.declared.step.Span.{Span}
 use Rattle.edn_reader.specs.declared.token.Token.{Token}
@@ -22,9 +22,10 @@ pub data Taken : Type 0 where
   fails : EdnFault → Taken
 
 -- What is open, with one more element in it.
-abbrev pub one_more : Open → Open
-one_more item = record { place = item.place; opener = item.opener; odd = not item.odd }
+abbrev pub with_one : Open → Open
+with_one item = record { place = item.place; opener = item.opener; odd = not item.odd }
 
+-- A tag alone.
 abbrev pub is_tag : Opener → Bool
 is_tag openers.List = false
 is_tag openers.Vector = false
@@ -43,12 +44,12 @@ completed span [] = ends span
 completed span (item ∷ opens) =
     if is_tag item.opener then completed (behind_tag item span) opens
     else if waits item.opener then on opens
-    else on (one_more item ∷ opens)
+    else on (with_one item ∷ opens)
 
 -- What was innermost is taken where it waits, and has one more element where it is a bracket.
 abbrev pub EndsOne : Option Open → List Open → List Open → Type 0
 EndsOne None opens after = (opens ≡ []) × (after ≡ [])
-EndsOne (Some item) opens after = (others : List Open) × (opens ≡ item ∷ others) × (after ≡ (if waits item.opener then others else one_more item ∷ others))
+EndsOne (Some item) opens after = (others : List Open) × (opens ≡ item ∷ others) × (after ≡ (if waits item.opener then others else with_one item ∷ others))
 
 -- An element that begins and ends here and has no tag.
 abbrev pub plain_span : ElementKind → ℕ → ℕ → Span
@@ -86,6 +87,16 @@ abbrev pub Gives : Result (Option Span) EdnFault → List Open → Taken → Typ
 Gives (Ok None) opens token = token ≡ on opens
 Gives (Ok (Some span)) opens token = (token ≡ ends span) × (opens ≡ [])
 Gives (Err fault) opens token = IsMemory fault ⊎ (token ≡ fails fault)
+
+-- A growth was refused: what opens at this place finds sixteen or more open. Of any other fault this says nothing.
+abbrev pub GrowthRefused : Token → ℕ → List Open → EdnFault → Type 0
+GrowthRefused token place opens (Memory at) = (at ≡ place) × (opener : Opener) × (token ≡ tokens.Opens opener) × (16 ≤ length opens) × (length opens ≢ 64)
+GrowthRefused token place opens (Truncated at) = Unit {0}
+GrowthRefused token place opens (StrayClose at) = Unit {0}
+GrowthRefused token place opens (WrongClose at) = Unit {0}
+GrowthRefused token place opens (TooDeep at) = Unit {0}
+GrowthRefused token place opens (OddMap at) = Unit {0}
+GrowthRefused token place opens (TagWithoutElement at) = Unit {0}
 
 -- The element at a span of the input.
 abbrev pub piece_in : List ℕ → Span → Piece

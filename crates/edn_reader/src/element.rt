@@ -1,7 +1,8 @@
 //! An element that is lent from its input.
 
-ghost use Rattle.std.specs.Prelude.{◌≡◌, ◌+◌, ◌≤◌, ◌<◌, ◌^◌, ◌↔◌, suc, length, List, MatchOption, IsSomeAnd, None, Some};
+ghost use Rattle.std.specs.Prelude.{◌≡◌, ◌+◌, ◌≤◌, ◌<◌, ◌^◌, ◌↔◌, ◌≢◌, length, List, MatchOption};
 ghost use Rattle.std.specs.Option.{option_map};
+ghost use Rattle.edn_reader.specs.Grammar.{IsElement};
 
 use crate::integer;
 use crate::parts::Parts;
@@ -28,7 +29,7 @@ pub struct Core {
     pub(crate) start: usize,
 }
 
-/// An element and where it stands. It takes no memory.
+/// An element by the grammar, and where it stands. It takes no memory.
 #[derive(Clone, Copy)]
 pub struct Element<'t> {
     text: &'t [u8],
@@ -38,19 +39,22 @@ pub struct Element<'t> {
     ghost fits: { start + length text.now < 2 ^ 64 },
     ghost core_after: { start ≤ core.start },
     ghost core_within: { core.start ≤ start + length text.now },
+    ghost whole: { ∥ IsElement (record { kind = kind; start = start; text = text.now; core = core }) ∥₁ },
 }
 
 impl<'t> Element<'t> {
-    ghost use Rattle.edn_reader.specs.Grammar.{Piece, piece_of, untagged, IsElement};
+    ghost use Rattle.edn_reader.specs.Grammar.{Piece, untagged, IsElement};
+    ghost use Rattle.edn_reader.specs.Lent.{piece_of, PairsLeft, MembersLeft};
     ghost use Rattle.edn_reader.specs.Integer.{int_of};
     ghost use Rattle.edn_reader.specs.Skipping.{IsInside};
-    ghost use Rattle.edn_reader.specs.Pairs.{keyword_of, is_nil, is_word, HasPairs, PairsLeft, HasMembers, MembersLeft};
+    ghost use Rattle.edn_reader.specs.Pairs.{keyword_of, is_nil, is_word, HasPairs, HasMembers};
     ghost use Rattle.edn_reader.specs.declared.element.ElementKind.TheVariants.{Vector, Map};
 
     pub(crate) fn new(text: &'t [u8], start: usize, kind: ElementKind, core: Core) -> Element<'t>
         requires fits { start + length text.now < 2 ^ 64 }
         requires after { start ≤ core.start }
         requires within { core.start ≤ start + length text.now }
+        requires whole { ∥ IsElement (record { kind = kind; start = start; text = text.now; core = core }) ∥₁ }
         ensures { piece_of result ≡ record { kind = kind; start = start; text = text.entry.now; core = core } }
     {
         Element {
@@ -86,8 +90,7 @@ impl<'t> Element<'t> {
 
     /// The element behind its tags; itself where it has none.
     pub fn untagged(&self) -> Element<'t>
-        ensures bare { piece_of result ≡ untagged (piece_of self.now) }
-        ensures whole { IsElement (piece_of self.now) → IsElement (piece_of result) }
+        ensures { piece_of result ≡ untagged (piece_of self.now) }
     {
         let Element {
             text,
@@ -156,8 +159,8 @@ impl<'t> Element<'t> {
     pub fn as_map(&self) -> Option<MapView<'t>>
         ensures pairs { MatchOption result ((pairs : List (Piece × Piece)) → HasPairs (piece_of self.now) pairs → ⊥)
             (λ view. ((piece_of self.now).core.kind ≡ Map) × ((pairs : List (Piece × Piece)) → HasPairs (piece_of self.now) pairs ↔ PairsLeft view pairs)) }
-        ensures whole { IsElement (piece_of self.now) → (piece_of self.now).core.kind ≡ Map
-            → IsSomeAnd result (λ view. (pairs : List (Piece × Piece)) × HasPairs (piece_of self.now) pairs × PairsLeft view pairs) }
+        ensures some { MatchOption result ((piece_of self.now).core.kind ≢ Map)
+            (λ view. (pairs : List (Piece × Piece)) × HasPairs (piece_of self.now) pairs × PairsLeft view pairs) }
     {
         match self.inside(ElementKind::Map, b'{') {
             Some(parts) => Some(MapView::new(parts)),
@@ -169,8 +172,8 @@ impl<'t> Element<'t> {
     pub fn as_vector(&self) -> Option<VectorView<'t>>
         ensures members { MatchOption result ((members : List Piece) → HasMembers (piece_of self.now) members → ⊥)
             (λ view. ((piece_of self.now).core.kind ≡ Vector) × ((members : List Piece) → HasMembers (piece_of self.now) members ↔ MembersLeft view members)) }
-        ensures whole { IsElement (piece_of self.now) → (piece_of self.now).core.kind ≡ Vector
-            → IsSomeAnd result (λ view. (members : List Piece) × HasMembers (piece_of self.now) members × MembersLeft view members) }
+        ensures some { MatchOption result ((piece_of self.now).core.kind ≢ Vector)
+            (λ view. (members : List Piece) × HasMembers (piece_of self.now) members × MembersLeft view members) }
     {
         match self.inside(ElementKind::Vector, b'[') {
             Some(parts) => Some(VectorView::new(parts)),

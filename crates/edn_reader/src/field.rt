@@ -1,7 +1,8 @@
 //! What a map has under a key.
 
 ghost use Rattle.std.specs.Prelude.{◌≡◌, ◌++◌, List, [], ◌∷◌};
-ghost use Rattle.edn_reader.specs.Grammar.{Piece, piece_of};
+ghost use Rattle.edn_reader.specs.Grammar.{Piece};
+ghost use Rattle.edn_reader.specs.Lent.{piece_of};
 ghost use Rattle.edn_reader.specs.Given.{given, seen};
 
 use crate::element::Element;
@@ -14,11 +15,17 @@ pub enum Field<'t> {
     Twice,
 }
 
-pub fn one_more<'t>(found: Field<'t>, value: Element<'t>) -> Field<'t>
-    ensures { (values : List Piece) → seen found.entry ≡ given values → seen result ≡ given (values ++ piece_of value.entry ∷ []) }
-{
-    match found {
-        Field::Absent => Field::Once(value),
-        Field::Once(_) | Field::Twice => Field::Twice,
+impl<'t> Field<'t> {
+    ghost use Rattle.edn_reader.specs.Given.{one_more};
+
+    /// What stands under the key with this value too.
+    pub fn one_more(self, value: Element<'t>) -> Field<'t>
+        ensures seen { seen result ≡ one_more (seen self.entry) (piece_of value.entry) }
+        ensures values { (values : List Piece) → seen self.entry ≡ given values → seen result ≡ given (values ++ piece_of value.entry ∷ []) }
+    {
+        match self {
+            Field::Absent => Field::Once(value),
+            Field::Once(_) | Field::Twice => Field::Twice,
+        }
     }
 }

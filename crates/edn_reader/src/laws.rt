@@ -3,11 +3,13 @@
 ghost use Rattle.std.specs.Prelude.{◌≡◌, ◌⊎◌, ℕ, List};
 ghost use Rattle.std.specs.List.{AllByRecursion};
 ghost use Rattle.edn_reader.specs.declared.fault.EdnFault.{EdnFault};
+ghost use Rattle.edn_reader.specs.declared.element.Element.{Element};
 ghost use Rattle.edn_reader.specs.declared.element.ElementKind.TheVariants.{Vector, Map};
+ghost use Rattle.edn_reader.specs.Lent.{piece_of};
 ghost use Rattle.edn_reader.specs.Grammar.{Piece, IsElement};
 ghost use Rattle.edn_reader.specs.Text.{IsFront, IsText};
 ghost use Rattle.edn_reader.specs.Fault.{FaultOf};
-ghost use Rattle.edn_reader.specs.Pairs.{HasPairs, HasMembers};
+ghost use Rattle.edn_reader.specs.Pairs.{values_of, HasPairs, HasMembers};
 
 /// A text has one division into elements.
 pub fn one_division()
@@ -30,11 +32,17 @@ pub fn each_is_element()
     ensures { (input : List ℕ) (pieces : List Piece) (at : ℕ) → IsFront input pieces at → AllByRecursion IsElement pieces }
 {}
 
+/// Each element that is lent is one.
+pub fn each_lent_is_element()
+    ensures { (element : Element) → IsElement (piece_of element) }
+{}
+
 /// A map has one list of pairs, of elements, behind its tags.
 pub fn pairs_of_map()
     ensures some { (piece : Piece) → IsElement piece → piece.core.kind ≡ Map → (pairs : List (Piece × Piece)) × HasPairs piece pairs }
     ensures one { (piece : Piece) (firsts seconds : List (Piece × Piece)) → HasPairs piece firsts → HasPairs piece seconds → firsts ≡ seconds }
     ensures elements { (piece : Piece) (pairs : List (Piece × Piece)) → HasPairs piece pairs → AllByRecursion (λ pair. IsElement pair.0 × IsElement pair.1) pairs }
+    ensures values { (key : List ℕ) (pairs : List (Piece × Piece)) → AllByRecursion (λ pair. IsElement pair.0 × IsElement pair.1) pairs → AllByRecursion IsElement (values_of key pairs) }
 {}
 
 /// A vector has one list of elements, behind its tags.

@@ -1,4 +1,21 @@
 //! Lends the elements of a text, one after another, and names its first fault.
+//!
+//! The texts are EDN in this project's profile (docs/FORMATS.md). An element is its bytes in the input with its
+//! kind and its place, and so is each element in a map or a vector: nothing is copied. It makes no tree and no
+//! values but keywords and integers of 64 bits; what a Text escapes stays as it stands.
+//!
+//! ```text
+//! let mut reader = Reader::new(alloc, b"{:f :write :k 7}");
+//! let element = reader.next()?;                 // Some: a Map from 0 to 16
+//! let map = element.as_map();                   // Some: two pairs
+//! let field = map.field(b":k");                 // Field::Once: an Atom from 14 to 15
+//! let number = value.as_int();                  // Some(7)
+//! let end = reader.next()?;                     // None, and None again
+//! ```
+//!
+//! The first row of `tests.rt` is this text; its other rows have each form and each fault. Begin with `Reader::next`:
+//! its clauses name the grammar (specs/Grammar.antt), the texts (Text.antt) and the first fault (Fault.antt).
+//! `laws` has what follows: one division into elements, one fault, a text or a fault.
 #![tactic(auto)]
 
 mod bytes;

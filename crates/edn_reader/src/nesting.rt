@@ -1,6 +1,6 @@
 //! What stands open: brackets, tags and discards, the innermost first.
 
-ghost use Rattle.std.specs.Prelude.{◌≡◌, [], ◌∷◌, length, OnOk, OnErr, MatchOption};
+ghost use Rattle.std.specs.Prelude.{◌≡◌, ◌≤◌, [], ◌∷◌, length, OnOk, OnErr, MatchOption};
 ghost use Rattle.edn_reader.specs.Taking.{EndsOne};
 
 use crate::token::Opener;
@@ -23,12 +23,14 @@ pub struct Nesting {
 }
 
 impl Model for Nesting {
-    ghost use Rattle.std.specs.Prelude.{List, reverse};
+    ghost use Rattle.std.specs.Prelude.{◌≤◌, List, reverse};
     ghost use Rattle.edn_reader.specs.declared.nesting.Open.{Open};
 
     ghost Value = { List Open };
 
     ghost view = { λ a. reverse a.opens.items };
+
+    ghost invariant = { λ a. 16 ≤ a.opens.capacity };
 }
 
 impl Nesting {
@@ -51,6 +53,7 @@ impl Nesting {
     pub fn push(&mut self, item: Open) -> Result<(), AllocError>
         ensures ok { OnOk result (self.new ≡ item ∷ self.old) }
         ensures err { OnErr result (self.new ≡ self.old) }
+        ensures grew { OnErr result (16 ≤ length self.old) }
     {
         match self.opens.push(item) {
             Ok(()) => Ok(()),

@@ -13,9 +13,9 @@ pub struct Parts<'t> {
 }
 
 impl<'t> Parts<'t> {
-    ghost use Rattle.edn_reader.specs.Grammar.{Piece, piece_of, IsElement};
+    ghost use Rattle.edn_reader.specs.Grammar.{Piece};
     ghost use Rattle.edn_reader.specs.declared.token.Opener.{Opener};
-    ghost use Rattle.edn_reader.specs.Pairs.{PartsLeft, NextPart, part_bytes};
+    ghost use Rattle.edn_reader.specs.Lent.{PartsLeft, HoldsParts, NextPart, part_bytes};
 
     pub fn new(left: &'t [u8], at: usize) -> Parts<'t>
         requires { at + length left.now < 2 ^ 64 }
@@ -27,9 +27,10 @@ impl<'t> Parts<'t> {
 
     /// The next element.
     pub fn next(&mut self) -> Option<Element<'t>>
+        requires { ∥ HoldsParts self.old ∥₁ }
         ensures part { (opener : Opener) (parts : List Piece) → PartsLeft opener self.old parts → NextPart opener result self.new parts }
-        ensures whole { (opener : Opener) (parts : List Piece) → PartsLeft opener self.old parts → IfSome result (λ element. IsElement (piece_of element)) }
         ensures shrinks { MatchOption result (self.new ≡ self.old) (λ element. part_bytes self.new < part_bytes self.old) }
+        ensures forward { self.old.at ≤ self.new.at }
     {
         let Parts { left, at } = *self;
         let first = behind_gap(left, 0)?;

@@ -1,6 +1,9 @@
 //! The reader: one pass over the input, which lends its elements.
 
 ghost use Rattle.std.specs.Prelude.{◌≡◌, ◌++◌, ◌≤◌, ◌<◌, ◌∷◌, ◌⊎◌, List, [], length, take, drop, None, Some, Ok, Err, IsNone, IfErr, OnErr, OnOk, IfOk, IfSome, OnSome};
+ghost use Rattle.edn_reader.specs.Grammar.{Piece};
+ghost use Rattle.edn_reader.specs.Text.{IsFront};
+ghost use Rattle.edn_reader.specs.Fault.{MemoryOnlyThere};
 ghost use Rattle.edn_reader.specs.Taking.{Reads};
 
 use crate::element::Element;
@@ -37,7 +40,8 @@ impl<'t> Model for Reader<'t> {
 fn read_element(input: &[u8], from: usize, nesting: &mut Nesting) -> Result<Option<Span>, EdnFault>
     requires at { from ≤ length input.now }
     requires none_open { nesting.old ≡ [] }
-    ensures { Reads input.now from result nesting.new }
+    ensures reads { Reads input.now from result nesting.new }
+    ensures memory { IfErr result (λ fault. (pieces : List Piece) → IsFront input.now pieces from → MemoryOnlyThere input.now pieces fault) }
 {
     let mut at = from;
     while at < input.len() {
@@ -56,9 +60,10 @@ fn read_element(input: &[u8], from: usize, nesting: &mut Nesting) -> Result<Opti
 }
 
 impl<'t> Reader<'t> {
-    ghost use Rattle.edn_reader.specs.Grammar.{Piece, piece_of, IsElement};
+    ghost use Rattle.edn_reader.specs.Grammar.{Piece};
+    ghost use Rattle.edn_reader.specs.Lent.{piece_of};
     ghost use Rattle.edn_reader.specs.Text.{IsFront, IsText};
-    ghost use Rattle.edn_reader.specs.Fault.{FaultOf, IsMemory, AreElementsBefore};
+    ghost use Rattle.edn_reader.specs.Fault.{FaultOf, IsMemory, MemoryOnlyThere, AreElementsBefore};
 
     /// Takes no memory. The allocator is kept for what will stand open.
     pub fn new(alloc: Global, input: &'t [u8]) -> Reader<'t>
@@ -74,7 +79,6 @@ impl<'t> Reader<'t> {
     }
 
     /// The next outermost element; none at the end of the input.
-    #[tactic(auto, using(crate::proofs::Views::last_is_element))]
     pub fn next(&mut self) -> Result<Option<Element<'t>>, EdnFault>
         ensures input { self.new.input ≡ self.old.input }
         ensures element { IfOk result (λ found. IfSome found (λ element.
@@ -83,11 +87,11 @@ impl<'t> Reader<'t> {
             (piece_of element).text ≡ take (length (piece_of element).text) (drop (piece_of element).start self.old.input))) }
         ensures forward { IfOk result (λ found. IfSome found (λ element.
             (self.old.at < self.new.at) × (self.new.at ≤ length self.old.input))) }
-        ensures whole { IfOk result (λ found. IfSome found (λ element. IsElement (piece_of element))) }
         ensures end { IfOk result (λ found. IsNone found → (self.new ≡ self.old)
             × ((pieces : List Piece) → IsFront self.old.input pieces self.old.at → IsText self.old.input pieces)) }
         ensures fault { IfErr result (λ fault. IsMemory fault ⊎ (FaultOf self.old.input fault
             × ((pieces : List Piece) → IsFront self.old.input pieces self.old.at → AreElementsBefore self.old.input pieces))) }
+        ensures memory { IfErr result (λ fault. (pieces : List Piece) → IsFront self.old.input pieces self.old.at → MemoryOnlyThere self.old.input pieces fault) }
         ensures kept { OnErr result (self.new.at ≡ self.old.at) }
         ensures remembered { IfErr result (λ fault. self.new.fault ≡ Some fault) }
         ensures none_yet { OnOk result (self.new.fault ≡ None) }

@@ -1,8 +1,10 @@
 //! What a token leads to: on, to the end of an outermost element, or to a fault.
 
-ghost use Rattle.std.specs.Prelude.{◌≡◌, ◌≤◌, ◌<◌, length};
+ghost use Rattle.std.specs.Prelude.{◌≡◌, ◌≤◌, ◌<◌, length, IfErr};
+ghost use Rattle.edn_reader.specs.declared.token.Token.TheVariants.{Opens};
+ghost use Rattle.edn_reader.specs.Fault.{IsMemory};
 ghost use Rattle.edn_reader.specs.Grammar.{fits, waits, is_paired, kind_of};
-ghost use Rattle.edn_reader.specs.Taking.{Gives, completed, closed, opened, taken, plain_span, fault_before};
+ghost use Rattle.edn_reader.specs.Taking.{Gives, GrowthRefused, completed, closed, opened, taken, plain_span, fault_before};
 
 use crate::bytes::Bracket;
 use crate::element::{Core, ElementKind};
@@ -56,7 +58,8 @@ fn complete(element: Span, nesting: &mut Nesting) -> Option<Span>
 }
 
 fn open(place: usize, opener: Opener, nesting: &mut Nesting) -> Result<Option<Span>, EdnFault>
-    ensures { Gives result nesting.new (opened place opener nesting.old) }
+    ensures gives { Gives result nesting.new (opened place opener nesting.old) }
+    ensures memory { IfErr result (λ fault. GrowthRefused (Opens opener) place nesting.old fault) }
 {
     if nesting.len() == ROOM {
         return Err(EdnFault::TooDeep(place));
@@ -74,7 +77,8 @@ fn open(place: usize, opener: Opener, nesting: &mut Nesting) -> Result<Option<Sp
 
 /// The fault of a closing bracket before which a tag or a discard waits.
 fn fault_before(place: usize, bracket: Bracket, waiting: Open, inner: Option<Open>) -> EdnFault
-    ensures { result ≡ fault_before place bracket waiting inner }
+    ensures fault { result ≡ fault_before place bracket waiting inner }
+    ensures no_memory { IsMemory result → ⊥ }
 {
     match inner {
         None => EdnFault::StrayClose(place),
@@ -95,7 +99,8 @@ fn close(
     bracket: Bracket,
     nesting: &mut Nesting,
 ) -> Result<Option<Span>, EdnFault>
-    ensures { Gives result nesting.new (closed place end bracket nesting.old) }
+    ensures gives { Gives result nesting.new (closed place end bracket nesting.old) }
+    ensures memory { IfErr result (λ fault. IsMemory fault → ⊥) }
 {
     let Some(open) = nesting.pop() else {
         return Err(EdnFault::StrayClose(place));
@@ -115,7 +120,8 @@ fn close(
 /// Takes the token that was found at a place.
 #[tactic(auto, unfolding(crate::specs::Taking::taken))]
 pub fn take(place: usize, found: Found, nesting: &mut Nesting) -> Result<Option<Span>, EdnFault>
-    ensures { Gives result nesting.new (taken found.token place found.end nesting.old) }
+    ensures gives { Gives result nesting.new (taken found.token place found.end nesting.old) }
+    ensures memory { IfErr result (λ fault. GrowthRefused found.token place nesting.old fault) }
 {
     match found.token {
         Token::Gap => Ok(None),

@@ -1,514 +1,332 @@
+//! Rows of a text and what is told of it. In a text `%` and two digits stand for the byte that they are;
+//! bars part it, and a part behind a number and a star is written so many times.
+
+ghost use Rattle.std.specs.Prelude.{◌≤◌};
+
 use super::*;
-use crate::element::ElementKind::*;
-use std::alloc::Global;
+use std::alloc::{AllocError, Global};
+use std::fmt::Write;
 use std::process::Abort;
+use std::str::from_utf8;
 use std::test::*;
 
-fn first<'t>(rt: &HostRuntime, input: &'t [u8]) -> Result<Element<'t>, Fail> {
-    let mut reader = Reader::new(rt.alloc(), input);
-    Ok(reader.next()?.ok_or("an element")?)
-}
-
-/// The elements of the input are these, and nothing else stands there.
-fn has_elements(
-    rt: &impl Abort,
-    alloc: Global,
-    input: &[u8],
-    want: &[(ElementKind, usize, usize)],
-) -> Result<(), Fail> {
-    let mut reader = Reader::new(alloc, input);
-    for (kind, start, end) in want.iter() {
-        let element = reader.next()?.ok_or("an element is left")?;
-        assert_eq!(rt; element.span(), (*start, *end));
-        assert_eq!(rt; element.kind(), *kind);
-        assert_eq!(rt; Some(element.text()), input.get(*start..*end));
-    }
-    assert!(rt; reader.next()?.is_none());
-    assert!(rt; reader.next()?.is_none());
-    Ok(())
-}
-
-/// So many elements stand before this fault, which is answered for good.
-fn has_fault(
-    rt: &impl Abort,
-    alloc: Global,
-    input: &[u8],
-    elements: usize,
-    fault: EdnFault,
-) -> Result<(), Fail> {
-    let mut reader = Reader::new(alloc, input);
-    for _ in 0..elements {
-        assert!(rt;
-            reader.next()?.is_some(),
-            "{elements} elements stand before {fault}"
-        );
-    }
-    for _ in 0..3 {
-        assert_eq!(rt; reader.next().err(), Some(fault));
+fn tell_place(told: &mut String, input: &[u8], element: Element) -> Result<(), AllocError> {
+    let (start, end) = element.span();
+    write!(told, "{:?} {start} {end}", element.kind())?;
+    if input.get(start..end) != Some(element.text()) {
+        told.push_str(" of other bytes")?;
     }
     Ok(())
 }
 
-#[test]
-fn every_kind_with_its_extent(rt: HostRuntime) -> Result<(), Fail> {
-    has_elements(
-        &rt,
-        rt.alloc(),
-        b"a nil :k -7N ##a a\\b#c",
-        &[
-            (Atom, 0, 1),
-            (Atom, 2, 5),
-            (Atom, 6, 8),
-            (Atom, 9, 12),
-            (Atom, 13, 16),
-            (Atom, 17, 22),
-        ],
-    )?;
-    has_elements(
-        &rt,
-        rt.alloc(),
-        b"\\a\\newline \\( \\\\ \\;x;",
-        &[
-            (Char, 0, 10),
-            (Char, 11, 13),
-            (Char, 14, 16),
-            (Char, 17, 20),
-        ],
-    )?;
-    has_elements(
-        &rt,
-        rt.alloc(),
-        b"\"\" \"a\\\"b\" #\"\\\\\"\"\n;(\"",
-        &[(Text, 0, 2), (Text, 3, 9), (Text, 10, 15), (Text, 15, 20)],
-    )?;
-    has_elements(
-        &rt,
-        rt.alloc(),
-        b"() [] {} #{} (a) [a b]{a b}#{a}",
-        &[
-            (List, 0, 2),
-            (Vector, 3, 5),
-            (Map, 6, 8),
-            (Set, 9, 12),
-            (List, 13, 16),
-            (Vector, 17, 22),
-            (Map, 22, 27),
-            (Set, 27, 31),
-        ],
-    )?;
-    has_elements(
-        &rt,
-        rt.alloc(),
-        b"#t a #t(1) # a #,#\\x y #;\n#\"\"",
-        &[
-            (Tagged, 0, 4),
-            (Tagged, 5, 10),
-            (Tagged, 11, 14),
-            (Tagged, 15, 22),
-            (Tagged, 23, 29),
-        ],
-    )?;
-    has_elements(&rt, rt.alloc(), b"#a #b #c {1 2}", &[(Tagged, 0, 14)])?;
-    Ok(())
-}
-
-#[test]
-fn gaps_are_no_elements(rt: HostRuntime) -> Result<(), Fail> {
-    has_elements(&rt, rt.alloc(), b"", &[])?;
-    has_elements(&rt, rt.alloc(), b"\t\n\x0b\x0c\r ,", &[])?;
-    has_elements(&rt, rt.alloc(), b"; a comment that ends the input", &[])?;
-    has_elements(&rt, rt.alloc(), b";;\r[\n1;\"\n;", &[(Atom, 5, 6)])?;
-    has_elements(&rt, rt.alloc(), b"#_a #_ [1 2] #_#t b #_ ; c\n d", &[])?;
-    has_elements(&rt, rt.alloc(), b"#_ #_ a b c", &[(Atom, 10, 11)])?;
-    has_elements(&rt, rt.alloc(), b"#_#t #_ a b c", &[(Atom, 12, 13)])?;
-    has_elements(&rt, rt.alloc(), b"#t #_ a b", &[(Tagged, 0, 9)])?;
-    has_elements(&rt, rt.alloc(), b"(#_ a ; )\n b #_ c)", &[(List, 0, 18)])?;
-    Ok(())
-}
-
-#[test]
-fn no_gap_is_needed_where_the_end_is_clear(rt: HostRuntime) -> Result<(), Fail> {
-    has_elements(
-        &rt,
-        rt.alloc(),
-        b"\\( #t [1,\"a\\\"b\"] #_x :k",
-        &[(Char, 0, 2), (Tagged, 3, 16), (Atom, 21, 23)],
-    )?;
-    has_elements(&rt, rt.alloc(), b"a\"b\"", &[(Atom, 0, 1), (Text, 1, 4)])?;
-    has_elements(
-        &rt,
-        rt.alloc(),
-        b"a(b)c[]\"\"{}d",
-        &[
-            (Atom, 0, 1),
-            (List, 1, 4),
-            (Atom, 4, 5),
-            (Vector, 5, 7),
-            (Text, 7, 9),
-            (Map, 9, 11),
-            (Atom, 11, 12),
-        ],
-    )?;
-    has_fault(&rt, rt.alloc(), b"\\[a]", 1, EdnFault::StrayClose(3))?;
-    Ok(())
-}
-
-#[test]
-fn bytes_from_128_up(rt: HostRuntime) -> Result<(), Fail> {
-    has_elements(
-        &rt,
-        rt.alloc(),
-        b"\x80\xff \"\xfe\\\xc3\" \\\xf0\x9f ;\xff\n#\xe4 \xe4",
-        &[(Atom, 0, 2), (Text, 3, 8), (Char, 9, 12), (Tagged, 16, 20)],
-    )?;
-    let mut bytes = Vec::new(rt.alloc());
-    for byte in 0..=255 {
-        bytes.clear();
-        bytes.push(b'a')?;
-        bytes.push(byte)?;
-        bytes.push(b'a')?;
-        let mut reader = Reader::new(rt.alloc(), &bytes);
-        let element = reader.next()?.ok_or("an Atom")?;
-        let delimits = matches!(
-            byte,
-            9..=13 | 32 | 44 | b';' | b'"' | b'(' | b')' | b'[' | b']' | b'{' | b'}'
-        );
-        assert_eq!(rt; element.span().1, if delimits { 1 } else { 3 }, "{byte}");
+fn tell_word(told: &mut String, element: Element) -> Result<(), AllocError> {
+    if element.is_nil() {
+        told.push_str(" nil")?;
     }
-    Ok(())
-}
-
-#[test]
-fn each_fault_at_its_place(rt: HostRuntime) -> Result<(), Fail> {
-    let rows: [(&[u8], usize, EdnFault); 44] = [
-        (b"#", 0, EdnFault::Truncated(1)),
-        (b"a #", 1, EdnFault::Truncated(3)),
-        (b"\\", 0, EdnFault::Truncated(1)),
-        (b"\"a\\\"", 0, EdnFault::Truncated(4)),
-        (b"\"a\\", 0, EdnFault::Truncated(3)),
-        (b"#\"", 0, EdnFault::Truncated(2)),
-        (b"#_", 0, EdnFault::Truncated(2)),
-        (b"#_ ; a", 0, EdnFault::Truncated(6)),
-        (b"#_ #_ a", 0, EdnFault::Truncated(7)),
-        (b"#t", 0, EdnFault::Truncated(2)),
-        (b"#t #_ a ", 0, EdnFault::Truncated(8)),
-        (b"{", 0, EdnFault::Truncated(1)),
-        (b"a {:b {} ", 1, EdnFault::Truncated(9)),
-        (b"({", 0, EdnFault::Truncated(2)),
-        (b"[a", 0, EdnFault::Truncated(2)),
-        (b"[ ; ]", 0, EdnFault::Truncated(5)),
-        (b"]", 0, EdnFault::StrayClose(0)),
-        (b"a)", 1, EdnFault::StrayClose(1)),
-        (b"{}}", 1, EdnFault::StrayClose(2)),
-        (b"\\[]", 1, EdnFault::StrayClose(2)),
-        (b"#t ]", 0, EdnFault::StrayClose(3)),
-        (b"#_)", 0, EdnFault::StrayClose(2)),
-        (b"#t #_ }", 0, EdnFault::StrayClose(6)),
-        (b"[1 2)", 0, EdnFault::WrongClose(4)),
-        (b"{1]", 0, EdnFault::WrongClose(2)),
-        (b"{1 2)", 0, EdnFault::WrongClose(4)),
-        (b"#{]", 0, EdnFault::WrongClose(2)),
-        (b"([)", 0, EdnFault::WrongClose(2)),
-        (b"[#t)", 0, EdnFault::WrongClose(3)),
-        (b"[#t #_ }", 0, EdnFault::WrongClose(7)),
-        (b"[#)", 0, EdnFault::WrongClose(2)),
-        (b"{:a}", 0, EdnFault::OddMap(3)),
-        (b"{} {1 2 3 }", 1, EdnFault::OddMap(10)),
-        (b"{:a {}{}}", 0, EdnFault::OddMap(8)),
-        (b"{:a #_ 1}", 0, EdnFault::OddMap(8)),
-        (b"{#t a}", 0, EdnFault::OddMap(5)),
-        (b"[{##a}]", 0, EdnFault::OddMap(5)),
-        (b"[#t]", 0, EdnFault::TagWithoutElement(1)),
-        (b"[#t #_]", 0, EdnFault::TagWithoutElement(4)),
-        (b"[#_ #t ]", 0, EdnFault::TagWithoutElement(4)),
-        (b"{a #t}", 0, EdnFault::TagWithoutElement(3)),
-        (b"{a #_}", 0, EdnFault::TagWithoutElement(3)),
-        (b"#t (#)", 0, EdnFault::TagWithoutElement(4)),
-        (b"#a #b [] (#_ #c #d )", 1, EdnFault::TagWithoutElement(16)),
-    ];
-    for (input, elements, fault) in rows {
-        has_fault(&rt, rt.alloc(), input, elements, fault)?;
+    if let Some(number) = element.as_int() {
+        write!(told, " int {number}")?;
     }
-    Ok(())
-}
-
-#[test]
-fn sixty_four_may_be_open(rt: HostRuntime) -> Result<(), Fail> {
-    let mut bytes = Vec::new(rt.alloc());
-    for (opening, closing, kind) in [(b'[', b']', Vector), (b'(', b')', List)] {
-        bytes.clear();
-        for _ in 0..64 {
-            bytes.push(opening)?;
-        }
-        for _ in 0..64 {
-            bytes.push(closing)?;
-        }
-        has_elements(&rt, rt.alloc(), &bytes, &[(kind, 0, 128)])?;
-    }
-    bytes.truncate(0);
-    for _ in 0..64 {
-        bytes.push(b'[')?;
-    }
-    for (last, fault) in [
-        (b"#_ a".as_slice(), EdnFault::TooDeep(64)),
-        (b"#]", EdnFault::TooDeep(64)),
-        (b"#)", EdnFault::TooDeep(64)),
-        (b"#{", EdnFault::TooDeep(64)),
-        (b"#t a", EdnFault::TooDeep(64)),
-        (b"#,", EdnFault::TooDeep(64)),
-        (b"[", EdnFault::TooDeep(64)),
-        (b"(", EdnFault::TooDeep(64)),
-        (b"{", EdnFault::TooDeep(64)),
-        (b"a[", EdnFault::TooDeep(65)),
-        (b")", EdnFault::WrongClose(64)),
-        (b"#", EdnFault::Truncated(65)),
-        (b"##", EdnFault::Truncated(66)),
-        (b"#\"[\"", EdnFault::Truncated(68)),
-        (b"\\[", EdnFault::Truncated(66)),
-        (b"", EdnFault::Truncated(64)),
-    ] {
-        bytes.truncate(64);
-        bytes.extend_from_slice(last)?;
-        has_fault(&rt, rt.alloc(), &bytes, 0, fault)?;
-    }
-    for (last, fault) in [
-        (b"#[".as_slice(), EdnFault::TooDeep(64)),
-        (b"#)", EdnFault::WrongClose(64)),
-        (b"#]", EdnFault::TagWithoutElement(63)),
-        (b"#_#", EdnFault::Truncated(66)),
-        (b"#_#t", EdnFault::TooDeep(65)),
-        (b"#t #_", EdnFault::TooDeep(66)),
-    ] {
-        bytes.truncate(63);
-        bytes.extend_from_slice(last)?;
-        has_fault(&rt, rt.alloc(), &bytes, 0, fault)?;
-    }
-    bytes.truncate(0);
-    for _ in 0..64 {
-        bytes.extend_from_slice(b"#_ ")?;
-    }
-    for _ in 0..64 {
-        bytes.extend_from_slice(b"a ")?;
-    }
-    has_elements(&rt, rt.alloc(), &bytes, &[])?;
-    Ok(())
-}
-
-#[test]
-fn a_million_brackets(rt: HostRuntime) -> Result<(), Fail> {
-    let mut bytes = Vec::new(rt.alloc());
-    for _ in 0..1_000_000 {
-        bytes.push(b'[')?;
-    }
-    has_fault(&rt, rt.alloc(), &bytes, 0, EdnFault::TooDeep(64))?;
-    Ok(())
-}
-
-#[test]
-fn a_text_of_a_million_quotes_and_backslashes(rt: HostRuntime) -> Result<(), Fail> {
-    let mut bytes = Vec::new(rt.alloc());
-    bytes.push(b'"')?;
-    for _ in 0..500_000 {
-        bytes.extend_from_slice(b"\\\"\\\\")?;
-    }
-    has_fault(&rt, rt.alloc(), &bytes, 0, EdnFault::Truncated(2_000_001))?;
-    bytes.extend_from_slice(b"\" a")?;
-    has_elements(
-        &rt,
-        rt.alloc(),
-        &bytes,
-        &[(Text, 0, 2_000_002), (Atom, 2_000_003, 2_000_004)],
-    )?;
-    Ok(())
-}
-
-#[test]
-fn a_refused_growth_is_kept(rt: HostRuntime) {
-    let mut reader = Reader::new(rt.alloc(), b"((((((((((((((((((((a))))))))))))))))))))");
-    match reader.next() {
-        Ok(found) => assert!(rt; found.is_some()),
-        Err(fault) => {
-            assert_eq!(rt; fault, EdnFault::Memory(16));
-            assert_eq!(rt; reader.next().err(), Some(fault));
+    if let Some(word) = element.as_keyword() {
+        if let Ok(word) = from_utf8(word) {
+            write!(told, " keyword {word}")?;
         }
     }
-}
-
-#[test]
-fn elements_without_their_tags(rt: HostRuntime) -> Result<(), Fail> {
-    for (text, span, kind) in [
-        (b"a".as_slice(), (0, 1), Atom),
-        (b"#t a", (3, 4), Atom),
-        (b" #a #b #_ c #c ; [\n [#d e]", (20, 26), Vector),
-        (b"##a", (0, 3), Atom),
-    ] {
-        let element = first(&rt, text)?.untagged();
-        assert_eq!(rt; element.span(), span);
-        assert_eq!(rt; element.kind(), kind);
-        assert_eq!(rt; element.untagged().span(), span);
-    }
-    assert!(rt; first(&rt, b"#t nil")?.is_nil());
-    assert_eq!(rt; first(&rt, b"#t #u 7")?.as_int(), Some(7));
-    assert_eq!(rt; first(&rt, b"#t :k")?.as_keyword(), Some(b":k".as_slice()));
-    assert!(rt; first(&rt, b"#t {}")?.as_map().is_some());
-    assert!(rt; first(&rt, b"#t []")?.as_vector().is_some());
-    assert!(rt; first(&rt, b"#t {}")?.as_vector().is_none());
-    assert!(rt; first(&rt, b"(1)")?.as_vector().is_none());
-    assert!(rt; first(&rt, b"#{1}")?.as_map().is_none());
     Ok(())
 }
 
-#[test]
-fn fields(rt: HostRuntime) -> Result<(), Fail> {
-    let map = first(
-        &rt,
-        b"#t {:a 1 :b {:a 2} a 3, :c 4 :c 5 :ab 6 1 :a #_ :a #_ 9 #t :d #u [:e 7] \":f\" 8 :g ; :h\n \"}\" \\} :i}",
-    )?;
-    let view = map.as_map().ok_or("a map")?;
-    for (key, want) in [
-        (b":a".as_slice(), Some(b"1".as_slice())),
-        (b":b", Some(b"{:a 2}")),
-        (b":ab", Some(b"6")),
-        (b":d", Some(b"#u [:e 7]")),
-        (b":g", Some(b"\"}\"")),
-        (b":e", None),
-        (b":f", None),
-        (b":i", None),
-        (b"a", None),
-        (b":", None),
-    ] {
-        let found = match view.field(key) {
-            Field::Once(value) => Some(value.text()),
-            _ => None,
+fn tell_field(told: &mut String, input: &[u8], map: MapView, key: &str) -> Result<(), AllocError> {
+    match map.field(key.as_bytes()) {
+        Field::Absent => Ok(()),
+        Field::Once(value) => {
+            write!(told, " {key} ")?;
+            tell_place(told, input, value)?;
+            tell_word(told, value)
+        }
+        Field::Twice => write!(told, " {key} twice"),
+    }
+}
+
+/// The pairs of a map, and what it has under a keyword and under a word that is none.
+fn tell_pairs(told: &mut String, input: &[u8], map: MapView) -> Result<(), AllocError> {
+    let mut left = map;
+    told.push_str(" {")?;
+    for _ in input {
+        let Some((key, value)) = left.next_pair() else {
+            break;
         };
-        assert_eq!(rt; found, want);
+        tell_place(told, input, key)?;
+        told.push_str(": ")?;
+        tell_place(told, input, value)?;
+        told.push_str("; ")?;
     }
-    assert!(rt; matches!(view.field(b":c"), Field::Twice));
-    assert!(rt; matches!(view.field(b":i"), Field::Absent));
-    assert!(rt; matches!(view.field(b"a"), Field::Absent));
-    assert!(rt;
-        matches!(
-            first(&rt, b"{:k\0 1}")?
-                .as_map()
-                .ok_or("a map")?
-                .field(b":k"),
-            Field::Absent
-        )
-    );
+    if left.next_pair().is_some() {
+        told.push_str("more")?;
+    }
+    told.push_str("}")?;
+    tell_field(told, input, map, ":k")?;
+    tell_field(told, input, map, "k")
+}
+
+fn tell_members(told: &mut String, input: &[u8], vector: VectorView) -> Result<(), AllocError> {
+    let mut left = vector;
+    told.push_str(" [")?;
+    for _ in input {
+        let Some(member) = left.next() else {
+            break;
+        };
+        tell_place(told, input, member)?;
+        told.push_str("; ")?;
+    }
+    if left.next().is_some() {
+        told.push_str("more")?;
+    }
+    told.push_str("]")
+}
+
+fn tell(told: &mut String, input: &[u8], element: Element) -> Result<(), AllocError> {
+    tell_place(told, input, element)?;
+    let bare = element.untagged();
+    if bare.span() != element.span() {
+        told.push_str(" = ")?;
+        tell_place(told, input, bare)?;
+    }
+    tell_word(told, element)?;
+    if let Some(map) = element.as_map() {
+        tell_pairs(told, input, map)?;
+    }
+    if let Some(vector) = element.as_vector() {
+        tell_members(told, input, vector)?;
+    }
+    told.push_str(", ")
+}
+
+fn is_again(answer: Result<Option<Element>, EdnFault>, fault: Option<EdnFault>) -> bool {
+    match answer {
+        Ok(Some(_)) => false,
+        Ok(None) => fault.is_none(),
+        Err(met) => fault == Some(met),
+    }
+}
+
+/// Each element of an input, and its fault or its end; that is asked for twice more.
+fn told(alloc: Global, input: &[u8]) -> Result<String, AllocError> {
+    let mut told = String::new(alloc);
+    let mut reader = Reader::new(alloc, input);
+    let mut fault = None;
+    for _ in input {
+        match reader.next() {
+            Ok(Some(element)) => tell(&mut told, input, element)?,
+            Ok(None) => break,
+            Err(met) => {
+                fault = Some(met);
+                break;
+            }
+        }
+    }
+    match fault {
+        Some(met) => write!(told, "{met}")?,
+        None => told.push_str("end")?,
+    }
+    if !is_again(reader.next(), fault) || !is_again(reader.next(), fault) {
+        told.push_str(" once")?;
+    }
+    Ok(told)
+}
+
+/// The value of a hexadecimal digit.
+fn value(digit: u8) -> u8
+    ensures { result ≤ 15 }
+{
+    match digit {
+        b'0'..=b'9' => digit - b'0',
+        b'A'..=b'F' => digit - b'A' + 10,
+        _ => 0,
+    }
+}
+
+fn push_part(bytes: &mut Vec<u8>, part: &str) -> Result<(), AllocError> {
+    for (index, piece) in part.split('%').enumerate() {
+        match piece.as_bytes() {
+            [high, low, rest @ ..] if index > 0 => {
+                bytes.push(value(*high) * 16 + value(*low))?;
+                bytes.extend_from_slice(rest)?;
+            }
+            plain => bytes.extend_from_slice(plain)?,
+        }
+    }
     Ok(())
 }
 
-#[test]
-fn pairs_in_order(rt: HostRuntime) -> Result<(), Fail> {
-    let one = first(&rt, b"{:a 1 #_ :b}")?;
-    assert_eq!(rt; one.span(), (0, 12));
-    let mut view = one.as_map().ok_or("a map")?;
-    assert!(rt; view.next_pair().is_some());
-    assert!(rt; view.next_pair().is_none());
-    let map = first(&rt, b"  {:a{1 2},b #t ##c #_ \\} }")?;
-    let mut view = map.as_map().ok_or("a map")?;
-    let (key, value) = view.next_pair().ok_or("a pair")?;
-    assert_eq!(rt; (key.span(), value.span()), ((3, 5), (5, 10)));
-    let (key, value) = view.next_pair().ok_or("a second pair")?;
-    assert_eq!(rt; (key.span(), value.span()), ((11, 12), (13, 19)));
-    assert!(rt; view.next_pair().is_none());
-    assert!(rt; view.next_pair().is_none());
+/// The bytes that the text of a row stands for.
+fn written_out(alloc: Global, text: &str) -> Result<Vec<u8>, Fail> {
+    let mut bytes = Vec::new(alloc);
+    for part in text.split('|') {
+        let (count, part) = match part.split_once('*') {
+            Some((count, part)) => (count.parse::<u32>()?, part),
+            None => (1, part),
+        };
+        for _ in 0..count {
+            push_part(&mut bytes, part)?;
+        }
+    }
+    Ok(bytes)
+}
+
+fn each_is_told<R: AllocGlobal + Abort>(rt: &R, rows: &str) -> Result<(), Fail> {
+    for row in rows.lines() {
+        let (text, want) = row.split_once(" => ").ok_or("a row")?;
+        let input = written_out(rt.alloc(), text)?;
+        let found = told(rt.alloc(), &input)?;
+        assert!(rt; found.as_str() == want, "{text} => {found}");
+    }
     Ok(())
 }
 
-#[test]
-fn members_in_order(rt: HostRuntime) -> Result<(), Fail> {
-    let vector = first(&rt, b"[#_ a 1\"]\"(2 [3]) #t #_ b {} \\] #_ c ; ]\n]")?;
-    let mut view = vector.as_vector().ok_or("a vector")?;
-    for (kind, span) in [
-        (Atom, (6, 7)),
-        (Text, (7, 10)),
-        (List, (10, 17)),
-        (Tagged, (18, 28)),
-        (Char, (29, 31)),
-    ] {
-        let element = view.next().ok_or("a member")?;
-        assert_eq!(rt; element.kind(), kind);
-        assert_eq!(rt; element.span(), span);
-    }
-    assert!(rt; view.next().is_none());
-    assert!(rt; view.next().is_none());
-    assert!(rt;
-        first(&rt, b"[ #_ #_ a b , ]")?
-            .as_vector()
-            .ok_or("a vector")?
-            .next()
-            .is_none()
-    );
-    Ok(())
-}
+/// Elements, where they stand and what they are read as; and the first fault of a text.
+const ROWS: &str =
+    r##"{:f :write :k 7} => Map 0 16 {Atom 1 3: Atom 4 10; Atom 11 13: Atom 14 15; } :k Atom 14 15 int 7, end
+\( #t [1,"a\"b"] #_x :k => Char 0 2, Tagged 3 16 = Vector 6 16 [Atom 7 8; Text 9 15; ], Atom 21 23 keyword :k, end
+{:a 1 #_ :b} => Map 0 12 {Atom 1 3: Atom 4 5; }, end
+a nil :k -7N ##a a\b#c => Atom 0 1, Atom 2 5 nil, Atom 6 8 keyword :k, Atom 9 12 int -7, Atom 13 16, Atom 17 22, end
+\a\newline \( \\ \;x; => Char 0 10, Char 11 13, Char 14 16, Char 17 20, end
+"" "a\"b" #"\\""%0A;(" => Text 0 2, Text 3 9, Text 10 15, Text 15 20, end
+() [] {} #{} (a) [a b]{a b}#{a} => List 0 2, Vector 3 5 [], Map 6 8 {}, Set 9 12, List 13 16, Vector 17 22 [Atom 18 19; Atom 20 21; ], Map 22 27 {Atom 23 24: Atom 25 26; }, Set 27 31, end
+#t a #t(1) # a #,#\x y #;%0A#"" => Tagged 0 4 = Atom 3 4, Tagged 5 10 = List 7 10, Tagged 11 14 = Atom 13 14, Tagged 15 22 = Atom 21 22, Tagged 23 29 = Text 26 29, end
+#a #b #c {1 2} => Tagged 0 14 = Map 9 14 {Atom 10 11: Atom 12 13; }, end
+#a #b #_ c #c ; [%0A [#d e] => Tagged 0 25 = Vector 19 25 [Tagged 20 24; ], end
+ => end
+%09%0A%0B%0C%0D , => end
+; a comment that ends the input => end
+;;%0D[%0A1;"%0A; => Atom 5 6 int 1, end
+#_a #_ [1 2] #_#t b #_ ; c%0A d => end
+#_ #_ a b c => Atom 10 11, end
+#_#t #_ a b c => Atom 12 13, end
+#t #_ a b => Tagged 0 9 = Atom 8 9, end
+(#_ a ; )%0A b #_ c) => List 0 18, end
+a"b" => Atom 0 1, Text 1 4, end
+a(b)c[]""{}d => Atom 0 1, List 1 4, Atom 4 5, Vector 5 7 [], Text 7 9, Map 9 11 {}, Atom 11 12, end
+%80%FF "%FE\%C3" \%F0%9F ;%FF%0A#%E4 %E4 => Atom 0 2, Text 3 8, Char 9 12, Tagged 16 20 = Atom 19 20, end
+a%09a%0Aa%0Ba%0Ca%0Da a,a;a%0Aa"a"a(a)a[a]a{a a}a => Atom 0 1, Atom 2 3, Atom 4 5, Atom 6 7, Atom 8 9, Atom 10 11, Atom 12 13, Atom 14 15, Atom 18 19, Text 19 22, Atom 22 23, List 23 26, Atom 26 27, Vector 27 30 [Atom 28 29; ], Atom 30 31, Map 31 36 {Atom 32 33: Atom 34 35; }, Atom 36 37, end
+a!#$%25&'%2A+-./09:<=>?@AZ\^_`az%7C~%7F => Atom 0 31, end
+a%00%01%02%03%04%05%06%07%08%0E%0F%10%11%12%13%14%15%16%17%18%19%1A%1B%1C%1D%1E%1F => Atom 0 28, end
+a%80%81%82%83%84%85%86%87%88%89%8A%8B%8C%8D%8E%8F%90%91%92%93%94%95%96%97%98%99%9A%9B%9C%9D%9E%9F => Atom 0 33, end
+a%A0%A1%A2%A3%A4%A5%A6%A7%A8%A9%AA%AB%AC%AD%AE%AF%B0%B1%B2%B3%B4%B5%B6%B7%B8%B9%BA%BB%BC%BD%BE%BF => Atom 0 33, end
+a%C0%C1%C2%C3%C4%C5%C6%C7%C8%C9%CA%CB%CC%CD%CE%CF%D0%D1%D2%D3%D4%D5%D6%D7%D8%D9%DA%DB%DC%DD%DE%DF => Atom 0 33, end
+a%E0%E1%E2%E3%E4%E5%E6%E7%E8%E9%EA%EB%EC%ED%EE%EF%F0%F1%F2%F3%F4%F5%F6%F7%F8%F9%FA%FB%FC%FD%FE%FF => Atom 0 33, end
+0 -0 +7 7N -120N 01 -00 + N 7NN +-7 1.0 => Atom 0 1 int 0, Atom 2 4 int 0, Atom 5 7 int 7, Atom 8 10 int 7, Atom 11 16 int -120, Atom 17 19, Atom 20 23, Atom 24 25, Atom 26 27, Atom 28 31, Atom 32 35, Atom 36 39, end
+9223372036854775807 -9223372036854775808 => Atom 0 19 int 9223372036854775807, Atom 20 40 int -9223372036854775808, end
+9223372036854775808 -9223372036854775809 99999999999999999999999999 => Atom 0 19, Atom 20 40, Atom 41 67, end
+"7" \7 {} nill "nil" ok ":ok" :okay :o : => Text 0 3, Char 4 6, Map 7 9 {}, Atom 10 14, Text 15 20, Atom 21 23, Text 24 29, Atom 30 35 keyword :okay, Atom 36 38 keyword :o, Atom 39 40 keyword :, end
+:ok} => Atom 0 3 keyword :ok, E2 StrayClose at 3
+#t nil #t #u 7 #t :k #t {} #t [] (1) #{1} => Tagged 0 6 = Atom 3 6 nil, Tagged 7 14 = Atom 13 14 int 7, Tagged 15 20 = Atom 18 20 keyword :k, Tagged 21 26 = Map 24 26 {}, Tagged 27 32 = Vector 30 32 [], List 33 36, Set 37 41, end
+[#_ a 1"]"(2 [3]) #t #_ b {} \] #_ c ; ]%0A] => Vector 0 42 [Atom 6 7; Text 7 10; List 10 17; Tagged 18 28; Char 29 31; ], end
+[ #_ #_ a b , ] => Vector 0 15 [], end
+  {:a{1 2},b #t ##c #_ \} } => Map 2 27 {Atom 3 5: Map 5 10; Atom 11 12: Tagged 13 19; }, end
+#t {:k 1 :b {:k 2} k 3, :kk 6} => Tagged 0 30 = Map 3 30 {Atom 4 6: Atom 7 8; Atom 9 11: Map 12 18; Atom 19 20: Atom 21 22; Atom 24 27: Atom 28 29; } :k Atom 7 8 int 1, end
+{:b {:k 2} ":k" 8 1 :k k 3} => Map 0 27 {Atom 1 3: Map 4 10; Text 11 15: Atom 16 17; Atom 18 19: Atom 20 22; Atom 23 24: Atom 25 26; }, end
+{:k 4 :k 5 :k 6} => Map 0 16 {Atom 1 3: Atom 4 5; Atom 6 8: Atom 9 10; Atom 11 13: Atom 14 15; } :k twice, end
+{1 :a #_ :k #_ 9 #t :k #u [:e 7]} => Map 0 33 {Atom 1 2: Atom 3 5; Tagged 17 22: Tagged 23 32; } :k Tagged 23 32, end
+{:k ; :h%0A "}" \} :i} => Map 0 20 {Atom 1 3: Text 10 13; Char 14 16: Atom 17 19; } :k Text 10 13, end
+{:k%00 1 :K 2} => Map 0 12 {Atom 1 4: Atom 5 6; Atom 7 9: Atom 10 11; }, end
+# => E1 Truncated at 1
+a # => Atom 0 1, E1 Truncated at 3
+\ => E1 Truncated at 1
+"a\" => E1 Truncated at 4
+"a\ => E1 Truncated at 3
+#" => E1 Truncated at 2
+#_ => E1 Truncated at 2
+#_ ; a => E1 Truncated at 6
+#_ #_ a => E1 Truncated at 7
+#t => E1 Truncated at 2
+#t #_ a  => E1 Truncated at 8
+{ => E1 Truncated at 1
+a {:b {}  => Atom 0 1, E1 Truncated at 9
+({ => E1 Truncated at 2
+[a => E1 Truncated at 2
+[ ; ] => E1 Truncated at 5
+] => E2 StrayClose at 0
+a) => Atom 0 1, E2 StrayClose at 1
+a] => Atom 0 1, E2 StrayClose at 1
+{}} => Map 0 2 {}, E2 StrayClose at 2
+\[] => Char 0 2, E2 StrayClose at 2
+\[a] => Char 0 3, E2 StrayClose at 3
+#t ] => E2 StrayClose at 3
+#_) => E2 StrayClose at 2
+#t #_ } => E2 StrayClose at 6
+[1 2) => E3 WrongClose at 4
+{1] => E3 WrongClose at 2
+{1 2) => E3 WrongClose at 4
+{1) => E3 WrongClose at 2
+#{] => E3 WrongClose at 2
+([) => E3 WrongClose at 2
+[#t) => E3 WrongClose at 3
+[#t #_ } => E3 WrongClose at 7
+[#) => E3 WrongClose at 2
+{:a} => E5 OddMap at 3
+{} {1 2 3 } => Map 0 2 {}, E5 OddMap at 10
+{:a {}{}} => E5 OddMap at 8
+{:a #_ 1} => E5 OddMap at 8
+{#t a} => E5 OddMap at 5
+[{##a}] => E5 OddMap at 5
+[#t] => E6 TagWithoutElement at 1
+[#t #_] => E6 TagWithoutElement at 4
+[#_ #t ] => E6 TagWithoutElement at 4
+{a #t} => E6 TagWithoutElement at 3
+{a #_} => E6 TagWithoutElement at 3
+#t (#) => E6 TagWithoutElement at 4
+#a #b [] (#_ #c #d ) => Tagged 0 8 = Vector 6 8 [], E6 TagWithoutElement at 16
+64*[|64*] => Vector 0 128 [Vector 1 127; ], end
+64*(|64*) => List 0 128, end
+64*#_ |64*a  => end
+64*[|#_ a => E4 TooDeep at 64
+64*[|#] => E4 TooDeep at 64
+64*[|#) => E4 TooDeep at 64
+64*[|#{ => E4 TooDeep at 64
+64*[|#t a => E4 TooDeep at 64
+64*[|#, => E4 TooDeep at 64
+64*[|[ => E4 TooDeep at 64
+64*[|( => E4 TooDeep at 64
+64*[|{ => E4 TooDeep at 64
+64*[|a[ => E4 TooDeep at 65
+64*[|) => E3 WrongClose at 64
+64*[|# => E1 Truncated at 65
+64*[|## => E1 Truncated at 66
+64*[|#"[" => E1 Truncated at 68
+64*[|\[ => E1 Truncated at 66
+64*[ => E1 Truncated at 64
+63*[|#[ => E4 TooDeep at 64
+63*[|#) => E3 WrongClose at 64
+63*[|#] => E6 TagWithoutElement at 63
+63*[|#_# => E1 Truncated at 66
+63*[|#_#t => E4 TooDeep at 65
+63*[|#t #_ => E4 TooDeep at 66
+65*[ => E4 TooDeep at 64
+1000000*[ => E4 TooDeep at 64
+"|500000*\"\\ => E1 Truncated at 2000001
+"|500000*\"\\|" a => Text 0 2000002, Atom 2000003 2000004, end"##;
 
 #[test]
-fn words_and_integers(rt: HostRuntime) -> Result<(), Fail> {
-    for (text, want) in [
-        (b"0".as_slice(), Some(0)),
-        (b"-0", Some(0)),
-        (b"+7", Some(7)),
-        (b"7N", Some(7)),
-        (b"-120N", Some(-120)),
-        (b"9223372036854775807", Some(i64::MAX)),
-        (b"-9223372036854775808", Some(i64::MIN)),
-        (b"9223372036854775808", None),
-        (b"-9223372036854775809", None),
-        (b"99999999999999999999999999", None),
-        (b"01", None),
-        (b"-00", None),
-        (b"+", None),
-        (b"N", None),
-        (b"7NN", None),
-        (b"+-7", None),
-        (b"1.0", None),
-        (b"{}", None),
-        (b"\"7\"", None),
-        (b"\\7", None),
-    ] {
-        assert_eq!(rt; first(&rt, text)?.as_int(), want);
-    }
-    assert!(rt; first(&rt, b"nil ")?.is_nil());
-    assert!(rt; !first(&rt, b"nill")?.is_nil());
-    assert!(rt; !first(&rt, b"\"nil\"")?.is_nil());
-    assert_eq!(rt; first(&rt, b":ok}")?.as_keyword(), Some(b":ok".as_slice()));
-    assert_eq!(rt; first(&rt, b"ok")?.as_keyword(), None);
-    assert_eq!(rt; first(&rt, b"\":ok\"")?.as_keyword(), None);
-    assert!(rt; first(&rt, b":ok}")?.is_keyword(b":ok"));
-    assert!(rt; first(&rt, b"#t :ok")?.is_keyword(b":ok"));
-    assert!(rt; !first(&rt, b":okay")?.is_keyword(b":ok"));
-    assert!(rt; !first(&rt, b":o")?.is_keyword(b":ok"));
-    assert!(rt; !first(&rt, b"\":ok\"")?.is_keyword(b":ok"));
-    assert!(rt; first(&rt, b"ok")?.as_map().is_none());
-    Ok(())
+fn rows_are_told(rt: HostRuntime) -> Result<(), Fail> {
+    each_is_told(&rt, ROWS)
 }
 
 /// Forty vectors, one in the other, between two atoms: what stands open has to grow twice.
 const DEEP: &[u8] =
     b"a [[[[[[[[[[[[[[[[[[[[[[[[[[[[[[[[[[[[[[[[1]]]]]]]]]]]]]]]]]]]]]]]]]]]]]]]]]]]]]]]] b";
 
-/// Whether the elements of the deep text are given. Where they are not a growth was refused, which is
-/// then answered for good.
+/// Whether the elements of the deep text are given. Where they are not a growth was refused, at the 17th
+/// bracket or at the 33rd, which is then answered for good.
 fn gives_deep_elements(rt: &impl Abort, alloc: Global) -> Result<bool, Fail> {
     let mut reader = Reader::new(alloc, DEEP);
-    let first = reader.next()?.ok_or("an element")?;
-    assert_eq!(rt; first.span(), (0, 1));
+    assert!(rt; reader.next()?.is_some());
     match reader.next() {
         Ok(vector) => {
-            assert_eq!(rt; vector.ok_or("a vector")?.span(), (2, 83));
-            let last = reader.next()?.ok_or("an element")?;
-            assert_eq!(rt; last.span(), (84, 85));
-            assert!(rt; reader.next()?.is_none());
+            assert!(rt; vector.is_some());
             Ok(true)
         }
         Err(fault) => {
-            // The 17th bracket or the 33rd.
-            let refused = [EdnFault::Memory(18), EdnFault::Memory(34)];
-            assert!(rt; refused.contains(&fault), "{fault}");
-            for _ in 0..3 {
-                assert_eq!(rt; reader.next().err(), Some(fault));
-            }
+            assert!(rt; fault == EdnFault::Memory(18) || fault == EdnFault::Memory(34));
+            assert!(rt; is_again(reader.next(), Some(fault)));
             Ok(false)
         }
     }

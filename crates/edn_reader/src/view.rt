@@ -1,29 +1,37 @@
 //! Views of maps and vectors: what is left of them. They take no memory.
 
-ghost use Rattle.std.specs.Prelude.{◌≡◌, ◌+◌, ◌≤◌, ◌<◌, ◌^◌, List, [], ◌∷◌, length, MatchOption, IfSome};
+ghost use Rattle.std.specs.Prelude.{◌≡◌, ◌+◌, ◌≤◌, ◌<◌, ◌^◌, List, MatchOption};
+ghost use Rattle.edn_reader.specs.Pairs.{HoldsPairs, HoldsMembers};
 
 use crate::element::Element;
-use crate::field::{Field, one_more};
+use crate::field::Field;
 use crate::parts::Parts;
 
 /// The pairs of a map that are left to go over.
 #[derive(Clone, Copy)]
 pub struct MapView<'t> {
     parts: Parts<'t>,
+    ghost behind: { 0 < parts.at },
+    ghost whole: { ∥ HoldsPairs parts.at parts.left.now ∥₁ },
 }
 
 /// The elements of a vector that are left to go over.
 #[derive(Clone, Copy)]
 pub struct VectorView<'t> {
     parts: Parts<'t>,
+    ghost behind: { 0 < parts.at },
+    ghost whole: { ∥ HoldsMembers parts.at parts.left.now ∥₁ },
 }
 
 impl<'t> MapView<'t> {
-    ghost use Rattle.edn_reader.specs.Grammar.{Piece, piece_of, IsElement};
-    ghost use Rattle.edn_reader.specs.Pairs.{PairsLeft, NextPair, bytes_left, values_of, IsWholeField};
+    ghost use Rattle.edn_reader.specs.Grammar.{Piece};
+    ghost use Rattle.edn_reader.specs.Lent.{PairsLeft, NextPair, bytes_left};
+    ghost use Rattle.edn_reader.specs.Pairs.{HoldsPairs, values_of};
     ghost use Rattle.edn_reader.specs.Given.{given, seen};
 
     pub(crate) fn new(parts: Parts<'t>) -> MapView<'t>
+        requires behind { 0 < parts.at }
+        requires whole { ∥ HoldsPairs parts.at parts.left.now ∥₁ }
         ensures { result.parts ≡ parts.entry }
     {
         MapView { parts }
@@ -31,8 +39,8 @@ impl<'t> MapView<'t> {
 
     /// The next key and its value.
     pub fn next_pair(&mut self) -> Option<(Element<'t>, Element<'t>)>
+        ensures left { (pairs : List (Piece × Piece)) × PairsLeft self.old pairs }
         ensures pair { (pairs : List (Piece × Piece)) → PairsLeft self.old pairs → NextPair result self.new pairs }
-        ensures whole { (pairs : List (Piece × Piece)) → PairsLeft self.old pairs → IfSome result (λ pair. IsElement (piece_of pair.0) × IsElement (piece_of pair.1)) }
         ensures shrinks { MatchOption result (self.new ≡ self.old) (λ pair. bytes_left self.new < bytes_left self.old) }
     {
         let mut ahead = self.parts;
@@ -48,14 +56,14 @@ impl<'t> MapView<'t> {
 
     /// What the pairs that are left have under a key, which is given with its colon.
     pub fn field(&self, key: &[u8]) -> Field<'t>
+        ensures left { (pairs : List (Piece × Piece)) × PairsLeft self.now pairs }
         ensures values { (pairs : List (Piece × Piece)) → PairsLeft self.now pairs → seen result ≡ given (values_of key.now pairs) }
-        ensures whole { (pairs : List (Piece × Piece)) → PairsLeft self.now pairs → IsWholeField result }
     {
         let mut view = *self;
         let mut found = Field::Absent;
         while let Some((name, value)) = view.next_pair() {
             if name.is_keyword(key) {
-                found = one_more(found, value);
+                found = found.one_more(value);
             }
         }
         found
@@ -63,10 +71,13 @@ impl<'t> MapView<'t> {
 }
 
 impl<'t> VectorView<'t> {
-    ghost use Rattle.edn_reader.specs.Grammar.{Piece, piece_of, IsElement};
-    ghost use Rattle.edn_reader.specs.Pairs.{MembersLeft, NextMember, members_left};
+    ghost use Rattle.edn_reader.specs.Grammar.{Piece};
+    ghost use Rattle.edn_reader.specs.Lent.{MembersLeft, NextMember, members_left};
+    ghost use Rattle.edn_reader.specs.Pairs.{HoldsMembers};
 
     pub(crate) fn new(parts: Parts<'t>) -> VectorView<'t>
+        requires behind { 0 < parts.at }
+        requires whole { ∥ HoldsMembers parts.at parts.left.now ∥₁ }
         ensures { result.parts ≡ parts.entry }
     {
         VectorView { parts }
@@ -74,8 +85,8 @@ impl<'t> VectorView<'t> {
 
     /// The next element.
     pub fn next(&mut self) -> Option<Element<'t>>
+        ensures left { (members : List Piece) × MembersLeft self.old members }
         ensures member { (members : List Piece) → MembersLeft self.old members → NextMember result self.new members }
-        ensures whole { (members : List Piece) → MembersLeft self.old members → IfSome result (λ element. IsElement (piece_of element)) }
         ensures shrinks { MatchOption result (self.new ≡ self.old) (λ element. members_left self.new < members_left self.old) }
     {
         self.parts.next()

@@ -1,7 +1,7 @@
 -- The verdict on reads and the refusals of writes depend on the judged operations alone; what one read
 -- is judged, and the refusals, on the writes alone.
-use Rattle.std.proofs.Common.{◌≡◌, ◌≢◌, ℕ, Bool, true, false, not, ◌&&◌, ◌||◌, List, [], ◌∷◌, Option, Some, None, refl, sym, ap, ◌∙◌, cond}
-use Rattle.std.specs.Prelude.{is_some, filter}
+use Rattle.std.proofs.Common.{◌≡◌, ℕ, Bool, true, false, not, ◌&&◌, ◌||◌, List, [], ◌∷◌, Option, Some, None, refl, sym, ap, ◌∙◌, cond}
+use Rattle.std.specs.Prelude.{is_some, filter, find}
 use Rattle.std.specs.List.{list_any}
 use Rattle.intervals.specs.declared.operation.Op.{Op}
 use Rattle.intervals.specs.declared.operation.Moment.{Moment}
@@ -9,9 +9,9 @@ use Rattle.intervals.specs.declared.operation.Value.{Value}
 use Rattle.intervals.specs.declared.claim.Kind.{Kind}
 use Rattle.intervals.specs.declared.claim.Kind.TheVariants.{Safe, Regular, Atomic}
 use Rattle.intervals.specs.Terms.{Terms}
-use Rattle.intervals.specs.Operation.{is_write, overlaps, is_judged_read, same_id, judged, writes}
+use Rattle.intervals.specs.Operation.{is_write, overlaps, is_judged_read, same_id, same_value, value_of, judged, writes}
 use Rattle.intervals.specs.Least.{less_of, least_from, least_by}
-use Rattle.intervals.specs.Refusal.{is_overlapped, overlap_refusal, write_refusal, kind_refusal}
+use Rattle.intervals.specs.Refusal.{is_overlapped, overlap_refusal, is_holder, value_refusal, write_refusal, kind_refusal}
 use Rattle.intervals.specs.Judging.{later_of, last_from, is_returned_at, returns_of, returns_last, is_write_over, is_safe_read, is_returned_over, is_regular_read, is_right_read, is_wrong_read, end_number, first_wrong}
 
 -- an operation that a verdict speaks of
@@ -60,6 +60,14 @@ module _ (keep : Op → Bool) (writes_kept : (op : Op) → keep op ≡ false →
       by_cases rest true e = rest (less_of key test found op)
       by_cases rest false e = rest found ∙ sym (ap (λ (f : Option Op). least_from key test f ops) (rw (only op e) refl))
 
+  find_kept : (test : Op → Bool) → KeptOnly keep test → (ops : List Op) → find test (filter keep ops) ≡ find test ops
+  find_kept test only [] = refl
+  find_kept test only (op ∷ ops) = by_cases (find_kept test only ops) (keep op) refl
+    where
+      by_cases : find test (filter keep ops) ≡ find test ops → (b : Bool) → keep op ≡ b → find test (cond b (op ∷ filter keep ops) (filter keep ops)) ≡ cond (test op) (Some op) (find test ops)
+      by_cases rest true e = ap (λ (f : Option Op). cond (test op) (Some op) f) rest
+      by_cases rest false e = rest ∙ sym (ap (λ (t : Bool). cond t (Some op) (find test ops)) (only op e))
+
   last_kept : (r : Op) (found : Option Moment) (ops : List Op) → last_from r found (filter keep ops) ≡ last_from r found ops
   last_kept r found [] = refl
   last_kept r found (op ∷ ops) = by_cases (λ f. last_kept r f ops) (keep op) refl
@@ -98,13 +106,20 @@ module _ (keep : Op → Bool) (writes_kept : (op : Op) → keep op ≡ false →
       by_cases true other e = refl
       by_cases false other e = rw (writes_kept other e) refl
 
-  kind_kept : (kind : Kind) (claim : Terms) (ops : List Op) (op : Op) → kind ≢ Atomic → kind_refusal kind claim (filter keep ops) op ≡ kind_refusal kind claim ops op
-  kind_kept Safe claim ops op one_writer = overlap_kept ops op
-  kind_kept Regular claim ops op one_writer = overlap_kept ops op
-  kind_kept Atomic claim ops op one_writer = absurd (one_writer refl)
+  value_kept : (claim : Terms) (ops : List Op) (op : Op) → value_refusal claim (filter keep ops) op ≡ value_refusal claim ops op
+  value_kept claim ops op = rw (find_kept (is_holder op) (λ other e. by_cases (same_id other.id op.id) other e) ops) refl
+    where
+      by_cases : (b : Bool) (other : Op) → keep other ≡ false → (not b && is_write other && same_value (value_of other.act) (value_of op.act)) ≡ false
+      by_cases true other e = refl
+      by_cases false other e = rw (writes_kept other e) refl
 
-  write_refusal_kept : (claim : Terms) (ops : List Op) (op : Op) → claim.kind ≢ Atomic → write_refusal claim (filter keep ops) op ≡ write_refusal claim ops op
-  write_refusal_kept claim ops op one_writer = rw (kind_kept claim.kind claim ops op one_writer) refl
+  kind_kept : (kind : Kind) (claim : Terms) (ops : List Op) (op : Op) → kind_refusal kind claim (filter keep ops) op ≡ kind_refusal kind claim ops op
+  kind_kept Safe claim ops op = overlap_kept ops op
+  kind_kept Regular claim ops op = overlap_kept ops op
+  kind_kept Atomic claim ops op = value_kept claim ops op
+
+  write_refusal_kept : (claim : Terms) (ops : List Op) (op : Op) → write_refusal claim (filter keep ops) op ≡ write_refusal claim ops op
+  write_refusal_kept claim ops op = rw (kind_kept claim.kind claim ops op) refl
 
 wrong_only_judged : (claim : Terms) (ops : List Op) → KeptOnly is_judged (is_wrong_read claim ops)
 wrong_only_judged claim ops op e = rw (not_write op e, not_ended op e) refl
@@ -114,7 +129,7 @@ first_wrong-judged claim ops =
     least_same end_number (is_wrong_read claim (judged ops)) (is_wrong_read claim ops) (wrong_kept is_judged not_write claim ops) None (judged ops)
     ∙ least_kept is_judged not_write end_number (is_wrong_read claim ops) (wrong_only_judged claim ops) None ops
 
-pub write_refusal-judged : (claim : Terms) (ops : List Op) (op : Op) → claim.kind ≢ Atomic → write_refusal claim (judged ops) op ≡ write_refusal claim ops op
+pub write_refusal-judged : (claim : Terms) (ops : List Op) (op : Op) → write_refusal claim (judged ops) op ≡ write_refusal claim ops op
 write_refusal-judged = write_refusal_kept is_judged not_write
 
 pub is_wrong_read-writes : (claim : Terms) (ops : List Op) (r : Op) → is_wrong_read claim (writes ops) r ≡ is_wrong_read claim ops r
@@ -124,5 +139,5 @@ pub first_wrong-writes : (claim : Terms) (ops : List Op) → least_by end_number
 first_wrong-writes claim ops =
     least_same end_number (is_wrong_read claim (writes ops)) (is_wrong_read claim ops) (is_wrong_read-writes claim ops) None ops
 
-pub write_refusal-writes : (claim : Terms) (ops : List Op) (op : Op) → claim.kind ≢ Atomic → write_refusal claim (writes ops) op ≡ write_refusal claim ops op
+pub write_refusal-writes : (claim : Terms) (ops : List Op) (op : Op) → write_refusal claim (writes ops) op ≡ write_refusal claim ops op
 write_refusal-writes = write_refusal_kept is_write (λ op e. e)

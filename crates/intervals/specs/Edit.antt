@@ -54,6 +54,12 @@ new_op ops (Append op) = Some op
 new_op ops (Amend id change) = option_map (λ op. changed op change) (op_of ops id)
 new_op ops (Withdraw id) = None
 
+-- the id of the operation that an edit adds, changes or takes out
+abbrev pub edit_id : Edit → OpId
+edit_id (Append op) = op.id
+edit_id (Amend id change) = id
+edit_id (Withdraw id) = id
+
 -- the edit adds an operation
 abbrev pub is_append : Edit → Bool
 is_append (Append op) = true

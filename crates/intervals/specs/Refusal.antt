@@ -111,12 +111,16 @@ is_overlapped op other = not (same_id other.id op.id) && is_write other && overl
 abbrev pub overlap_refusal : List Op → Op → Option Refusal
 overlap_refusal ops op = option_map (λ other. WritesOverlap other.id) (least_by (λ other. other.begin.0) (is_overlapped op) ops)
 
+-- another write that has the value of this one
+abbrev pub is_holder : Op → Op → Bool
+is_holder op other = not (same_id other.id op.id) && is_write other && same_value (value_of other.act) (value_of op.act)
+
 -- X8: the holder of the write's value
 abbrev pub value_refusal : Terms → List Op → Op → Option Refusal
 value_refusal claim ops op =
     if same_value claim.initial (value_of op.act)
     then Some (ValueTaken holders.Initial)
-    else option_map (λ other. ValueTaken (holders.Op other.id)) (find (λ other. not (same_id other.id op.id) && is_write other && same_value (value_of other.act) (value_of op.act)) ops)
+    else option_map (λ other. ValueTaken (holders.Op other.id)) (find (is_holder op) ops)
 
 -- X7 of one writer's registers, X8 of many writers'
 abbrev pub kind_refusal : Kind → Terms → List Op → Op → Option Refusal

@@ -100,7 +100,7 @@ fn amend<'t>(ops: &mut Vec<Op<'t>>, id: OpId, change: &Change<'t>)
 fn amended<'t>(op: &Op<'t>, id: OpId, change: &Change<'t>) -> Op<'t>
     ensures { result ≡ op_amended id change.now op.now }
 {
-    if is_id(op, id) {
+    if op.has_id(id) {
         changed(op, change)
     } else {
         *op
@@ -111,7 +111,7 @@ fn amended<'t>(op: &Op<'t>, id: OpId, change: &Change<'t>) -> Op<'t>
 fn withdraw(ops: &mut Vec<Op>, id: OpId)
     ensures { ops.new.items ≡ edited ops.old.items (Edit.Withdraw id) }
 {
-    ops.retain(|op| !is_id(op, id));
+    ops.retain(|op| !op.has_id(id));
 }
 
 fn check_append(ops: &[Op], op: &Op) -> Result<(), Refusal>
@@ -193,7 +193,7 @@ fn has_moment(op: &Op, moment: Moment) -> bool
 fn is_other_with(op: &Op, id: OpId, moment: Moment) -> bool
     ensures { result ≡ (not (same_id op.now.id id) && is_moment_of op.now moment) }
 {
-    !is_id(op, id) && has_moment(op, moment)
+    !op.has_id(id) && has_moment(op, moment)
 }
 
 fn other_with<'b, 't>(ops: &'b [Op<'t>], id: OpId, moment: Moment) -> Option<&'b Op<'t>>
@@ -202,15 +202,8 @@ fn other_with<'b, 't>(ops: &'b [Op<'t>], id: OpId, moment: Moment) -> Option<&'b
     ops.iter().find(|op| is_other_with(op, id, moment))
 }
 
-/// Whether the two ids are one.
-fn is_id(op: &Op, id: OpId) -> bool
-    ensures { result ≡ same_id op.now.id id }
-{
-    op.id == id
-}
-
 fn find_op<'b, 't>(ops: &'b [Op<'t>], id: OpId) -> Option<&'b Op<'t>>
     ensures { option_copied result ≡ op_of ops.now id }
 {
-    ops.iter().find(|op| is_id(op, id))
+    ops.iter().find(|op| op.has_id(id))
 }

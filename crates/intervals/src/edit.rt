@@ -1,5 +1,5 @@
 ghost use Rattle.std.specs.Prelude.{◌≡◌};
-ghost use Rattle.intervals.specs.Edit.{changed as after_change, act_with, parts_with};
+ghost use Rattle.intervals.specs.Edit.{changed as after_change, edit_id, act_with, parts_with};
 
 use crate::{Act, Moment, Op, OpId, Parts, Value};
 
@@ -26,6 +26,19 @@ pub enum Edit<'t> {
     Append(Op<'t>),
     Amend(OpId, Change<'t>),
     Withdraw(OpId),
+}
+
+impl Edit<'_> {
+    /// The id of the operation that the edit adds, changes or takes out.
+    pub fn id(&self) -> OpId
+        ensures { result ≡ edit_id self.now }
+    {
+        match self {
+            Edit::Append(op) => op.id,
+            Edit::Amend(id, _) => *id,
+            Edit::Withdraw(id) => *id,
+        }
+    }
 }
 
 /// The operation after the change.

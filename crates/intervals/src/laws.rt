@@ -1,19 +1,25 @@
 //! Laws of the definitions. Each is the contract of a function that does nothing.
 
-ghost use Rattle.std.specs.Prelude.{◌≡◌, ◌≢◌, ◌↔◌, All, IsTrue, List, None, Some};
+ghost use Rattle.std.specs.Prelude.{◌≡◌, ◌≢◌, ◌↔◌, All, Contains, IsTrue, List, [], ◌∷◌, ◌++◌, take, drop, None, Some};
 ghost use Rattle.intervals.specs.declared.operation.Op.{Op};
 ghost use Rattle.intervals.specs.declared.operation.OpId.{OpId};
-ghost use Rattle.intervals.specs.declared.refusal.Refusal.TheVariants.{WritesOverlap};
+ghost use Rattle.intervals.specs.declared.refusal.Refusal.TheVariants.{UnknownOp, OpTaken, EndNotAfterBegin, MomentTaken, MomentTooLarge, NotAWriter, WritesOverlap, ValueTaken, OutOfDomain};
+ghost use Rattle.intervals.specs.declared.claim.Holder.TheVariants as holders;
+ghost use Rattle.intervals.specs.declared.edit.Edit.{Edit};
+ghost use Rattle.intervals.specs.declared.edit.Edit.TheVariants.{Append, Withdraw};
 ghost use Rattle.intervals.specs.declared.operation.Value.{Value};
 ghost use Rattle.intervals.specs.Terms.{Terms};
 ghost use Rattle.intervals.specs.declared.claim.Kind.TheVariants.{Safe, Regular, Atomic};
+ghost use Rattle.intervals.specs.declared.operation.Act.TheVariants.{Read, Write};
 ghost use Rattle.intervals.specs.declared.operation.Value.TheVariants.{Nil};
-ghost use Rattle.intervals.specs.Operation.{IsJudgedRead, judged, writes};
-ghost use Rattle.intervals.specs.Refusal.{write_refusal, overlap_refusal, is_overlapped};
+ghost use Rattle.intervals.specs.Operation.{Precedes, Overlaps, IsJudgedRead, value_of, judged, writes};
+ghost use Rattle.intervals.specs.Edit.{op_of};
+ghost use Rattle.intervals.specs.Refusal.{first_refusal, write_refusal, overlap_refusal, is_overlapped, value_refusal, standing};
+ghost use Rattle.intervals.specs.Standing.{HasDistinctIds, HasDistinctMoments, HasEndsAfterBeginnings, HasNoOverlappingWrites, HasDistinctValues, IsHolder};
 ghost use Rattle.intervals.specs.Least.{IsLeast, least_by};
 ghost use Rattle.intervals.specs.Kind.{IsSafe, IsRegular, IsSafeRead, IsRegularRead, Arranges};
 ghost use Rattle.intervals.specs.Judging.{first_wrong, is_wrong_read, end_number};
-ghost use Rattle.intervals.specs.Histories.{number, claim_of, read_after_write, read_within_write, digits, new_before_old, older_of_two, old_before_new, unfinished_write, write_between};
+ghost use Rattle.intervals.specs.Histories.{number, place, op, from_to, mended, end_at, a_write_and_a_read, edits_with_refused_ones, two_writers, two_writes, written_by, fault_of, late_reads, reads_over_two, faults_one_by_one, claim_of, read_after_write, read_within_write, digits, new_before_old, older_of_two, old_before_new, unfinished_write, write_between};
 
 /// A register keeps Lamport's sentence for safe registers exactly when no read is wrong by the test.
 pub fn safe_without_wrong_reads()
@@ -55,21 +61,39 @@ pub fn first_overlapped_write_began_first()
     ensures none { (ops : List Op) (op : Op) → (overlap_refusal ops op ≡ None) ↔ All (λ other. ¬ IsTrue (is_overlapped op other)) ops }
 {}
 
+/// The holder that a taken value names has it: the register at first, or another write that stands;
+/// and none is named exactly where none has it.
+pub fn taken_values_have_a_holder()
+    ensures initial { (claim : Terms) (ops : List Op) (op : Op) → (value_refusal claim ops op ≡ Some (ValueTaken holders.Initial)) ↔ (value_of op.act ≡ claim.initial) }
+    ensures write { (claim : Terms) (ops : List Op) (op : Op) (id : OpId) → value_refusal claim ops op ≡ Some (ValueTaken (holders.Op id))
+        → (other : Op) × (other.id ≡ id) × Contains ops other × IsHolder op other }
+    ensures none { (claim : Terms) (ops : List Op) (op : Op) → (value_refusal claim ops op ≡ None) ↔ ((value_of op.act ≢ claim.initial) × All (λ other. ¬ IsHolder op other) ops) }
+{}
+
+/// What the reply rule keeps, after any edits from nothing: no two operations have one id, nor a
+/// moment in common; each end is after its beginning; on a safe or regular register no two writes
+/// overlap, and on an atomic one no two have one value, nor one the initial value.
+pub fn edits_keep_operations_apart()
+    ensures ids { (claim : Terms) (edits : List Edit) → HasDistinctIds (standing claim [] edits) }
+    ensures moments { (claim : Terms) (edits : List Edit) → HasDistinctMoments (standing claim [] edits) }
+    ensures ends { (claim : Terms) (edits : List Edit) → HasEndsAfterBeginnings (standing claim [] edits) }
+    ensures writes { (claim : Terms) (edits : List Edit) → claim.kind ≢ Atomic → HasNoOverlappingWrites (standing claim [] edits) }
+    ensures values { (claim : Terms) (edits : List Edit) → claim.kind ≡ Atomic → HasDistinctValues claim.initial (standing claim [] edits) }
+{}
+
 /// Reads without an end change no verdict and no refusal of a write.
 pub fn judged_operations_alone_count()
     ensures fault { (claim : Terms) (ops : List Op) → first_wrong claim (judged ops) ≡ first_wrong claim ops }
     ensures safe { (claim : Terms) (ops : List Op) → IsSafe claim (judged ops) ↔ IsSafe claim ops }
     ensures regular { (claim : Terms) (ops : List Op) → IsRegular claim (judged ops) ↔ IsRegular claim ops }
-    ensures refusal { (claim : Terms) (ops : List Op) (op : Op) → claim.kind ≢ Atomic
-        → write_refusal claim (judged ops) op ≡ write_refusal claim ops op }
+    ensures refusal { (claim : Terms) (ops : List Op) (op : Op) → write_refusal claim (judged ops) op ≡ write_refusal claim ops op }
 {}
 
 /// The writes alone decide what a read is judged, and which writes are refused.
 pub fn writes_alone_decide()
     ensures read { (claim : Terms) (ops : List Op) (r : Op) → is_wrong_read claim (writes ops) r ≡ is_wrong_read claim ops r }
     ensures fault { (claim : Terms) (ops : List Op) → least_by end_number (is_wrong_read claim (writes ops)) ops ≡ first_wrong claim ops }
-    ensures refusal { (claim : Terms) (ops : List Op) (op : Op) → claim.kind ≢ Atomic
-        → write_refusal claim (writes ops) op ≡ write_refusal claim ops op }
+    ensures refusal { (claim : Terms) (ops : List Op) (op : Op) → write_refusal claim (writes ops) op ≡ write_refusal claim ops op }
 {}
 
 /// Safe registers: which reads are right after a write, and within one.
@@ -95,4 +119,49 @@ pub fn atomic_histories()
     ensures by_beginning { ¬ Arranges (claim_of Atomic Nil None) unfinished_write unfinished_write }
     ensures new_before_old { ¬ Arranges (claim_of Atomic Nil None) new_before_old new_before_old }
     ensures old_before_new { ¬ Arranges (claim_of Atomic Nil None) old_before_new old_before_new }
+{}
+
+/// The refusals that every kind of register meets, asked in their order.
+pub fn worked_replies()
+    ensures unknown { first_refusal a_write_and_a_read (Withdraw (record { feeder = 1; event = 2 })) ≡ Some UnknownOp }
+    ensures unknown_change { first_refusal a_write_and_a_read (end_at 3 4) ≡ Some UnknownOp }
+    ensures taken { first_refusal a_write_and_a_read (Append (from_to 0 (Read Nil) 9 8)) ≡ Some OpTaken }
+    ensures ends_as_it_begins { first_refusal a_write_and_a_read (Append (from_to 7 (Read Nil) 8 8)) ≡ Some EndNotAfterBegin }
+    ensures ends_before_it_is_large { first_refusal a_write_and_a_read (Append (from_to 7 (Read Nil) 4611686018427387904 1)) ≡ Some EndNotAfterBegin }
+    ensures begins_at_an_end { first_refusal a_write_and_a_read (Append (from_to 7 (Read Nil) 1 4611686018427387904)) ≡ Some (MomentTaken (record { 0 = 1 }) (place 0)) }
+    ensures ends_at_a_beginning { first_refusal a_write_and_a_read (Append (from_to 7 (Read Nil) 3 5)) ≡ Some (MomentTaken (record { 0 = 5 }) (place 2)) }
+    ensures large { first_refusal a_write_and_a_read (Append (from_to 7 (Read Nil) 3 4611686018427387904)) ≡ Some MomentTooLarge }
+    ensures greatest { first_refusal a_write_and_a_read (Append (op 7 (Read Nil) 4611686018427387903 None)) ≡ None }
+    ensures own_beginning { first_refusal a_write_and_a_read (end_at 2 5) ≡ Some EndNotAfterBegin }
+    ensures later_end { first_refusal a_write_and_a_read (end_at 2 6) ≡ None }
+    ensures withdrawn { first_refusal a_write_and_a_read (Withdraw (place 2)) ≡ None }
+{}
+
+/// The refusals of a write at a register of one writer at a time, asked in their order.
+pub fn worked_writes()
+    ensures stranger { write_refusal two_writers two_writes (written_by 7 5 3 1) ≡ Some NotAWriter }
+    ensures first_overlapped { write_refusal two_writers two_writes (written_by 7 0 3 1) ≡ Some (WritesOverlap (place 0)) }
+    ensures second_overlapped { write_refusal two_writers two_writes (written_by 7 0 3 5) ≡ Some (WritesOverlap (place 1)) }
+    ensures outside { write_refusal two_writers two_writes (written_by 7 0 3 10) ≡ Some OutOfDomain }
+    ensures nil_at_first { write_refusal two_writers two_writes (op 7 (Write Nil) 10 None) ≡ Some OutOfDomain }
+    ensures other_writer { write_refusal two_writers two_writes (written_by 7 3 2 10) ≡ None }
+    ensures itself { write_refusal two_writers two_writes (written_by 1 0 2 5) ≡ None }
+{}
+
+/// What stands after edits; a refused one changes nothing.
+pub fn worked_edits()
+    ensures stands { standing (claim_of Safe (number 0) None) [] edits_with_refused_ones ≡ mended (from_to 0 (Write (number 1)) 0 9) ∷ op 4 (Read Nil) 4 None ∷ [] }
+    ensures found { op_of (standing (claim_of Safe (number 0) None) [] edits_with_refused_ones) (place 1) ≡ None }
+    ensures overlaps { Overlaps (from_to 0 (Write (number 1)) 0 9) (op 1 (Read Nil) 2 None) }
+    ensures precedes { Precedes (from_to 0 (Write (number 1)) 0 9) (op 1 (Read Nil) 10 None) }
+{}
+
+/// The wrong read that ended first.
+pub fn worked_faults()
+    ensures anything_within { fault_of Safe (take 2 late_reads) ≡ None }
+    ensures ended_first { fault_of Safe late_reads ≡ Some (place 3) }
+    ensures without_it { fault_of Safe (take 3 late_reads) ≡ Some (place 2) }
+    ensures without_the_write { fault_of Safe (drop 1 (take 3 late_reads)) ≡ Some (place 1) }
+    ensures one_by_one { faults_one_by_one ≡ None ∷ None ∷ Some (place 2) ∷ Some (place 2) ∷ Some (place 2) ∷ Some (place 2) ∷ [] }
+    ensures next { fault_of Regular (take 2 reads_over_two ++ drop 3 reads_over_two) ≡ Some (place 4) }
 {}

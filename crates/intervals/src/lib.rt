@@ -1,5 +1,24 @@
 //! Operations of registers on one clock: what stands after edits, which edits are refused, and what
-//! each kind of register promises of the operations that stand.
+//! each kind of register promises of the operations that stand (Lamport 1986).
+//!
+//! An edit appends an operation, changes one or takes one out. The book is asked first and then told:
+//!
+//! ```text
+//! let mut book = OpBook::new(alloc);
+//! book.admit(write)?;                  // of 1, from 0 to 1
+//! book.admit(read)?;                   // from 5 on, with no end yet
+//! book.check(&another_read)            // Err(MomentTaken(5, ..)): it ends at 5
+//! book.check(&ends_at_6)               // Ok: the amendment gives the read its end
+//! book.admit(ends_at_6)?;
+//! book.operations()                    // the write, and the read from 5 to 6
+//! ```
+//!
+//! `laws::worked_replies` and `laws::worked_edits` are this history and more, computed from the
+//! definitions; each row of the tests of `register_book` runs these calls.
+//!
+//! Begin with `specs/Operation.antt`, then `Edit.antt` and `Refusal.antt` (what stands, and the reply to
+//! an edit), then `Kind.antt` (what is promised). The calls are in `book.rt`; `laws` has what the
+//! definitions come to.
 #![tactic(auto)]
 
 mod book;
@@ -14,6 +33,3 @@ pub use claim::{Claim, Holder, Kind, Writers};
 pub use edit::{Change, Edit, Lent, changed};
 pub use operation::{Act, Memory, Moment, Op, OpId, Parts, RegId, Value, overlaps, precedes};
 pub use refusal::Refusal;
-
-#[cfg(test)]
-mod tests;

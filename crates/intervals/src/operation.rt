@@ -1,5 +1,5 @@
 ghost use Rattle.std.specs.Prelude.{◌≡◌, ◌↔◌, IsTrue};
-ghost use Rattle.intervals.specs.Operation.{Precedes, Overlaps, is_write as writes, value_of, precedes as does_precede, overlaps as does_overlap};
+ghost use Rattle.intervals.specs.Operation.{Precedes, Overlaps, is_write as writes, same_id, value_of, precedes as does_precede, overlaps as does_overlap};
 
 use std::alloc::{AllocError, AllocFailed};
 use thiserror::Error;
@@ -70,6 +70,13 @@ pub struct Op<'t> {
 }
 
 impl Op<'_> {
+    /// Whether that id is its own.
+    pub fn has_id(&self, id: OpId) -> bool
+        ensures { result ≡ same_id self.now.id id }
+    {
+        self.id == id
+    }
+
     pub fn is_write(&self) -> bool
         ensures { result ≡ writes self.now }
     {

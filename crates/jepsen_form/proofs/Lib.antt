@@ -1,3 +1,3 @@
 pub mod Loops
-pub mod Worths
+pub mod UnderValues
 pub mod Items

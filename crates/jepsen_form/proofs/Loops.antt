@@ -4,13 +4,14 @@ use Rattle.std.specs.Prelude.{if◌then◌else◌, codes}
 use Rattle.std.specs.Str.{bytes_eq}
 use Rattle.edn_reader.specs.declared.element.Element.{Element}
 use Rattle.edn_reader.specs.declared.view.MapView.{MapView}
-use Rattle.edn_reader.specs.Grammar.{Piece, piece_of, untagged}
-use Rattle.edn_reader.specs.Pairs.{is_keyword, is_word, keyword_of, values_of, PairsLeft, NextPair}
-use Rattle.edn_reader.specs.Given.{Given, Missing, Many, given}
+use Rattle.edn_reader.specs.Grammar.{Piece, untagged}
+use Rattle.edn_reader.specs.Pairs.{is_keyword, is_word, keyword_of, values_of}
+use Rattle.edn_reader.specs.Lent.{piece_of, PairsLeft, NextPair}
+use Rattle.edn_reader.specs.Given.{Given, Missing, Many, given, one_more}
 use Rattle.jepsen_form.specs.declared.item.MomentField.{MomentField}
 use Rattle.jepsen_form.specs.declared.form.Form.{Form}
 use Rattle.jepsen_form.specs.Fields.{Fields, fields_of, moment_key}
-use Rattle.jepsen_form.specs.Form.{seen_all, nothing, one_more, more_if, is_key, noted}
+use Rattle.jepsen_form.specs.Form.{seen_all, nothing, more_if, is_key, noted}
 
 -- the fields with these pairs more
 abbrev pub after : MomentField → Fields → List (Piece × Piece) → Fields

@@ -12,7 +12,7 @@ abbrev pub moment_key : MomentField → List ℕ
 moment_key Index = codes ":index"
 moment_key Time = codes ":time"
 
--- The fields of events, of edits and of questions.
+-- The fields of events, of edits and of questions: what stands under each key (this project's profile).
 pub record Fields : Type 0 where
   pub process : Given Piece
   pub stage : Given Piece
@@ -40,13 +40,13 @@ fields_of chosen pairs = record {
   ask = given (values_of (codes ":ask") pairs);
 }
 
--- What an event says under :value: nothing, a value of the tower's only register, a value of a register that is named, or
--- more than one thing.
-pub data Worth : Type 0 where
-  Silent : Worth
-  Plain : (value : Piece) → Worth
-  Named : (name value : Piece) → Worth
-  Repeated : Worth
+-- What an event says under :value: nothing, a value of the tower's only register, a register's name and its value, or more
+-- than one thing.
+pub data UnderValue : Type 0 where
+  NoValue : UnderValue
+  AValue : (value : Piece) → UnderValue
+  NamedValue : (name value : Piece) → UnderValue
+  ManyValues : UnderValue
 
 -- The two elements of a vector of exactly two.
 abbrev pub two_of : List Piece → Option (Piece × Piece)
@@ -55,15 +55,15 @@ two_of (only ∷ []) = None
 two_of (first ∷ second ∷ []) = Some (first, second)
 two_of (first ∷ second ∷ third ∷ members) = None
 
--- Two elements are a name and a value; any other vector is a value itself.
-abbrev pub worth_of_two : Piece → Option (Piece × Piece) → Worth
-worth_of_two piece None = Plain piece
-worth_of_two piece (Some two) = Named two.0 two.1
+-- A vector of two is a name and a value; any other is a value itself.
+abbrev pub by_two : Piece → Option (Piece × Piece) → UnderValue
+by_two vector None = AValue vector
+by_two vector (Some two) = NamedValue two.0 two.1
 
 -- What is said by what stands under :value, behind tags or not.
-pub data IsWorth : Given Piece → Worth → Type 0 where
-  silent : IsWorth Missing Silent
-  plain : {piece : Piece} → piece.core.kind ≢ Vector → IsWorth (One piece) (Plain piece)
-  vector : {piece : Piece} {worth : Worth} (members : List Piece) → HasMembers piece members → worth_of_two piece (two_of members) ≡ worth
-      → IsWorth (One piece) worth
-  repeated : IsWorth Many Repeated
+pub data IsUnderValue : Given Piece → UnderValue → Type 0 where
+  missing : IsUnderValue Missing NoValue
+  plain : {piece : Piece} → piece.core.kind ≢ Vector → IsUnderValue (One piece) (AValue piece)
+  vector : {piece : Piece} {said : UnderValue} (members : List Piece) → HasMembers piece members → by_two piece (two_of members) ≡ said
+      → IsUnderValue (One piece) said
+  repeated : IsUnderValue Many ManyValues

@@ -1,14 +1,14 @@
--- What the program has found in a map.
-use Rattle.std.specs.Prelude.{◌≡◌, ℕ, Bool, true, false, List, Option, Some, None, Result, Ok, Err, codes}
+-- Words for private clauses alone: what the program has found in a map so far. No caller needs them.
+use Rattle.std.specs.Prelude.{ℕ, Bool, true, false, List, Option, Some, None, codes}
 use Rattle.std.specs.Str.{bytes_eq}
-use Rattle.edn_reader.specs.Grammar.{Piece, piece_of}
-use Rattle.edn_reader.specs.Given.{Given, Missing, One, Many, seen}
+use Rattle.edn_reader.specs.Grammar.{Piece}
+use Rattle.edn_reader.specs.Lent.{piece_of}
+use Rattle.edn_reader.specs.Given.{Given, Missing, one_more, seen}
 use Rattle.jepsen_form.specs.declared.item.MomentField.{MomentField}
-use Rattle.jepsen_form.specs.declared.fault.FormFault.{FormFault}
 use Rattle.jepsen_form.specs.declared.form.Form.{Form}
 use Rattle.jepsen_form.specs.declared.said.Said.{Said}
-use Rattle.jepsen_form.specs.declared.said.Said.TheVariants as said
-use Rattle.jepsen_form.specs.Fields.{Fields, moment_key, Worth, Silent, Plain, Named, Repeated}
+use Rattle.jepsen_form.specs.declared.said.Said.TheVariants as variants
+use Rattle.jepsen_form.specs.Fields.{Fields, moment_key, UnderValue, NoValue, AValue, NamedValue, ManyValues}
 
 -- Each field as it was found.
 abbrev pub seen_all : Form → Fields
@@ -40,13 +40,7 @@ nothing = record {
   ask = Missing;
 }
 
--- One value more under a key.
-abbrev pub one_more : Given Piece → Piece → Given Piece
-one_more Missing value = One value
-one_more (One first) value = Many
-one_more Many value = Many
-
--- The same where the value stands under this key.
+-- What stands under a key with one value more, where the value stands under it.
 abbrev pub more_if : Bool → Given Piece → Piece → Given Piece
 more_if true found value = one_more found value
 more_if false found value = found
@@ -72,13 +66,8 @@ noted chosen found key value = record {
 }
 
 -- What the program found under :value.
-abbrev pub worth_of : Said → Worth
-worth_of said.Nothing = Silent
-worth_of (said.Plain value) = Plain (piece_of value)
-worth_of (said.Named name value) = Named (piece_of name) (piece_of value)
-worth_of said.Repeated = Repeated
-
--- What a function answered, seen by a view, is what is to be answered.
-abbrev pub Gives : {X Y : Type 0} → (X → Y) → Result X FormFault → Result Y FormFault → Type 0
-Gives view (Ok x) wanted = wanted ≡ Ok (view x)
-Gives view (Err fault) wanted = wanted ≡ Err fault
+abbrev pub under_value : Said → UnderValue
+under_value variants.Nothing = NoValue
+under_value (variants.Plain value) = AValue (piece_of value)
+under_value (variants.Named name value) = NamedValue (piece_of name) (piece_of value)
+under_value variants.Repeated = ManyValues

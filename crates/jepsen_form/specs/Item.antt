@@ -1,4 +1,4 @@
--- The item of an element: its fields are read in one order, and the first refusal is the answer.
+-- The item of an element, by this project's profile of Jepsen's histories: its fields are read in one order, and the first refusal is the answer.
 use Rattle.std.specs.Prelude.{◌≡◌, ◌==◌, ℕ, ℤ, pos, negsuc, Bool, true, false, List, length, Option, Some, None, Result, Ok, Err, codes, if◌then◌else◌}
 use Rattle.std.specs.Borrow.{Bor}
 use Rattle.edn_reader.specs.Grammar.{Piece, untagged}
@@ -11,13 +11,15 @@ use Rattle.intervals.specs.declared.edit.Lent.TheVariants.{Answer, Amendment}
 use Rattle.intervals.specs.declared.operation.Moment.{Moment}
 use Rattle.intervals.specs.declared.operation.RegId.{RegId}
 use Rattle.intervals.specs.declared.operation.Value.{Value}
-use Rattle.intervals.specs.declared.operation.Value.TheVariants.{Nil, Int}
+use Rattle.intervals.specs.declared.operation.Value.TheVariants.{Nil}
+use Rattle.std.specs.Option.{ok_or}
 use Rattle.tower_file.specs.Contents.{Contents, number_of}
+use Rattle.tower_file.specs.Stating.{stated_value}
+use Rattle.tower_file.specs.Steps.{◌>>=◌, once, at_most_once}
 use Rattle.jepsen_form.specs.declared.item.Action.{Action}
 use Rattle.jepsen_form.specs.declared.item.Action.TheVariants.{Read, Write}
 use Rattle.jepsen_form.specs.declared.item.Stage.{Stage}
 use Rattle.jepsen_form.specs.declared.item.Stage.TheVariants as stages
-use Rattle.jepsen_form.specs.declared.item.Event.{Event}
 use Rattle.jepsen_form.specs.declared.item.Item.{Item}
 use Rattle.jepsen_form.specs.declared.item.Item.TheVariants as items
 use Rattle.jepsen_form.specs.declared.item.MomentField.{MomentField}
@@ -25,25 +27,15 @@ use Rattle.jepsen_form.specs.declared.fault.FormField.{FormField}
 use Rattle.jepsen_form.specs.declared.fault.FormField.TheVariants as fields
 use Rattle.jepsen_form.specs.declared.fault.FormFault.{FormFault}
 use Rattle.jepsen_form.specs.declared.fault.FormFault.TheVariants.{NotAMap, MissingField, DuplicateField, BadType, UnsupportedF, BadValue, BadMoment, NoRegister}
-use Rattle.jepsen_form.specs.Fields.{Fields, fields_of, Worth, Silent, Plain, Named, Repeated, IsWorth}
-
-infixl 10 ◌>>=◌
--- One step after another, up to the first refusal.
-abbrev pub ◌>>=◌ : {A B : Type 0} → Result A FormFault → (A → Result B FormFault) → Result B FormFault
-(Ok x) >>= f = f x
-(Err fault) >>= f = Err fault
+use Rattle.jepsen_form.specs.Fields.{Fields, fields_of, UnderValue, NoValue, AValue, NamedValue, ManyValues, IsUnderValue}
 
 -- A field that must be there, and once.
 abbrev pub the_one : FormField → Given Piece → Result Piece FormFault
-the_one field Missing = Err (MissingField field)
-the_one field (One value) = Ok value
-the_one field Many = Err (DuplicateField field)
+the_one field given = once (MissingField field) (DuplicateField field) given
 
 -- A field that may be there, and then once.
 abbrev pub at_most_one : {A : Type 0} → FormField → (Piece → Result A FormFault) → Given Piece → Result (Option A) FormFault
-at_most_one field read Missing = Ok None
-at_most_one field read (One value) = read value >>= (λ x. Ok (Some x))
-at_most_one field read Many = Err (DuplicateField field)
+at_most_one field read given = at_most_once (DuplicateField field) read given
 
 -- The field is there, once or more often.
 abbrev pub is_there : Given Piece → Bool
@@ -69,14 +61,9 @@ action_of piece =
     else if is_word (codes ":write") piece then Ok Write
     else Err UnsupportedF
 
--- The value that an integer is.
-abbrev pub int_value : Option ℤ → Result Value FormFault
-int_value None = Err BadValue
-int_value (Some z) = Ok (Int z)
-
 -- A value: nil, or an integer that fits.
-abbrev pub value_of : Piece → Result Value FormFault
-value_of piece = if is_nil piece then Ok Nil else int_value (int_of piece)
+abbrev pub value_stated : Piece → Result Value FormFault
+value_stated piece = ok_or (stated_value piece) BadValue
 
 -- A number from 0 on, or this refusal.
 abbrev pub natural_or : FormFault → Option ℤ → Result ℕ FormFault
@@ -98,86 +85,78 @@ place_of piece = natural_or BadValue (int_of piece)
 
 -- ---- registers
 
--- A register that must be there.
-abbrev pub known : Option RegId → Result RegId FormFault
-known None = Err NoRegister
-known (Some id) = Ok id
-
 -- The register whose name is the text of an element without its tags.
 abbrev pub register_named : Contents → Piece → Result RegId FormFault
-register_named tower piece = known (number_of tower.registers (untagged piece).text)
+register_named tower piece = ok_or (number_of tower.registers (untagged piece).text) NoRegister
 
 -- The only register of a tower that has one.
 abbrev pub only_register : Contents → Result RegId FormFault
 only_register tower = if length tower.registers == 1 then Ok (record { 0 = 0 }) else Err NoRegister
 
--- The register of an event.
-abbrev pub register_of : Contents → Worth → Result RegId FormFault
-register_of tower Silent = only_register tower
-register_of tower (Plain value) = only_register tower
-register_of tower (Named name value) = register_named tower name
-register_of tower Repeated = Err (DuplicateField fields.Value)
-
 -- ---- events
 
--- The value that an event gives; a missing one is nil.
-abbrev pub value_given : Worth → Result Value FormFault
-value_given Silent = Ok Nil
-value_given (Plain value) = value_of value
-value_given (Named name value) = value_of value
-value_given Repeated = Err (DuplicateField fields.Value)
+-- The type of an event.
+abbrev pub the_stage : Given Piece → Result Stage FormFault
+the_stage given = the_one fields.Stage given >>= stage_of
 
--- The value of an event. An invoked read has none yet, whatever stands there; one that failed or crashed tells none.
-abbrev pub value_told : Stage → Action → Worth → Result Value FormFault
-value_told stages.Invoke Read worth = Ok Nil
-value_told stages.Invoke Write worth = value_given worth
-value_told stages.Ok action worth = value_given worth
-value_told stages.Fail action worth = Ok Nil
-value_told stages.Info action worth = Ok Nil
+-- What the operation of an event does.
+abbrev pub the_action : Given Piece → Result Action FormFault
+the_action given = the_one fields.Action given >>= action_of
 
--- The moment that must be there.
-abbrev pub moment_given : Given Piece → Result Moment FormFault
-moment_given given = the_one fields.Moment given >>= moment_of
+-- The register of an event: the one that is named before the value, else the tower's only one.
+abbrev pub the_register : Contents → UnderValue → Result RegId FormFault
+the_register tower NoValue = only_register tower
+the_register tower (AValue value) = only_register tower
+the_register tower (NamedValue name value) = register_named tower name
+the_register tower ManyValues = Err (DuplicateField fields.Value)
 
--- The event with its register, its value and its moment, read in this order.
-abbrev pub told : Contents → Fields → Worth → Event → Result Event FormFault
-told tower found worth event =
-    register_of tower worth >>= (λ register.
-    value_told event.answer event.action worth >>= (λ value.
-    moment_given found.moment >>= (λ moment.
-    Ok (record event { register = Some register; value = value; moment = Some moment }))))
+-- The value of an event; a missing one is nil.
+abbrev pub the_value : UnderValue → Result Value FormFault
+the_value NoValue = Ok Nil
+the_value (AValue value) = value_stated value
+the_value (NamedValue name value) = value_stated value
+the_value ManyValues = Err (DuplicateField fields.Value)
 
--- Only invocations and answers that are :ok tell them.
-abbrev pub by_stage : Contents → Fields → Worth → Event → Stage → Result Event FormFault
-by_stage tower found worth event stages.Invoke = told tower found worth event
-by_stage tower found worth event stages.Ok = told tower found worth event
-by_stage tower found worth event stages.Fail = Ok event
-by_stage tower found worth event stages.Info = Ok event
+-- The moment of an event.
+abbrev pub the_moment : Given Piece → Result Moment FormFault
+the_moment given = the_one fields.Moment given >>= moment_of
 
--- An event that tells no more than its process, its type and what it does.
-abbrev pub bare_event : ℤ → Stage → Action → Bor (List ℕ) → Event
-bare_event process stage action text =
-    record { process = process; answer = stage; action = action; register = None; value = Nil; moment = None; text = text }
+-- What an invocation and an answer that is :ok tell; of an event that failed or crashed it is not read.
+abbrev pub if_told : {A : Type 0} → Stage → Result A FormFault → Result (Option A) FormFault
+if_told stages.Invoke reading = reading >>= (λ told. Ok (Some told))
+if_told stages.Ok reading = reading >>= (λ told. Ok (Some told))
+if_told stages.Fail reading = Ok None
+if_told stages.Info reading = Ok None
 
--- The event of a process.
-abbrev pub event_of : Contents → Fields → Worth → Bor (List ℕ) → ℤ → Result Item FormFault
-event_of tower found worth text process =
-    (the_one fields.Stage found.stage >>= stage_of) >>= (λ stage.
-    (the_one fields.Action found.action >>= action_of) >>= (λ action.
-    by_stage tower found worth (bare_event process stage action text) stage >>= (λ event.
-    Ok (items.Event event))))
+-- The value that an invoked write and an answer that is :ok tell; of other events it is not read, and is nil.
+abbrev pub value_told : Stage → Action → UnderValue → Result Value FormFault
+value_told stages.Invoke Read said = Ok Nil
+value_told stages.Invoke Write said = the_value said
+value_told stages.Ok action said = the_value said
+value_told stages.Fail action said = Ok Nil
+value_told stages.Info action said = Ok Nil
 
--- Where the process is no integer that fits, the event is skipped.
-abbrev pub by_process : Contents → Fields → Worth → Bor (List ℕ) → Option ℤ → Result Item FormFault
-by_process tower found worth text None = Ok items.Skipped
-by_process tower found worth text (Some process) = event_of tower found worth text process
+-- The event of a process: its type, what it does, its register, its value and its moment are read in this order.
+abbrev pub event_of : Contents → Fields → UnderValue → Bor (List ℕ) → ℤ → Result Item FormFault
+event_of tower found said text process =
+    the_stage found.stage >>= (λ stage.
+    the_action found.action >>= (λ action.
+    if_told stage (the_register tower said) >>= (λ register.
+    value_told stage action said >>= (λ value.
+    if_told stage (the_moment found.moment) >>= (λ moment.
+    Ok (items.Event (record { process = process; answer = stage; action = action; register = register; value = value; moment = moment; text = text })))))))
+
+-- Where the process is no integer that fits, the event is skipped, and nothing else of it is read.
+abbrev pub by_process : Contents → Fields → UnderValue → Bor (List ℕ) → Option ℤ → Result Item FormFault
+by_process tower found said text None = Ok items.Skipped
+by_process tower found said text (Some process) = event_of tower found said text process
 
 -- ---- edits and questions
 
 -- What an amendment gives: the value, the beginning and the end, those that are there, read in this order.
 abbrev pub change_of : Fields → Bor (List ℕ) → Result Change FormFault
 change_of found text =
-    at_most_one fields.Value value_of found.value >>= (λ value.
+    at_most_one fields.Value value_stated found.value >>= (λ value.
     at_most_one fields.Begin moment_of found.begin >>= (λ begin.
     at_most_one fields.End end_of found.end >>= (λ end.
     Ok (record { value = value; begin = begin; end = end; lent = Amendment text }))))
@@ -202,18 +181,18 @@ question_of tower name = register_named tower name >>= (λ id. Ok (items.Ask id)
 -- ---- items
 
 -- The item of a map: an edit where :edit is there, else a question where :ask is, else an event.
-abbrev pub item_of : Contents → Fields → Worth → Bor (List ℕ) → Result Item FormFault
-item_of tower found worth text =
+abbrev pub item_of : Contents → Fields → UnderValue → Bor (List ℕ) → Result Item FormFault
+item_of tower found said text =
     if is_there found.edit then the_one fields.Edit found.edit >>= edit_by found text
     else if is_there found.ask then the_one fields.Ask found.ask >>= question_of tower
-    else the_one fields.Process found.process >>= (λ piece. by_process tower found worth text (int_of piece))
+    else the_one fields.Process found.process >>= (λ piece. by_process tower found said text (int_of piece))
 
 -- The item of an element for a tower and the moment's field: none of an element that is no map, else that of its pairs.
 pub data IsItem (tower : Contents) (chosen : MomentField) : Piece → Result Item FormFault → Type 0 where
   no_map : {piece : Piece} → ((pairs : List (Piece × Piece)) → HasPairs piece pairs → ⊥) → IsItem tower chosen piece (Err NotAMap)
-  of_map : {piece : Piece} (pairs : List (Piece × Piece)) (worth : Worth) (text : Bor (List ℕ)) → HasPairs piece pairs
-      → IsWorth (given (values_of (codes ":value") pairs)) worth → text.now ≡ piece.text
-      → IsItem tower chosen piece (item_of tower (fields_of chosen pairs) worth text)
+  of_map : {piece : Piece} (pairs : List (Piece × Piece)) (said : UnderValue) (text : Bor (List ℕ)) → HasPairs piece pairs
+      → IsUnderValue (given (values_of (codes ":value") pairs)) said → text.now ≡ piece.text
+      → IsItem tower chosen piece (item_of tower (fields_of chosen pairs) said text)
 
 -- ---- where a text lies
 
@@ -221,6 +200,7 @@ pub data IsItem (tower : Contents) (chosen : MomentField) : Piece → Result Ite
 abbrev pub text_at : ℕ × ℕ → Bor (List ℕ) → Bor (List ℕ)
 text_at place text = record { ref_ptr = place; now = text.now }
 
+-- A lent text at this place in memory.
 abbrev pub lent_at : ℕ × ℕ → Lent → Lent
 lent_at place (Answer text) = Answer (text_at place text)
 lent_at place (Amendment text) = Amendment (text_at place text)

@@ -1,3 +1,4 @@
 pub mod Fields
 pub mod Item
 pub mod Form
+pub mod Whole

@@ -1,10 +1,11 @@
 //! From the fields of a map to an edit.
 
-ghost use Rattle.std.specs.Prelude.{◌≡◌};
+ghost use Rattle.std.specs.Prelude.{◌≡◌, IfOk};
 ghost use Rattle.edn_reader.specs.Given.{seen};
-ghost use Rattle.edn_reader.specs.Grammar.{piece_of};
+ghost use Rattle.edn_reader.specs.Lent.{piece_of};
 ghost use Rattle.jepsen_form.specs.Item.{edit_by, edited_place, change_of};
 ghost use Rattle.jepsen_form.specs.Form.{seen_all};
+ghost use Rattle.jepsen_form.specs.Whole.{IsWhole};
 
 use crate::element::{given_begin, given_end, given_value, needed, read_place};
 use crate::fault::{FormFault, FormField};
@@ -19,7 +20,8 @@ pub fn read_edit<'t>(
     keyword: &Element<'t>,
     text: &'t [u8],
 ) -> Result<Item<'t>, FormFault>
-    ensures { result ≡ edit_by (seen_all form.now) text.entry (piece_of keyword.now) }
+    ensures item { result ≡ edit_by (seen_all form.now) text.entry (piece_of keyword.now) }
+    ensures whole { IfOk result IsWhole }
 {
     if keyword.is_keyword(b":amend") {
         let of = place_edited(form)?;

@@ -1,10 +1,11 @@
 //! What single fields and elements say.
 
 ghost use Rattle.std.specs.Prelude.{◌≡◌};
-ghost use Rattle.edn_reader.specs.Grammar.{Piece, piece_of};
+ghost use Rattle.edn_reader.specs.Grammar.{Piece};
+ghost use Rattle.edn_reader.specs.Lent.{piece_of};
 ghost use Rattle.edn_reader.specs.Given.{seen};
-ghost use Rattle.jepsen_form.specs.Item.{the_one, at_most_one, is_there, stage_of, action_of, value_of, moment_of, end_of, place_of};
-ghost use Rattle.jepsen_form.specs.Form.{Gives};
+ghost use Rattle.jepsen_form.specs.Item.{the_one, at_most_one, is_there, stage_of, action_of, value_stated, moment_of, end_of, place_of};
+ghost use Rattle.tower_file.specs.Steps.{GivesSeen};
 
 use crate::fault::{FormFault, FormField};
 use crate::item::{Action, Stage};
@@ -21,7 +22,7 @@ pub fn is_given(field: &Field) -> bool
 }
 
 pub fn needed<'t>(field: &Field<'t>, name: FormField) -> Result<Element<'t>, FormFault>
-    ensures { Gives piece_of result (the_one name (seen field.now)) }
+    ensures { GivesSeen piece_of result (the_one name (seen field.now)) }
 {
     match field {
         Field::Absent => Err(FormFault::MissingField(name)),
@@ -31,7 +32,7 @@ pub fn needed<'t>(field: &Field<'t>, name: FormField) -> Result<Element<'t>, For
 }
 
 pub fn given_value(field: &Field) -> Result<Option<Value>, FormFault>
-    ensures { result ≡ at_most_one FormField.Value value_of (seen field.now) }
+    ensures { result ≡ at_most_one FormField.Value value_stated (seen field.now) }
 {
     match field {
         Field::Absent => Ok(None),
@@ -89,7 +90,7 @@ pub fn read_action(element: &Element) -> Result<Action, FormFault>
 }
 
 pub fn read_value(element: &Element) -> Result<Value, FormFault>
-    ensures { result ≡ value_of (piece_of element.now) }
+    ensures { result ≡ value_stated (piece_of element.now) }
 {
     if element.is_nil() {
         return Ok(Value::Nil);

@@ -1,18 +1,19 @@
 //! From the fields of a map to an event.
 
-ghost use Rattle.std.specs.Prelude.{◌≡◌};
+ghost use Rattle.std.specs.Prelude.{◌≡◌, IfOk};
 ghost use Rattle.edn_reader.specs.Given.{seen};
-ghost use Rattle.jepsen_form.specs.Fields.{Worth, IsWorth};
-ghost use Rattle.jepsen_form.specs.Item.{moment_given, by_process, event_of, by_stage, told};
-ghost use Rattle.jepsen_form.specs.Form.{seen_all};
+ghost use Rattle.jepsen_form.specs.Fields.{UnderValue, IsUnderValue};
+ghost use Rattle.jepsen_form.specs.Item.{the_stage, the_action, the_register, the_moment, if_told, by_process, event_of};
+ghost use Rattle.jepsen_form.specs.Form.{under_value, seen_all};
+ghost use Rattle.jepsen_form.specs.Whole.{IsWhole};
 
 use crate::element::{needed, read_action, read_moment, read_stage};
 use crate::fault::{FormFault, FormField};
 use crate::form::Form;
-use crate::item::{Event, Item, Stage};
-use crate::said::{register_by, said_by, value_by};
+use crate::item::{Action, Event, Item, Stage};
+use crate::said::{Said, register_by, said_by, value_by};
 use edn_reader::Field;
-use intervals::{Moment, Value};
+use intervals::{Moment, RegId};
 use tower_file::Tower;
 
 /// The event of a process, skipped where the process is no integer that fits.
@@ -22,7 +23,8 @@ pub fn read_event<'t>(
     text: &'t [u8],
     tower: &Tower,
 ) -> Result<Item<'t>, FormFault>
-    ensures { (worth : Worth) → IsWorth (seen form.now.value) worth → result ≡ by_process tower.now (seen_all form.now) worth text.entry process }
+    ensures item { (said : UnderValue) → IsUnderValue (seen form.now.value) said → result ≡ by_process tower.now (seen_all form.now) said text.entry process }
+    ensures whole { IfOk result IsWhole }
 {
     match process {
         Some(process) => event_by(form, process, text, tower),
@@ -36,49 +38,54 @@ fn event_by<'t>(
     text: &'t [u8],
     tower: &Tower,
 ) -> Result<Item<'t>, FormFault>
-    ensures { (worth : Worth) → IsWorth (seen form.now.value) worth → result ≡ event_of tower.now (seen_all form.now) worth text.entry process }
+    ensures item { (said : UnderValue) → IsUnderValue (seen form.now.value) said → result ≡ event_of tower.now (seen_all form.now) said text.entry process }
+    ensures whole { IfOk result IsWhole }
 {
-    let stage = read_stage(&needed(&form.stage, FormField::Stage)?)?;
-    let action = read_action(&needed(&form.action, FormField::Action)?)?;
-    let event = Event {
+    let stage = stage_in(&form.stage)?;
+    let action = action_in(&form.action)?;
+    let said = said_by(&form.value);
+    let register = register_in(stage, &said, tower)?;
+    let value = value_by(&said, stage, action)?;
+    let moment = moment_in(stage, &form.moment)?;
+    Ok(Item::Event(Event {
         process,
         answer: stage,
         action,
-        register: None,
-        value: Value::Nil,
-        moment: None,
+        register,
+        value,
+        moment,
         text,
-    };
-    Ok(Item::Event(with_rest(event, form, tower)?))
+    }))
 }
 
-/// An invocation or an answer that is `:ok` has a register, a value and a moment too.
-fn with_rest<'t>(event: Event<'t>, form: &Form<'t>, tower: &Tower) -> Result<Event<'t>, FormFault>
-    ensures { (worth : Worth) → IsWorth (seen form.now.value) worth → result ≡ by_stage tower.now (seen_all form.now) worth event.entry event.entry.answer }
+fn stage_in(field: &Field) -> Result<Stage, FormFault>
+    ensures { result ≡ the_stage (seen field.now) }
 {
-    match event.answer {
-        Stage::Invoke | Stage::Ok => with_told(event, form, tower),
-        Stage::Fail | Stage::Info => Ok(event),
+    read_stage(&needed(field, FormField::Stage)?)
+}
+
+fn action_in(field: &Field) -> Result<Action, FormFault>
+    ensures { result ≡ the_action (seen field.now) }
+{
+    read_action(&needed(field, FormField::Action)?)
+}
+
+/// The register of an invocation or of an answer that is `:ok`.
+fn register_in(stage: Stage, said: &Said, tower: &Tower) -> Result<Option<RegId>, FormFault>
+    ensures { result ≡ if_told stage (the_register tower.now (under_value said.now)) }
+{
+    match stage {
+        Stage::Invoke | Stage::Ok => Ok(Some(register_by(said, tower)?)),
+        Stage::Fail | Stage::Info => Ok(None),
     }
 }
 
-fn with_told<'t>(event: Event<'t>, form: &Form<'t>, tower: &Tower) -> Result<Event<'t>, FormFault>
-    ensures { (worth : Worth) → IsWorth (seen form.now.value) worth → result ≡ told tower.now (seen_all form.now) worth event.entry }
+/// The moment of an invocation or of an answer that is `:ok`.
+fn moment_in(stage: Stage, field: &Field) -> Result<Option<Moment>, FormFault>
+    ensures { result ≡ if_told stage (the_moment (seen field.now)) }
 {
-    let said = said_by(&form.value);
-    let register = register_by(&said, tower)?;
-    let value = value_by(&said, event.answer, event.action)?;
-    let moment = needed_moment(&form.moment)?;
-    Ok(Event {
-        register: Some(register),
-        value,
-        moment: Some(moment),
-        ..event
-    })
-}
-
-fn needed_moment(field: &Field) -> Result<Moment, FormFault>
-    ensures { result ≡ moment_given (seen field.now) }
-{
-    read_moment(&needed(field, FormField::Moment)?)
+    match stage {
+        Stage::Invoke | Stage::Ok => Ok(Some(read_moment(&needed(field, FormField::Moment)?)?)),
+        Stage::Fail | Stage::Info => Ok(None),
+    }
 }

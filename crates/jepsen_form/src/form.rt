@@ -2,11 +2,12 @@
 
 ghost use Rattle.std.specs.Prelude.{◌≡◌, List};
 ghost use Rattle.std.specs.Option.{option_map};
-ghost use Rattle.edn_reader.specs.Grammar.{Piece, piece_of};
+ghost use Rattle.edn_reader.specs.Grammar.{Piece};
 ghost use Rattle.edn_reader.specs.Given.{seen};
-ghost use Rattle.edn_reader.specs.Pairs.{PairsLeft, keyword_of};
+ghost use Rattle.edn_reader.specs.Pairs.{keyword_of};
+ghost use Rattle.edn_reader.specs.Lent.{piece_of, PairsLeft};
 ghost use Rattle.jepsen_form.specs.Fields.{fields_of, moment_key};
-ghost use Rattle.jepsen_form.specs.Form.{seen_all, nothing, noted, more_if, one_more as grown, is_key as is_that_key};
+ghost use Rattle.jepsen_form.specs.Form.{seen_all, nothing, noted, more_if, is_key as is_that_key};
 
 use crate::item::MomentField;
 use edn_reader::{Element, Field, MapView};
@@ -94,15 +95,6 @@ fn note_under<'t>(field: &mut Field<'t>, is_its: bool, value: Element<'t>)
     ensures { seen field.new ≡ more_if is_its (seen field.old) (piece_of value.entry) }
 {
     if is_its {
-        *field = one_more(*field, value);
-    }
-}
-
-fn one_more<'t>(found: Field<'t>, value: Element<'t>) -> Field<'t>
-    ensures { seen result ≡ grown (seen found.entry) (piece_of value.entry) }
-{
-    match found {
-        Field::Absent => Field::Once(value),
-        Field::Once(_) | Field::Twice => Field::Twice,
+        *field = field.one_more(value);
     }
 }

@@ -1,11 +1,12 @@
 //! From an element to an item.
 
-ghost use Rattle.std.specs.Prelude.{◌≡◌};
+ghost use Rattle.std.specs.Prelude.{◌≡◌, IfOk};
 ghost use Rattle.edn_reader.specs.Given.{seen};
-ghost use Rattle.edn_reader.specs.Grammar.{piece_of, IsElement};
-ghost use Rattle.jepsen_form.specs.Fields.{Worth, IsWorth};
+ghost use Rattle.edn_reader.specs.Lent.{piece_of};
+ghost use Rattle.jepsen_form.specs.Fields.{UnderValue, IsUnderValue};
 ghost use Rattle.jepsen_form.specs.Item.{IsItem, item_of, question_of};
 ghost use Rattle.jepsen_form.specs.Form.{seen_all};
+ghost use Rattle.jepsen_form.specs.Whole.{IsWhole};
 
 use crate::edit::read_edit;
 use crate::element::{is_given, needed};
@@ -24,7 +25,8 @@ pub fn read_item<'t>(
     field: MomentField,
     tower: &Tower,
 ) -> Result<Item<'t>, FormFault>
-    ensures { IsElement (piece_of element.entry) → IsItem tower.now field (piece_of element.entry) result }
+    ensures item { IsItem tower.now field (piece_of element.entry) result }
+    ensures whole { IfOk result IsWhole }
 {
     pairs_of_map();
     members_of_vector();
@@ -35,7 +37,8 @@ pub fn read_item<'t>(
 }
 
 fn item_in<'t>(form: &Form<'t>, text: &'t [u8], tower: &Tower) -> Result<Item<'t>, FormFault>
-    ensures { (worth : Worth) → IsWorth (seen form.now.value) worth → result ≡ item_of tower.now (seen_all form.now) worth text.entry }
+    ensures item { (said : UnderValue) → IsUnderValue (seen form.now.value) said → result ≡ item_of tower.now (seen_all form.now) said text.entry }
+    ensures whole { IfOk result IsWhole }
 {
     if is_given(&form.edit) {
         let keyword = needed(&form.edit, FormField::Edit)?;
@@ -50,7 +53,8 @@ fn item_in<'t>(form: &Form<'t>, text: &'t [u8], tower: &Tower) -> Result<Item<'t
 }
 
 fn question<'t>(name: &Element, tower: &Tower) -> Result<Item<'t>, FormFault>
-    ensures { result ≡ question_of tower.now (piece_of name.now) }
+    ensures item { result ≡ question_of tower.now (piece_of name.now) }
+    ensures whole { IfOk result IsWhole }
 {
     Ok(Item::Ask(find_register(name, tower)?))
 }

@@ -2,12 +2,12 @@
 
 ghost use Rattle.std.specs.Prelude.{◌≡◌, List};
 ghost use Rattle.std.specs.Option.{option_map};
-ghost use Rattle.edn_reader.specs.Grammar.{Piece, piece_of};
+ghost use Rattle.edn_reader.specs.Grammar.{Piece};
 ghost use Rattle.edn_reader.specs.Given.{One, seen};
-ghost use Rattle.edn_reader.specs.Pairs.{MembersLeft};
-ghost use Rattle.jepsen_form.specs.Fields.{Worth, IsWorth, two_of};
-ghost use Rattle.jepsen_form.specs.Form.{worth_of};
-ghost use Rattle.jepsen_form.specs.Item.{register_named, only_register, register_of, value_given, value_told};
+ghost use Rattle.edn_reader.specs.Lent.{piece_of, MembersLeft};
+ghost use Rattle.jepsen_form.specs.Fields.{UnderValue, IsUnderValue, two_of};
+ghost use Rattle.jepsen_form.specs.Form.{under_value};
+ghost use Rattle.jepsen_form.specs.Item.{register_named, only_register, the_register, the_value, value_told};
 
 use crate::element::read_value;
 use crate::fault::{FormFault, FormField};
@@ -27,7 +27,7 @@ pub enum Said<'t> {
 }
 
 pub fn said_by<'t>(field: &Field<'t>) -> Said<'t>
-    ensures { (worth : Worth) → IsWorth (seen field.now) worth → worth_of result ≡ worth }
+    ensures { (said : UnderValue) → IsUnderValue (seen field.now) said → under_value result ≡ said }
 {
     match field {
         Field::Absent => Said::Nothing,
@@ -37,7 +37,7 @@ pub fn said_by<'t>(field: &Field<'t>) -> Said<'t>
 }
 
 fn said_in<'t>(element: &Element<'t>) -> Said<'t>
-    ensures { (worth : Worth) → IsWorth (One (piece_of element.now)) worth → worth_of result ≡ worth }
+    ensures { (said : UnderValue) → IsUnderValue (One (piece_of element.now)) said → under_value result ≡ said }
 {
     let Some(vector) = element.as_vector() else {
         return Said::Plain(*element);
@@ -67,7 +67,7 @@ fn the_two<'t>(vector: &VectorView<'t>) -> Option<(Element<'t>, Element<'t>)>
 
 /// The register that an event is about.
 pub fn register_by(said: &Said, tower: &Tower) -> Result<RegId, FormFault>
-    ensures { result ≡ register_of tower.now (worth_of said.now) }
+    ensures { result ≡ the_register tower.now (under_value said.now) }
 {
     match said {
         Said::Nothing | Said::Plain(_) => sole_register(tower),
@@ -98,7 +98,7 @@ pub fn find_register(name: &Element, tower: &Tower) -> Result<RegId, FormFault>
 
 /// The value of an event; an invoked read has none yet.
 pub fn value_by(said: &Said, stage: Stage, action: Action) -> Result<Value, FormFault>
-    ensures { result ≡ value_told stage action (worth_of said.now) }
+    ensures { result ≡ value_told stage action (under_value said.now) }
 {
     match (stage, action) {
         (Stage::Invoke, Action::Read) | (Stage::Fail | Stage::Info, _) => Ok(Value::Nil),
@@ -107,7 +107,7 @@ pub fn value_by(said: &Said, stage: Stage, action: Action) -> Result<Value, Form
 }
 
 fn given_by(said: &Said) -> Result<Value, FormFault>
-    ensures { result ≡ value_given (worth_of said.now) }
+    ensures { result ≡ the_value (under_value said.now) }
 {
     match said {
         Said::Nothing => Ok(Value::Nil),

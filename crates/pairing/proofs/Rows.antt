@@ -11,7 +11,8 @@ use Rattle.std.proofs.lemmas.List.{get_or_append_left}
 use Rattle.std.proofs.lemmas.List.Sorted.{IsNonDecreasingBy-from_default}
 use Rattle.std.proofs.lemmas.Bool.Decides.{nat_tests}
 use Rattle.intervals.specs.declared.operation.RegId.{RegId}
-use Rattle.pairing.specs.Registers.{register_at, place_at, IsRising}
+use Rattle.pairing.specs.Known.{register_at}
+use Rattle.pairing.specs.Kept.{place_at, IsRising}
 
 -- a row that is not there
 abbrev pub no_row : ℕ × RegId

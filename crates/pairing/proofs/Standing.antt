@@ -18,8 +18,8 @@ use Rattle.pairing.specs.Invocation.{invocation_by, invocation_of}
 use Rattle.pairing.specs.Step.{unless, given_by, step_of}
 use Rattle.pairing.proofs.Rows.{rises_push}
 use Rattle.pairing.specs.Accepted.{Placed, is_event_of, invocation, last_of, unanswered_of, register_of, fault_of, with_item, accepted}
-use Rattle.pairing.specs.Registers.{register_at, with_row, IsRising}
-use Rattle.pairing.specs.Known.{Known, IsUpTo, StandsAfter, unanswered_in, answer_beside}
+use Rattle.pairing.specs.Known.{Known, IsUpTo, StandsAfter, unanswered_in, register_at}
+use Rattle.pairing.specs.Kept.{with_row, IsRising, answer_beside}
 
 -- the register of an invocation at that place
 abbrev pub said_at : Option Invocation → ℕ → Option RegId

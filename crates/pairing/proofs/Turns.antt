@@ -21,7 +21,7 @@ use Rattle.pairing.specs.Invocation.{invocation_by, invocation_of}
 use Rattle.pairing.specs.Accepted.{Placed, is_event_of, invocation, last_of, unanswered_of, fault_of, event_fault, with_item, accepted}
 use Rattle.pairing.specs.Step.{id_of, step_of, ok_step, amendment_of, event_step, unless}
 use Rattle.pairing.specs.Answering.{invokes, is_invocation, IsSilent, IsFirst, IsNext, step_id}
-use Rattle.pairing.specs.Whole.{HasWhatItNeeds, IsWhole}
+use Rattle.jepsen_form.specs.Whole.{HasWhatItNeeds, IsWhole}
 use Rattle.pairing.proofs.Standing.{invocation_place}
 
 -- each of these was accepted after those before it

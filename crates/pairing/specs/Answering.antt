@@ -2,8 +2,7 @@
 use Rattle.std.specs.Prelude.{◌≡◌, ℤ, Bool, true, false, List, ◌∷◌, ◌++◌, Option, Some, None, IsTrue}
 use Rattle.std.specs.List.{list_any}
 use Rattle.intervals.specs.declared.operation.OpId.{OpId}
-use Rattle.intervals.specs.declared.edit.Edit.{Edit}
-use Rattle.intervals.specs.declared.edit.Edit.TheVariants as edits
+use Rattle.intervals.specs.Edit.{edit_id}
 use Rattle.jepsen_form.specs.declared.item.Item.{Item}
 use Rattle.jepsen_form.specs.declared.item.Item.TheVariants.{Event, Amend, Withdraw, Ask, Skipped}
 use Rattle.jepsen_form.specs.declared.item.Stage.{Stage}
@@ -48,12 +47,6 @@ pub record IsNext (items : List Placed) (process : ℤ) (earlier later : Placed)
   pub earlier_is : IsTrue (is_event_of process earlier.item)
   pub later_is : IsTrue (is_event_of process later.item)
   pub silent : IsSilent process between
-
--- the operation that an edit is of
-abbrev pub edit_id : Edit → OpId
-edit_id (edits.Append op) = op.id
-edit_id (edits.Amend id change) = id
-edit_id (edits.Withdraw id) = id
 
 -- the operation that a step edits, if it is no question
 abbrev pub step_id : Step → Option OpId

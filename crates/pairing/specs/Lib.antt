@@ -1,7 +1,6 @@
-pub mod Whole
 pub mod Invocation
 pub mod Accepted
 pub mod Step
-pub mod Registers
 pub mod Known
+pub mod Kept
 pub mod Answering

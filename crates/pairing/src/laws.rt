@@ -5,7 +5,7 @@ ghost use Rattle.pairing.specs.declared.step.Step.{Step};
 ghost use Rattle.pairing.specs.Accepted.{Placed, accepted, is_event_of};
 ghost use Rattle.pairing.specs.Step.{step_of, id_of};
 ghost use Rattle.pairing.specs.Answering.{IsFirst, IsNext, is_invocation, step_id};
-ghost use Rattle.pairing.specs.Whole.{IsWhole};
+ghost use Rattle.jepsen_form.specs.Whole.{IsWhole};
 
 /// The accepted events of a process are an invocation, its answer, an invocation, its answer and so
 /// on: the answer of an accepted invocation is the first later accepted event of its process.

@@ -7,9 +7,8 @@ ghost use Rattle.std.specs.BTreeMap.{get};
 ghost use Rattle.pairing.specs.Invocation.{invocation_of as invocation_at};
 ghost use Rattle.pairing.specs.Accepted.{Placed, accepted, is_event_of};
 ghost use Rattle.pairing.specs.Step.{step_of};
-ghost use Rattle.pairing.specs.Registers.{with_row};
-ghost use Rattle.pairing.specs.Known.{StandsAfter, answer_beside};
-ghost use Rattle.pairing.specs.Whole.{IsWhole};
+ghost use Rattle.pairing.specs.Known.{StandsAfter};
+ghost use Rattle.pairing.specs.Kept.{with_row, answer_beside};
 
 use crate::fault::PairFault;
 use crate::invocation::{Invocation, invocation_of};
@@ -32,8 +31,8 @@ pub struct Pairing {
 
 impl Model for Pairing {
     ghost use Rattle.std.specs.Prelude.{All};
-    ghost use Rattle.pairing.specs.Registers.{IsRising};
     ghost use Rattle.pairing.specs.Known.{Known, IsUpTo};
+    ghost use Rattle.pairing.specs.Kept.{IsRising};
 
     ghost Value = { Known };
 
@@ -67,7 +66,6 @@ impl Pairing {
     /// The step of the item at that place of the trace, if it gives one.
     pub fn take<'t>(&mut self, item: Item<'t>, event: u64) -> Result<Option<Step<'t>>, PairFault>
         requires rises { ForSome self.old.last (λ last. last < event) }
-        requires whole { IsWhole item }
         ensures step { result ≢ Err PairFault.Memory → (items : List Placed) → StandsAfter self.old items
             → result ≡ step_of self.old.feeder (accepted items) event item.entry }
         ensures stands { result ≢ Err PairFault.Memory → (items : List Placed) → StandsAfter self.old items
@@ -90,7 +88,6 @@ impl Pairing {
 
     /// What an item comes to.
     fn answer<'t>(&self, item: &Item<'t>, place: u64) -> Result<Option<Step<'t>>, PairFault>
-        requires { IsWhole item.now }
         ensures { result ≡ answer_beside self.now place item.now }
     {
         match item {

@@ -1,7 +1,8 @@
 //! The registers of the accepted invocations, by place.
 
 ghost use Rattle.std.specs.Prelude.{◌≡◌};
-ghost use Rattle.pairing.specs.Registers.{IsRising, register_at as register_beside};
+ghost use Rattle.pairing.specs.Known.{register_at as register_beside};
+ghost use Rattle.pairing.specs.Kept.{IsRising};
 
 use intervals::RegId;
 

@@ -1,9 +1,8 @@
 //! The step that an item gives.
 
-ghost use Rattle.std.specs.Prelude.{◌≡◌, Some, IsSome};
+ghost use Rattle.std.specs.Prelude.{◌≡◌};
 ghost use Rattle.pairing.specs.Accepted.{event_fault, edit_fault};
 ghost use Rattle.pairing.specs.Step.{id_of, act_of, value_read, append_of, amendment_of, invoke_step, ok_step, event_step, edit_step as step_of_edit, unless};
-ghost use Rattle.pairing.specs.Whole.{IsWholeEvent};
 
 use crate::fault::PairFault;
 use crate::invocation::{Invocation, is_answer};
@@ -24,18 +23,17 @@ pub fn event_answer<'t>(
     place: u64,
     event: &Event<'t>,
 ) -> Result<Option<Step<'t>>, PairFault>
-    requires { IsWholeEvent event.now }
     ensures { result ≡ unless (event_fault unanswered event.now event.now.answer) (event_step feeder unanswered place event.now event.now.answer) }
 {
     match (event.answer, unanswered) {
-        (Stage::Invoke, None) => Ok(Some(invoked(feeder, place, event))),
+        (Stage::Invoke, None) => Ok(invoked(feeder, place, event)),
         (Stage::Invoke, Some(_)) => Err(PairFault::ProcessBusy),
         (_, None) => Err(PairFault::NoInvocation),
         (Stage::Ok, Some(invocation)) => {
             if !is_answer(&invocation, event) {
                 return Err(PairFault::AnswerMismatch);
             }
-            Ok(Some(answered(feeder, &invocation, event)))
+            Ok(answered(feeder, &invocation, event))
         }
         (Stage::Fail, Some(invocation)) => Ok(Some(Step::Edit(
             invocation.register,
@@ -68,32 +66,23 @@ pub fn id(feeder: u32, place: u64) -> OpId
 }
 
 /// The step of an invocation.
-fn invoked<'t>(feeder: u32, place: u64, event: &Event<'t>) -> Step<'t>
-    requires register { IsSome event.now.register }
-    requires moment { IsSome event.now.moment }
-    ensures { Some result ≡ invoke_step feeder place event.now event.now.register event.now.moment }
+fn invoked<'t>(feeder: u32, place: u64, event: &Event<'t>) -> Option<Step<'t>>
+    ensures { result ≡ invoke_step feeder place event.now event.now.register event.now.moment }
 {
-    let Some(register) = event.register else {
-        unreachable!()
-    };
-    let Some(begin) = event.moment else {
-        unreachable!()
-    };
-    Step::Edit(register, append(feeder, place, event, begin))
+    let register = event.register?;
+    let begin = event.moment?;
+    Some(Step::Edit(register, append(feeder, place, event, begin)))
 }
 
 /// The step of an `:ok`.
-fn answered<'t>(feeder: u32, invocation: &Invocation, event: &Event<'t>) -> Step<'t>
-    requires { IsSome event.now.moment }
-    ensures { Some result ≡ ok_step feeder invocation.now event.now event.now.moment }
+fn answered<'t>(feeder: u32, invocation: &Invocation, event: &Event<'t>) -> Option<Step<'t>>
+    ensures { result ≡ ok_step feeder invocation.now event.now event.now.moment }
 {
-    let Some(end) = event.moment else {
-        unreachable!()
-    };
-    Step::Edit(
+    let end = event.moment?;
+    Some(Step::Edit(
         invocation.register,
         amendment(feeder, invocation, event, end),
-    )
+    ))
 }
 
 fn append<'t>(feeder: u32, place: u64, event: &Event<'t>, begin: Moment) -> Edit<'t>

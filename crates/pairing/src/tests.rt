@@ -1,420 +1,339 @@
-//! Worked traces as calls of a pairing, and what no clause says.
-
-ghost use Rattle.std.specs.Prelude.{IsTrue};
-ghost use Rattle.pairing.specs.Whole.{IsWhole, IsWholeEvent};
+//! Rows of a trace's elements, each with its place and the step that it gives, and want of memory.
 
 use super::*;
-use intervals::{Act, Change, Edit, Lent, Moment, OpId, RegId, Value};
-use jepsen_form::{Action, Event, Item, Stage};
+use edn_reader::Reader;
+use intervals::{Act, Change, Edit, Lent, Moment, Op, OpId, RegId, Value};
+use jepsen_form::{Action, Event, Item, MomentField, Stage, read_item};
+use std::alloc::{AllocError, Global};
+use std::fmt::Write;
 use std::process::Abort;
-use std::test::Fail;
+use std::test::*;
+use tower_file::Tower;
 
-const FEEDER: u32 = 7;
+const TOWER: &str = "{:levels [{:name top :registers [
+  {:name x :kind :atomic :writers :any} {:name y :kind :atomic :writers :any}]}]}";
 
-const X: RegId = RegId(0);
-
-const Y: RegId = RegId(1);
-
-/// A step without its texts.
-#[derive(Clone, Copy, Debug, PartialEq, Eq)]
-enum Said {
-    Opened(RegId, OpId, i64, Act, Moment),
-    Ended(RegId, OpId, Option<Value>, Moment),
-    Amended(RegId, OpId, Option<Value>),
-    Withdrawn(RegId, OpId),
-    Asked(RegId),
-    Nothing,
-    Refused(PairFault),
-}
-
-const BUSY: Said = Said::Refused(PairFault::ProcessBusy);
-
-const NONE: Said = Said::Refused(PairFault::NoInvocation);
-
-const MISMATCH: Said = Said::Refused(PairFault::AnswerMismatch);
-
-fn id(event: u64) -> OpId {
-    OpId {
-        feeder: FEEDER,
-        event,
+fn tell_value(told: &mut String, value: Value) -> Result<(), AllocError> {
+    match value {
+        Value::Nil => told.push_str(" nil"),
+        Value::Int(number) => write!(told, " {number}"),
     }
 }
 
-fn event(
-    process: i64,
-    answer: Stage,
-    action: Action,
-    register: RegId,
-    value: Value,
-) -> Item<'static> {
+/// Whether this is the text of the element that gives the step.
+fn tell_lent(told: &mut String, text: &[u8], own: &str) -> Result<(), AllocError> {
+    if text == own.as_bytes() {
+        told.push_str(", lends it")
+    } else {
+        told.push_str(", lends other bytes")
+    }
+}
+
+fn tell_op(told: &mut String, op: &Op, own: &str) -> Result<(), AllocError> {
+    write!(
+        told,
+        " appends {}:{} of process {},",
+        op.id.feeder, op.id.event, op.process
+    )?;
+    match op.act {
+        Act::Read(value) => {
+            told.push_str(" read")?;
+            tell_value(told, value)?;
+        }
+        Act::Write(value) => {
+            told.push_str(" write")?;
+            tell_value(told, value)?;
+        }
+    }
+    write!(told, ", from {}", op.begin.0)?;
+    if op.end.is_some() || op.parts.answer.is_some() || op.parts.amendment.is_some() {
+        told.push_str(", ended")?;
+    }
+    tell_lent(told, op.parts.invocation, own)
+}
+
+fn tell_end(told: &mut String, end: Option<Moment>) -> Result<(), AllocError> {
+    match end {
+        Some(end) => write!(told, ", to {}", end.0),
+        None => told.push_str(", open"),
+    }
+}
+
+fn tell_change(told: &mut String, change: &Change, own: &str) -> Result<(), AllocError> {
+    if let Some(value) = change.value {
+        told.push_str(", value")?;
+        tell_value(told, value)?;
+    }
+    if let Some(begin) = change.begin {
+        write!(told, ", from {}", begin.0)?;
+    }
+    if let Some(end) = change.end {
+        tell_end(told, end)?;
+    }
+    match change.lent {
+        Lent::Answer(text) => {
+            told.push_str(", answered")?;
+            tell_lent(told, text, own)
+        }
+        Lent::Amendment(text) => tell_lent(told, text, own),
+    }
+}
+
+fn tell_edit(told: &mut String, edit: &Edit, own: &str) -> Result<(), AllocError> {
+    match edit {
+        Edit::Append(op) => tell_op(told, op, own),
+        Edit::Amend(id, change) => {
+            write!(told, " amends {}:{}", id.feeder, id.event)?;
+            tell_change(told, change, own)
+        }
+        Edit::Withdraw(id) => write!(told, " withdraws {}:{}", id.feeder, id.event),
+    }
+}
+
+fn tell(
+    told: &mut String,
+    answer: Result<Option<Step>, PairFault>,
+    own: &str,
+) -> Result<(), AllocError> {
+    match answer {
+        Ok(Some(Step::Edit(register, edit))) => {
+            write!(told, "on {}", register.0)?;
+            tell_edit(told, &edit, own)
+        }
+        Ok(Some(Step::Ask(register))) => write!(told, "asks {}", register.0),
+        Ok(None) => told.push_str("nothing"),
+        Err(fault) => write!(told, "{fault}"),
+    }
+}
+
+fn item_in<'t>(alloc: Global, tower: &Tower, text: &'t str) -> Option<Item<'t>> {
+    let mut reader = Reader::new(alloc, text.as_bytes());
+    match reader.next() {
+        Ok(Some(element)) => read_item(element, MomentField::Index, tower).ok(),
+        _ => None,
+    }
+}
+
+/// The step of the item, where its place is not behind the last.
+fn taken<'t>(
+    pairing: &mut Pairing,
+    item: Item<'t>,
+    place: u64,
+) -> Result<Option<Step<'t>>, PairFault> {
+    match pairing.last() {
+        Some(last) if place <= last => Ok(None),
+        _ => pairing.take(item, place),
+    }
+}
+
+/// The last place, and the step of an element that stands there.
+fn told(
+    alloc: Global,
+    tower: &Tower,
+    pairing: &mut Pairing,
+    place: u64,
+    text: &str,
+) -> Result<String, AllocError> {
+    let mut told = String::new(alloc);
+    let Some(item) = item_in(alloc, tower, text) else {
+        return Ok(told);
+    };
+    let answer = taken(pairing, item, place);
+    if let Some(last) = pairing.last() {
+        write!(told, "{last} ")?;
+    }
+    tell(&mut told, answer, text)?;
+    Ok(told)
+}
+
+fn row_is_told<R: AllocGlobal + Abort>(
+    rt: &R,
+    tower: &Tower,
+    pairing: &mut Pairing,
+    place: u64,
+    row: &str,
+) -> Result<(), Fail> {
+    let (text, want) = row.split_once(" => ").ok_or("a row")?;
+    let found = told(rt.alloc(), tower, pairing, place, text)?;
+    assert!(rt; found.as_str() == want, "{text} => {found}");
+    Ok(())
+}
+
+fn trace_is_told<R: AllocGlobal + Abort>(rt: &R, tower: &Tower, rows: &str) -> Result<(), Fail> {
+    let mut pairing = Pairing::new(rt.alloc(), 7);
+    for (place, row) in rows.lines().enumerate() {
+        row_is_told(rt, tower, &mut pairing, place as u64, row)?;
+    }
+    Ok(())
+}
+
+/// Traces, each of rows of an element, its place and its step.
+const TRACES: &str =
+    r#"{:process 0 :type :invoke :f :write :value [x 1] :index 100} => 0 on 0 appends 7:0 of process 0, write 1, from 100, lends it
+{:process 0 :type :ok :f :write :value [x 1] :index 170} => 1 on 0 amends 7:0, to 170, answered, lends it
+{:process 0 :type :ok :f :write :value [x 1] :index 170} => 2 P2 NoInvocation
+
+{:process 0 :type :ok :f :write :value [x 1] :index 100} => 0 P2 NoInvocation
+{:process 0 :type :invoke :f :write :value [x 1] :index 100} => 1 on 0 appends 7:1 of process 0, write 1, from 100, lends it
+{:process 0 :type :invoke :f :write :value [x 2] :index 100} => 2 P1 ProcessBusy
+{:process :nemesis :type :info} => 3 nothing
+{:ask y} => 4 asks 1
+{:process 0 :type :ok :f :write :value [x 2] :index 100} => 5 P3 AnswerMismatch
+{:process 0 :type :ok :f :write :value [x 1] :index 100} => 6 on 0 amends 7:1, to 100, answered, lends it
+{:process 0 :type :ok :f :write :value [x 1] :index 100} => 7 P2 NoInvocation
+{:process 0 :type :fail :f :write} => 8 P2 NoInvocation
+{:process 0 :type :info :f :write} => 9 P2 NoInvocation
+
+{:process 0 :type :invoke :f :write :value [x 1] :index 100} => 0 on 0 appends 7:0 of process 0, write 1, from 100, lends it
+{:process 0 :type :ok :f :read :value [x 1] :index 100} => 1 P3 AnswerMismatch
+{:process 0 :type :ok :f :write :value [y 1] :index 100} => 2 P3 AnswerMismatch
+{:process 0 :type :ok :f :write :value [x 2] :index 100} => 3 P3 AnswerMismatch
+{:process 0 :type :ok :f :write :value [x nil] :index 100} => 4 P3 AnswerMismatch
+{:process 0 :type :ok :f :write :value [x 1] :index 170} => 5 on 0 amends 7:0, to 170, answered, lends it
+{:process 0 :type :invoke :f :read :value [x nil] :index 100} => 6 on 0 appends 7:6 of process 0, read nil, from 100, lends it
+{:process 0 :type :ok :f :read :value [y 3] :index 100} => 7 P3 AnswerMismatch
+{:process 0 :type :ok :f :write :value [x 3] :index 100} => 8 P3 AnswerMismatch
+{:process 0 :type :ok :f :read :value [x 3] :index 100} => 9 on 0 amends 7:6, value 3, to 100, answered, lends it
+
+{:edit :amend :of 1 :value 5} => 0 P2 NoInvocation
+{:process 0 :type :invoke :f :write :value [y 1] :index 100} => 1 on 1 appends 7:1 of process 0, write 1, from 100, lends it
+{:process 0 :type :invoke :f :write :value [x 2] :index 100} => 2 P1 ProcessBusy
+{:process 0 :type :ok :f :write :value [y 1] :index 100} => 3 on 1 amends 7:1, to 100, answered, lends it
+{:edit :amend :of 1 :value 5} => 4 on 1 amends 7:1, value 5, lends it
+{:edit :amend :of 0 :value 5} => 5 P2 NoInvocation
+{:edit :amend :of 2 :value 5} => 6 P2 NoInvocation
+{:edit :withdraw :of 3} => 7 P2 NoInvocation
+{:edit :withdraw :of 4} => 8 P2 NoInvocation
+{:edit :amend :of 9 :value 5} => 9 P2 NoInvocation
+{:edit :withdraw :of 11} => 10 P2 NoInvocation
+{:process 3 :type :invoke :f :write :value [x 4] :index 100} => 11 on 0 appends 7:11 of process 3, write 4, from 100, lends it
+{:edit :withdraw :of 11} => 12 on 0 withdraws 7:11
+{:process 3 :type :fail :f :write} => 13 on 0 withdraws 7:11
+{:edit :withdraw :of 9223372036854775807} => 14 P2 NoInvocation
+{:edit :withdraw :of 1} => 15 on 1 withdraws 7:1
+{:edit :amend :of 1 :value 6} => 16 on 1 amends 7:1, value 6, lends it
+{:edit :amend :of 1} => 17 on 1 amends 7:1, lends it
+{:edit :amend :of 1 :value nil :begin 3 :end 9} => 18 on 1 amends 7:1, value nil, from 3, to 9, lends it
+{:edit :amend :of 11 :end nil} => 19 on 0 amends 7:11, open, lends it
+
+{:process 0 :type :invoke :f :write :value [x 1] :index 100} => 0 on 0 appends 7:0 of process 0, write 1, from 100, lends it
+{:process 0 :type :info :f :write} => 1 nothing
+{:process 0 :type :ok :f :write :value [x 1] :index 100} => 2 P2 NoInvocation
+{:process 0 :type :invoke :f :write :value [x 2] :index 100} => 3 on 0 appends 7:3 of process 0, write 2, from 100, lends it
+{:process 0 :type :ok :f :write :value [x 1] :index 100} => 4 P3 AnswerMismatch
+{:process 0 :type :ok :f :write :value [x 2] :index 100} => 5 on 0 amends 7:3, to 100, answered, lends it
+{:edit :amend :of 0 :value 9} => 6 on 0 amends 7:0, value 9, lends it
+{:process 0 :type :invoke :f :write :value [x 3] :index 100} => 7 on 0 appends 7:7 of process 0, write 3, from 100, lends it
+{:process 0 :type :fail :f :write} => 8 on 0 withdraws 7:7
+{:process 0 :type :invoke :f :read :value [x nil] :index 100} => 9 on 0 appends 7:9 of process 0, read nil, from 100, lends it
+{:process 0 :type :info :f :write} => 10 nothing
+
+{:process 4 :type :invoke :f :read :value [x nil] :index 100} => 0 on 0 appends 7:0 of process 4, read nil, from 100, lends it
+{:process 4 :type :info :f :write :value [z 9] :index 7} => 1 nothing
+{:process 4 :type :invoke :f :read :value [x nil] :index 100} => 2 on 0 appends 7:2 of process 4, read nil, from 100, lends it
+{:process 4 :type :fail :f :write :value [y 9] :index 7} => 3 on 0 withdraws 7:2
+
+{:process -1 :type :invoke :f :write :value [x 1] :index 100} => 0 on 0 appends 7:0 of process -1, write 1, from 100, lends it
+{:process 1 :type :ok :f :write :value [x 1] :index 100} => 1 P2 NoInvocation
+{:process 1 :type :invoke :f :read :value [x nil] :index 100} => 2 on 0 appends 7:2 of process 1, read nil, from 100, lends it
+{:process -9223372036854775808 :type :invoke :f :write :value [x 5] :index 100} => 3 on 0 appends 7:3 of process -9223372036854775808, write 5, from 100, lends it
+{:process -1 :type :invoke :f :write :value [x 1] :index 100} => 4 P1 ProcessBusy
+{:process 1 :type :ok :f :read :value [x nil] :index 100} => 5 on 0 amends 7:2, value nil, to 100, answered, lends it
+{:process -9223372036854775808 :type :fail :f :write} => 6 on 0 withdraws 7:3
+{:process -1 :type :ok :f :write :value [x 1] :index 100} => 7 on 0 amends 7:0, to 100, answered, lends it
+{:process -1 :type :ok :f :write :value [x 1] :index 100} => 8 P2 NoInvocation
+
+{:process 0 :type :invoke :f :write :value [x 1] :index 0} => 0 on 0 appends 7:0 of process 0, write 1, from 0, lends it
+{:process 0 :type :invoke :f :write :value [x 2] :index 1} => 1 P1 ProcessBusy
+{:process 0 :type :ok :f :write :value [x 2] :index 2} => 2 P3 AnswerMismatch
+{:process 0 :type :ok :f :write :value [x 1] :index 3} => 3 on 0 amends 7:0, to 3, answered, lends it
+
+{:process 1 :type :invoke :f :read :value [x nil] :index 10} => 0 on 0 appends 7:0 of process 1, read nil, from 10, lends it
+{:process 1 :type :ok :f :read :value [x 5] :index 11} => 1 on 0 amends 7:0, value 5, to 11, answered, lends it
+{:process 0 :type :invoke :f :write :value [x 5] :index 20} => 2 on 0 appends 7:2 of process 0, write 5, from 20, lends it
+{:process 0 :type :ok :f :write :value [x 5] :index 21} => 3 on 0 amends 7:2, to 21, answered, lends it
+{:ask x} => 4 asks 0
+{:edit :withdraw :of 2} => 5 on 0 withdraws 7:2
+{:ask x} => 6 asks 0
+{:process 0 :type :invoke :f :write :value [x 5] :index 5} => 7 on 0 appends 7:7 of process 0, write 5, from 5, lends it
+{:process 0 :type :ok :f :write :value [x 5] :index 6} => 8 on 0 amends 7:7, to 6, answered, lends it
+
+{:process 0 :type :invoke :f :write :value [x 5] :index 0} => 0 on 0 appends 7:0 of process 0, write 5, from 0, lends it
+{:process 0 :type :ok :f :write :value [x 5] :index 1} => 1 on 0 amends 7:0, to 1, answered, lends it
+{:process 1 :type :invoke :f :write :value [x 5] :index 2} => 2 on 0 appends 7:2 of process 1, write 5, from 2, lends it
+{:process 1 :type :ok :f :write :value [x 5] :index 3} => 3 on 0 amends 7:2, to 3, answered, lends it
+{:process 1 :type :invoke :f :write :value [x nil] :index 4} => 4 on 0 appends 7:4 of process 1, write nil, from 4, lends it
+{:process 1 :type :fail :f :write :value [x nil] :index 5} => 5 on 0 withdraws 7:4
+{:process 1 :type :invoke :f :write :value [x 6] :index 0} => 6 on 0 appends 7:6 of process 1, write 6, from 0, lends it
+{:process 1 :type :info :f :write} => 7 nothing
+{:process 1 :type :invoke :f :write :value [x 7] :index 4611686018427387904} => 8 on 0 appends 7:8 of process 1, write 7, from 4611686018427387904, lends it
+{:edit :amend :of 0 :end 0} => 9 on 0 amends 7:0, to 0, lends it
+{:edit :withdraw :of 1} => 10 P2 NoInvocation"#;
+
+#[test]
+fn each_step_is_told(rt: HostRuntime) -> Result<(), Fail> {
+    let tower = Tower::read(rt.alloc(), TOWER.as_bytes())?;
+    for trace in TRACES.split("\n\n") {
+        trace_is_told(&rt, &tower, trace)?;
+    }
+    Ok(())
+}
+
+fn id(event: u32) -> OpId {
+    OpId {
+        feeder: 7,
+        event: u64::from(event),
+    }
+}
+
+fn write(process: u32, stage: Stage) -> Item<'static> {
     Item::Event(Event {
-        process,
-        answer,
-        action,
-        register: Some(register),
-        value,
+        process: i64::from(process),
+        answer: stage,
+        action: Action::Write,
+        register: Some(RegId(0)),
+        value: Value::Int(1),
         moment: Some(Moment(100)),
         text: b"said",
     })
 }
 
-fn write(process: i64, stage: Stage, value: i64) -> Item<'static> {
-    event(process, stage, Action::Write, X, Value::Int(value))
-}
-
-fn read(process: i64, stage: Stage, value: Value) -> Item<'static> {
-    event(process, stage, Action::Read, X, value)
-}
-
-/// A `:fail` or an `:info`, of which neither register nor value nor moment is read.
-fn lost(process: i64, stage: Stage) -> Item<'static> {
-    Item::Event(Event {
-        process,
-        answer: stage,
-        action: Action::Write,
-        register: None,
-        value: Value::Nil,
-        moment: None,
-        text: b"said",
-    })
-}
-
-fn amend(of: u64, value: i64) -> Item<'static> {
-    Item::Amend {
-        of,
-        change: Change {
-            value: Some(Value::Int(value)),
-            begin: None,
-            end: None,
-            lent: Lent::Amendment(b"amended"),
-        },
-    }
-}
-
-fn withdraw(of: u64) -> Item<'static> {
-    Item::Withdraw { of }
-}
-
-fn opened(process: i64, place: u64, act: Act) -> Said {
-    Said::Opened(X, id(place), process, act, Moment(100))
-}
-
-fn written(process: i64, place: u64, value: i64) -> Said {
-    opened(process, place, Act::Write(Value::Int(value)))
-}
-
-fn ended(place: u64, value: Option<Value>) -> Said {
-    Said::Ended(X, id(place), value, Moment(100))
-}
-
-fn said_by_edit(register: RegId, edit: Edit) -> Said {
-    match edit {
-        Edit::Append(op) => Said::Opened(register, op.id, op.process, op.act, op.begin),
-        Edit::Amend(id, change) => match change.end {
-            Some(Some(end)) => Said::Ended(register, id, change.value, end),
-            _ => Said::Amended(register, id, change.value),
-        },
-        Edit::Withdraw(id) => Said::Withdrawn(register, id),
-    }
-}
-
-fn said_by(answer: Result<Option<Step>, PairFault>) -> Said {
-    match answer {
-        Ok(Some(Step::Edit(register, edit))) => said_by_edit(register, edit),
-        Ok(Some(Step::Ask(register))) => Said::Asked(register),
-        Ok(None) => Said::Nothing,
-        Err(fault) => Said::Refused(fault),
-    }
-}
-
-fn is_whole_event(event: &Event) -> bool
-    ensures { IsTrue result → IsWholeEvent event.now }
-{
-    match event.answer {
-        Stage::Invoke => event.register.is_some() && event.moment.is_some(),
-        Stage::Ok => event.register.is_some() && event.moment.is_some(),
-        Stage::Fail => true,
-        Stage::Info => true,
-    }
-}
-
-fn is_whole(item: &Item) -> bool
-    ensures { IsTrue result → IsWhole item.now }
-{
-    match item {
-        Item::Event(event) => is_whole_event(event),
-        _ => true,
-    }
-}
-
-fn take<'t>(
-    rt: &impl Abort,
-    pairing: &mut Pairing,
-    item: Item<'t>,
-    event: u64,
-) -> Result<Option<Step<'t>>, PairFault> {
-    let whole = is_whole(&item);
-    assert!(rt; whole);
-    if let Some(last) = pairing.last() {
-        assert!(rt; last < event);
-    }
-    pairing.take(item, event)
-}
-
-/// Each item in turn, at its place in the list, gives that.
-fn gives(rt: &impl Abort, pairing: &mut Pairing, cases: &[(Item<'static>, Said)]) {
-    for (at, (item, said)) in cases.iter().enumerate() {
-        let place = at as u64;
-        let given = said_by(take(rt, pairing, *item, place));
-        assert_eq!(rt; given, *said, "at {place}");
-        assert_eq!(rt; pairing.last(), Some(place));
-    }
-}
-
-#[test]
-fn an_invocation_waits_for_its_answer(rt: HostRuntime) -> Result<(), Fail> {
-    let mut pairing = Pairing::new(rt.alloc(), FEEDER);
-    assert_eq!(rt; pairing.last(), None);
-    let cases = [
-        (write(0, Stage::Ok, 1), NONE),
-        (write(0, Stage::Invoke, 1), written(0, 1, 1)),
-        (write(0, Stage::Invoke, 2), BUSY),
-        (Item::Skipped, Said::Nothing),
-        (Item::Ask(Y), Said::Asked(Y)),
-        (write(0, Stage::Ok, 2), MISMATCH),
-        (write(0, Stage::Ok, 1), ended(1, None)),
-        (write(0, Stage::Ok, 1), NONE),
-        (lost(0, Stage::Fail), NONE),
-        (lost(0, Stage::Info), NONE),
-    ];
-    gives(&rt, &mut pairing, &cases);
-    Ok(())
-}
-
-#[test]
-fn an_ok_agrees_with_its_invocation(rt: HostRuntime) -> Result<(), Fail> {
-    let mut pairing = Pairing::new(rt.alloc(), FEEDER);
-    let cases = [
-        (write(0, Stage::Invoke, 1), written(0, 0, 1)),
-        (read(0, Stage::Ok, Value::Int(1)), MISMATCH),
-        (
-            event(0, Stage::Ok, Action::Write, Y, Value::Int(1)),
-            MISMATCH,
-        ),
-        (write(0, Stage::Ok, 2), MISMATCH),
-        (event(0, Stage::Ok, Action::Write, X, Value::Nil), MISMATCH),
-        (write(0, Stage::Ok, 1), ended(0, None)),
-        (
-            read(0, Stage::Invoke, Value::Nil),
-            opened(0, 6, Act::Read(Value::Nil)),
-        ),
-        (
-            event(0, Stage::Ok, Action::Read, Y, Value::Int(3)),
-            MISMATCH,
-        ),
-        (write(0, Stage::Ok, 3), MISMATCH),
-        (
-            read(0, Stage::Ok, Value::Int(3)),
-            ended(6, Some(Value::Int(3))),
-        ),
-    ];
-    gives(&rt, &mut pairing, &cases);
-    Ok(())
-}
-
-#[test]
-fn an_edit_names_an_accepted_invocation(rt: HostRuntime) -> Result<(), Fail> {
-    let mut pairing = Pairing::new(rt.alloc(), FEEDER);
-    let cases = [
-        (amend(1, 5), NONE),
-        (
-            event(0, Stage::Invoke, Action::Write, Y, Value::Int(1)),
-            Said::Opened(Y, id(1), 0, Act::Write(Value::Int(1)), Moment(100)),
-        ),
-        (write(0, Stage::Invoke, 2), BUSY),
-        (
-            event(0, Stage::Ok, Action::Write, Y, Value::Int(1)),
-            Said::Ended(Y, id(1), None, Moment(100)),
-        ),
-        (amend(1, 5), Said::Amended(Y, id(1), Some(Value::Int(5)))),
-        (amend(0, 5), NONE),
-        (amend(2, 5), NONE),
-        (withdraw(3), NONE),
-        (withdraw(4), NONE),
-        (amend(9, 5), NONE),
-        (withdraw(11), NONE),
-        (write(3, Stage::Invoke, 4), written(3, 11, 4)),
-        (withdraw(11), Said::Withdrawn(X, id(11))),
-        (lost(3, Stage::Fail), Said::Withdrawn(X, id(11))),
-        (withdraw(18446744073709551615), NONE),
-        (withdraw(1), Said::Withdrawn(Y, id(1))),
-        (amend(1, 6), Said::Amended(Y, id(1), Some(Value::Int(6)))),
-    ];
-    gives(&rt, &mut pairing, &cases);
-    Ok(())
-}
-
-#[test]
-fn a_crashed_process_comes_again(rt: HostRuntime) -> Result<(), Fail> {
-    let mut pairing = Pairing::new(rt.alloc(), FEEDER);
-    let cases = [
-        (write(0, Stage::Invoke, 1), written(0, 0, 1)),
-        (lost(0, Stage::Info), Said::Nothing),
-        (write(0, Stage::Ok, 1), NONE),
-        (write(0, Stage::Invoke, 2), written(0, 3, 2)),
-        (write(0, Stage::Ok, 1), MISMATCH),
-        (write(0, Stage::Ok, 2), ended(3, None)),
-        (amend(0, 9), Said::Amended(X, id(0), Some(Value::Int(9)))),
-        (write(0, Stage::Invoke, 3), written(0, 7, 3)),
-        (lost(0, Stage::Fail), Said::Withdrawn(X, id(7))),
-        (
-            read(0, Stage::Invoke, Value::Nil),
-            opened(0, 9, Act::Read(Value::Nil)),
-        ),
-    ];
-    gives(&rt, &mut pairing, &cases);
-    Ok(())
-}
-
-#[test]
-fn each_process_has_its_own_turn(rt: HostRuntime) -> Result<(), Fail> {
-    let mut pairing = Pairing::new(rt.alloc(), FEEDER);
-    let least = -9223372036854775808;
-    let cases = [
-        (write(-1, Stage::Invoke, 1), written(-1, 0, 1)),
-        (write(1, Stage::Ok, 1), NONE),
-        (
-            read(1, Stage::Invoke, Value::Nil),
-            opened(1, 2, Act::Read(Value::Nil)),
-        ),
-        (write(least, Stage::Invoke, 5), written(least, 3, 5)),
-        (write(-1, Stage::Invoke, 1), BUSY),
-        (read(1, Stage::Ok, Value::Nil), ended(2, Some(Value::Nil))),
-        (lost(least, Stage::Fail), Said::Withdrawn(X, id(3))),
-        (write(-1, Stage::Ok, 1), ended(0, None)),
-        (write(-1, Stage::Ok, 1), NONE),
-    ];
-    gives(&rt, &mut pairing, &cases);
-    Ok(())
-}
-
-#[test]
-fn lends_the_elements_of_invocation_answer_and_amendment(rt: HostRuntime) -> Result<(), Fail> {
-    let mut pairing = Pairing::new(rt.alloc(), FEEDER);
-    let Ok(Some(Step::Edit(_, Edit::Append(op)))) = take(
-        &rt,
-        &mut pairing,
-        write(0, Stage::Invoke, 1),
-        3,
-    ) else {
-        assert!(rt; false);
-        return Ok(());
-    };
-    assert_eq!(rt; op.end, None);
-    assert_eq!(rt; op.parts.invocation, b"said".as_slice());
-    assert!(rt; op.parts.answer.is_none() && op.parts.amendment.is_none());
-    let Ok(Some(Step::Edit(_, Edit::Amend(_, change)))) = take(
-        &rt,
-        &mut pairing,
-        write(0, Stage::Ok, 1),
-        4,
-    ) else {
-        assert!(rt; false);
-        return Ok(());
-    };
-    assert_eq!(rt; change.begin, None);
-    assert!(rt; matches!(change.lent, Lent::Answer(b"said")));
-    let Ok(Some(Step::Edit(_, Edit::Amend(_, change)))) = take(&rt, &mut pairing, amend(3, 2), 5)
-    else {
-        assert!(rt; false);
-        return Ok(());
-    };
-    assert!(rt; matches!(change.lent, Lent::Amendment(b"amended")));
-    Ok(())
-}
-
-/// Many invocations, each found by its place, with gaps between the places.
-#[test]
-fn finds_each_of_many_invocations(rt: HostRuntime) -> Result<(), Fail> {
-    let mut pairing = Pairing::new(rt.alloc(), FEEDER);
-    for n in 0..100u64 {
-        let item = write((n % 10) as i64, Stage::Invoke, 1);
-        let given = said_by(take(&rt, &mut pairing, item, 3 * n));
-        assert_eq!(rt; given, written((n % 10) as i64, 3 * n, 1));
-        let answer = lost((n % 10) as i64, Stage::Info);
-        assert_eq!(rt;
-            said_by(take(&rt, &mut pairing, answer, 3 * n + 1)),
-            Said::Nothing
-        );
-    }
-    for n in 0..300u64 {
-        let given = said_by(take(&rt, &mut pairing, withdraw(n), 1000 + n));
-        let wanted = if n % 3 == 0 {
-            Said::Withdrawn(X, id(n))
-        } else {
-            NONE
-        };
-        assert_eq!(rt; given, wanted, "at {n}");
-    }
-    Ok(())
-}
-
-#[test]
-fn prints_its_faults_with_code_and_name(rt: HostRuntime) -> Result<(), Fail> {
-    let cases = [
-        (PairFault::ProcessBusy, "P1 ProcessBusy"),
-        (PairFault::NoInvocation, "P2 NoInvocation"),
-        (PairFault::AnswerMismatch, "P3 AnswerMismatch"),
-        (PairFault::Memory, "P4 Memory"),
-    ];
-    for (fault, text) in cases {
-        assert_eq!(rt; format!(in rt.alloc(); "{fault}")?.as_str(), text);
-    }
-    Ok(())
-}
-
-/// Takes the item. Where memory is refused nothing has changed, and the same call then gives what it
-/// would have given.
-fn take_at_last(rt: &impl Abort, pairing: &mut Pairing, item: Item<'static>, place: u64) -> Said {
+/// The operation that a step edits. Where memory is refused nothing has changed, and the same call
+/// is made again.
+fn edited(rt: &impl Abort, pairing: &mut Pairing, item: Item<'static>, at: u32) -> Option<OpId> {
+    let place = u64::from(at);
     let last = pairing.last();
-    match take(rt, pairing, item, place) {
-        Err(PairFault::Memory) => {
-            assert_eq!(rt; pairing.last(), last);
-            said_by(take(rt, pairing, item, place))
-        }
-        answer => said_by(answer),
+    let mut answer = taken(pairing, item, place);
+    if let Err(PairFault::Memory) = answer {
+        assert!(rt; pairing.last() == last);
+        answer = taken(pairing, item, place);
+    }
+    match answer {
+        Ok(Some(Step::Edit(_, Edit::Append(op)))) => Some(op.id),
+        Ok(Some(Step::Edit(_, Edit::Amend(id, _)))) => Some(id),
+        _ => None,
     }
 }
 
-/// To be run with each allocation refused in turn.
+/// Many invocations that wait, and their answers: to be run with each allocation refused in turn.
 #[test]
 fn refused_memory_changes_nothing(rt: HostRuntime) -> Result<(), Fail> {
-    let mut pairing = Pairing::new(rt.alloc(), FEEDER);
-    for n in 0..40u64 {
-        let place = 4 * n;
-        let process = n as i64;
-        let asked = take_at_last(&rt, &mut pairing, withdraw(place), place);
-        assert_eq!(rt; asked, NONE);
-        let invoked = take_at_last(
-            &rt,
-            &mut pairing,
-            write(process, Stage::Invoke, 1),
-            place + 1,
-        );
-        assert_eq!(rt; invoked, written(process, place + 1, 1));
-        let again = take_at_last(
-            &rt,
-            &mut pairing,
-            write(process, Stage::Invoke, 1),
-            place + 2,
-        );
-        assert_eq!(rt; again, BUSY);
-        let withdrawn = take_at_last(&rt, &mut pairing, withdraw(place + 1), place + 3);
-        assert_eq!(rt; withdrawn, Said::Withdrawn(X, id(place + 1)));
+    let mut pairing = Pairing::new(rt.alloc(), 7);
+    for n in 0..40 {
+        let found = edited(&rt, &mut pairing, write(n, Stage::Invoke), n);
+        assert!(rt; found == Some(id(n)));
     }
-    for n in 0..40u64 {
-        let ended_now = take_at_last(&rt, &mut pairing, write(n as i64, Stage::Ok, 1), 200 + n);
-        assert_eq!(rt; ended_now, ended(4 * n + 1, None));
+    for n in 0..40 {
+        let found = edited(&rt, &mut pairing, write(n, Stage::Ok), 40 + n);
+        assert!(rt; found == Some(id(n)));
     }
+    Ok(())
+}
+
+#[test]
+fn want_of_memory_is_told(rt: HostRuntime) -> Result<(), Fail> {
+    let mut told = String::new(rt.alloc());
+    tell(&mut told, Err(PairFault::Memory), "")?;
+    assert!(rt; told.as_str() == "P4 Memory");
     Ok(())
 }

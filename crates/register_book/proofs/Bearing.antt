@@ -9,7 +9,7 @@ use Rattle.intervals.specs.declared.claim.Kind.{Kind}
 use Rattle.intervals.specs.declared.claim.Kind.TheVariants.{Safe, Regular, Atomic}
 use Rattle.intervals.specs.Terms.{Terms}
 use Rattle.intervals.specs.Operation.{is_write, precedes, overlaps, is_judged_read}
-use Rattle.intervals.specs.Judging.{is_write_before, later_of, last_from, is_returned_at, returns_of, returns_last, is_write_over, is_safe_read, is_returned_over, is_regular_read, is_right_read, is_wrong_read}
+use Rattle.intervals.specs.Judging.{is_write_before, later_of, last_from, is_returned_at, returns_of, returns_last, is_write_over, is_returned_over, is_right_read, is_wrong_read}
 use Rattle.register_book.specs.Touch.{bears_on}
 
 module _ (r : Op) where

@@ -8,14 +8,14 @@ use Rattle.intervals.specs.declared.edit.Edit.{Edit}
 use Rattle.intervals.specs.declared.edit.Edit.TheVariants.{Append, Amend, Withdraw}
 use Rattle.intervals.specs.Terms.{Terms}
 use Rattle.intervals.specs.Operation.{same_id, writes}
-use Rattle.intervals.specs.Edit.{op_of, changed, amended, edited, new_op}
+use Rattle.intervals.specs.Edit.{op_of, changed, amended, edited, edit_id, new_op}
 use Rattle.intervals.specs.Least.{less_of, least_from, least_by}
 use Rattle.intervals.specs.Judging.{is_wrong_read, end_number, first_wrong}
 use Rattle.register_book.specs.declared.touch.Touch.{Touch}
-use Rattle.register_book.specs.Ids.{HasDistinctIds}
-use Rattle.register_book.specs.Touch.{id_of, touch_of, passes, bears_on, is_touched}
+use Rattle.intervals.specs.Standing.{HasDistinctIds}
+use Rattle.register_book.specs.Touch.{touch_of, passes, bears_on, is_touched}
 use Rattle.register_book.specs.Verdict.{is_wrong_touched, is_wrong_untouched, first_wrong_untouched}
-use Rattle.register_book.proofs.Ids.{same_id-refl, found_alike}
+use Rattle.intervals.proofs.Ids.{same_id-refl, found_alike}
 use Rattle.register_book.proofs.Bearing.{same_bearing}
 use Rattle.register_book.proofs.Split.{Joined, joined, least_outside}
 
@@ -52,7 +52,7 @@ module _ (keep : Op → Bool) where
       by_cases false s g rest = ap (λ (kept : List Op). cond (keep a) (a ∷ kept) kept) (rest g)
       by_cases true s g rest = let n = no_other a ops id d.0 s in rw g (rest (rw n refl))
 
-  kept_edited : (ops : List Op) (edit : Edit) → HasDistinctIds ops → passes keep (op_of ops (id_of edit)) ≡ false → passes keep (new_op ops edit) ≡ false → filter keep (edited ops edit) ≡ filter keep ops
+  kept_edited : (ops : List Op) (edit : Edit) → HasDistinctIds ops → passes keep (op_of ops (edit_id edit)) ≡ false → passes keep (new_op ops edit) ≡ false → filter keep (edited ops edit) ≡ filter keep ops
   kept_edited ops (Append op) d e f = kept_appended ops op f
   kept_edited ops (Amend id change) d e f = kept_amended id change ops d e f
   kept_edited ops (Withdraw id) d e f = kept_withdrawn id ops d e
@@ -85,7 +85,7 @@ module _ (key : Op → ℕ) (test : Op → Bool) (id : OpId) (fails : (op : Op) 
       by_cases false s rest = rest (less_of key test found a)
       by_cases true s rest = rest found ∙ sym (ap (λ (f : Option Op). least_from key test f ops) (passed_over found a s))
 
-edited_alike : (key : Op → ℕ) (test : Op → Bool) (ops : List Op) (edit : Edit) → ((op : Op) → same_id op.id (id_of edit) ≡ true → test op ≡ false) → least_by key test (edited ops edit) ≡ least_by key test ops
+edited_alike : (key : Op → ℕ) (test : Op → Bool) (ops : List Op) (edit : Edit) → ((op : Op) → same_id op.id (edit_id edit) ≡ true → test op ≡ false) → least_by key test (edited ops edit) ≡ least_by key test ops
 edited_alike key test ops (Append op) fails = appended_alike key test op.id fails None ops op (same_id-refl op.id)
 edited_alike key test ops (Amend id change) fails = amended_alike key test id fails change None ops
 edited_alike key test ops (Withdraw id) fails = withdrawn_alike key test id fails None ops
@@ -96,13 +96,13 @@ same_tests key p q same found [] = refl
 same_tests key p q same found (op ∷ ops) = same_tests key p q same (less_of key p found op) ops ∙ ap (λ (f : Option Op). least_from key q f ops) (rw (same op) refl)
 
 module _ (claim : Terms) (ops : List Op) (edit : Edit) (distinct : HasDistinctIds ops) where
-  edited_is_touched : (op : Op) → same_id op.id (id_of edit) ≡ true → is_wrong_untouched claim ops (touch_of ops edit) op ≡ false
+  edited_is_touched : (op : Op) → same_id op.id (edit_id edit) ≡ true → is_wrong_untouched claim ops (touch_of ops edit) op ≡ false
   edited_is_touched op e = rw e refl
 
   agree : (op : Op) → is_touched (touch_of ops edit) op ≡ false → is_wrong_read claim ops op ≡ is_wrong_read claim (edited ops edit) op
-  agree op = by_cases (same_id op.id (id_of edit)) (passes (bears_on op) (op_of ops (id_of edit))) (passes (bears_on op) (new_op ops edit)) refl refl
+  agree op = by_cases (same_id op.id (edit_id edit)) (passes (bears_on op) (op_of ops (edit_id edit))) (passes (bears_on op) (new_op ops edit)) refl refl
     where
-      by_cases : (s b a : Bool) → passes (bears_on op) (op_of ops (id_of edit)) ≡ b → passes (bears_on op) (new_op ops edit) ≡ a → (s || b || a) ≡ false → is_wrong_read claim ops op ≡ is_wrong_read claim (edited ops edit) op
+      by_cases : (s b a : Bool) → passes (bears_on op) (op_of ops (edit_id edit)) ≡ b → passes (bears_on op) (new_op ops edit) ≡ a → (s || b || a) ≡ false → is_wrong_read claim ops op ≡ is_wrong_read claim (edited ops edit) op
       by_cases false false false e f t = same_bearing op claim ops (edited ops edit) (sym (kept_edited (bears_on op) ops edit distinct e f))
       by_cases false false true e f t = absurd (cc)
       by_cases false true a e f t = absurd (cc)

@@ -1,5 +1,6 @@
-pub mod Ids
-pub mod Touch
-pub mod Verdict
+-- what the public clauses speak of
 pub mod Reply
 pub mod Fault
+-- words of private clauses
+pub mod Touch
+pub mod Verdict

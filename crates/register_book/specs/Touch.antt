@@ -1,22 +1,14 @@
--- Which operations an edit touches.
+-- Which operations an edit touches, for what is judged anew. No public clause speaks of these words.
 use Rattle.std.specs.Prelude.{Bool, false, ◌&&◌, ◌||◌, List, Option, Some, None}
 use Rattle.intervals.specs.declared.operation.Op.{Op}
-use Rattle.intervals.specs.declared.operation.OpId.{OpId}
 use Rattle.intervals.specs.declared.edit.Edit.{Edit}
-use Rattle.intervals.specs.declared.edit.Edit.TheVariants.{Append, Amend, Withdraw}
 use Rattle.intervals.specs.Operation.{is_write, same_id, precedes, overlaps}
-use Rattle.intervals.specs.Edit.{op_of, new_op}
+use Rattle.intervals.specs.Edit.{op_of, edit_id, new_op}
 use Rattle.register_book.specs.declared.touch.Touch.{Touch}
 
--- the id of the operation that an edit adds, changes or takes out
-abbrev pub id_of : Edit → OpId
-id_of (Append op) = op.id
-id_of (Amend id change) = id
-id_of (Withdraw id) = id
-
--- that operation, as it was and as it is afterwards
+-- the operation that an edit adds, changes or takes out, as it was and as it is afterwards
 abbrev pub touch_of : List Op → Edit → Touch
-touch_of ops edit = record { id = id_of edit; before = op_of ops (id_of edit); after = new_op ops edit }
+touch_of ops edit = record { id = edit_id edit; before = op_of ops (edit_id edit); after = new_op ops edit }
 
 -- there is an operation, and it passes the test
 abbrev pub passes : (Op → Bool) → Option Op → Bool

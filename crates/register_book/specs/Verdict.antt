@@ -1,4 +1,4 @@
--- What an edit leaves of the verdict.
+-- What an edit leaves of the verdict. No public clause speaks of these words.
 use Rattle.std.specs.Prelude.{Bool, not, ◌&&◌, List, Option}
 use Rattle.std.specs.List.{list_any}
 use Rattle.intervals.specs.declared.operation.Op.{Op}

@@ -8,7 +8,6 @@ ghost use Rattle.register_book.specs.Verdict.{is_on_write as on_write};
 ghost use Rattle.register_book.specs.Reply.{IsReply};
 ghost use Rattle.register_book.specs.Fault.{fault_of, witness_of, Shows};
 
-use crate::claim::copy_of;
 use crate::refused::refusal_of;
 use crate::touch::touch_of;
 use crate::verdict::{first_wrong_after, is_on_write};
@@ -41,7 +40,7 @@ impl<'t> Model for RegisterBook<'t> {
     ghost use Rattle.intervals.specs.Operation.{writes};
     ghost use Rattle.intervals.specs.declared.claim.Kind.TheVariants.{Atomic};
     ghost use Rattle.intervals.specs.Judging.{first_wrong};
-    ghost use Rattle.register_book.specs.Ids.{HasDistinctIds};
+    ghost use Rattle.intervals.specs.Standing.{HasDistinctIds};
 
     ghost Value = { Claimed };
 
@@ -58,7 +57,7 @@ impl<'t> RegisterBook<'t> {
     {
         Ok(RegisterBook {
             alloc,
-            claim: copy_of(alloc, claim)?,
+            claim: claim.try_clone(alloc)?,
             ops: OpBook::new(alloc),
             judge: SingleWriterJudge::new(alloc, claim)?,
             wrong: None,

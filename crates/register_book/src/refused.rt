@@ -1,12 +1,12 @@
 //! Which edits are refused.
 
-ghost use Rattle.std.specs.Prelude.{◌≡◌, ◌≢◌, option_map};
+ghost use Rattle.std.specs.Prelude.{◌≡◌, option_map};
 ghost use Rattle.intervals.specs.Operation.{writes};
 ghost use Rattle.intervals.specs.Edit.{op_of, new_op as new_one, changed as after_change};
 ghost use Rattle.intervals.specs.Refusal.{reply_to, first_refusal, new_write_refusal, write_refusal};
 
 use intervals::laws::writes_alone_decide;
-use intervals::{Change, Edit, Kind, Op, OpBook, OpId, Refusal, changed};
+use intervals::{Change, Edit, Op, OpBook, OpId, Refusal, changed};
 use safe_regular::SingleWriterJudge;
 
 /// The first refusal that holds of the edit, where the judge holds the writes that stand.
@@ -15,8 +15,7 @@ pub fn refusal_of<'t>(
     judge: &SingleWriterJudge<'t>,
     edit: &Edit<'t>,
 ) -> Option<Refusal>
-    requires one_writer { judge.now.claim.kind ≢ Kind.Atomic }
-    requires writes { judge.now.ops ≡ writes ops.now }
+    requires { judge.now.ops ≡ writes ops.now }
     ensures { result ≡ reply_to judge.now.claim ops.now edit.now }
 {
     let refusal = list_refusal(ops, edit);
@@ -40,8 +39,7 @@ fn new_write_refusal_of<'t>(
     judge: &SingleWriterJudge<'t>,
     edit: &Edit<'t>,
 ) -> Option<Refusal>
-    requires one_writer { judge.now.claim.kind ≢ Kind.Atomic }
-    requires writes { judge.now.ops ≡ writes ops.now }
+    requires { judge.now.ops ≡ writes ops.now }
     ensures { result ≡ new_write_refusal judge.now.claim ops.now (new_one ops.now edit.now) }
 {
     writes_alone_decide();

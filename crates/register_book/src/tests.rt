@@ -1,4 +1,4 @@
-//! Worked histories as calls of a book, and what no clause says.
+//! Rows of histories as calls of a book, random histories beside a plain judge, and refused memory.
 
 use super::*;
 use intervals::{
@@ -6,589 +6,190 @@ use intervals::{
     changed,
 };
 use safe_regular::SingleWriterJudge;
+use std::alloc::Global;
+use std::io::Write;
 use std::process::Abort;
 use std::test::Fail;
 
-const PAST: u64 = 4611686018427387904;
-
-const HOLDS: Reply = Reply::Accepted { holds: true };
-
-const FAILS: Reply = Reply::Accepted { holds: false };
-
-fn id(event: u64) -> OpId {
-    OpId { feeder: 0, event }
+fn int(word: &str) -> i64 {
+    word.parse::<i64>().unwrap_or(0)
 }
 
-fn read() -> Act {
-    Act::Read(Value::Nil)
+fn value(word: &str) -> Value {
+    match word {
+        "" => Value::Nil,
+        "nil" => Value::Nil,
+        _ => Value::Int(int(word)),
+    }
 }
 
-fn write(value: i64) -> Act {
-    Act::Write(Value::Int(value))
+fn moment(word: &str) -> Moment {
+    Moment(word.parse::<u64>().unwrap_or(0))
 }
 
-fn operation(id: OpId, process: i64, act: Act, begin: u64, end: Option<Moment>) -> Edit<'static> {
+/// The trace and the place in it, as `0:4`.
+fn id(word: &str) -> OpId {
+    let (feeder, event) = word.split_once(':').unwrap_or(("0", word));
+    OpId {
+        feeder: feeder.parse::<u32>().unwrap_or(0),
+        event: event.parse::<u64>().unwrap_or(0),
+    }
+}
+
+/// What the words of a step say: `p0` the process, `w1` a write of 1, `r` a read, `r1` one that
+/// returned 1, `v1` another value, `b10` and `e19` the moments, `e` no end.
+#[derive(Clone, Copy)]
+struct Words {
+    process: i64,
+    act: Act,
+    value: Option<Value>,
+    begin: Option<Moment>,
+    end: Option<Option<Moment>>,
+}
+
+const NONE: Words = Words {
+    process: 0,
+    act: Act::Read(Value::Nil),
+    value: None,
+    begin: None,
+    end: None,
+};
+
+fn end(word: &str) -> Option<Moment> {
+    match word {
+        "" => None,
+        _ => Some(moment(word)),
+    }
+}
+
+fn with_moment(words: Words, word: &str) -> Words {
+    if let Some(word) = word.strip_prefix('b') {
+        return Words {
+            begin: Some(moment(word)),
+            ..words
+        };
+    }
+    match word.strip_prefix('e') {
+        Some(word) => Words {
+            end: Some(end(word)),
+            ..words
+        },
+        None => words,
+    }
+}
+
+fn with_act(words: Words, word: &str) -> Words {
+    if let Some(word) = word.strip_prefix('w') {
+        return Words {
+            act: Act::Write(value(word)),
+            ..words
+        };
+    }
+    match word.strip_prefix('r') {
+        Some(word) => Words {
+            act: Act::Read(value(word)),
+            ..words
+        },
+        None => with_moment(words, word),
+    }
+}
+
+fn with_word(words: Words, word: &str) -> Words {
+    if let Some(word) = word.strip_prefix('p') {
+        return Words {
+            process: int(word),
+            ..words
+        };
+    }
+    match word.strip_prefix('v') {
+        Some(word) => Words {
+            value: Some(value(word)),
+            ..words
+        },
+        None => with_act(words, word),
+    }
+}
+
+fn append(id: OpId, words: Words, text: &'static str) -> Edit<'static> {
     Edit::Append(Op {
         id,
-        process,
-        act,
-        begin: Moment(begin),
-        end,
+        process: words.process,
+        act: words.act,
+        begin: words.begin.unwrap_or(Moment(0)),
+        end: words.end.unwrap_or(None),
         parts: Parts {
-            invocation: b"invoked",
+            invocation: text.as_bytes(),
             answer: None,
             amendment: None,
         },
     })
 }
 
-/// An invocation: an operation that has no end yet.
-fn invoke(event: u64, process: i64, act: Act, begin: u64) -> Edit<'static> {
-    operation(id(event), process, act, begin, None)
-}
-
-fn whole(event: u64, process: i64, act: Act, begin: u64, end: u64) -> Edit<'static> {
-    operation(id(event), process, act, begin, Some(Moment(end)))
-}
-
-/// The answer of a write.
-fn written(event: u64, end: u64) -> Edit<'static> {
+fn amend(id: OpId, words: Words, lent: Lent<'static>) -> Edit<'static> {
     Edit::Amend(
-        id(event),
+        id,
         Change {
-            value: None,
-            begin: None,
-            end: Some(Some(Moment(end))),
-            lent: Lent::Answer(b"answered"),
+            value: words.value,
+            begin: words.begin,
+            end: words.end,
+            lent,
         },
     )
 }
 
-/// The answer of a read.
-fn returned(event: u64, value: i64, end: u64) -> Edit<'static> {
-    Edit::Amend(
-        id(event),
-        Change {
-            value: Some(Value::Int(value)),
-            begin: None,
-            end: Some(Some(Moment(end))),
-            lent: Lent::Answer(b"answered"),
-        },
-    )
+/// A step lends its own text.
+fn edit_of(step: &'static str) -> Edit<'static> {
+    let mut rest = step.split(' ');
+    let verb = rest.next().unwrap_or("");
+    let id = id(rest.next().unwrap_or(""));
+    let mut words = NONE;
+    for word in rest {
+        words = with_word(words, word);
+    }
+    match verb {
+        "append" => append(id, words, step),
+        "answer" => amend(id, words, Lent::Answer(step.as_bytes())),
+        "amend" => amend(id, words, Lent::Amendment(step.as_bytes())),
+        _ => Edit::Withdraw(id),
+    }
 }
 
-fn begins(event: u64, begin: u64) -> Edit<'static> {
-    Edit::Amend(
-        id(event),
-        Change {
-            value: None,
-            begin: Some(Moment(begin)),
-            end: None,
-            lent: Lent::Amendment(b"amended"),
-        },
-    )
-}
-
-/// Another beginning and another end.
-fn moves(event: u64, begin: u64, end: u64) -> Edit<'static> {
-    Edit::Amend(
-        id(event),
-        Change {
-            value: None,
-            begin: Some(Moment(begin)),
-            end: Some(Some(Moment(end))),
-            lent: Lent::Amendment(b"amended"),
-        },
-    )
-}
-
-/// Another value.
-fn revalues(event: u64, value: i64) -> Edit<'static> {
-    Edit::Amend(
-        id(event),
-        Change {
-            value: Some(Value::Int(value)),
-            begin: None,
-            end: None,
-            lent: Lent::Amendment(b"amended"),
-        },
-    )
-}
-
-fn reopens(event: u64) -> Edit<'static> {
-    Edit::Amend(
-        id(event),
-        Change {
-            value: None,
-            begin: None,
-            end: Some(None),
-            lent: Lent::Amendment(b"amended"),
-        },
-    )
-}
-
-fn withdraw(event: u64) -> Edit<'static> {
-    Edit::Withdraw(id(event))
-}
-
-/// A book of a register that process 0 alone may write.
-fn book<R: AllocGlobal + Abort>(
-    rt: &R,
-    kind: Kind,
-    initial: Value,
-    domain: &[i64],
-) -> Result<RegisterBook<'static>, Memory> {
-    assert!(rt; kind != Kind::Atomic);
-    let claim = claim(rt, kind, initial, domain)?;
-    assert!(rt; claim.kind != Kind::Atomic);
-    RegisterBook::new(rt.alloc(), &claim)
-}
-
-fn claim<R: AllocGlobal>(
-    rt: &R,
-    kind: Kind,
-    initial: Value,
-    domain: &[i64],
-) -> Result<Claim, Memory> {
-    let mut values = Vec::new(rt.alloc());
-    for value in domain {
-        values.push(Value::Int(*value))?;
+/// A claim that process 0 alone may write, as `regular 0 0,1,2` or `safe nil`.
+fn claim_of(alloc: Global, text: &str) -> Result<Claim, Memory> {
+    let mut rest = text.split(' ');
+    let kind = match rest.next() {
+        Some("safe") => Kind::Safe,
+        _ => Kind::Regular,
+    };
+    let initial = value(rest.next().unwrap_or("nil"));
+    let mut domain = None;
+    if let Some(words) = rest.next() {
+        let mut values = Vec::new(alloc);
+        for word in words.split(',') {
+            values.push(value(word))?;
+        }
+        domain = Some(values);
     }
     Ok(Claim {
         kind,
-        writers: Writers::Listed(vec![in rt.alloc(); 0]?),
+        writers: Writers::Listed(vec![in alloc; 0]?),
         initial,
-        domain: if domain.is_empty() {
-            None
-        } else {
-            Some(values)
-        },
+        domain,
     })
 }
 
-/// Each edit in turn has that reply.
-fn replies(
-    rt: &impl Abort,
-    register: &mut RegisterBook<'static>,
-    cases: &[(Edit<'static>, Reply)],
-) -> Result<(), Memory> {
-    for (edit, reply) in cases {
-        assert_eq!(rt; register.apply(*edit)?, *reply);
-    }
-    Ok(())
-}
-
-/// The register ends with that many operations, and that fault.
-fn ends(rt: &impl Abort, register: &RegisterBook<'static>, len: usize, fault: Option<Fault>) {
-    assert_eq!(rt; register.len(), len);
-    assert_eq!(rt; register.fault(), fault);
-    assert_eq!(rt; register.holds(), fault.is_none());
-    assert_eq!(rt; register.witness().is_some(), fault.is_some());
-}
-
-const DIGITS: &[i64] = &[0, 1, 2, 3, 4, 5, 6, 7, 8, 9];
-
-#[test]
-fn a_safe_read_within_a_write_returns_anything_of_the_domain(rt: HostRuntime) -> Result<(), Fail> {
-    let mut register = book(&rt, Kind::Safe, Value::Int(0), DIGITS)?;
-    let cases = [
-        (invoke(0, 0, write(1), 0), HOLDS),
-        (invoke(1, 1, read(), 1), HOLDS),
-        (returned(1, 7, 2), HOLDS),
-        (written(0, 3), HOLDS),
-    ];
-    replies(&rt, &mut register, &cases)?;
-    ends(&rt, &register, 2, None);
-    Ok(())
-}
-
-#[test]
-fn a_safe_read_within_a_write_returns_nothing_else(rt: HostRuntime) -> Result<(), Fail> {
-    let mut register = book(&rt, Kind::Safe, Value::Int(0), DIGITS)?;
-    let cases = [
-        (invoke(0, 0, write(1), 0), HOLDS),
-        (invoke(1, 1, read(), 1), HOLDS),
-        (returned(1, 12, 2), FAILS),
-        (written(0, 3), FAILS),
-    ];
-    replies(&rt, &mut register, &cases)?;
-    ends(&rt, &register, 2, Some(Fault::Wrong(id(1))));
-    Ok(())
-}
-
-#[test]
-fn a_write_out_of_the_domain_is_refused_and_so_is_its_end(rt: HostRuntime) -> Result<(), Fail> {
-    let mut register = book(&rt, Kind::Safe, Value::Int(0), DIGITS)?;
-    let cases = [
-        (
-            invoke(0, 0, write(12), 0),
-            Reply::Refused(Refusal::OutOfDomain),
-        ),
-        (written(0, 1), Reply::Refused(Refusal::UnknownOp)),
-    ];
-    replies(&rt, &mut register, &cases)?;
-    ends(&rt, &register, 0, None);
-    Ok(())
-}
-
-#[test]
-fn regular_reads_within_a_write_return_either_value_in_any_order(
-    rt: HostRuntime,
-) -> Result<(), Fail> {
-    let mut register = book(&rt, Kind::Regular, Value::Nil, &[])?;
-    let cases = [
-        (invoke(0, 0, write(1), 0), HOLDS),
-        (written(0, 1), HOLDS),
-        (invoke(2, 0, write(2), 2), HOLDS),
-        (invoke(3, 1, read(), 4), HOLDS),
-        (returned(3, 2, 5), HOLDS),
-        (invoke(5, 1, read(), 6), HOLDS),
-        (returned(5, 1, 7), HOLDS),
-        (written(2, 9), HOLDS),
-    ];
-    replies(&rt, &mut register, &cases)?;
-    ends(&rt, &register, 4, None);
-    Ok(())
-}
-
-#[test]
-fn a_regular_read_over_two_writes_returns_the_older_one(rt: HostRuntime) -> Result<(), Fail> {
-    let mut register = book(&rt, Kind::Regular, Value::Int(0), &[0, 1])?;
-    let cases = [
-        (invoke(0, 0, write(1), 0), HOLDS),
-        (written(0, 1), HOLDS),
-        (invoke(2, 0, write(0), 2), HOLDS),
-        (invoke(3, 1, read(), 3), HOLDS),
-        (returned(3, 1, 4), HOLDS),
-        (invoke(5, 2, read(), 6), HOLDS),
-        (written(2, 7), HOLDS),
-        (invoke(7, 0, write(1), 8), HOLDS),
-        (returned(5, 0, 10), HOLDS),
-        (written(7, 11), HOLDS),
-    ];
-    replies(&rt, &mut register, &cases)?;
-    ends(&rt, &register, 5, None);
-    Ok(())
-}
-
-/// A book in which the write of 2 stands before the earlier write of 1, and then an open read.
-fn two_writes<R: AllocGlobal + Abort>(rt: &R) -> Result<RegisterBook<'static>, Memory> {
-    let mut register = book(rt, Kind::Regular, Value::Int(0), &[0, 1, 2])?;
-    let cases = [
-        (whole(2, 0, write(2), 30, 39), HOLDS),
-        (whole(0, 0, write(1), 10, 19), HOLDS),
-        (invoke(4, 1, read(), 50), HOLDS),
-    ];
-    replies(rt, &mut register, &cases)?;
-    Ok(register)
-}
-
-/// Each edit is refused by two writes and an open read, which then stand as before.
-fn refused<R: AllocGlobal + Abort>(
-    rt: &R,
-    cases: &[(Edit<'static>, Refusal)],
-) -> Result<(), Memory> {
-    let mut register = two_writes(rt)?;
-    for (edit, refusal) in cases {
-        assert_eq!(rt;
-            register.apply(*edit)?,
-            Reply::Refused(*refusal),
-            "{refusal}"
-        );
-        ends(rt, &register, 3, None);
-    }
-    Ok(())
-}
-
-/// Each edit of two writes and an open read has that reply and leaves so many operations.
-fn accepted<R: AllocGlobal + Abort>(
-    rt: &R,
-    cases: &[(Edit<'static>, Reply, usize)],
-) -> Result<(), Memory> {
-    for (edit, reply, len) in cases {
-        let mut register = two_writes(rt)?;
-        assert_eq!(rt; register.apply(*edit)?, *reply);
-        assert_eq!(rt; register.len(), *len);
-        assert_eq!(rt; register.holds(), *reply == HOLDS);
-    }
-    Ok(())
-}
-
-const STRANGER: OpId = OpId {
-    feeder: 1,
-    event: 0,
-};
-
-#[test]
-fn refused_by_the_ids_that_stand(rt: HostRuntime) -> Result<(), Fail> {
-    // Of each code one alone and one with a later condition.
-    let cases = [
-        (withdraw(9), Refusal::UnknownOp),
-        (Edit::Withdraw(STRANGER), Refusal::UnknownOp),
-        (written(9, PAST), Refusal::UnknownOp),
-        (whole(0, 1, read(), 60, 61), Refusal::OpTaken),
-        (whole(0, 1, read(), 60, 59), Refusal::OpTaken),
-    ];
-    refused(&rt, &cases)?;
-    let cases = [
-        (withdraw(4), HOLDS, 2),
-        (operation(STRANGER, 1, read(), 60, None), HOLDS, 4),
-    ];
-    accepted(&rt, &cases)?;
-    Ok(())
-}
-
-#[test]
-fn refused_by_the_moments_of_an_operation(rt: HostRuntime) -> Result<(), Fail> {
-    let cases = [
-        (whole(7, 1, read(), 60, 60), Refusal::EndNotAfterBegin),
-        (whole(7, 1, read(), 19, 18), Refusal::EndNotAfterBegin),
-        (written(4, 50), Refusal::EndNotAfterBegin),
-        (invoke(7, 1, read(), PAST), Refusal::MomentTooLarge),
-        (whole(7, 1, read(), 60, PAST), Refusal::MomentTooLarge),
-        (whole(7, 5, write(1), 60, PAST), Refusal::MomentTooLarge),
-    ];
-    refused(&rt, &cases)?;
-    let cases = [
-        (returned(4, 2, 51), HOLDS, 3),
-        (returned(4, 1, 51), FAILS, 3),
-        (invoke(7, 1, read(), PAST - 1), HOLDS, 4),
-    ];
-    accepted(&rt, &cases)?;
-    Ok(())
-}
-
-#[test]
-fn refused_by_the_moments_of_another(rt: HostRuntime) -> Result<(), Fail> {
-    let cases = [
-        (
-            whole(7, 1, read(), 19, 30),
-            Refusal::MomentTaken(Moment(19), id(0)),
-        ),
-        (
-            whole(7, 1, read(), 40, 50),
-            Refusal::MomentTaken(Moment(50), id(4)),
-        ),
-        (
-            whole(7, 1, read(), 10, PAST),
-            Refusal::MomentTaken(Moment(10), id(0)),
-        ),
-        (
-            whole(7, 5, write(1), 39, 41),
-            Refusal::MomentTaken(Moment(39), id(2)),
-        ),
-    ];
-    refused(&rt, &cases)?;
-    let cases = [
-        (whole(7, 1, Act::Read(Value::Int(1)), 20, 29), HOLDS, 4),
-        (begins(2, 30), HOLDS, 3),
-    ];
-    accepted(&rt, &cases)?;
-    Ok(())
-}
-
-#[test]
-fn refused_by_the_claim(rt: HostRuntime) -> Result<(), Fail> {
-    let cases = [
-        (whole(7, 5, write(1), 60, 61), Refusal::NotAWriter),
-        (whole(7, 5, write(3), 12, 61), Refusal::NotAWriter),
-        (whole(7, 0, write(3), 60, 61), Refusal::OutOfDomain),
-    ];
-    refused(&rt, &cases)?;
-    let cases = [
-        (invoke(7, 5, read(), 60), HOLDS, 4),
-        (invoke(7, 0, write(1), 60), HOLDS, 4),
-    ];
-    accepted(&rt, &cases)?;
-    Ok(())
-}
-
-#[test]
-fn refused_by_the_writes_that_stand(rt: HostRuntime) -> Result<(), Fail> {
-    // Of two overlapped writes the one that began first is named, though it was appended last.
-    let cases = [
-        (whole(7, 0, write(1), 31, 32), Refusal::WritesOverlap(id(2))),
-        (invoke(7, 0, write(1), 12), Refusal::WritesOverlap(id(0))),
-        (whole(7, 0, write(3), 18, 29), Refusal::WritesOverlap(id(0))),
-        (begins(2, 15), Refusal::WritesOverlap(id(0))),
-        (written(0, 35), Refusal::WritesOverlap(id(2))),
-        (reopens(0), Refusal::WritesOverlap(id(2))),
-    ];
-    refused(&rt, &cases)?;
-    let cases = [
-        (whole(7, 0, write(1), 20, 29), HOLDS, 4),
-        (begins(2, 20), HOLDS, 3),
-        (written(0, 29), HOLDS, 3),
-    ];
-    accepted(&rt, &cases)?;
-    Ok(())
-}
-
-#[test]
-fn a_withdrawn_id_is_appended_again(rt: HostRuntime) -> Result<(), Fail> {
-    let mut register = two_writes(&rt)?;
-    let cases = [
-        (returned(4, 1, 60), FAILS),
-        (withdraw(2), HOLDS),
-        (withdraw(2), Reply::Refused(Refusal::UnknownOp)),
-        (whole(2, 0, write(0), 30, 39), FAILS),
-        (withdraw(2), HOLDS),
-        (whole(2, 0, write(1), 30, 39), HOLDS),
-    ];
-    replies(&rt, &mut register, &cases)?;
-    let again = register.get(id(2)).copied().expect(&rt, "it stands");
-    assert_eq!(rt; again.act, write(1));
-    Ok(())
-}
-
-#[test]
-fn an_amendment_reopens_an_end(rt: HostRuntime) -> Result<(), Fail> {
-    let mut register = two_writes(&rt)?;
-    let cases = [
-        (returned(4, 1, 60), FAILS),
-        (reopens(2), HOLDS),
-        (written(2, 45), FAILS),
-        (reopens(4), HOLDS),
-    ];
-    replies(&rt, &mut register, &cases)?;
-    let reopened = register.get(id(4)).copied().expect(&rt, "it stands");
-    assert_eq!(rt; reopened.end, None);
-    assert_eq!(rt; reopened.parts.answer, Some(b"answered".as_slice()));
-    assert_eq!(rt; reopened.parts.amendment, Some(b"amended".as_slice()));
-    Ok(())
-}
-
-/// The witness of a book that is gone.
-fn witness_of_a_stale_read<R: AllocGlobal + Abort>(
-    rt: &R,
-) -> Result<Option<Witness<'static>>, Memory> {
-    let mut register = two_writes(rt)?;
-    let cases = [
-        (whole(8, 1, Act::Read(Value::Int(7)), 80, 90), FAILS),
-        (returned(4, 1, 60), FAILS),
-        (whole(6, 2, Act::Read(Value::Int(0)), 41, 70), FAILS),
-    ];
-    replies(rt, &mut register, &cases)?;
-    ends(rt, &register, 5, Some(Fault::Wrong(id(4))));
-    Ok(register.witness())
-}
-
-#[test]
-fn a_witness_is_the_wrong_read_that_ended_first_and_outlives_its_book(
-    rt: HostRuntime,
-) -> Result<(), Fail> {
-    match witness_of_a_stale_read(&rt)? {
-        Some(Witness::Wrong(op)) => {
-            assert_eq!(rt; op.id, id(4));
-            assert_eq!(rt; op.end, Some(Moment(60)));
-            assert_eq!(rt; op.parts.invocation, b"invoked".as_slice());
-            assert_eq!(rt; op.parts.answer, Some(b"answered".as_slice()));
-        }
-        _ => assert!(rt; false, "a wrong read"),
-    }
-    Ok(())
-}
-
-/// Carries the edit out. Where memory is refused the book is as it was, and the same edit is then
-/// answered as it would have been.
-fn carry_out(
-    rt: &impl Abort,
-    register: &mut RegisterBook<'static>,
-    edit: Edit<'static>,
-) -> Result<Reply, Memory> {
-    let len = register.len();
-    let fault = register.fault();
-    match register.apply(edit) {
-        Ok(reply) => Ok(reply),
-        Err(Memory) => {
-            ends(rt, register, len, fault);
-            register.apply(edit)
-        }
-    }
-}
-
-/// The same book whether memory is refused on the way to it or not.
-fn at_last<R: AllocGlobal + Abort>(rt: &R) -> Result<RegisterBook<'static>, Memory> {
-    match book(rt, Kind::Regular, Value::Int(0), &[0, 1, 7]) {
-        Ok(register) => Ok(register),
-        Err(Memory) => book(rt, Kind::Regular, Value::Int(0), &[0, 1, 7]),
-    }
-}
-
-/// To be run with each allocation refused in turn.
-#[test]
-fn refused_memory_changes_nothing(rt: HostRuntime) -> Result<(), Fail> {
-    let mut register = at_last(&rt)?;
-    let cases = [
-        (invoke(0, 0, write(1), 0), HOLDS),
-        (invoke(0, 0, write(7), 7), Reply::Refused(Refusal::OpTaken)),
-        (invoke(1, 1, read(), 1), HOLDS),
-        (written(0, 2), HOLDS),
-        (returned(1, 7, 3), FAILS),
-        (invoke(2, 0, write(7), 4), FAILS),
-        (returned(1, 7, 5), HOLDS),
-        (withdraw(2), FAILS),
-        (withdraw(1), HOLDS),
-    ];
-    for (edit, reply) in cases {
-        assert_eq!(rt; carry_out(&rt, &mut register, edit)?, reply);
-    }
-    ends(&rt, &register, 1, None);
-    Ok(())
-}
-
-/// A row of numbers without a pattern, the same each time.
-#[derive(Drop)]
-struct Dice {
-    state: u64,
-}
-
-impl Dice {
-    fn roll(&mut self) -> u64 {
-        self.state = self
-            .state
-            .wrapping_mul(6364136223846793005)
-            .wrapping_add(1442695040888963407);
-        self.state >> 33
-    }
-
-    fn value(&mut self) -> i64 {
-        match self.roll() % 3 {
-            0 => 0,
-            1 => 1,
-            _ => 2,
-        }
-    }
-
-    /// An edit of one of few operations at few moments, so that many are accepted and many refused.
-    fn edit(&mut self) -> Edit<'static> {
-        let event = self.roll() % 12;
-        let begin = self.roll() % 64;
-        let end = begin + 1 + self.roll() % 12;
-        let value = self.value();
-        match self.roll() % 11 {
-            0 => invoke(event, 1, read(), begin),
-            1 => invoke(event, 0, write(value), begin),
-            2 => whole(event, 1, Act::Read(Value::Int(value)), begin, end),
-            3 => whole(event, 0, write(value), begin, end),
-            4 => written(event, end),
-            5 => returned(event, value, end),
-            6 => begins(event, begin),
-            7 => reopens(event),
-            8 => moves(event, begin, end),
-            9 => revalues(event, value),
-            _ => withdraw(event),
-        }
-    }
+fn book_of<R: AllocGlobal + Abort>(rt: &R, claim: &Claim) -> Result<RegisterBook<'static>, Memory> {
+    assert!(rt; claim.kind != Kind::Atomic);
+    RegisterBook::new(rt.alloc(), claim)
 }
 
 /// What stands after an edit that is accepted.
-fn list_after<R: AllocGlobal>(
-    rt: &R,
+fn list_after(
+    alloc: Global,
     ops: &[Op<'static>],
     edit: &Edit<'static>,
 ) -> Result<Vec<Op<'static>>, Memory> {
-    let mut after = Vec::new(rt.alloc());
+    let mut after = Vec::new(alloc);
     for op in ops {
         match edit {
             Edit::Amend(id, change) if *id == op.id => after.push(changed(op, change))?,
@@ -620,123 +221,465 @@ fn fault_anew<R: AllocGlobal + Abort>(
     Ok(judge.first_fault().map(|id| Fault::Wrong(id)))
 }
 
-/// After each of many edits the fault is that of the list judged anew. Answers how many edits were
-/// accepted, and how often there was another fault than before.
-fn judged_anew<R: AllocGlobal + Abort>(
-    rt: &R,
-    kind: Kind,
-    seed: u64,
-) -> Result<(u32, u32), Memory> {
-    let claim = claim(rt, kind, Value::Int(0), &[0, 1])?;
-    let mut register = book(rt, kind, Value::Int(0), &[0, 1])?;
-    let mut ops = Vec::new(rt.alloc());
-    let mut dice = Dice { state: seed };
-    let mut accepted: u32 = 0;
-    let mut turns: u32 = 0;
-    for _ in 0..600 {
-        let edit = dice.edit();
-        let before = register.fault();
-        if let Reply::Accepted { holds } = register.apply(edit)? {
-            ops = list_after(rt, ops.as_slice(), &edit)?;
-            accepted = accepted.saturating_add(1);
-            assert_eq!(rt; holds, register.fault().is_none());
-        }
-        let after = fault_anew(rt, &claim, ops.as_slice())?;
-        ends(rt, &register, ops.len(), after);
-        if after != before {
-            turns = turns.saturating_add(1);
-        }
-    }
-    Ok((accepted, turns))
+/// A book, and beside it its claim and the list of what stands.
+#[derive(Drop)]
+struct Beside {
+    claim: Claim,
+    book: RegisterBook<'static>,
+    ops: Vec<Op<'static>>,
 }
 
-/// Each edit of a register is accepted and leaves the fault that is given, and so does the list judged
-/// anew.
-fn leaves<R: AllocGlobal + Abort>(
+fn begun<R: AllocGlobal + Abort>(rt: &R, text: &str) -> Result<Beside, Memory> {
+    let claim = claim_of(rt.alloc(), text)?;
+    let book = book_of(rt, &claim)?;
+    Ok(Beside {
+        claim,
+        book,
+        ops: Vec::new(rt.alloc()),
+    })
+}
+
+/// Whether the book says of a fault one thing in each of its calls, and that of the list judged anew.
+fn is_as_anew<R: AllocGlobal + Abort>(rt: &R, beside: &Beside) -> Result<bool, Memory> {
+    let fault = fault_anew(rt, &beside.claim, beside.ops.as_slice())?;
+    Ok(
+        beside.book.len() == beside.ops.len()
+            && beside.book.fault() == fault
+            && beside.book.holds() == fault.is_none()
+            && beside.book.witness().is_some() == fault.is_some(),
+    )
+}
+
+fn carry_out<R: AllocGlobal + Abort>(
     rt: &R,
-    kind: Kind,
-    cases: &[(Edit<'static>, Option<Fault>)],
+    beside: &mut Beside,
+    edit: Edit<'static>,
+) -> Result<Reply, Memory> {
+    let reply = beside.book.apply(edit)?;
+    if let Reply::Accepted { holds } = reply {
+        beside.ops = list_after(rt.alloc(), beside.ops.as_slice(), &edit)?;
+        assert!(rt; holds == beside.book.holds());
+    }
+    assert!(rt; is_as_anew(rt, beside)?);
+    Ok(reply)
+}
+
+fn tell_id(told: &mut Vec<u8>, id: OpId) {
+    let _ = write!(told, " {}:{}", id.feeder, id.event);
+}
+
+fn tell_refusal(told: &mut Vec<u8>, refusal: Refusal) {
+    let _ = write!(told, "{refusal}");
+    match refusal {
+        Refusal::MomentTaken(moment, id) => {
+            let _ = write!(told, " {}", moment.0);
+            tell_id(told, id);
+        }
+        Refusal::WritesOverlap(id) => tell_id(told, id),
+        _ => {}
+    }
+}
+
+fn tell_reply(told: &mut Vec<u8>, reply: Reply, fault: Option<Fault>) {
+    match reply {
+        Reply::Refused(refusal) => tell_refusal(told, refusal),
+        Reply::Accepted { holds } => {
+            let _ = write!(told, "{}", if holds { "holds" } else { "fails" });
+            if let Some(Fault::Wrong(id)) = fault {
+                tell_id(told, id);
+            }
+        }
+    }
+}
+
+fn tell_act(told: &mut Vec<u8>, act: Act) {
+    let (letter, value) = match act {
+        Act::Write(value) => ("w", value),
+        Act::Read(value) => ("r", value),
+    };
+    let _ = write!(told, " {letter}");
+    if let Value::Int(value) = value {
+        let _ = write!(told, "{value}");
+    }
+}
+
+fn tell_text(told: &mut Vec<u8>, text: Option<&[u8]>) {
+    if let Some(text) = text {
+        let _ = told.extend_from_slice(b" (");
+        let _ = told.extend_from_slice(text);
+        let _ = told.push(b')');
+    }
+}
+
+fn tell_op(told: &mut Vec<u8>, op: &Op) {
+    tell_id(told, op.id);
+    tell_act(told, op.act);
+    let _ = write!(told, " {}-", op.begin.0);
+    if let Some(end) = op.end {
+        let _ = write!(told, "{}", end.0);
+    }
+    tell_text(told, Some(op.parts.invocation));
+    tell_text(told, op.parts.answer);
+    tell_text(told, op.parts.amendment);
+}
+
+fn tell_standing(told: &mut Vec<u8>, op: Option<&Op>) {
+    if let Some(op) = op {
+        let _ = write!(told, "stands");
+        tell_op(told, op);
+    }
+}
+
+fn tell_witness(told: &mut Vec<u8>, witness: Option<Witness>) {
+    if let Some(Witness::Wrong(op)) = witness {
+        let _ = write!(told, ", wrong");
+        tell_op(told, &op);
+    }
+}
+
+/// Carries a step out, or shows what stands by an id, and says what is answered.
+fn tell_step<R: AllocGlobal + Abort>(
+    rt: &R,
+    told: &mut Vec<u8>,
+    beside: &mut Beside,
+    step: &'static str,
 ) -> Result<(), Memory> {
-    let claim = claim(rt, kind, Value::Int(0), &[0, 1, 2])?;
-    let mut register = book(rt, kind, Value::Int(0), &[0, 1, 2])?;
-    let mut ops = Vec::new(rt.alloc());
-    for (edit, fault) in cases {
-        let holds = fault.is_none();
-        assert_eq!(rt; register.apply(*edit)?, Reply::Accepted { holds });
-        ops = list_after(rt, ops.as_slice(), edit)?;
-        ends(rt, &register, ops.len(), *fault);
-        assert_eq!(rt; fault_anew(rt, &claim, ops.as_slice())?, *fault);
+    match step.strip_prefix("show ") {
+        Some(word) => tell_standing(told, beside.book.get(id(word))),
+        None => {
+            let reply = carry_out(rt, beside, edit_of(step))?;
+            tell_reply(told, reply, beside.book.fault());
+        }
+    }
+    let _ = write!(told, ", ");
+    Ok(())
+}
+
+fn tell_steps<R: AllocGlobal + Abort>(
+    rt: &R,
+    told: &mut Vec<u8>,
+    beside: &mut Beside,
+    steps: &'static str,
+) -> Result<(), Memory> {
+    for step in steps.split("; ") {
+        tell_step(rt, told, beside, step)?;
     }
     Ok(())
 }
 
-/// Two reads of values that nothing wrote, and the fault of the first.
-fn two_wrong_reads() -> [(Edit<'static>, Option<Fault>); 2] {
-    [
-        (
-            whole(4, 2, Act::Read(Value::Int(2)), 40, 49),
-            Some(Fault::Wrong(id(4))),
-        ),
-        (
-            whole(2, 1, Act::Read(Value::Int(1)), 20, 29),
-            Some(Fault::Wrong(id(2))),
-        ),
-    ]
+/// The book is gone when its witness is looked at.
+fn tell_end(told: &mut Vec<u8>, beside: Beside) {
+    let len = beside.book.len();
+    let witness = beside.book.witness();
+    drop(beside);
+    let _ = write!(told, "{len} stand");
+    tell_witness(told, witness);
 }
 
-#[test]
-fn an_edit_of_a_write_mends_faults_and_makes_them(rt: HostRuntime) -> Result<(), Fail> {
-    let [first, second] = two_wrong_reads();
-    let cases = [
-        first,
-        second,
-        // The write begins after the first fault has ended.
-        (whole(3, 0, write(2), 30, 35), Some(Fault::Wrong(id(2)))),
-        (whole(1, 0, write(1), 10, 15), None),
-        (withdraw(3), Some(Fault::Wrong(id(4)))),
-        (withdraw(1), Some(Fault::Wrong(id(2)))),
-        (whole(5, 0, write(0), 50, 55), Some(Fault::Wrong(id(2)))),
-        (withdraw(5), Some(Fault::Wrong(id(2)))),
-        // It overlaps both reads, then precedes the second one.
-        (invoke(6, 0, write(1), 25), Some(Fault::Wrong(id(4)))),
-        (written(6, 35), Some(Fault::Wrong(id(4)))),
-        (revalues(6, 2), Some(Fault::Wrong(id(2)))),
-        (withdraw(2), None),
-        (withdraw(6), Some(Fault::Wrong(id(4)))),
-    ];
-    leaves(&rt, Kind::Regular, &cases)?;
+fn carry_out_each<R: AllocGlobal + Abort>(
+    rt: &R,
+    beside: &mut Beside,
+    steps: &'static str,
+) -> Result<(), Memory> {
+    for step in steps.lines() {
+        let _ = carry_out(rt, beside, edit_of(step))?;
+    }
     Ok(())
 }
 
-#[test]
-fn a_write_is_moved_before_reads_and_behind_them(rt: HostRuntime) -> Result<(), Fail> {
-    let [first, second] = two_wrong_reads();
-    let cases = [
-        first,
-        second,
-        (whole(1, 0, write(1), 10, 15), Some(Fault::Wrong(id(4)))),
-        (moves(1, 50, 55), Some(Fault::Wrong(id(2)))),
-        (moves(1, 60, 65), Some(Fault::Wrong(id(2)))),
-        (moves(1, 21, 22), Some(Fault::Wrong(id(4)))),
-        (whole(3, 0, write(2), 50, 51), Some(Fault::Wrong(id(4)))),
-        (begins(3, 48), None),
-        (begins(1, 5), None),
-        (moves(3, 1, 2), Some(Fault::Wrong(id(4)))),
-        (moves(3, 30, 31), None),
-        (moves(1, 32, 33), Some(Fault::Wrong(id(2)))),
-    ];
-    leaves(&rt, Kind::Regular, &cases)?;
+/// The register that a row begins with: a claim, or a claim and steps that the row does not repeat.
+fn register(name: &'static str) -> (&'static str, &'static str) {
+    match name {
+        "two writes" => ("regular 0 0,1,2", TWO_WRITES),
+        "two wrong reads" => ("regular 0 0,1,2", TWO_WRONG_READS),
+        _ => (name, ""),
+    }
+}
+
+/// A book after the steps that a row does not repeat.
+fn begun_by<R: AllocGlobal + Abort>(rt: &R, name: &'static str) -> Result<Beside, Memory> {
+    let (claim, steps) = register(name);
+    let mut beside = begun(rt, claim)?;
+    carry_out_each(rt, &mut beside, steps)?;
+    Ok(beside)
+}
+
+/// What each step of a row is answered, how many operations stand at last, and the witness.
+fn tell_row<R: AllocGlobal + Abort>(
+    rt: &R,
+    told: &mut Vec<u8>,
+    row: &'static str,
+) -> Result<(), Memory> {
+    let (name, steps) = row.split_once(" | ").unwrap_or((row, ""));
+    let mut beside = begun_by(rt, name)?;
+    tell_steps(rt, told, &mut beside, steps)?;
+    tell_end(told, beside);
     Ok(())
+}
+
+/// The write of 2 stands before the earlier write of 1, and then a read that has no end yet.
+const TWO_WRITES: &str = "append 0:2 p0 w2 b30 e39
+append 0:0 p0 w1 b10 e19
+append 0:4 p1 r b50";
+
+/// Two reads of values that nothing wrote: the fault is the one that ended first.
+const TWO_WRONG_READS: &str = "append 0:4 p2 r2 b40 e49
+append 0:2 p1 r1 b20 e29";
+
+const ROWS: &str =
+    "safe 0 0,1,2,3,4,5,6,7,8,9 | append 0:0 p0 w1 b0; append 0:1 p1 r b1; answer 0:1 v7 e2; answer 0:0 e3 => holds, holds, holds, holds, 2 stand
+safe 0 0,1,2,3,4,5,6,7,8,9 | append 0:0 p0 w1 b0; append 0:1 p1 r b1; answer 0:1 v12 e2; answer 0:0 e3 => holds, holds, fails 0:1, fails 0:1, 2 stand, wrong 0:1 r12 1-2 (append 0:1 p1 r b1) (answer 0:1 v12 e2)
+safe 0 0,1,2,3,4,5,6,7,8,9 | append 0:0 p0 w12 b0; answer 0:0 e1 => X9 OutOfDomain, X1 UnknownOp, 0 stand
+regular nil | append 0:0 p0 w1 b0; answer 0:0 e1; append 0:2 p0 w2 b2; append 0:3 p1 r b4; answer 0:3 v2 e5; append 0:5 p1 r b6; answer 0:5 v1 e7; answer 0:2 e9 => holds, holds, holds, holds, holds, holds, holds, holds, 4 stand
+regular 0 0,1 | append 0:0 p0 w1 b0; answer 0:0 e1; append 0:2 p0 w0 b2; append 0:3 p1 r b3; answer 0:3 v1 e4; append 0:5 p2 r b6; answer 0:2 e7; append 0:7 p0 w1 b8; answer 0:5 v0 e10; answer 0:7 e11 => holds, holds, holds, holds, holds, holds, holds, holds, holds, holds, 5 stand
+two writes | withdraw 0:9 => X1 UnknownOp, 3 stand
+two writes | withdraw 1:0 => X1 UnknownOp, 3 stand
+two writes | answer 0:9 e4611686018427387904 => X1 UnknownOp, 3 stand
+two writes | append 0:0 p1 r b60 e61 => X2 OpTaken, 3 stand
+two writes | append 0:0 p1 r b60 e59 => X2 OpTaken, 3 stand
+two writes | withdraw 0:4 => holds, 2 stand
+two writes | append 1:0 p1 r b60 => holds, 4 stand
+two writes | append 0:7 p1 r b60 e60 => X3 EndNotAfterBegin, 3 stand
+two writes | append 0:7 p1 r b19 e18 => X3 EndNotAfterBegin, 3 stand
+two writes | answer 0:4 e50 => X3 EndNotAfterBegin, 3 stand
+two writes | append 0:7 p1 r b4611686018427387904 => X5 MomentTooLarge, 3 stand
+two writes | append 0:7 p1 r b60 e4611686018427387904 => X5 MomentTooLarge, 3 stand
+two writes | append 0:7 p5 w1 b60 e4611686018427387904 => X5 MomentTooLarge, 3 stand
+two writes | answer 0:4 v2 e51 => holds, 3 stand
+two writes | answer 0:4 v1 e51 => fails 0:4, 3 stand, wrong 0:4 r1 50-51 (append 0:4 p1 r b50) (answer 0:4 v1 e51)
+two writes | append 0:7 p1 r b4611686018427387903 => holds, 4 stand
+two writes | append 0:7 p1 r b19 e30 => X4 MomentTaken 19 0:0, 3 stand
+two writes | append 0:7 p1 r b40 e50 => X4 MomentTaken 50 0:4, 3 stand
+two writes | append 0:7 p1 r b10 e4611686018427387904 => X4 MomentTaken 10 0:0, 3 stand
+two writes | append 0:7 p5 w1 b39 e41 => X4 MomentTaken 39 0:2, 3 stand
+two writes | append 0:7 p1 r1 b20 e29 => holds, 4 stand
+two writes | amend 0:2 b30 => holds, 3 stand
+two writes | append 0:7 p5 w1 b60 e61 => X6 NotAWriter, 3 stand
+two writes | append 0:7 p5 w3 b12 e61 => X6 NotAWriter, 3 stand
+two writes | append 0:7 p0 w3 b60 e61 => X9 OutOfDomain, 3 stand
+two writes | append 0:7 p5 r b60 => holds, 4 stand
+two writes | append 0:7 p0 w1 b60 => holds, 4 stand
+two writes | append 0:7 p0 w1 b31 e32 => X7 WritesOverlap 0:2, 3 stand
+two writes | append 0:7 p0 w1 b12 => X7 WritesOverlap 0:0, 3 stand
+two writes | append 0:7 p0 w3 b18 e29 => X7 WritesOverlap 0:0, 3 stand
+two writes | amend 0:2 b15 => X7 WritesOverlap 0:0, 3 stand
+two writes | answer 0:0 e35 => X7 WritesOverlap 0:2, 3 stand
+two writes | amend 0:0 e => X7 WritesOverlap 0:2, 3 stand
+two writes | append 0:7 p0 w1 b20 e29 => holds, 4 stand
+two writes | amend 0:2 b20 => holds, 3 stand
+two writes | answer 0:0 e29 => holds, 3 stand
+two writes | answer 0:4 v1 e60; withdraw 0:2; withdraw 0:2; append 0:2 p0 w0 b30 e39; withdraw 0:2; append 0:2 p0 w1 b30 e39; show 0:2 => fails 0:4, holds, X1 UnknownOp, fails 0:4, holds, holds, stands 0:2 w1 30-39 (append 0:2 p0 w1 b30 e39), 3 stand
+two writes | answer 0:4 v1 e60; amend 0:2 e; answer 0:2 e45; amend 0:4 e; show 0:4 => fails 0:4, holds, fails 0:4, holds, stands 0:4 r1 50- (append 0:4 p1 r b50) (answer 0:4 v1 e60) (amend 0:4 e), 3 stand
+two writes | append 0:8 p1 r7 b80 e90; answer 0:4 v1 e60; append 0:6 p2 r0 b41 e70 => fails 0:8, fails 0:4, fails 0:4, 5 stand, wrong 0:4 r1 50-60 (append 0:4 p1 r b50) (answer 0:4 v1 e60)
+two wrong reads | append 0:3 p0 w2 b30 e35; append 0:1 p0 w1 b10 e15; withdraw 0:3; withdraw 0:1; append 0:5 p0 w0 b50 e55; withdraw 0:5; append 0:6 p0 w1 b25; answer 0:6 e35; amend 0:6 v2; withdraw 0:2; withdraw 0:6 => fails 0:2, holds, fails 0:4, fails 0:2, fails 0:2, fails 0:2, fails 0:4, fails 0:4, fails 0:2, holds, fails 0:4, 1 stand, wrong 0:4 r2 40-49 (append 0:4 p2 r2 b40 e49)
+two wrong reads | append 0:1 p0 w1 b10 e15; amend 0:1 b50 e55; amend 0:1 b60 e65; amend 0:1 b21 e22; append 0:3 p0 w2 b50 e51; amend 0:3 b48; amend 0:1 b5; amend 0:3 b1 e2; amend 0:3 b30 e31; amend 0:1 b32 e33 => fails 0:4, fails 0:2, fails 0:2, fails 0:4, fails 0:4, holds, holds, fails 0:4, holds, fails 0:2, 4 stand, wrong 0:2 r1 20-29 (append 0:2 p1 r1 b20 e29)";
+
+fn is_told<R: AllocGlobal + Abort>(rt: &R, row: &'static str, want: &str) -> Result<bool, Memory> {
+    let mut told = Vec::new(rt.alloc());
+    tell_row(rt, &mut told, row)?;
+    Ok(told.as_slice() == want.as_bytes())
+}
+
+#[test]
+fn rows_are_told(rt: HostRuntime) -> Result<(), Fail> {
+    for line in ROWS.lines() {
+        let (row, want) = line.split_once(" => ").unwrap_or((line, ""));
+        assert!(rt; is_told(&rt, row, want)?, "{line}");
+    }
+    Ok(())
+}
+
+/// A row of numbers without a pattern, the same each time.
+#[derive(Drop)]
+struct Dice {
+    state: u64,
+}
+
+impl Dice {
+    fn roll(&mut self) -> u64 {
+        self.state = self
+            .state
+            .wrapping_mul(6364136223846793005)
+            .wrapping_add(1442695040888963407);
+        self.state >> 33
+    }
+
+    fn value(&mut self) -> Value {
+        match self.roll() % 3 {
+            0 => Value::Int(0),
+            1 => Value::Int(1),
+            _ => Value::Int(2),
+        }
+    }
+
+    /// An edit of one of few operations at few moments, so that many are accepted and many refused.
+    fn edit(&mut self) -> Edit<'static> {
+        let id = OpId {
+            feeder: 0,
+            event: self.roll() % 12,
+        };
+        let from = Moment(self.roll() % 64);
+        let to = Some(Moment(from.0 + 1 + self.roll() % 12));
+        let value = self.value();
+        let at = |value, begin, end| Words {
+            value,
+            begin,
+            end,
+            ..NONE
+        };
+        let lent = Lent::Amendment(b"");
+        match self.roll() % 11 {
+            0 => append(id, at(None, Some(from), None), ""),
+            1 => append(id, written(value, from, None), ""),
+            2 => append(id, returned(value, from, to), ""),
+            3 => append(id, written(value, from, to), ""),
+            4 => amend(id, at(None, None, Some(to)), lent),
+            5 => amend(id, at(Some(value), None, Some(to)), lent),
+            6 => amend(id, at(None, Some(from), None), lent),
+            7 => amend(id, at(None, None, Some(None)), lent),
+            8 => amend(id, at(None, Some(from), Some(to)), lent),
+            9 => amend(id, at(Some(value), None, None), lent),
+            _ => Edit::Withdraw(id),
+        }
+    }
+}
+
+fn written(value: Value, from: Moment, to: Option<Moment>) -> Words {
+    Words {
+        act: Act::Write(value),
+        begin: Some(from),
+        end: Some(to),
+        ..NONE
+    }
+}
+
+fn returned(value: Value, from: Moment, to: Option<Moment>) -> Words {
+    Words {
+        act: Act::Read(value),
+        ..written(value, from, to)
+    }
+}
+
+/// How many edits were accepted, and how often there was another fault than before.
+#[derive(Clone, Copy)]
+struct Counts {
+    accepted: u32,
+    turns: u32,
+}
+
+fn counted(counts: Counts, reply: Reply, is_turned: bool) -> Counts {
+    Counts {
+        accepted: match reply {
+            Reply::Accepted { .. } => counts.accepted.wrapping_add(1),
+            Reply::Refused(_) => counts.accepted,
+        },
+        turns: if is_turned {
+            counts.turns.wrapping_add(1)
+        } else {
+            counts.turns
+        },
+    }
+}
+
+fn is_fault(book: &RegisterBook<'static>, fault: Option<Fault>) -> bool {
+    book.fault() == fault
+}
+
+fn carry_out_one<R: AllocGlobal + Abort>(
+    rt: &R,
+    beside: &mut Beside,
+    counts: Counts,
+    edit: Edit<'static>,
+) -> Result<Counts, Memory> {
+    let before = beside.book.fault();
+    let reply = carry_out(rt, beside, edit)?;
+    Ok(counted(counts, reply, !is_fault(&beside.book, before)))
+}
+
+/// Many edits, each beside the list judged anew.
+fn judged_anew<R: AllocGlobal + Abort>(rt: &R, claim: &str, seed: u64) -> Result<Counts, Memory> {
+    let mut beside = begun(rt, claim)?;
+    let mut dice = Dice { state: seed };
+    let mut counts = Counts {
+        accepted: 0,
+        turns: 0,
+    };
+    for _ in 0..600 {
+        counts = carry_out_one(rt, &mut beside, counts, dice.edit())?;
+    }
+    Ok(counts)
 }
 
 #[test]
 fn each_verdict_is_that_of_the_list_judged_anew(rt: HostRuntime) -> Result<(), Fail> {
-    for kind in [Kind::Safe, Kind::Regular] {
+    for claim in ["safe 0 0,1", "regular 0 0,1"] {
         for seed in [1, 2, 3] {
-            let (accepted, turns) = judged_anew(&rt, kind, seed)?;
-            assert!(rt; accepted > 100, "{accepted}");
-            assert!(rt; turns > 20, "{turns}");
+            let counts = judged_anew(&rt, claim, seed)?;
+            assert!(rt; counts.accepted > 100);
+            assert!(rt; counts.turns > 20);
         }
     }
+    Ok(())
+}
+
+/// The same register whether memory is refused on the way to it or not.
+fn at_last<R: AllocGlobal + Abort>(rt: &R) -> Result<RegisterBook<'static>, Memory> {
+    match begun(rt, "regular 0 0,1,7") {
+        Ok(beside) => Ok(beside.book),
+        Err(Memory) => Ok(begun(rt, "regular 0 0,1,7")?.book),
+    }
+}
+
+/// Where memory is refused the book is as it was, and the same edit is then answered as it would have
+/// been.
+fn retried(
+    rt: &impl Abort,
+    book: &mut RegisterBook<'static>,
+    edit: Edit<'static>,
+) -> Result<Reply, Memory> {
+    let len = book.len();
+    let fault = book.fault();
+    match book.apply(edit) {
+        Ok(reply) => Ok(reply),
+        Err(Memory) => {
+            assert!(rt; book.len() == len);
+            assert!(rt; book.fault() == fault);
+            book.apply(edit)
+        }
+    }
+}
+
+fn is_said(reply: Reply, word: &str) -> bool {
+    match reply {
+        Reply::Accepted { holds } => word == if holds { "holds" } else { "fails" },
+        Reply::Refused(refusal) => word == "X2" && refusal == Refusal::OpTaken,
+    }
+}
+
+const STEPS: &str = "append 0:0 p0 w1 b0 => holds
+append 0:0 p0 w7 b7 => X2
+append 0:1 p1 r b1 => holds
+answer 0:0 e2 => holds
+answer 0:1 v7 e3 => fails
+append 0:2 p0 w7 b4 => fails
+answer 0:1 v7 e5 => holds
+withdraw 0:2 => fails
+withdraw 0:1 => holds";
+
+fn each_is_said(rt: &impl Abort, book: &mut RegisterBook<'static>) -> Result<(), Memory> {
+    for line in STEPS.lines() {
+        let (step, want) = line.split_once(" => ").unwrap_or((line, ""));
+        let reply = retried(rt, book, edit_of(step))?;
+        assert!(rt; is_said(reply, want), "{line}");
+    }
+    Ok(())
+}
+
+/// To be run with each allocation refused in turn.
+#[test]
+fn refused_memory_changes_nothing(rt: HostRuntime) -> Result<(), Fail> {
+    let mut book = at_last(&rt)?;
+    each_is_said(&rt, &mut book)?;
+    assert!(rt; book.len() == 1);
     Ok(())
 }

@@ -1,8 +1,7 @@
 //! Which operations an edit touches: no other one is judged otherwise than before.
 
 ghost use Rattle.std.specs.Prelude.{◌≡◌};
-ghost use Rattle.intervals.specs.Operation.{same_id};
-ghost use Rattle.register_book.specs.Touch.{id_of as edited_id, touch_of as touch_by, is_touched, passes, bears_on as write_bears_on};
+ghost use Rattle.register_book.specs.Touch.{touch_of as touch_by, is_touched, passes, bears_on as write_bears_on};
 
 use crate::refused::new_op;
 use intervals::{Edit, Op, OpBook, OpId, overlaps, precedes};
@@ -20,7 +19,7 @@ impl Touch<'_> {
     pub fn touches(&self, op: &Op) -> bool
         ensures { result ≡ is_touched self.now op.now }
     {
-        is_id(op, self.id) || is_bearing(&self.before, op) || is_bearing(&self.after, op)
+        op.has_id(self.id) || is_bearing(&self.before, op) || is_bearing(&self.after, op)
     }
 }
 
@@ -28,7 +27,7 @@ impl Touch<'_> {
 pub fn touch_of<'t>(ops: &OpBook<'t>, edit: &Edit<'t>) -> Touch<'t>
     ensures { result ≡ touch_by ops.now edit.now }
 {
-    let id = id_of(edit);
+    let id = edit.id();
     Touch {
         id,
         before: ops.get(id).copied(),
@@ -50,21 +49,4 @@ fn bears_on(op: &Op, read: &Op) -> bool
     ensures { result ≡ write_bears_on read.now op.now }
 {
     op.is_write() && (precedes(op, read) || overlaps(op, read))
-}
-
-pub fn is_id(op: &Op, id: OpId) -> bool
-    ensures { result ≡ same_id op.now.id id }
-{
-    op.id == id
-}
-
-/// The id of the operation that the edit adds, changes or takes out.
-fn id_of(edit: &Edit) -> OpId
-    ensures { result ≡ edited_id edit.now }
-{
-    match edit {
-        Edit::Append(op) => op.id,
-        Edit::Amend(id, _) => *id,
-        Edit::Withdraw(id) => *id,
-    }
 }

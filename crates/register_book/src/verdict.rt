@@ -8,7 +8,7 @@ ghost use Rattle.intervals.specs.Judging.{first_wrong as first_wrong_of, end_num
 ghost use Rattle.register_book.specs.Touch.{is_touched as touched, passes};
 ghost use Rattle.register_book.specs.Verdict.{is_write_of as write_of, is_on_write as on_write, is_wrong_touched, first_wrong_untouched};
 
-use crate::touch::{Touch, is_id};
+use crate::touch::Touch;
 use intervals::laws::writes_alone_decide;
 use intervals::{Edit, Op, OpId};
 use safe_regular::SingleWriterJudge;
@@ -131,5 +131,5 @@ fn has_write(ops: &[Op], id: OpId) -> bool
 fn is_write_of(op: &Op, id: OpId) -> bool
     ensures { result ≡ write_of id op.now }
 {
-    op.is_write() && is_id(op, id)
+    op.is_write() && op.has_id(id)
 }

@@ -1,7 +1,7 @@
 //! The judge of the writes that an edit leaves, built beside the old one.
 
 ghost use Rattle.std.specs.Prelude.{◌≡◌, ◌≢◌, ◌++◌, ◌∷◌, [], IfOk, OnOk};
-ghost use Rattle.intervals.specs.Operation.{writes, same_id};
+ghost use Rattle.intervals.specs.Operation.{writes};
 ghost use Rattle.intervals.specs.Terms.{terms_of};
 ghost use Rattle.intervals.specs.Edit.{edited, amended as op_amended};
 
@@ -78,7 +78,7 @@ fn admit_others<'t>(
 fn admit_other<'t>(judge: &mut SingleWriterJudge<'t>, op: &Op<'t>, id: OpId) -> Result<(), Memory>
     ensures { OnOk result (judge.new ≡ record judge.old { ops = judge.old.ops ++ writes (edited (op.now ∷ []) (Edit.Withdraw id)) }) }
 {
-    if is_id(op, id) {
+    if op.has_id(id) {
         Ok(())
     } else {
         admit_if_write(judge, op)
@@ -89,17 +89,11 @@ fn admit_other<'t>(judge: &mut SingleWriterJudge<'t>, op: &Op<'t>, id: OpId) -> 
 fn amended<'t>(op: &Op<'t>, id: OpId, change: &Change<'t>) -> Op<'t>
     ensures { result ≡ op_amended id change.now op.now }
 {
-    if is_id(op, id) {
+    if op.has_id(id) {
         changed(op, change)
     } else {
         *op
     }
-}
-
-fn is_id(op: &Op, id: OpId) -> bool
-    ensures { result ≡ same_id op.now.id id }
-{
-    op.id == id
 }
 
 /// Admits a write, and no read.

@@ -1,18 +1,16 @@
-ghost use Rattle.std.specs.Prelude.{◌&&◌, not, Vec, ◌≡◌, ◌≢◌, ◌↔◌, ◌++◌, ◌∷◌, [], IfOk, OnOk, OnErr, IsNone, option_map};
+ghost use Rattle.std.specs.Prelude.{◌&&◌, not, ◌≡◌, ◌≢◌, ◌↔◌, ◌++◌, ◌∷◌, [], IfOk, OnOk, OnErr, IsNone, option_map};
 ghost use Rattle.intervals.specs.Operation.{IsWrite, IsJudgedRead, is_write as writes, same_id};
-ghost use Rattle.intervals.specs.Terms.{terms_of, writers_of};
+ghost use Rattle.intervals.specs.Terms.{terms_of};
 ghost use Rattle.intervals.specs.Kind.{IsSafe, IsRegular};
 ghost use Rattle.intervals.specs.Refusal.{write_refusal, ok_unless};
 ghost use Rattle.intervals.specs.Judging.{first_wrong as first_wrong_of, is_wrong_read as wrong_read, end_number};
 ghost use Rattle.intervals.specs.Least.{least_by};
-ghost use Rattle.std.specs.declared.alloc.Global.{Global};
-ghost use Rattle.intervals.specs.declared.operation.Value.{Value};
 ghost use Rattle.safe_regular.specs.Judge.{without_write, without_read};
 
 use crate::reads::{first_wrong_among, is_wrong_read};
 use crate::writes::check_write;
 use intervals::laws::{regular_without_wrong_reads, safe_without_wrong_reads};
-use intervals::{Claim, Kind, Memory, Op, OpId, Refusal, Value, Writers};
+use intervals::{Claim, Kind, Memory, Op, OpId, Refusal};
 use std::alloc::Global;
 use std::marker::Model;
 
@@ -25,7 +23,7 @@ pub struct SingleWriterJudge<'t> {
 
 impl<'t> Model for SingleWriterJudge<'t> {
     ghost use Rattle.std.specs.Prelude.{◌≢◌};
-    ghost use Rattle.intervals.specs.Terms.{terms_of, writers_of};
+    ghost use Rattle.intervals.specs.Terms.{terms_of};
     ghost use Rattle.intervals.specs.declared.claim.Kind.TheVariants.{Atomic};
     ghost use Rattle.intervals.specs.Terms.{Claimed};
 
@@ -43,7 +41,7 @@ impl<'t> SingleWriterJudge<'t> {
         ensures { IfOk result (λ judge. judge ≡ record { claim = terms_of claim.now; ops = [] }) }
     {
         Ok(SingleWriterJudge {
-            claim: copy_of(alloc, claim)?,
+            claim: claim.try_clone(alloc)?,
             ops: Vec::new(alloc),
         })
     }
@@ -128,43 +126,11 @@ fn drop_read(ops: &mut Vec<Op>, id: OpId)
 fn is_write_of(op: &Op, id: OpId) -> bool
     ensures { result ≡ (writes op.now && same_id op.now.id id) }
 {
-    op.is_write() && op.id == id
+    op.is_write() && op.has_id(id)
 }
 
 fn is_read_of(op: &Op, id: OpId) -> bool
     ensures { result ≡ (not (writes op.now) && same_id op.now.id id) }
 {
-    !op.is_write() && op.id == id
-}
-
-/// Another claim that says the same.
-fn copy_of(alloc: Global, claim: &Claim) -> Result<Claim, Memory>
-    ensures { IfOk result (λ copy. terms_of copy ≡ terms_of claim.now) }
-{
-    Ok(Claim {
-        kind: claim.kind,
-        writers: copy_of_writers(alloc, &claim.writers)?,
-        initial: claim.initial,
-        domain: copy_of_domain(alloc, &claim.domain)?,
-    })
-}
-
-fn copy_of_writers(alloc: Global, writers: &Writers) -> Result<Writers, Memory>
-    ensures { IfOk result (λ copy. writers_of copy ≡ writers_of writers.now) }
-{
-    match writers {
-        Writers::Any => Ok(Writers::Any),
-        Writers::Listed(processes) => {
-            Ok(Writers::Listed(Vec::from_slice(alloc, processes.as_slice())?))
-        }
-    }
-}
-
-fn copy_of_domain(alloc: Global, domain: &Option<Vec<Value>>) -> Result<Option<Vec<Value>>, Memory>
-    ensures { IfOk result (λ copy. option_map (λ (values : Vec Value Global). values.items) copy ≡ option_map (λ (values : Vec Value Global). values.items) domain.now) }
-{
-    match domain {
-        None => Ok(None),
-        Some(values) => Ok(Some(Vec::from_slice(alloc, values.as_slice())?)),
-    }
+    !op.is_write() && op.has_id(id)
 }

@@ -88,5 +88,5 @@ fn first_of<'t>(op: &Op, found: Option<Op<'t>>, other: &Op<'t>) -> Option<Op<'t>
 fn is_overlapped(op: &Op, other: &Op) -> bool
     ensures { result ≡ overlapped op.now other.now }
 {
-    other.id != op.id && other.is_write() && overlaps(other, op)
+    !other.has_id(op.id) && other.is_write() && overlaps(other, op)
 }

@@ -1,5 +1,5 @@
 -- The keys of a level and of a file, seen by the program and read further.
-use Rattle.std.proofs.Common.{◌≡◌, ◌↔◌, ℕ, List, [], ◌∷◌, ◌++◌, length, Option, Some, None, Ok, Err, refl, sym, subst, ◌∙◌}
+use Rattle.std.proofs.Common.{◌≡◌, ◌↔◌, ℕ, List, [], ◌∷◌, ◌++◌, length, Option, Some, None, Ok, Err, refl, sym, ap, subst, ◌∙◌}
 use Rattle.std.specs.Prelude.{codes, Vec}
 use Rattle.std.specs.declared.alloc.Global.{Global}
 use Rattle.std.proofs.lemmas.List.{length-map, map_push}
@@ -7,14 +7,17 @@ use Rattle.edn_reader.specs.declared.element.ElementKind.TheVariants.{Map}
 use Rattle.edn_reader.specs.declared.field.Field.{Field}
 use Rattle.edn_reader.specs.declared.view.MapView.{MapView}
 use Rattle.edn_reader.specs.Grammar.{Piece}
-use Rattle.edn_reader.specs.Pairs.{values_of, HasPairs, PairsLeft}
+use Rattle.edn_reader.specs.Pairs.{values_of, HasPairs}
+use Rattle.edn_reader.specs.Lent.{PairsLeft}
 use Rattle.edn_reader.specs.Given.{Given, given, seen}
 use Rattle.tower_file.specs.declared.fault.TowerField.TheVariants.{Name, Registers, Levels}
 use Rattle.tower_file.specs.declared.fault.TowerFault.{TowerFault}
 use Rattle.tower_file.specs.Form.{IsGiven, IsVectorOf, IsMapOf, RegisterForm, IsRegister, LevelForm, AreLevelFields, IsLevel, FileForm, AreFileFields}
 use Rattle.tower_file.specs.Contents.{Register, Contents, empty}
-use Rattle.tower_file.specs.Reading.{name_in, vector_in, registers_after, with_level, level_after, levels_after, contents_of}
+use Rattle.tower_file.specs.Reading.{name_in, vector_in, with_registers, with_level, level_after, levels_after, contents_of}
+use Rattle.tower_file.specs.Keeping.{IsKept, ReachesKept}
 use Rattle.tower_file.specs.Views.{contents_with}
+use Rattle.tower_file.proofs.Loops.{Reached}
 
 -- the pairs of a map that a view has left, read by a relation
 pub map_form : {Form : Type 0} (IsRead : List (Piece × Piece) → Form → Type 0) (piece : Piece) (view : MapView) → piece.core.kind ≡ Map
@@ -64,11 +67,11 @@ pub to_registers : (tower : Contents) (form : Option LevelForm) (level : LevelFo
     → name_in Name given ≡ Ok name → vector_in Registers level.registers ≡ Ok forms → level_after tower form ≡ with_level tower name forms
 to_registers tower form level given name forms e n f v = rw (e, n, f, v) refl
 
-pub level_fails : (tower : Contents) (name : List ℕ) (forms : List (Option RegisterForm)) (fault : TowerFault) → registers_after (length tower.levels) tower.registers forms ≡ Err fault
+pub level_fails : (tower : Contents) (name : List ℕ) (forms : List (Option RegisterForm)) (fault : TowerFault) → with_registers (length tower.levels) tower.registers forms ≡ Err fault
     → with_level tower name forms ≡ Err fault
 level_fails tower name forms fault e = rw e refl
 
-pub level_ends : (tower : Contents) (name : List ℕ) (forms : List (Option RegisterForm)) (registers : List Register) → registers_after (length tower.levels) tower.registers forms ≡ Ok registers
+pub level_ends : (tower : Contents) (name : List ℕ) (forms : List (Option RegisterForm)) (registers : List Register) → with_registers (length tower.levels) tower.registers forms ≡ Ok registers
     → with_level tower name forms ≡ Ok (record { levels = tower.levels ++ name ∷ []; registers = registers })
 level_ends tower name forms registers e = rw e refl
 
@@ -89,3 +92,18 @@ level_pushed old new item name before after e n = rw (e, map_push (λ (v : Vec �
 
 pub begins_empty : (levels : Vec (Vec ℕ Global) Global) (registers : List Register) → levels.items ≡ [] → registers ≡ [] → contents_with levels registers ≡ empty
 begins_empty levels registers a b = rw (a, b) refl
+
+-- a level that is kept
+pub level_kept : (form : Option LevelForm) (level : LevelForm) (given : Given Piece) (name : List ℕ) (registers : List (Option RegisterForm)) → form ≡ Some level → level.name ≡ given
+    → name_in Name given ≡ Ok name → vector_in Registers level.registers ≡ Ok registers → IsKept form
+level_kept form level given name registers e n f v = record {
+  level = level;
+  name = name;
+  registers = registers;
+  is_map = e;
+  has_name = ap (name_in Name) n ∙ f;
+  has_registers = v;
+}
+
+pub reached_kept : (start : Contents) (levels : List (Option LevelForm)) → Reached IsLevel level_after start levels IsKept → ReachesKept start levels
+reached_kept start levels r = record { before = r.before; form = r.form; later = r.later; tower = r.state; order = r.order; read = r.read; kept = r.holds }

@@ -9,3 +9,5 @@ pub mod Forms
 pub mod Unique
 pub mod Wanting
 pub mod Answering
+pub mod Spelled
+pub mod Alone

@@ -2,11 +2,12 @@
 use Rattle.std.proofs.Common.{◌≡◌, List, [], ◌∷◌, ◌++◌, Option, Some, None, Result, Ok, Err, refl, sym, ap, subst, ◌∙◌, append_assoc, append-nil}
 use Rattle.edn_reader.specs.declared.element.Element.{Element}
 use Rattle.edn_reader.specs.declared.view.VectorView.{VectorView}
-use Rattle.edn_reader.specs.Grammar.{Piece, piece_of}
-use Rattle.edn_reader.specs.Pairs.{MembersLeft, NextMember}
+use Rattle.edn_reader.specs.Grammar.{Piece}
+use Rattle.edn_reader.specs.Lent.{piece_of, MembersLeft, NextMember}
 use Rattle.tower_file.specs.declared.fault.TowerFault.{TowerFault}
 use Rattle.tower_file.specs.Form.{Each}
-use Rattle.tower_file.specs.Reading.{◌>>=◌, each, through}
+use Rattle.tower_file.specs.Reading.{each, through}
+use Rattle.tower_file.specs.Steps.{◌>>=◌}
 use Rattle.tower_file.specs.Stated.{FormsLeft}
 
 -- what a view gives next
@@ -64,13 +65,28 @@ module _ {Y : Type 0} (read : Piece → Result Y TowerFault) where
       k.2 ∙ ap (λ (left : List Piece). behind done (each read left)) (n k.0 k.1) ∙ ap Ok (append-nil done)
 
 module _ {Form State : Type 0} (IsRead : Piece → Form → Type 0) (step : State → Form → Result State TowerFault) where
+  -- two lists in turn
+  both_by : (next : Result State TowerFault) (first second : List Form)
+      → ((state : State) → through step state (first ++ second) ≡ through step state first >>= (λ after. through step after second))
+      → (next >>= (λ state. through step state (first ++ second))) ≡ (next >>= (λ state. through step state first)) >>= (λ after. through step after second)
+  both_by (Ok state) first second h = h state
+  both_by (Err fault) first second h = refl
+
+  through_both : (start : State) (first second : List Form) → through step start (first ++ second) ≡ through step start first >>= (λ after. through step after second)
+  through_both start [] second = refl
+  through_both start (form ∷ forms) second = both_by (step start form) forms second (λ state. through_both state forms second)
+
   -- the state after the forms of a view that were gone over, and the forms that it has left
   abbrev pub After : VectorView → State → VectorView → State → Type 0
   After first start view state = (forms : List Form) → FormsLeft IsRead first forms
-      → (left : List Form) × FormsLeft IsRead view left × (through step start forms ≡ through step state left)
+      → (done left : List Form) × (forms ≡ done ++ left) × (through step start done ≡ Ok state) × FormsLeft IsRead view left
 
   pub after_begins : (view : VectorView) (state : State) → After view state view state
-  after_begins view state forms h = (forms, h, refl)
+  after_begins view state forms h = ([], forms, refl, refl, h)
+
+  -- what all give from what is left
+  rest_of : (start state : State) (forms done left : List Form) → forms ≡ done ++ left → through step start done ≡ Ok state → through step start forms ≡ through step state left
+  rest_of start state forms done left e d = ap (through step start) e ∙ through_both start done left ∙ rw d refl
 
   -- what the next form is, and those behind it
   abbrev First : Element → VectorView → List Form → Type 0
@@ -89,15 +105,45 @@ module _ {Form State : Type 0} (IsRead : Piece → Form → Type 0) (step : Stat
       → ((form : Form) → IsRead (piece_of element) form → step state form ≡ Ok next) → After first start after next
   after_on first view after element start state next s n r forms h =
       let k = s forms h in
-      let f = first_of view after element k.0 k.1 n in
-      (f.1, f.4, k.2 ∙ ap (through step state) f.2 ∙ rw (r f.0 f.3) refl)
+      let f = first_of view after element k.1 k.4 n in (
+        k.0 ++ f.0 ∷ [],
+        f.1,
+        k.2 ∙ ap (λ (left : List Form). k.0 ++ left) f.2 ∙ sym (append_assoc k.0 (f.0 ∷ []) f.1),
+        through_both start k.0 (f.0 ∷ []) ∙ rw (k.3, r f.0 f.3) refl,
+        f.4,
+      )
 
   pub after_fails : (first view after : VectorView) (element : Element) (start state : State) (fault : TowerFault) → After first start view state → Gives_next view (Some element) after
       → ((form : Form) → IsRead (piece_of element) form → step state form ≡ Err fault) → (forms : List Form) → FormsLeft IsRead first forms → through step start forms ≡ Err fault
   after_fails first view after element start state fault s n r forms h =
       let k = s forms h in
-      let f = first_of view after element k.0 k.1 n in
-      k.2 ∙ ap (through step state) f.2 ∙ rw (r f.0 f.3) refl
+      let f = first_of view after element k.1 k.4 n in
+      rest_of start state forms k.0 k.1 k.2 k.3 ∙ ap (through step state) f.2 ∙ rw (r f.0 f.3) refl
+
+  -- a form that was come to, of those of a view
+  pub record Reached (start : State) (forms : List Form) (Holds : Form → Type 0) : Type 0 where
+    pub before : List Form
+    pub form : Form
+    pub later : List Form
+    pub state : State
+    pub order : forms ≡ before ++ form ∷ later
+    pub read : through step start before ≡ Ok state
+    pub holds : Holds form
+
+  pub after_reaches : (Holds : Form → Type 0) (first view after : VectorView) (element : Element) (start state : State) → After first start view state → Gives_next view (Some element) after
+      → ((form : Form) → IsRead (piece_of element) form → Holds form) → (forms : List Form) → FormsLeft IsRead first forms → Reached start forms Holds
+  after_reaches Holds first view after element start state s n r forms h =
+      let k = s forms h in
+      let f = first_of view after element k.1 k.4 n in
+      record {
+        before = k.0;
+        form = f.0;
+        later = f.1;
+        state = state;
+        order = k.2 ∙ ap (λ (left : List Form). k.0 ++ left) f.2;
+        read = k.3;
+        holds = r f.0 f.3;
+      }
 
   none_left : (members : List Piece) (left : List Form) → members ≡ [] → Each IsRead members left → left ≡ []
   none_left [] [] e h = refl
@@ -108,4 +154,4 @@ module _ {Form State : Type 0} (IsRead : Piece → Form → Type 0) (step : Stat
       → (forms : List Form) → FormsLeft IsRead first forms → through step start forms ≡ Ok state
   after_ends first view after start state s n forms h =
       let k = s forms h in
-      k.2 ∙ ap (through step state) (none_left k.1.0 k.0 (n k.1.0 k.1.1) k.1.2)
+      rest_of start state forms k.0 k.1 k.2 k.3 ∙ ap (through step state) (none_left k.4.0 k.1 (n k.4.0 k.4.1) k.4.2)

@@ -12,7 +12,7 @@ use Rattle.indexmap.specs.IndexMap.{insert_entry}
 use Rattle.indexmap.proofs.MapLemmas.{Missing-position, insert_entry-absent}
 use Rattle.tower_file.specs.declared.registers.Entry.{Entry}
 use Rattle.tower_file.specs.Contents.{Register, number_of}
-use Rattle.tower_file.specs.Views.{register_at}
+use Rattle.tower_file.specs.Views.{kept_register}
 
 -- the entries of the program
 abbrev pub Entries : Type 0
@@ -23,7 +23,7 @@ abbrev pub has_name : List ℕ → Vec ℕ Global → Bool
 has_name name key = bytes_eq name key.items
 
 -- names stand in the order of the entries
-names_of : (entries : Entries) → map (λ register. register.name) (map register_at entries) ≡ map (λ key. key.items) (keys_of entries)
+names_of : (entries : Entries) → map (λ register. register.name) (map kept_register entries) ≡ map (λ key. key.items) (keys_of entries)
 names_of [] = refl
 names_of (entry ∷ entries) = ap (λ (names : List (List ℕ)). entry.0.items ∷ names) (names_of entries)
 
@@ -41,13 +41,13 @@ module _ {A B : Type 0} (test : B → Bool) (view : A → B) where
   position_map xs = rw (place_map xs, length-map xs view) refl
 
 -- the first entry of that name is the register of that name
-pub place_of : (entries : Entries) (name : List ℕ) → position (has_name name) (keys_of entries) ≡ position (bytes_eq name) (map (λ register. register.name) (map register_at entries))
+pub place_of : (entries : Entries) (name : List ℕ) → position (has_name name) (keys_of entries) ≡ position (bytes_eq name) (map (λ register. register.name) (map kept_register entries))
 place_of entries name = position_map (bytes_eq name) (λ key. key.items) (keys_of entries) ∙ ap (position (bytes_eq name)) (sym (names_of entries))
 
 abbrev pub numbered : Option ℕ → Option RegId
 numbered place = option_map (λ n. record { 0 = n }) place
 
-pub number_is : (entries : Entries) (name : List ℕ) (place : Option ℕ) → place ≡ position (has_name name) (keys_of entries) → numbered place ≡ number_of (map register_at entries) name
+pub number_is : (entries : Entries) (name : List ℕ) (place : Option ℕ) → place ≡ position (has_name name) (keys_of entries) → numbered place ≡ number_of (map kept_register entries) name
 number_is entries name place e = rw (e, place_of entries name) refl
 
 no_place : (place : Option ℕ) → numbered place ≡ None → place ≡ None
@@ -55,12 +55,12 @@ no_place None e = refl
 no_place (Some n) e = absurd cc
 
 -- a register of a new name comes last
-pub pushed : (entries : Entries) (name : Vec ℕ Global) (entry : Entry) → number_of (map register_at entries) name.items ≡ None
+pub pushed : (entries : Entries) (name : Vec ℕ Global) (entry : Entry) → number_of (map kept_register entries) name.items ≡ None
     → insert_entry (λ a b. bytes_eq a.items b.items) entries name entry ≡ entries ++ (name, entry) ∷ []
 pushed entries name entry none =
     let missing : position (has_name name.items) (keys_of entries) ≡ None = place_of entries name.items ∙ no_place _ none in
     insert_entry-absent (λ a b. bytes_eq a.items b.items) name entry entries (Missing-position (has_name name.items) entries missing).absent
 
-pub map_pushed : (entries : Entries) (name : Vec ℕ Global) (entry : Entry) → map register_at (entries ++ (name, entry) ∷ []) ≡ map register_at entries ++ register_at (name, entry) ∷ []
+pub map_pushed : (entries : Entries) (name : Vec ℕ Global) (entry : Entry) → map kept_register (entries ++ (name, entry) ∷ []) ≡ map kept_register entries ++ kept_register (name, entry) ∷ []
 map_pushed [] name entry = refl
-map_pushed (first ∷ entries) name entry = ap (λ (registers : List Register). register_at first ∷ registers) (map_pushed entries name entry)
+map_pushed (first ∷ entries) name entry = ap (λ (registers : List Register). kept_register first ∷ registers) (map_pushed entries name entry)

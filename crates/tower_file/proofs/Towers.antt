@@ -5,10 +5,10 @@ use Rattle.edn_reader.specs.declared.fault.EdnFault.{EdnFault}
 use Rattle.edn_reader.specs.declared.element.Element.{Element}
 use Rattle.edn_reader.specs.declared.field.Field.{Field}
 use Rattle.edn_reader.specs.declared.field.Field.TheVariants.{Absent, Once, Twice}
-use Rattle.edn_reader.specs.Grammar.{Piece, piece_of}
+use Rattle.edn_reader.specs.Grammar.{Piece, IsElement}
+use Rattle.edn_reader.specs.Lent.{piece_of}
 use Rattle.edn_reader.specs.Text.{IsText}
 use Rattle.edn_reader.specs.Fault.{FaultOf}
-use Rattle.edn_reader.specs.Pairs.{IsWholeField}
 use Rattle.edn_reader.specs.Given.{Missing, One, Many, given, seen}
 use Rattle.tower_file.specs.declared.fault.TowerField.TheVariants.{File}
 use Rattle.tower_file.specs.declared.fault.TowerFault.{TowerFault}
@@ -16,9 +16,11 @@ use Rattle.tower_file.specs.declared.fault.TowerFault.TheVariants.{Edn, Shape, N
 use Rattle.tower_file.specs.Form.{FileForm, IsMapOf, AreFileFields, IsFile, IsFileOf}
 use Rattle.tower_file.specs.Contents.{Contents}
 use Rattle.tower_file.specs.Reading.{contents_of}
+use Rattle.tower_file.specs.Keeping.{KeepsALevel}
 use Rattle.tower_file.specs.Views.{GivesOrMemory}
 use Rattle.tower_file.proofs.Forms.{Some_form}
-use Rattle.tower_file.specs.Tower.{IsTowerOf, HasTowerFault, IsTextFault}
+use Rattle.tower_file.specs.Tower.{IsTowerOf, HasTowerFault}
+use Rattle.tower_file.specs.Stated.{IsTextFault}
 
 memory_or : (fault : TowerFault) → (fault ≡ Memory) ⊎ (fault ≢ Memory)
 memory_or (Edn e) = inr (λ h. absurd cc)
@@ -154,11 +156,11 @@ none_of_more (piece ∷ []) e = absurd cc
 none_of_more (piece ∷ other ∷ pieces) e = tt
 
 pub one_found : (bytes : List ℕ) (element : Element) (found : Field) (result : Result Contents TowerFault) → OneDivision bytes → found ≡ Once element
-    → (pieces : List Piece) × IsText bytes pieces × (seen found ≡ given pieces) → IsWholeField found → Some_form (IsMapOf AreFileFields)
+    → (pieces : List Piece) × IsText bytes pieces × (seen found ≡ given pieces) → IsElement (piece_of element) → Some_form (IsMapOf AreFileFields)
     → ((other : Option FileForm) → IsMapOf AreFileFields (piece_of element) other → GivesOrMemory (λ (tower : Contents). tower) result (contents_of other)) → IsAnswered bytes result
 one_found bytes element found result division e text whole some says =
     let is = only_one text.0 (piece_of element) (sym (ap seen e) ∙ text.2) in
-    let form = some (piece_of element) (subst IsWholeField e whole) in
+    let form = some (piece_of element) whole in
     one_element bytes (piece_of element) text.0 form.0 result division text.1 is form.1 says
 
 other_by : (bytes : List ℕ) (pieces : List Piece) (found : Field) → OneDivision bytes → IsText bytes pieces → seen found ≡ given pieces → (found ≡ Absent) ⊎ (found ≡ Twice) → IsNotOne pieces
@@ -168,3 +170,12 @@ other_by bytes pieces found division text f (inr e) = none_of_more pieces (sym (
 pub other_found : (bytes : List ℕ) (found : Field) → OneDivision bytes → (pieces : List Piece) × IsText bytes pieces × (seen found ≡ given pieces) → (found ≡ Absent) ⊎ (found ≡ Twice)
     → IsAnswered bytes (Err (Shape File))
 other_found bytes found division text e = other_text bytes text.0 division text.1 (other_by bytes text.0 found division text.1 text.2 e)
+
+-- a file of which a level is kept
+pub kept_file : (bytes : List ℕ) (element : Element) (found : Field) → found ≡ Once element → (pieces : List Piece) × IsText bytes pieces × (seen found ≡ given pieces) → IsElement (piece_of element)
+    → Some_form (IsMapOf AreFileFields) → ((form : Option FileForm) → IsMapOf AreFileFields (piece_of element) form → KeepsALevel form)
+    → (form : Option FileForm) × IsFileOf bytes form × KeepsALevel form
+kept_file bytes element found e text whole some keeps =
+    let is = only_one text.0 (piece_of element) (sym (ap seen e) ∙ text.2) in
+    let form = some (piece_of element) whole in
+    (form.0, (piece_of element ∷ [], subst (IsText bytes) is text.1, form.1), keeps form.0 form.1)

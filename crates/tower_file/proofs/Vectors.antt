@@ -6,14 +6,15 @@ use Rattle.intervals.specs.declared.operation.Value.{Value}
 use Rattle.edn_reader.specs.declared.element.ElementKind.TheVariants.{Vector}
 use Rattle.edn_reader.specs.declared.view.VectorView.{VectorView}
 use Rattle.edn_reader.specs.Grammar.{Piece}
-use Rattle.edn_reader.specs.Pairs.{is_word, HasMembers, MembersLeft}
+use Rattle.edn_reader.specs.Pairs.{is_word, HasMembers}
+use Rattle.edn_reader.specs.Lent.{MembersLeft}
 use Rattle.edn_reader.specs.Given.{Given, Missing, One, Many}
 use Rattle.tower_file.specs.declared.fault.TowerField.{TowerField}
 use Rattle.tower_file.specs.declared.fault.TowerField.TheVariants.{Name, Writers}
 use Rattle.tower_file.specs.declared.fault.TowerFault.{TowerFault}
 use Rattle.tower_file.specs.declared.fault.TowerFault.TheVariants.{Shape}
 use Rattle.tower_file.specs.Form.{IsGiven, AreMembers, IsVectorOf, Sequence, IsSequence, RegisterForm}
-use Rattle.tower_file.specs.Reading.{needed, each, process_of, writers_of, name_in, kind_in, writers_in, initial_in, domain_in, parts_in, said_by, vector_in}
+use Rattle.tower_file.specs.Reading.{needed, each, process_of, writers_listed, name_in, kind_in, writers_in, initial_in, domain_in, parts_in, said_by, vector_in}
 use Rattle.tower_file.specs.Stated.{FormsLeft}
 
 -- what is needed and not there once is not there once when it is read further
@@ -53,7 +54,7 @@ no_vector IsRead field piece Many read e m h = absurd cc
 
 writers_by : (sequence : Sequence) (piece : Piece) (view : VectorView) (fault : TowerFault) (members : Option (List Piece)) → sequence.members ≡ members → sequence.element ≡ piece
     → is_word (codes ":any") piece ≡ false → piece.core.kind ≡ Vector → ((pieces : List Piece) → HasMembers piece pieces ↔ MembersLeft view pieces)
-    → ((pieces : List Piece) → MembersLeft view pieces → each process_of pieces ≡ Err fault) → AreMembers piece members → writers_of sequence ≡ Err fault
+    → ((pieces : List Piece) → MembersLeft view pieces → each process_of pieces ≡ Err fault) → AreMembers piece members → writers_listed sequence ≡ Err fault
 writers_by sequence piece view fault None e same w k m f h = absurd (h k)
 writers_by sequence piece view fault (Some members) e same w k m f h = rw (same, w, e, f members ((m members).0 h)) refl
 

@@ -1,9 +1,9 @@
 -- What a file says is never want of memory.
 use Rattle.std.proofs.Common.{ℕ, Bool, true, false, List, [], ◌∷◌, Option, Some, None, Result, Ok, Err}
-use Rattle.std.specs.Prelude.{ℤ, if◌then◌else◌, not, nat_lt, nat_le, length, is_some}
+use Rattle.std.specs.Prelude.{if◌then◌else◌, not, nat_lt, nat_le, length, is_some}
 use Rattle.intervals.specs.declared.operation.RegId.{RegId}
 use Rattle.edn_reader.specs.Grammar.{Piece}
-use Rattle.edn_reader.specs.Pairs.{is_word, is_nil}
+use Rattle.edn_reader.specs.Pairs.{is_word}
 use Rattle.edn_reader.specs.Integer.{int_of}
 use Rattle.edn_reader.specs.Given.{Given, Missing, One, Many}
 use Rattle.std.specs.Prelude.{codes}
@@ -13,7 +13,9 @@ use Rattle.tower_file.specs.declared.fault.TowerFault.{TowerFault}
 use Rattle.tower_file.specs.declared.fault.TowerFault.TheVariants.{Edn, Shape, NameTaken, WriterCount, UnknownPart, EmptyDomain, InitialOutOfDomain, TooMany, Memory}
 use Rattle.tower_file.specs.Form.{Sequence, RegisterForm, LevelForm, FileForm}
 use Rattle.tower_file.specs.Contents.{Register, Contents, empty, number_of}
-use Rattle.tower_file.specs.Reading.{◌>>=◌, needed, optional, formed, each, int_value, value_of, process_of, kind_of, processes_of, writers_of, values_of, name_in, kind_in, writers_in, initial_in, domain_in, parts_in, Said, said_by, has_its_writers, below, part_of, is_empty_domain, is_outside, refused_if, placed, register_of, through, with_register, registers_after, with_level, vector_in, level_after, levels_after, contents_of}
+use Rattle.tower_file.specs.Steps.{◌>>=◌}
+use Rattle.tower_file.specs.Stating.{stated_value}
+use Rattle.tower_file.specs.Reading.{needed, optional, formed, each, value_in, process_of, kind_claimed, processes_of, writers_listed, domain_of, name_in, kind_in, writers_in, initial_in, domain_in, parts_in, Said, said_by, has_its_writers, earlier, part_of, is_empty_domain, is_outside, fails_if, register_among, register_read, through, with_register, with_registers, with_level, vector_in, level_after, levels_after, contents_of}
 
 -- no want of memory
 abbrev pub IsOther : TowerFault → Type 0
@@ -57,26 +59,22 @@ of_each : {X Y : Type 0} (read : X → Result Y TowerFault) (xs : List X) → ((
 of_each read [] h = tt
 of_each read (x ∷ xs) h = after (read x) (λ y. each read xs >>= (λ ys. Ok (y ∷ ys))) (h x) (λ y. after (each read xs) (λ ys. Ok (y ∷ ys)) (of_each read xs h) (λ ys. tt))
 
-of_int : (field : TowerField) (z : Option ℤ) → Wants_none (int_value field z)
-of_int field None = tt
-of_int field (Some z) = tt
+of_value : (field : TowerField) (piece : Piece) → Wants_none (value_in field piece)
+of_value field piece = of_formed field (stated_value piece)
 
-of_value : (field : TowerField) (piece : Piece) → Wants_none (value_of field piece)
-of_value field piece = either (is_nil piece) _ (int_value field (int_of piece)) tt (of_int field (int_of piece))
-
-of_kind : (piece : Piece) → Wants_none (kind_of piece)
+of_kind : (piece : Piece) → Wants_none (kind_claimed piece)
 of_kind piece = either (is_word (codes ":safe") piece) _ _ tt (either (is_word (codes ":regular") piece) _ _ tt (either (is_word (codes ":atomic") piece) _ _ tt tt))
 
 of_processes : (members : Option (List Piece)) → Wants_none (processes_of members)
 of_processes None = tt
 of_processes (Some members) = after (each process_of members) (λ processes. Ok (Some processes)) (of_each process_of members (λ piece. of_formed fields.Writers (int_of piece))) (λ processes. tt)
 
-of_writers : (writers : Sequence) → Wants_none (writers_of writers)
+of_writers : (writers : Sequence) → Wants_none (writers_listed writers)
 of_writers writers = either (is_word (codes ":any") writers.element) _ (processes_of writers.members) tt (of_processes writers.members)
 
-of_values : (members : Option (List Piece)) → Wants_none (values_of members)
+of_values : (members : Option (List Piece)) → Wants_none (domain_of members)
 of_values None = tt
-of_values (Some members) = of_each (value_of fields.Domain) members (of_value fields.Domain)
+of_values (Some members) = of_each (value_in fields.Domain) members (of_value fields.Domain)
 
 of_name : (field : TowerField) (name : Given Piece) → Wants_none (name_in field name)
 of_name field Missing = tt
@@ -91,41 +89,41 @@ of_parts Many = tt
 of_said : (form : RegisterForm) → Wants_none (said_by form)
 of_said form =
     after (name_in fields.Name form.name) _ (of_name fields.Name form.name) (λ name.
-    after (kind_in form.kind) _ (after (needed fields.Kind form.kind) kind_of (of_needed fields.Kind form.kind) of_kind) (λ kind.
-    after (writers_in form.writers) _ (after (needed fields.Writers form.writers) writers_of (of_needed fields.Writers form.writers) of_writers) (λ writers.
-    after (initial_in form.initial) _ (of_optional fields.Initial (value_of fields.Initial) form.initial (of_value fields.Initial)) (λ initial.
-    after (domain_in form.domain) _ (of_optional fields.Domain values_of form.domain of_values) (λ domain.
+    after (kind_in form.kind) _ (after (needed fields.Kind form.kind) kind_claimed (of_needed fields.Kind form.kind) of_kind) (λ kind.
+    after (writers_in form.writers) _ (after (needed fields.Writers form.writers) writers_listed (of_needed fields.Writers form.writers) of_writers) (λ writers.
+    after (initial_in form.initial) _ (of_optional fields.Initial (value_in fields.Initial) form.initial (of_value fields.Initial)) (λ initial.
+    after (domain_in form.domain) _ (of_optional fields.Domain domain_of form.domain of_values) (λ domain.
     after (parts_in form.parts) _ (of_parts form.parts) (λ parts. tt))))))
 
-of_below : (first : ℕ) (number : Option RegId) → Wants_none (below first number)
+of_below : (first : ℕ) (number : Option RegId) → Wants_none (earlier first number)
 of_below first None = tt
 of_below first (Some number) = either (nat_lt number.0 first) _ _ tt tt
 
-of_refused : (test : Bool) (fault : TowerFault) → IsOther fault → Wants_none (refused_if test fault)
+of_refused : (test : Bool) (fault : TowerFault) → IsOther fault → Wants_none (fails_if test fault)
 of_refused true fault h = h
 of_refused false fault h = tt
 
-of_placed : (level first : ℕ) (registers : List Register) (said : Said) → Wants_none (placed level first registers said)
+of_placed : (level first : ℕ) (registers : List Register) (said : Said) → Wants_none (register_among level first registers said)
 of_placed level first registers said =
-    after (refused_if (is_some (number_of registers said.name)) NameTaken) _ (of_refused _ NameTaken tt) (λ taken.
-    after (refused_if (not (has_its_writers said.kind said.writers)) WriterCount) _ (of_refused _ WriterCount tt) (λ writers.
+    after (fails_if (is_some (number_of registers said.name)) NameTaken) _ (of_refused _ NameTaken tt) (λ taken.
+    after (fails_if (not (has_its_writers said.kind said.writers)) WriterCount) _ (of_refused _ WriterCount tt) (λ writers.
     after (each (part_of first registers) said.parts) _ (of_each (part_of first registers) said.parts (λ piece. of_below first _)) (λ parts.
-    after (refused_if (is_empty_domain said.domain) EmptyDomain) _ (of_refused _ EmptyDomain tt) (λ domain.
-    after (refused_if (is_outside said.initial said.domain) InitialOutOfDomain) _ (of_refused _ InitialOutOfDomain tt) (λ initial.
-    after (refused_if (nat_le 65536 (length registers)) TooMany) _ (of_refused _ TooMany tt) (λ room. tt))))))
+    after (fails_if (is_empty_domain said.domain) EmptyDomain) _ (of_refused _ EmptyDomain tt) (λ domain.
+    after (fails_if (is_outside said.initial said.domain) InitialOutOfDomain) _ (of_refused _ InitialOutOfDomain tt) (λ initial.
+    after (fails_if (nat_le 65536 (length registers)) TooMany) _ (of_refused _ TooMany tt) (λ room. tt))))))
 
-of_register : (level first : ℕ) (registers : List Register) (form : Option RegisterForm) → Wants_none (register_of level first registers form)
+of_register : (level first : ℕ) (registers : List Register) (form : Option RegisterForm) → Wants_none (register_read level first registers form)
 of_register level first registers None = tt
-of_register level first registers (Some form) = after (said_by form) (placed level first registers) (of_said form) (of_placed level first registers)
+of_register level first registers (Some form) = after (said_by form) (register_among level first registers) (of_said form) (of_placed level first registers)
 
 of_through : {State X : Type 0} (step : State → X → Result State TowerFault) (state : State) (xs : List X) → ((s : State) (x : X) → Wants_none (step s x)) → Wants_none (through step state xs)
 of_through step state [] h = tt
 of_through step state (x ∷ xs) h = after (step state x) (λ next. through step next xs) (h state x) (λ next. of_through step next xs h)
 
-of_registers : (level : ℕ) (registers : List Register) (forms : List (Option RegisterForm)) → Wants_none (registers_after level registers forms)
+of_registers : (level : ℕ) (registers : List Register) (forms : List (Option RegisterForm)) → Wants_none (with_registers level registers forms)
 of_registers level registers forms =
     of_through (with_register level (length registers)) registers forms (λ before form.
-    after (register_of level (length registers) before form) _ (of_register level (length registers) before form) (λ register. tt))
+    after (register_read level (length registers) before form) _ (of_register level (length registers) before form) (λ register. tt))
 
 of_vector : {Form : Type 0} (field : TowerField) (forms : Given (Option (List Form))) → Wants_none (vector_in field forms)
 of_vector field forms = after (needed field forms) (formed field) (of_needed field forms) (of_formed field)
@@ -135,7 +133,7 @@ of_level tower None = tt
 of_level tower (Some level) =
     after (name_in fields.Name level.name) _ (of_name fields.Name level.name) (λ name.
     after (vector_in fields.Registers level.registers) (with_level tower name) (of_vector fields.Registers level.registers) (λ forms.
-    after (registers_after (length tower.levels) tower.registers forms) _ (of_registers (length tower.levels) tower.registers forms) (λ registers. tt)))
+    after (with_registers (length tower.levels) tower.registers forms) _ (of_registers (length tower.levels) tower.registers forms) (λ registers. tt)))
 
 -- what a file says wants no memory
 pub of_contents : (form : Option FileForm) → Wants_none (contents_of form)

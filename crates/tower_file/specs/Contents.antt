@@ -1,4 +1,4 @@
--- What a tower says, apart from where it lies in memory.
+-- A tower: registers on levels, each made of registers of lower levels (Lamport 1986), apart from where it lies in memory.
 use Rattle.std.specs.Prelude.{ℕ, List, [], ◌∷◌, Option, map, position}
 use Rattle.std.specs.Option.{option_map}
 use Rattle.std.specs.Str.{bytes_eq}

@@ -1,4 +1,4 @@
--- A tower file as it is written: what stands under each key that is read, level by level and register by register.
+-- A tower file as it is written, in this project's own form (docs/FORMATS.md): what stands under each key that is read, level by level and register by register.
 use Rattle.std.specs.Prelude.{◌≡◌, ◌≢◌, ℕ, List, [], ◌∷◌, Option, Some, None, codes}
 use Rattle.edn_reader.specs.declared.element.ElementKind.TheVariants.{Vector, Map}
 use Rattle.edn_reader.specs.Grammar.{Piece}
@@ -49,6 +49,7 @@ pub record Sequence : Type 0 where
   pub element : Piece
   pub members : Option (List Piece)
 
+-- An element is this one, with these elements of its own where it is a vector.
 abbrev pub IsSequence : Piece → Sequence → Type 0
 IsSequence piece sequence = (sequence.element ≡ piece) × AreMembers piece sequence.members
 

@@ -1,6 +1,10 @@
+pub mod Steps
+pub mod Stating
 pub mod Form
 pub mod Contents
 pub mod Reading
+pub mod Keeping
 pub mod Views
-pub mod Stated
 pub mod Tower
+pub mod Alone
+pub mod Stated

@@ -1,14 +1,16 @@
--- What a file says: its levels and registers in file order, and the first fault that is met.
+-- What a file says (this project's own form, docs/FORMATS.md): its levels and registers in file order, and the first fault
+-- that is met.
 use Rattle.std.specs.Prelude.{ℕ, ℤ, nat_lt, nat_le, ◌==◌, Bool, true, false, not, List, [], ◌∷◌, ◌++◌, length, Option, Some, None, Result, Ok, Err, codes, if◌then◌else◌, is_some}
 use Rattle.std.specs.List.{list_any}
+use Rattle.std.specs.Option.{ok_or}
 use Rattle.intervals.specs.declared.operation.RegId.{RegId}
 use Rattle.intervals.specs.declared.operation.Value.{Value}
-use Rattle.intervals.specs.declared.operation.Value.TheVariants.{Nil, Int}
+use Rattle.intervals.specs.declared.operation.Value.TheVariants.{Nil}
 use Rattle.intervals.specs.declared.claim.Kind.{Kind}
 use Rattle.intervals.specs.declared.claim.Kind.TheVariants as kinds
 use Rattle.intervals.specs.Operation.{same_value}
 use Rattle.edn_reader.specs.Grammar.{Piece, untagged}
-use Rattle.edn_reader.specs.Pairs.{is_word, is_nil}
+use Rattle.edn_reader.specs.Pairs.{is_word}
 use Rattle.edn_reader.specs.Given.{Given, Missing, One, Many}
 use Rattle.edn_reader.specs.Integer.{int_of}
 use Rattle.tower_file.specs.declared.fault.TowerField.{TowerField}
@@ -16,30 +18,21 @@ use Rattle.tower_file.specs.declared.fault.TowerField.TheVariants as fields
 use Rattle.tower_file.specs.declared.fault.TowerFault.{TowerFault}
 use Rattle.tower_file.specs.declared.fault.TowerFault.TheVariants.{Shape, NameTaken, WriterCount, UnknownPart, EmptyDomain, InitialOutOfDomain, TooMany}
 use Rattle.tower_file.specs.Form.{Sequence, RegisterForm, LevelForm, FileForm}
+use Rattle.tower_file.specs.Steps.{◌>>=◌, once, at_most_once}
+use Rattle.tower_file.specs.Stating.{stated_value}
 use Rattle.tower_file.specs.Contents.{Register, Contents, empty, number_of}
-
-infixl 10 ◌>>=◌
--- One step after another, up to the first fault.
-abbrev pub ◌>>=◌ : {A B : Type 0} → Result A TowerFault → (A → Result B TowerFault) → Result B TowerFault
-(Ok x) >>= f = f x
-(Err e) >>= f = Err e
 
 -- What stands once under a key that is needed.
 abbrev pub needed : {X : Type 0} → TowerField → Given X → Result X TowerFault
-needed field Missing = Err (Shape field)
-needed field (One x) = Ok x
-needed field Many = Err (Shape field)
+needed field given = once (Shape field) (Shape field) given
 
 -- What stands under a key that may be left out, read further; none where it is.
 abbrev pub optional : {X Y : Type 0} → TowerField → (X → Result Y TowerFault) → Given X → Result (Option Y) TowerFault
-optional field read Missing = Ok None
-optional field read (One x) = read x >>= (λ y. Ok (Some y))
-optional field read Many = Err (Shape field)
+optional field read given = at_most_once (Shape field) read given
 
 -- What is of the form that it is to have.
 abbrev pub formed : {X : Type 0} → TowerField → Option X → Result X TowerFault
-formed field None = Err (Shape field)
-formed field (Some x) = Ok x
+formed field x = ok_or x (Shape field)
 
 -- Each of a list, read in turn.
 abbrev pub each : {X Y : Type 0} → (X → Result Y TowerFault) → List X → Result (List Y) TowerFault
@@ -50,22 +43,17 @@ each read (x ∷ xs) = read x >>= (λ y. each read xs >>= (λ ys. Ok (y ∷ ys))
 abbrev pub name_of : Piece → List ℕ
 name_of piece = (untagged piece).text
 
--- The value that an integer is.
-abbrev pub int_value : TowerField → Option ℤ → Result Value TowerFault
-int_value field None = Err (Shape field)
-int_value field (Some z) = Ok (Int z)
-
--- A value: nil, or an integer that fits.
-abbrev pub value_of : TowerField → Piece → Result Value TowerFault
-value_of field piece = if is_nil piece then Ok Nil else int_value field (int_of piece)
+-- The value that is stated.
+abbrev pub value_in : TowerField → Piece → Result Value TowerFault
+value_in field piece = formed field (stated_value piece)
 
 -- A process: an integer that fits.
 abbrev pub process_of : Piece → Result ℤ TowerFault
 process_of piece = formed fields.Writers (int_of piece)
 
 -- A kind, by its keyword.
-abbrev pub kind_of : Piece → Result Kind TowerFault
-kind_of piece =
+abbrev pub kind_claimed : Piece → Result Kind TowerFault
+kind_claimed piece =
     if is_word (codes ":safe") piece then Ok kinds.Safe
     else if is_word (codes ":regular") piece then Ok kinds.Regular
     else if is_word (codes ":atomic") piece then Ok kinds.Atomic
@@ -76,28 +64,32 @@ abbrev pub processes_of : Option (List Piece) → Result (Option (List ℤ)) Tow
 processes_of members = formed fields.Writers members >>= each process_of >>= (λ processes. Ok (Some processes))
 
 -- The writers: any process, for which none are listed, or those of a vector.
-abbrev pub writers_of : Sequence → Result (Option (List ℤ)) TowerFault
-writers_of writers = if is_word (codes ":any") writers.element then Ok None else processes_of writers.members
+abbrev pub writers_listed : Sequence → Result (Option (List ℤ)) TowerFault
+writers_listed writers = if is_word (codes ":any") writers.element then Ok None else processes_of writers.members
 
 -- The values of a vector.
-abbrev pub values_of : Option (List Piece) → Result (List Value) TowerFault
-values_of members = formed fields.Domain members >>= each (value_of fields.Domain)
+abbrev pub domain_of : Option (List Piece) → Result (List Value) TowerFault
+domain_of members = formed fields.Domain members >>= each (value_in fields.Domain)
 
 -- What is said under each key of a register.
 abbrev pub name_in : TowerField → Given Piece → Result (List ℕ) TowerFault
 name_in field name = needed field name >>= (λ piece. Ok (name_of piece))
 
+-- The kind that stands under its key.
 abbrev pub kind_in : Given Piece → Result Kind TowerFault
-kind_in kind = needed fields.Kind kind >>= kind_of
+kind_in kind = needed fields.Kind kind >>= kind_claimed
 
+-- The writers that stand under their key; none listed is any process.
 abbrev pub writers_in : Given Sequence → Result (Option (List ℤ)) TowerFault
-writers_in writers = needed fields.Writers writers >>= writers_of
+writers_in writers = needed fields.Writers writers >>= writers_listed
 
+-- The value before any write, where one stands under its key.
 abbrev pub initial_in : Given Piece → Result (Option Value) TowerFault
-initial_in initial = optional fields.Initial (value_of fields.Initial) initial
+initial_in initial = optional fields.Initial (value_in fields.Initial) initial
 
+-- The domain, where one stands under its key.
 abbrev pub domain_in : Given (Option (List Piece)) → Result (Option (List Value)) TowerFault
-domain_in domain = optional fields.Domain values_of domain
+domain_in domain = optional fields.Domain domain_of domain
 
 -- The elements that name parts; none where the key is left out.
 abbrev pub parts_in : Given (Option (List Piece)) → Result (List Piece) TowerFault
@@ -136,14 +128,14 @@ has_its_writers kinds.Safe writers = is_one writers
 has_its_writers kinds.Regular writers = is_one writers
 has_its_writers kinds.Atomic writers = true
 
--- A register that was named before the first one of a level.
-abbrev pub below : ℕ → Option RegId → Result RegId TowerFault
-below first None = Err UnknownPart
-below first (Some number) = if nat_lt number.0 first then Ok number else Err UnknownPart
+-- A number that is there and below the first one of a level.
+abbrev pub earlier : ℕ → Option RegId → Result RegId TowerFault
+earlier first None = Err UnknownPart
+earlier first (Some number) = if nat_lt number.0 first then Ok number else Err UnknownPart
 
 -- The part that an element names: a register of an earlier level.
 abbrev pub part_of : ℕ → List Register → Piece → Result RegId TowerFault
-part_of first registers piece = below first (number_of registers (name_of piece))
+part_of first registers piece = earlier first (number_of registers (name_of piece))
 
 -- The domain is there and has no value.
 abbrev pub is_empty_domain : Option (List Value) → Bool
@@ -170,25 +162,25 @@ register_said level said parts = record {
   parts = parts;
 }
 
--- A fault where a test holds.
-abbrev pub refused_if : Bool → TowerFault → Result Unit TowerFault
-refused_if true fault = Err fault
-refused_if false fault = Ok tt
+-- A fault where a test holds, and else none.
+abbrev pub fails_if : Bool → TowerFault → Result Unit TowerFault
+fails_if true fault = Err fault
+fails_if false fault = Ok tt
 
 -- A register among those before it, of which the earlier levels have the first ones: what is wrong with it is asked in this order.
-abbrev pub placed : ℕ → ℕ → List Register → Said → Result Register TowerFault
-placed level first registers said =
-    refused_if (is_some (number_of registers said.name)) NameTaken >>= (λ _.
-    refused_if (not (has_its_writers said.kind said.writers)) WriterCount >>= (λ _.
+abbrev pub register_among : ℕ → ℕ → List Register → Said → Result Register TowerFault
+register_among level first registers said =
+    fails_if (is_some (number_of registers said.name)) NameTaken >>= (λ _.
+    fails_if (not (has_its_writers said.kind said.writers)) WriterCount >>= (λ _.
     each (part_of first registers) said.parts >>= (λ parts.
-    refused_if (is_empty_domain said.domain) EmptyDomain >>= (λ _.
-    refused_if (is_outside said.initial said.domain) InitialOutOfDomain >>= (λ _.
-    refused_if (nat_le 65536 (length registers)) TooMany >>= (λ _.
+    fails_if (is_empty_domain said.domain) EmptyDomain >>= (λ _.
+    fails_if (is_outside said.initial said.domain) InitialOutOfDomain >>= (λ _.
+    fails_if (nat_le 65536 (length registers)) TooMany >>= (λ _.
     Ok (register_said level said parts)))))))
 
 -- The register that an element is, on a level, among those before it.
-abbrev pub register_of : ℕ → ℕ → List Register → Option RegisterForm → Result Register TowerFault
-register_of level first registers form = formed fields.Registers form >>= said_by >>= placed level first registers
+abbrev pub register_read : ℕ → ℕ → List Register → Option RegisterForm → Result Register TowerFault
+register_read level first registers form = formed fields.Registers form >>= said_by >>= register_among level first registers
 
 -- One step for each of a list, in turn, each from what the one before leaves.
 abbrev pub through : {State X : Type 0} → (State → X → Result State TowerFault) → State → List X → Result State TowerFault
@@ -197,16 +189,16 @@ through step state (x ∷ xs) = step state x >>= (λ next. through step next xs)
 
 -- The registers with one more of a level.
 abbrev pub with_register : ℕ → ℕ → List Register → Option RegisterForm → Result (List Register) TowerFault
-with_register level first registers form = register_of level first registers form >>= (λ register. Ok (registers ++ register ∷ []))
+with_register level first registers form = register_read level first registers form >>= (λ register. Ok (registers ++ register ∷ []))
 
 -- The registers after those of a level, whose first one gets the number of those before it.
-abbrev pub registers_after : ℕ → List Register → List (Option RegisterForm) → Result (List Register) TowerFault
-registers_after level registers forms = through (with_register level (length registers)) registers forms
+abbrev pub with_registers : ℕ → List Register → List (Option RegisterForm) → Result (List Register) TowerFault
+with_registers level registers forms = through (with_register level (length registers)) registers forms
 
 -- One more level of a tower, of that name and with these registers.
 abbrev pub with_level : Contents → List ℕ → List (Option RegisterForm) → Result Contents TowerFault
 with_level tower name registers =
-    registers_after (length tower.levels) tower.registers registers
+    with_registers (length tower.levels) tower.registers registers
     >>= (λ after. Ok (record { levels = tower.levels ++ name ∷ []; registers = after }))
 
 -- The elements of a vector that is needed.

@@ -1,19 +1,22 @@
--- What a program holds of the members of a register and of a vector that is left to go over.
-use Rattle.std.specs.Prelude.{◌≡◌, ◌≢◌, List, [], Option, Some, None, Result, Ok, Err, Vec}
+-- What a program holds of the keys of a register, of a vector that is left to go over, and of a text. No public clause
+-- speaks of it.
+use Rattle.std.specs.Prelude.{◌≡◌, ◌≢◌, ℕ, List, [], Option, Some, None, Result, Ok, Err, Vec}
 use Rattle.std.specs.Option.{option_map}
 use Rattle.std.specs.declared.alloc.Global.{Global}
 use Rattle.edn_reader.specs.declared.view.VectorView.{VectorView}
 use Rattle.edn_reader.specs.Grammar.{Piece}
+use Rattle.edn_reader.specs.Fault.{FaultOf}
 use Rattle.edn_reader.specs.Given.{seen}
-use Rattle.edn_reader.specs.Pairs.{MembersLeft}
+use Rattle.edn_reader.specs.Lent.{MembersLeft}
 use Rattle.intervals.specs.declared.operation.Value.{Value}
 use Rattle.intervals.specs.Terms.{writers_of}
 use Rattle.tower_file.specs.declared.said.Fields.{Fields}
 use Rattle.tower_file.specs.declared.said.Said.{Said as Found}
 use Rattle.tower_file.specs.declared.fault.TowerFault.{TowerFault}
-use Rattle.tower_file.specs.declared.fault.TowerFault.TheVariants.{Memory}
+use Rattle.tower_file.specs.declared.fault.TowerFault.TheVariants.{Edn, Shape, NameTaken, WriterCount, UnknownPart, EmptyDomain, InitialOutOfDomain, TooMany, Memory}
 use Rattle.tower_file.specs.Form.{RegisterForm, IsGiven, IsSequence, AreMembers, Each}
 use Rattle.tower_file.specs.Reading.{Said}
+use Rattle.tower_file.specs.Tower.{NestsDeeply}
 
 -- The program has looked up what stands under each key of a register.
 pub record AreFound (found : Fields) (form : RegisterForm) : Type 0 where
@@ -25,9 +28,9 @@ pub record AreFound (found : Fields) (form : RegisterForm) : Type 0 where
   pub parts : IsGiven AreMembers (seen found.parts) form.parts
 
 -- The elements that a view has left; none where there is no view.
-abbrev pub PartsLeft : Option VectorView → List Piece → Type 0
-PartsLeft None pieces = pieces ≡ []
-PartsLeft (Some view) pieces = MembersLeft view pieces
+abbrev pub NamesLeft : Option VectorView → List Piece → Type 0
+NamesLeft None pieces = pieces ≡ []
+NamesLeft (Some view) pieces = MembersLeft view pieces
 
 -- The values of a domain, where one is given.
 abbrev pub domain_items : Option (Vec Value Global) → Option (List Value)
@@ -40,7 +43,7 @@ pub record IsSaid (found : Found) (said : Said) : Type 0 where
   pub writers : said.writers ≡ writers_of found.writers
   pub initial : said.initial ≡ found.initial
   pub domain : said.domain ≡ domain_items found.domain
-  pub parts : PartsLeft found.parts said.parts
+  pub parts : NamesLeft found.parts said.parts
 
 -- What a function answered stands for what is to be answered, where memory was not refused.
 abbrev pub ShowsOrMemory : {X Y : Type 0} → (X → Y → Type 0) → Result X TowerFault → Result Y TowerFault → Type 0
@@ -50,3 +53,15 @@ ShowsOrMemory Shows (Err fault) wanted = fault ≢ Memory → wanted ≡ Err fau
 -- These are left of a vector whose elements are read by a relation.
 abbrev pub FormsLeft : {Form : Type 0} → (Piece → Form → Type 0) → VectorView → List Form → Type 0
 FormsLeft IsRead view forms = (members : List Piece) × MembersLeft view members × Each IsRead members forms
+
+-- What reading the text alone may answer: a fault of the text, or want of memory where brackets are nested deeply.
+abbrev pub IsTextFault : List ℕ → TowerFault → Type 0
+IsTextFault bytes (Edn fault) = FaultOf bytes fault
+IsTextFault bytes (Shape field) = ⊥
+IsTextFault bytes NameTaken = ⊥
+IsTextFault bytes WriterCount = ⊥
+IsTextFault bytes UnknownPart = ⊥
+IsTextFault bytes EmptyDomain = ⊥
+IsTextFault bytes InitialOutOfDomain = ⊥
+IsTextFault bytes TooMany = ⊥
+IsTextFault bytes Memory = NestsDeeply bytes

@@ -1,4 +1,5 @@
--- What the program's values are, apart from where they lie in memory.
+-- What the program's values are, apart from where they lie in memory. No public clause speaks of it: to callers a tower is
+-- what it says.
 use Rattle.std.specs.Prelude.{◌≡◌, ◌≢◌, ℕ, List, Result, Ok, Err, Vec, map}
 use Rattle.std.specs.declared.alloc.Global.{Global}
 use Rattle.intervals.specs.Terms.{terms_of}
@@ -8,19 +9,14 @@ use Rattle.tower_file.specs.declared.fault.TowerFault.TheVariants.{Memory}
 use Rattle.tower_file.specs.Contents.{Register, Contents}
 
 -- A name with what the program keeps beside it.
-abbrev pub register_at : Vec ℕ Global × Entry → Register
-register_at entry = record { name = entry.0.items; claim = terms_of entry.1.claim; level = entry.1.level; parts = entry.1.parts.items }
+abbrev pub kept_register : Vec ℕ Global × Entry → Register
+kept_register entry = record { name = entry.0.items; claim = terms_of entry.1.claim; level = entry.1.level; parts = entry.1.parts.items }
 
 -- The names of levels, and registers, as a tower.
 abbrev pub contents_with : Vec (Vec ℕ Global) Global → List Register → Contents
 contents_with levels registers = record { levels = map (λ name. name.items) levels.items; registers = registers }
 
--- What a function answered, seen by a view, is what is to be answered.
-abbrev pub Gives : {X Y : Type 0} → (X → Y) → Result X TowerFault → Result Y TowerFault → Type 0
-Gives view (Ok x) wanted = wanted ≡ Ok (view x)
-Gives view (Err fault) wanted = wanted ≡ Err fault
-
--- The same, where memory may be refused.
+-- What a function answered, seen by a view, is what is to be answered, where memory was not refused.
 abbrev pub GivesOrMemory : {X Y : Type 0} → (X → Y) → Result X TowerFault → Result Y TowerFault → Type 0
 GivesOrMemory view (Ok x) wanted = wanted ≡ Ok (view x)
 GivesOrMemory view (Err fault) wanted = fault ≢ Memory → wanted ≡ Err fault

@@ -1,10 +1,11 @@
 //! What single elements of a tower file say.
 
 ghost use Rattle.std.specs.Prelude.{◌≡◌};
-ghost use Rattle.edn_reader.specs.Grammar.{Piece, piece_of};
+ghost use Rattle.edn_reader.specs.Grammar.{Piece};
+ghost use Rattle.edn_reader.specs.Lent.{piece_of};
 ghost use Rattle.edn_reader.specs.Given.{seen};
-ghost use Rattle.tower_file.specs.Reading.{value_of as value_in, process_of as process_in, kind_of as kind_that, name_of as name_that, needed as needed_of, name_in, kind_in, initial_in};
-ghost use Rattle.tower_file.specs.Views.{Gives};
+ghost use Rattle.tower_file.specs.Reading.{value_in, process_of as process_in, kind_claimed, name_of as name_that, needed as needed_of, name_in, kind_in, initial_in};
+ghost use Rattle.tower_file.specs.Steps.{GivesSeen};
 
 use crate::fault::{TowerFault, TowerField};
 use edn_reader::{Element, Field};
@@ -12,7 +13,7 @@ use intervals::{Kind, Value};
 
 /// What stands once under a key that is needed.
 pub fn needed<'t>(field: &Field<'t>, name: TowerField) -> Result<Element<'t>, TowerFault>
-    ensures { Gives piece_of result (needed_of name (seen field.now)) }
+    ensures { GivesSeen piece_of result (needed_of name (seen field.now)) }
 {
     match field {
         Field::Once(element) => Ok(*element),
@@ -28,7 +29,7 @@ pub fn name_of<'t>(element: &Element<'t>) -> &'t [u8]
 }
 
 pub fn read_name<'t>(field: &Field<'t>) -> Result<&'t [u8], TowerFault>
-    ensures { Gives (λ name. name.now) result (name_in TowerField.Name (seen field.now)) }
+    ensures { GivesSeen (λ name. name.now) result (name_in TowerField.Name (seen field.now)) }
 {
     Ok(name_of(&needed(field, TowerField::Name)?))
 }
@@ -40,7 +41,7 @@ pub fn read_kind(field: &Field) -> Result<Kind, TowerFault>
 }
 
 fn kind_of(element: &Element) -> Result<Kind, TowerFault>
-    ensures { result ≡ kind_that (piece_of element.now) }
+    ensures { result ≡ kind_claimed (piece_of element.now) }
 {
     if element.is_keyword(b":safe") {
         Ok(Kind::Safe)

@@ -1,6 +1,7 @@
 //! Why a text is no tower file.
 
 ghost use Rattle.std.specs.Prelude.{◌≡◌};
+ghost use Rattle.tower_file.specs.Tower.{code_of};
 ghost use Rattle.tower_file.specs.declared.fault.TowerFault.TheVariants.{Memory};
 
 use edn_reader::EdnFault;
@@ -53,6 +54,25 @@ pub enum TowerFault {
     /// A growth was refused.
     #[error("V9 Memory")]
     Memory,
+}
+
+impl TowerFault {
+    /// The code that users see.
+    pub fn code(&self) -> &'static str
+        ensures { result.now ≡ code_of self.now }
+    {
+        match self {
+            TowerFault::Edn(_) => "V1",
+            TowerFault::Shape(_) => "V2",
+            TowerFault::NameTaken => "V3",
+            TowerFault::WriterCount => "V4",
+            TowerFault::UnknownPart => "V5",
+            TowerFault::EmptyDomain => "V6",
+            TowerFault::InitialOutOfDomain => "V7",
+            TowerFault::TooMany => "V8",
+            TowerFault::Memory => "V9",
+        }
+    }
 }
 
 impl From<AllocError> for TowerFault {

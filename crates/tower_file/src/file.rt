@@ -1,9 +1,10 @@
 //! The map that a tower file is.
 
-ghost use Rattle.std.specs.Prelude.{Option};
-ghost use Rattle.edn_reader.specs.Grammar.{piece_of};
+ghost use Rattle.std.specs.Prelude.{◌≡◌, Option, IfErr};
+ghost use Rattle.edn_reader.specs.Lent.{piece_of};
 ghost use Rattle.tower_file.specs.Form.{FileForm, IsMapOf, AreFileFields};
 ghost use Rattle.tower_file.specs.Reading.{contents_of};
+ghost use Rattle.tower_file.specs.Keeping.{KeepsALevel};
 ghost use Rattle.tower_file.specs.Views.{contents_with, GivesOrMemory};
 
 use crate::fault::{TowerFault, TowerField};
@@ -14,8 +15,9 @@ use std::alloc::Global;
 
 /// The names of the levels, and the registers, of the map that a file is.
 pub fn read_file(alloc: Global, element: &Element) -> Result<(Vec<Vec<u8>>, Registers), TowerFault>
-    ensures { (form : Option FileForm) → IsMapOf AreFileFields (piece_of element.now) form
+    ensures says { (form : Option FileForm) → IsMapOf AreFileFields (piece_of element.now) form
         → GivesOrMemory (λ read. contents_with read.0 read.1) result (contents_of form) }
+    ensures memory { IfErr result (λ fault. fault ≡ TowerFault.Memory → (form : Option FileForm) → IsMapOf AreFileFields (piece_of element.now) form → KeepsALevel form) }
 {
     let Some(map) = element.as_map() else {
         return Err(TowerFault::Shape(TowerField::File));

@@ -1,6 +1,7 @@
 //! Laws of the tower file. Each is proved, and does nothing.
 
 ghost use Rattle.std.specs.Prelude.{◌≡◌, ◌⊎◌, ℕ, List};
+ghost use Rattle.tower_file.specs.Alone.{alone_text, alone_tower};
 ghost use Rattle.tower_file.specs.Contents.{Contents};
 ghost use Rattle.tower_file.specs.Tower.{IsTowerOf, HasTowerFault};
 ghost use Rattle.tower_file.specs.declared.fault.TowerFault.{TowerFault};
@@ -45,4 +46,9 @@ pub fn tower_or_fault()
 /// Want of memory is no fault of a text.
 pub fn no_text_wants_memory()
     ensures { (bytes : List ℕ) → HasTowerFault bytes Memory → ⊥ }
+{}
+
+/// The text of `one_register` says the register `r` on the level `top`, and no other.
+pub fn text_of_one_register()
+    ensures { IsTowerOf alone_text alone_tower }
 {}

@@ -1,7 +1,28 @@
-//! Reads a tower file: the levels of a tower, its registers and what each claims to be.
+//! Reads a tower file: the levels of a tower, its registers, what each claims to be and what it is made of.
+//!
+//! The file is one EDN map, in a form of this project's own (docs/FORMATS.md). Its levels stand from the lowest
+//! up, registers are numbered in file order, and a register is made of registers of lower levels. A text says one
+//! tower or has one fault, from V1 to V8: one of the text as EDN, and else the first in reading order.
+//!
+//! ```text
+//! // {:levels [{:name "bits" :registers [{:name 0 :kind :regular :writers [1] :initial 0}]}
+//! //           {:name "top" :registers [{:name :x :kind :atomic :writers :any :of [0]}]}]}
+//! let tower = Tower::read(alloc, text)?;
+//! let many = tower.len();                       // 2
+//! let x = tower.find(b":x");                    // Some(RegId(1))
+//! let level = tower.level_of(RegId(1));         // Some(1), and level_name(1) is "top", quotes and all
+//! let parts = tower.parts_of(RegId(1));         // Some: RegId(0) alone
+//! let claim = tower.claim(RegId(1));            // Some: atomic, any process writes it, nil at first
+//! ```
+//!
+//! The first row of `tests.rt` is this tower; its other rows have each fault and each field. Begin with
+//! `Tower::read`: its clauses name the file as it is written (specs/Form.antt), what it says
+//! (specs/Reading.antt) and what a text says (specs/Tower.antt). `laws` has what follows: one tower, one fault,
+//! one of the two, and what the text of `one_register` says, worked out token by token.
 #![tactic(auto)]
 
 mod element;
+mod example;
 mod fault;
 mod file;
 pub mod laws;
@@ -13,6 +34,7 @@ mod said;
 mod text;
 mod tower;
 
+pub use example::one_register;
 pub use fault::{TowerFault, TowerField};
 pub use tower::Tower;
 

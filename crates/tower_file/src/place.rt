@@ -1,15 +1,15 @@
 //! A register among those before it.
 
 ghost use Rattle.std.specs.Prelude.{◌≡◌, ◌<◌, List, Option, None, IfOk, OnOk, length, not};
-ghost use Rattle.edn_reader.specs.Grammar.{Piece, piece_of};
-ghost use Rattle.edn_reader.specs.Pairs.{MembersLeft};
+ghost use Rattle.edn_reader.specs.Grammar.{Piece};
+ghost use Rattle.edn_reader.specs.Lent.{piece_of, MembersLeft};
 ghost use Rattle.std.specs.List.{list_any};
 ghost use Rattle.intervals.specs.Operation.{same_value};
 ghost use Rattle.intervals.specs.Terms.{writers_of as listed_writers};
 ghost use Rattle.tower_file.specs.Contents.{number_of};
-ghost use Rattle.tower_file.specs.Reading.{each, Said as SaidBy, has_its_writers as has_writers, part_of as part_that, is_empty_domain, is_outside as is_that_outside, initial_of as initial_that, placed};
-ghost use Rattle.tower_file.specs.Views.{register_at, GivesOrMemory};
-ghost use Rattle.tower_file.specs.Stated.{PartsLeft, IsSaid, domain_items};
+ghost use Rattle.tower_file.specs.Reading.{each, Said as SaidBy, has_its_writers as has_writers, part_of as part_that, is_empty_domain, is_outside as is_that_outside, initial_of as initial_that, register_among};
+ghost use Rattle.tower_file.specs.Views.{kept_register, GivesOrMemory};
+ghost use Rattle.tower_file.specs.Stated.{NamesLeft, IsSaid, domain_items};
 
 use crate::element::name_of;
 use crate::fault::TowerFault;
@@ -30,7 +30,7 @@ pub fn place(
     first: usize,
     registers: &Registers,
 ) -> Result<(Vec<u8>, Entry), TowerFault>
-    ensures placed { (form : SaidBy) → IsSaid said.entry form → GivesOrMemory register_at result (placed level first registers.now form) }
+    ensures placed { (form : SaidBy) → IsSaid said.entry form → GivesOrMemory kept_register result (register_among level first registers.now form) }
     ensures new { IfOk result (λ entry. number_of registers.now entry.0.items ≡ None) }
     ensures room { OnOk result (length registers.now < 65536) }
 {
@@ -129,7 +129,7 @@ fn read_parts(
     first: usize,
     registers: &Registers,
 ) -> Result<Vec<RegId>, TowerFault>
-    ensures { (members : List Piece) → PartsLeft parts.entry members → GivesOrMemory (λ found. found.items) result (each (part_that first registers.now) members) }
+    ensures { (members : List Piece) → NamesLeft parts.entry members → GivesOrMemory (λ found. found.items) result (each (part_that first registers.now) members) }
 {
     match parts {
         Some(view) => parts_of(alloc, view, first, registers),

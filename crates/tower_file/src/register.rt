@@ -1,11 +1,11 @@
 //! The registers of a level.
 
 ghost use Rattle.std.specs.Prelude.{◌≡◌, ◌≢◌, ◌<◌, List, Option, None, Ok, Err, IfOk, IfErr, OnOk, length};
-ghost use Rattle.edn_reader.specs.Grammar.{piece_of};
+ghost use Rattle.edn_reader.specs.Lent.{piece_of};
 ghost use Rattle.tower_file.specs.Form.{RegisterForm, IsRegister};
 ghost use Rattle.tower_file.specs.Contents.{number_of};
-ghost use Rattle.tower_file.specs.Reading.{register_of, registers_after};
-ghost use Rattle.tower_file.specs.Views.{register_at, GivesOrMemory};
+ghost use Rattle.tower_file.specs.Reading.{register_read, with_registers};
+ghost use Rattle.tower_file.specs.Views.{kept_register, GivesOrMemory};
 ghost use Rattle.tower_file.specs.Stated.{FormsLeft};
 ghost use Rattle.tower_file.specs.declared.fault.TowerFault.TheVariants.{Memory};
 
@@ -24,9 +24,9 @@ pub fn read_registers(
     registers: &mut Registers,
 ) -> Result<(), TowerFault>
     ensures ok { OnOk result ((forms : List (Option RegisterForm)) → FormsLeft IsRegister view.entry forms
-        → registers_after level registers.old forms ≡ Ok registers.new) }
+        → with_registers level registers.old forms ≡ Ok registers.new) }
     ensures err { IfErr result (λ fault. fault ≢ Memory → (forms : List (Option RegisterForm)) → FormsLeft IsRegister view.entry forms
-        → registers_after level registers.old forms ≡ Err fault) }
+        → with_registers level registers.old forms ≡ Err fault) }
 {
     let first = registers.len();
     let mut left = view;
@@ -44,7 +44,7 @@ fn read_register(
     first: usize,
     registers: &Registers,
 ) -> Result<(Vec<u8>, Entry), TowerFault>
-    ensures register { (form : Option RegisterForm) → IsRegister (piece_of element.now) form → GivesOrMemory register_at result (register_of level first registers.now form) }
+    ensures register { (form : Option RegisterForm) → IsRegister (piece_of element.now) form → GivesOrMemory kept_register result (register_read level first registers.now form) }
     ensures new { IfOk result (λ entry. number_of registers.now entry.0.items ≡ None) }
     ensures room { OnOk result (length registers.now < 65536) }
 {

@@ -4,7 +4,7 @@ ghost use Rattle.std.specs.Prelude.{◌≡◌, ◌≤◌, ◌<◌, ◌∷◌, �
 ghost use Rattle.std.specs.Option.{option_map};
 ghost use Rattle.std.specs.List.{slice_get};
 ghost use Rattle.tower_file.specs.Contents.{number_of};
-ghost use Rattle.tower_file.specs.Views.{register_at};
+ghost use Rattle.tower_file.specs.Views.{kept_register};
 
 use crate::fault::TowerFault;
 use indexmap::IndexMap;
@@ -29,11 +29,11 @@ pub struct Registers {
 impl Model for Registers {
     ghost use Rattle.std.specs.Prelude.{◌≤◌, List, map, length};
     ghost use Rattle.tower_file.specs.Contents.{Register};
-    ghost use Rattle.tower_file.specs.Views.{register_at};
+    ghost use Rattle.tower_file.specs.Views.{kept_register};
 
     ghost Value = { List Register };
 
-    ghost view = { λ r. map register_at r.by_name.entries };
+    ghost view = { λ r. map kept_register r.by_name.entries };
 
     ghost invariant = { λ r. length r.by_name.entries ≤ 65536 };
 }
@@ -66,7 +66,7 @@ impl Registers {
 
     /// The name of a register, and what is kept beside it.
     pub fn get(&self, id: RegId) -> Option<(&Vec<u8>, &Entry)>
-        ensures { option_map (λ entry. register_at (entry.0.now, entry.1.now)) result ≡ slice_get self.now id.0 }
+        ensures { option_map (λ entry. kept_register (entry.0.now, entry.1.now)) result ≡ slice_get self.now id.0 }
     {
         self.by_name.get_index(id.0 as usize)
     }
@@ -75,7 +75,7 @@ impl Registers {
     pub fn push(&mut self, name: Vec<u8>, entry: Entry) -> Result<(), TowerFault>
         requires new { number_of self.old name.items ≡ None }
         requires room { length self.old < 65536 }
-        ensures ok { OnOk result (self.new ≡ self.old ++ register_at (name, entry) ∷ []) }
+        ensures ok { OnOk result (self.new ≡ self.old ++ kept_register (name, entry) ∷ []) }
         ensures err { OnErr result (self.new ≡ self.old) }
         ensures memory { IfErr result (λ fault. fault ≡ TowerFault.Memory) }
     {

@@ -3,12 +3,12 @@
 ghost use Rattle.std.specs.Prelude.{◌≡◌, List, Option};
 ghost use Rattle.edn_reader.specs.Grammar.{Piece};
 ghost use Rattle.edn_reader.specs.Given.{Given, seen};
-ghost use Rattle.edn_reader.specs.Pairs.{PairsLeft as PairsOfView, MembersLeft};
+ghost use Rattle.edn_reader.specs.Lent.{PairsLeft as PairsOfView, MembersLeft};
 ghost use Rattle.intervals.specs.Terms.{writers_of as listed_writers};
 ghost use Rattle.tower_file.specs.Form.{Sequence, RegisterForm, AreRegisterFields, IsGiven, IsSequence, AreMembers};
-ghost use Rattle.tower_file.specs.Reading.{each, value_of as value_in, process_of as process_in, writers_in, domain_in, parts_in, said_by};
+ghost use Rattle.tower_file.specs.Reading.{each, value_in, process_of as process_in, writers_in, domain_in, parts_in, said_by};
 ghost use Rattle.tower_file.specs.Views.{GivesOrMemory};
-ghost use Rattle.tower_file.specs.Stated.{AreFound, PartsLeft, IsSaid, ShowsOrMemory, domain_items};
+ghost use Rattle.tower_file.specs.Stated.{AreFound, NamesLeft, IsSaid, ShowsOrMemory, domain_items};
 
 use crate::element::{needed, process_of, read_initial, read_kind, read_name, value_of};
 use crate::fault::{TowerFault, TowerField};
@@ -120,7 +120,7 @@ fn values_of(alloc: Global, view: VectorView) -> Result<Vec<Value>, TowerFault>
 }
 
 fn read_parts<'t>(field: &Field<'t>) -> Result<Option<VectorView<'t>>, TowerFault>
-    ensures { (given : Given (Option (List Piece))) → IsGiven AreMembers (seen field.now) given → ShowsOrMemory PartsLeft result (parts_in given) }
+    ensures { (given : Given (Option (List Piece))) → IsGiven AreMembers (seen field.now) given → ShowsOrMemory NamesLeft result (parts_in given) }
 {
     let element = match field {
         Field::Absent => return Ok(None),

@@ -1,41 +1,29 @@
 //! The text of a tower file, read to its end.
 
-ghost use Rattle.std.specs.Prelude.{◌≡◌, ◌++◌, ◌∷◌, [], List, IfOk, IfErr};
-ghost use Rattle.edn_reader.specs.Grammar.{Piece, piece_of, IsElement};
+ghost use Rattle.std.specs.Prelude.{◌≡◌, List, IfOk, IfErr};
+ghost use Rattle.edn_reader.specs.Grammar.{Piece};
 ghost use Rattle.edn_reader.specs.Text.{IsText};
-ghost use Rattle.edn_reader.specs.Fault.{FaultOf, IsMemory};
+ghost use Rattle.edn_reader.specs.Fault.{IsMemory};
 ghost use Rattle.edn_reader.specs.Given.{given, seen};
-ghost use Rattle.edn_reader.specs.Pairs.{IsWholeField};
-ghost use Rattle.tower_file.specs.Tower.{IsTextFault};
+ghost use Rattle.tower_file.specs.Stated.{IsTextFault};
 
 use crate::fault::TowerFault;
-use edn_reader::{EdnFault, Element, Field, Reader};
+use edn_reader::{EdnFault, Field, Reader};
 use std::alloc::Global;
 
 /// What the text is made of: nothing, one element, or more.
 pub fn read_text(alloc: Global, bytes: &[u8]) -> Result<Field<'_>, TowerFault>
     ensures text { IfOk result (λ found. (pieces : List Piece) × IsText bytes.now pieces × (seen found ≡ given pieces)) }
-    ensures whole { IfOk result IsWholeField }
     ensures fault { IfErr result (IsTextFault bytes.now) }
 {
     let mut reader = Reader::new(alloc, bytes);
     let mut found = Field::Absent;
     loop {
         match reader.next() {
-            Ok(Some(element)) => found = one_more(found, element),
+            Ok(Some(element)) => found = found.one_more(element),
             Ok(None) => return Ok(found),
             Err(fault) => return Err(fault_of(fault)),
         }
-    }
-}
-
-fn one_more<'t>(found: Field<'t>, element: Element<'t>) -> Field<'t>
-    ensures field { (pieces : List Piece) → seen found.entry ≡ given pieces → seen result ≡ given (pieces ++ piece_of element.entry ∷ []) }
-    ensures whole { IsWholeField found.entry → IsElement (piece_of element.entry) → IsWholeField result }
-{
-    match found {
-        Field::Absent => Field::Once(element),
-        Field::Once(_) | Field::Twice => Field::Twice,
     }
 }
 

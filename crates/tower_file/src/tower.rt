@@ -4,17 +4,19 @@ ghost use Rattle.std.specs.Prelude.{◌≡◌, ◌≢◌, ◌≤◌, ◌⊎◌, 
 ghost use Rattle.std.specs.Option.{option_map};
 ghost use Rattle.std.specs.List.{slice_get};
 ghost use Rattle.intervals.specs.Terms.{terms_of};
-ghost use Rattle.tower_file.specs.Contents.{Contents, alone, number_of};
-ghost use Rattle.tower_file.specs.Tower.{IsTowerOf, HasTowerFault};
+ghost use Rattle.tower_file.specs.Contents.{Contents, number_of};
+ghost use Rattle.tower_file.specs.Tower.{IsTowerOf, HasTowerFault, MayWantMemory};
 ghost use Rattle.tower_file.specs.declared.fault.TowerFault.{TowerFault as Fault};
 
 use crate::fault::{TowerFault, TowerField};
 use crate::file::read_file;
-use crate::registers::{Entry, Registers};
+use crate::registers::Registers;
 use crate::text::read_text;
 use edn_reader::Field;
-use edn_reader::laws::{members_of_vector, one_division, one_fault, pairs_of_map, text_or_fault};
-use intervals::{Claim, Memory, RegId};
+use edn_reader::laws::{
+    each_lent_is_element, members_of_vector, one_division, one_fault, pairs_of_map, text_or_fault,
+};
+use intervals::{Claim, RegId};
 use std::alloc::Global;
 use std::marker::Model;
 
@@ -41,7 +43,9 @@ impl Tower {
         ensures fault { IfErr result (λ fault. fault ≢ TowerFault.Memory → HasTowerFault bytes.now fault) }
         ensures reads { (tower : Contents) → IsTowerOf bytes.now tower → (result ≡ Ok tower) ⊎ (result ≡ Err TowerFault.Memory) }
         ensures refuses { (fault : Fault) → HasTowerFault bytes.now fault → (result ≡ Err fault) ⊎ (result ≡ Err TowerFault.Memory) }
+        ensures memory { IfErr result (λ fault. fault ≡ TowerFault.Memory → MayWantMemory bytes.now) }
     {
+        each_lent_is_element();
         one_division();
         one_fault();
         text_or_fault();
@@ -54,30 +58,6 @@ impl Tower {
             }
             Field::Absent | Field::Twice => Err(TowerFault::Shape(TowerField::File)),
         }
-    }
-
-    /// A tower of one register on one level, for a program whose register stands in no file. What a
-    /// file would be refused for is not asked of the claim.
-    pub fn of_register(
-        alloc: Global,
-        level: &[u8],
-        name: &[u8],
-        claim: Claim,
-    ) -> Result<Tower, Memory>
-        ensures { IfOk result (λ tower. tower ≡ alone level.now name.now (terms_of claim)) }
-    {
-        let entry = Entry {
-            claim,
-            level: 0,
-            parts: Vec::new(alloc),
-        };
-        let mut registers = Registers::new(alloc);
-        let Ok(()) = registers.push(Vec::from_slice(alloc, name)?, entry) else {
-            return Err(Memory);
-        };
-        let mut levels = Vec::new(alloc);
-        levels.push(Vec::from_slice(alloc, level)?)?;
-        Ok(Tower { levels, registers })
     }
 
     /// How many registers there are.

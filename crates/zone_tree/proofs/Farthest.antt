@@ -10,7 +10,8 @@ use Rattle.zone_tree.specs.declared.edge.Edge.{Edge}
 use Rattle.zone_tree.specs.declared.zone.Zone.{Zone}
 use Rattle.zone_tree.specs.Edge.{ComesBefore, comes_before}
 use Rattle.zone_tree.specs.Zone.{IsForward, HasOrderedEdges, Conflicts}
-use Rattle.zone_tree.specs.Conflict.{IsClean, KeepsClearOfForward, IsFarthestForward, IsFirstConflict, is_farther, farther_of}
+use Rattle.zone_tree.specs.Conflict.{IsClean, KeepsClearOfForward, IsFarthestForward, IsFirstConflict}
+use Rattle.zone_tree.specs.Farthest.{is_farther, farther_of}
 use Rattle.zone_tree.specs.Order.{IsByLeft, StandInOrder}
 use Rattle.zone_tree.proofs.EdgeOrder.{before_irreflexive, before_transitive}
 use Rattle.zone_tree.proofs.Pairs.{pairs_front, pairs_across, All-front, All-back}

@@ -1,8 +1,8 @@
 -- Conflicts in a list of zones that stand by their left edges.
-use Rattle.std.specs.Prelude.{◌≡◌, Bool, ◌&&◌, All, Contains, List, ◌∷◌, ◌++◌, Option, Some, None, if◌then◌else◌}
+use Rattle.std.specs.Prelude.{◌≡◌, All, Contains, List, ◌∷◌, ◌++◌}
 use Rattle.std.specs.List.{AllPairs}
 use Rattle.zone_tree.specs.declared.zone.Zone.{Zone}
-use Rattle.zone_tree.specs.Edge.{ComesBefore, comes_before}
+use Rattle.zone_tree.specs.Edge.{ComesBefore}
 use Rattle.zone_tree.specs.Zone.{IsForward, Conflicts}
 
 -- no two zones conflict
@@ -28,12 +28,3 @@ pub record IsFirstConflict (zones : List Zone) (first second : Zone) : Type 0 wh
   pub clear : KeepsClearOfForward earlier
   pub farthest : IsFarthestForward earlier first
   pub conflict : Conflicts first second
-
--- the zone is forward, and no forward zone was found yet or one of a lesser right edge
-abbrev pub is_farther : Option Zone → Zone → Bool
-is_farther None zone = zone.forward
-is_farther (Some found) zone = zone.forward && comes_before found.right zone.right
-
--- the farthest forward zone after one more zone
-abbrev pub farther_of : Option Zone → Zone → Option Zone
-farther_of found zone = if is_farther found zone then Some zone else found

@@ -2,7 +2,8 @@
 
 ghost use Rattle.std.specs.Prelude.{◌≡◌, ◌↔◌, Some, IsTrue, IsNone, IfSome, IfNone, IsSomeAnd};
 ghost use Rattle.zone_tree.specs.Zone.{Conflicts};
-ghost use Rattle.zone_tree.specs.Conflict.{IsClean, IsFirstConflict, is_farther as farther, farther_of as farther_zone};
+ghost use Rattle.zone_tree.specs.Conflict.{IsClean, IsFirstConflict};
+ghost use Rattle.zone_tree.specs.Farthest.{is_farther as farther, farther_of as farther_zone};
 ghost use Rattle.zone_tree.specs.Order.{StandInOrder};
 
 use crate::Zone;

@@ -1,6 +1,6 @@
 //! Laws of the definitions. Each is the contract of a function that does nothing.
 
-ghost use Rattle.std.specs.Prelude.{◌≡◌, ◌↔◌, ◌⊎◌, ◌∷◌, Contains, List, Some};
+ghost use Rattle.std.specs.Prelude.{◌≡◌, ◌↔◌, ◌⊎◌, ◌∷◌, Contains, List, Some, None};
 ghost use Rattle.zone_tree.specs.declared.edge.Edge.{Edge};
 ghost use Rattle.zone_tree.specs.declared.zone.Zone.{Zone};
 ghost use Rattle.zone_tree.specs.Edge.{ComesBefore};
@@ -75,4 +75,10 @@ pub fn a_removed_zone_leaves_the_others()
     ensures zones { (left : Edge) (zones : List Zone) (zone : Zone) → StandInOrder zones
         → zone_at left zones ≡ Some zone → IsPermutation zones (zone ∷ without_zone_at left zones) }
     ensures order { (left : Edge) (zones : List Zone) → StandInOrder zones → StandInOrder (without_zone_at left zones) }
+{}
+
+/// No zone is found at a left edge exactly where none has it, and then there is none to remove.
+pub fn nothing_is_removed_where_no_zone_is()
+    ensures none { (left : Edge) (zones : List Zone) → (zone_at left zones ≡ None) ↔ HasNoZoneAt left zones }
+    ensures kept { (left : Edge) (zones : List Zone) → HasNoZoneAt left zones → without_zone_at left zones ≡ zones }
 {}

@@ -1,8 +1,21 @@
 //! The zones of the clusters of one atomic register's history, by their left edges, and whether
 //! two of them conflict (Gibbons and Korach 1997).
 //!
-//! The zones stand in one sorted `Vec`: an edit moves what is behind it, and the test for conflicts
-//! goes over all zones once.
+//! A tree is given places first and then zones, which takes no memory, and names the first conflict:
+//!
+//!     let mut tree = ZoneTree::new(alloc);
+//!     tree.reserve(2)?;
+//!     tree.insert(inner);             // backward, from 5 back to 4
+//!     tree.insert(outer);             // forward, from 1 to 6
+//!     tree.first_conflict()           // Some((outer, inner))
+//!     tree.remove(Edge::At(Moment(1)));
+//!     tree.clean()                    // true
+//!
+//! The rows of `tests.rt` run these calls: `4<5 1>6` there are the zones above.
+//!
+//! Read `specs/Zone.antt` and `specs/Conflict.antt` first: what a zone is and what a conflict;
+//! then the calls in `tree.rt`, and in `laws.rt` what the definitions come to. The zones stand in one
+//! sorted `Vec`: an edit moves what is behind it, and the test for conflicts goes over all zones once.
 #![tactic(auto)]
 
 mod conflict;

@@ -1,9 +1,9 @@
 //! Where a left edge stands among zones by left edge.
 
-ghost use Rattle.std.specs.Prelude.{◌≡◌, length, option_copied};
+ghost use Rattle.std.specs.Prelude.{◌≡◌, length};
 ghost use Rattle.std.specs.List.{position};
 ghost use Rattle.zone_tree.specs.Edge.{same_edge};
-ghost use Rattle.zone_tree.specs.Order.{StandInOrder, below, zone_at};
+ghost use Rattle.zone_tree.specs.Order.{StandInOrder, below};
 
 use crate::edge::is_same;
 use crate::{Edge, Zone};
@@ -21,11 +21,4 @@ pub fn position_at(zones: &[Zone], left: Edge) -> Option<usize>
     ensures { result ≡ position (λ z. same_edge z.left left) zones.now }
 {
     zones.iter().position(|zone| is_same(zone.left, left))
-}
-
-/// The zone of that left edge.
-pub fn find_at(zones: &[Zone], left: Edge) -> Option<&Zone>
-    ensures { option_copied result ≡ zone_at left zones.now }
-{
-    zones.iter().find(|zone| is_same(zone.left, left))
 }

@@ -1,205 +1,118 @@
+//! Rows of zones, as calls of a tree.
+
 use super::*;
+use crate::laws::a_removed_zone_leaves_the_others;
 use intervals::{Memory, Moment, Value};
-use std::alloc::Global;
+use std::alloc::{AllocError, Global};
+use std::fmt::Write;
 use std::process::Abort;
 use std::test::Fail;
 
-fn at(moment: u64) -> Edge {
-    Edge::At(Moment(moment))
-}
-
-fn forward(value: i64, left: Edge, right: Edge) -> Zone {
-    Zone {
-        left,
-        right,
-        forward: true,
-        value: Value::Int(value),
+/// `-` stands before all moments, `+` after them.
+fn edge(word: &str) -> Edge {
+    match word {
+        "-" => Edge::Before,
+        "+" => Edge::Never,
+        _ => Edge::At(Moment(word.parse::<u64>().unwrap_or(0))),
     }
 }
 
-fn backward(value: i64, left: Edge, right: Edge) -> Zone {
+/// `1>6` is a forward zone, `4<5` a backward one.
+fn zone(word: &str) -> Zone {
+    let forward = word.contains('>');
+    let (left, right) = word.split_once(['<', '>']).unwrap_or(("-", "-"));
     Zone {
-        left,
-        right,
-        forward: false,
-        value: Value::Int(value),
+        left: edge(left),
+        right: edge(right),
+        forward,
+        value: Value::Nil,
     }
 }
 
-/// The zone of an initial value that no read returned.
-const INITIAL: Zone = Zone {
-    left: Edge::Before,
-    right: Edge::Before,
-    forward: false,
-    value: Value::Nil,
-};
-
-fn insert(rt: &impl Abort, tree: &mut ZoneTree, zone: Zone) {
-    assert!(rt; tree.free() > 0);
-    assert!(rt; tree.get(zone.left).is_none());
-    assert!(rt; zone.has_ordered_edges());
-    tree.insert(zone);
+/// In the place of the zone of that left edge, where there is one. A zone whose edges do not stand in
+/// order is left out.
+fn put(tree: &mut ZoneTree, zone: Zone) -> Result<(), Memory> {
+    a_removed_zone_leaves_the_others();
+    tree.reserve(1)?;
+    let _ = tree.remove(zone.left);
+    if zone.has_ordered_edges() {
+        tree.insert(zone);
+    }
+    Ok(())
 }
 
-fn tree_of(rt: &impl Abort, alloc: Global, zones: &[Zone]) -> Result<ZoneTree, Memory> {
+/// Each word is a zone to be put in, or behind `!` the left edge of one to be taken out.
+fn tree_of(alloc: Global, words: &str) -> Result<ZoneTree, Memory> {
     let mut tree = ZoneTree::new(alloc);
-    tree.reserve(zones.len())?;
-    for zone in zones {
-        insert(rt, &mut tree, *zone);
+    for word in words.split(' ') {
+        match word.strip_prefix('!') {
+            Some(left) => {
+                let _ = tree.remove(edge(left));
+            }
+            None => put(&mut tree, zone(word))?,
+        }
     }
     Ok(tree)
 }
 
-/// The tree has these zones, in this order.
-fn stand(rt: &impl Abort, tree: &ZoneTree, zones: &[Zone]) {
-    let mut standing = tree.iter();
-    for zone in zones {
-        assert_eq!(rt; standing.next(), Some(*zone));
+fn tell_edge(told: &mut String, edge: Edge) {
+    let _ = match edge {
+        Edge::Before => write!(told, "-"),
+        Edge::At(moment) => write!(told, "{}", moment.0),
+        Edge::Never => write!(told, "+"),
+    };
+}
+
+fn tell(told: &mut String, zone: &Zone) {
+    tell_edge(told, zone.left);
+    let _ = write!(told, "{}", if zone.forward { ">" } else { "<" });
+    tell_edge(told, zone.right);
+    let _ = write!(told, " ");
+}
+
+/// The zones that stand, and the first conflict.
+fn told(alloc: Global, tree: &ZoneTree) -> String {
+    let mut told = String::new(alloc);
+    for zone in tree.iter() {
+        tell(&mut told, &zone);
     }
-    assert_eq!(rt; standing.next(), None);
-}
-
-#[test]
-fn zones_stand_by_left_edge(rt: HostRuntime) -> Result<(), Fail> {
-    let first = backward(1, at(0), at(1));
-    let second = forward(2, at(3), at(4));
-    let third = backward(3, at(7), Edge::Never);
-    let mut tree = ZoneTree::new(rt.alloc());
-    assert_eq!(rt; tree.free(), 0);
-    stand(&rt, &tree, &[]);
-    tree.reserve(4)?;
-    let places = tree.free();
-    assert!(rt; places >= 4);
-    for zone in [second, INITIAL, third, first] {
-        insert(&rt, &mut tree, zone);
-    }
-    assert_eq!(rt; tree.free(), places - 4);
-    stand(&rt, &tree, &[INITIAL, first, second, third]);
-    assert_eq!(rt; tree.get(at(3)).copied(), Some(second));
-    assert!(rt; tree.get(at(4)).is_none());
-    Ok(())
-}
-
-#[test]
-fn a_removed_zone_leaves_its_place(rt: HostRuntime) -> Result<(), Fail> {
-    let first = backward(1, at(0), at(1));
-    let second = forward(2, at(3), at(4));
-    let third = backward(3, at(7), Edge::Never);
-    let mut tree = tree_of(&rt, rt.alloc(), &[first, second, third])?;
-    let places = tree.free();
-    assert_eq!(rt; tree.remove(at(4)), None);
-    assert_eq!(rt; tree.free(), places);
-    assert_eq!(rt; tree.remove(at(3)), Some(second));
-    assert_eq!(rt; tree.free(), places + 1);
-    stand(&rt, &tree, &[first, third]);
-    assert_eq!(rt; tree.remove(at(3)), None);
-    insert(&rt, &mut tree, forward(4, at(3), at(5)));
-    assert_eq!(rt; tree.free(), places);
-    Ok(())
-}
-
-#[test]
-fn a_backward_zone_inside_a_forward_one(rt: HostRuntime) -> Result<(), Fail> {
-    let outer = forward(1, at(1), at(6));
-    let inner = backward(2, at(4), at(5));
-    let mut tree = tree_of(&rt, rt.alloc(), &[inner, INITIAL, outer])?;
-    assert!(rt; !tree.clean());
-    assert_eq!(rt; tree.first_conflict(), Some((outer, inner)));
-    assert_eq!(rt; tree.remove(at(1)), Some(outer));
-    insert(&rt, &mut tree, backward(1, at(0), at(1)));
-    assert!(rt; tree.clean());
-    assert_eq!(rt; tree.first_conflict(), None);
-    Ok(())
-}
-
-#[test]
-fn forward_zones_that_overlap_and_that_touch(rt: HostRuntime) -> Result<(), Fail> {
-    let early = forward(1, at(1), at(4));
-    let late = forward(2, at(3), at(6));
-    let overlapping = tree_of(&rt, rt.alloc(), &[late, early])?;
-    assert_eq!(rt; overlapping.first_conflict(), Some((early, late)));
-    let next = forward(2, at(4), at(6));
-    let touching = tree_of(&rt, rt.alloc(), &[next, early])?;
-    assert!(rt; touching.clean());
-    let apart = tree_of(&rt, rt.alloc(), &[forward(2, at(5), at(6)), early])?;
-    assert!(rt; apart.clean());
-    Ok(())
-}
-
-#[test]
-fn edges_before_all_moments_and_after_them(rt: HostRuntime) -> Result<(), Fail> {
-    let initial = forward(0, Edge::Before, at(7));
-    let read_early = backward(1, at(0), at(6));
-    let tree = tree_of(&rt, rt.alloc(), &[read_early, initial])?;
-    assert_eq!(rt; tree.first_conflict(), Some((initial, read_early)));
-    let unread = backward(1, at(0), Edge::Never);
-    let short = forward(0, Edge::Before, at(3));
-    let mut tree = tree_of(&rt, rt.alloc(), &[unread, short])?;
-    assert!(rt; tree.clean());
-    assert_eq!(rt; tree.remove(Edge::Before), Some(short));
-    stand(&rt, &tree, &[unread]);
-    Ok(())
-}
-
-#[test]
-fn zones_between_two_that_conflict(rt: HostRuntime) -> Result<(), Fail> {
-    let long = forward(1, at(1), at(10));
-    let beyond = backward(2, at(2), at(11));
-    let within = backward(3, at(4), at(5));
-    let tree = tree_of(&rt, rt.alloc(), &[long, beyond, within])?;
-    assert_eq!(rt; tree.first_conflict(), Some((long, within)));
-    Ok(())
-}
-
-#[test]
-fn the_farthest_of_two_forward_zones(rt: HostRuntime) -> Result<(), Fail> {
-    let near = forward(1, at(1), at(2));
-    let far = forward(2, at(3), at(10));
-    let within = backward(3, at(4), at(5));
-    let also_within = backward(4, at(6), at(7));
-    let tree = tree_of(&rt, rt.alloc(), &[also_within, within, far, near])?;
-    assert_eq!(rt;
-        tree.first_conflict(),
-        Some((far, within)),
-        "the first by left edge"
-    );
-    Ok(())
-}
-
-#[test]
-fn edges_in_order(rt: HostRuntime) -> Result<(), Fail> {
-    let rising = [Edge::Before, at(0), at(7), Edge::Never];
-    for i in 0..4 {
-        for j in 0..4 {
-            assert_eq!(rt; rising[i].comes_before(rising[j]), i < j);
+    match tree.first_conflict() {
+        Some((first, second)) => {
+            let _ = write!(told, "of ");
+            tell(&mut told, &first);
+            tell(&mut told, &second);
         }
+        None => {}
     }
-    assert!(rt; !forward(1, at(3), at(3)).has_ordered_edges());
-    assert!(rt; backward(1, at(3), at(3)).has_ordered_edges());
-    assert!(rt; !backward(1, at(4), at(3)).has_ordered_edges());
-    Ok(())
+    let _ = write!(told, "{}", if tree.clean() { "clean" } else { "conflict" });
+    told
 }
 
+const ROWS: &str = "3>4 -<- 7<+ 0<1 => -<- 0<1 3>4 7<+ clean
++<+ 7<8 -<- 0<1 => -<- 0<1 7<8 +<+ clean
+0<1 3>4 7<+ !4 => 0<1 3>4 7<+ clean
+0<1 3>4 7<+ !3 => 0<1 7<+ clean
+0<1 3>4 7<+ !3 !3 3>5 => 0<1 3>5 7<+ clean
+4<5 -<- 1>6 => -<- 1>6 4<5 of 1>6 4<5 conflict
+4<5 -<- 1>6 !1 0<1 => -<- 0<1 4<5 clean
+3>6 1>4 => 1>4 3>6 of 1>4 3>6 conflict
+4>6 1>4 => 1>4 4>6 clean
+5>6 1>4 => 1>4 5>6 clean
+0<6 ->7 => ->7 0<6 of ->7 0<6 conflict
+0<+ ->3 => ->3 0<+ clean
+0<+ ->3 !- => 0<+ clean
+1>10 2<11 4<5 => 1>10 2<11 4<5 of 1>10 4<5 conflict
+6<7 4<5 3>10 1>2 => 1>2 3>10 4<5 6<7 of 3>10 4<5 conflict
+3>3 => clean
+3<3 => 3<3 clean
+4<3 => clean";
+
 #[test]
-fn refused_memory_changes_nothing(rt: HostRuntime) -> Result<(), Fail> {
-    let first = forward(1, at(1), at(6));
-    let second = backward(2, at(4), at(5));
-    let mut tree = ZoneTree::new(rt.alloc());
-    if let Err(Memory) = tree.reserve(2) {
-        assert_eq!(rt; tree.free(), 0);
-        stand(&rt, &tree, &[]);
-        tree.reserve(2)?;
+fn rows_are_told(rt: HostRuntime) -> Result<(), Fail> {
+    for row in ROWS.lines() {
+        let (words, want) = row.split_once(" => ").ok_or("a row")?;
+        let tree = tree_of(rt.alloc(), words)?;
+        assert!(rt; told(rt.alloc(), &tree).as_str() == want, "{row}");
     }
-    insert(&rt, &mut tree, second);
-    insert(&rt, &mut tree, first);
-    let places = tree.free();
-    if let Err(Memory) = tree.reserve(100) {
-        assert_eq!(rt; tree.free(), places);
-        stand(&rt, &tree, &[first, second]);
-        assert_eq!(rt; tree.first_conflict(), Some((first, second)));
-        tree.reserve(100)?;
-    }
-    assert!(rt; tree.free() >= 100);
-    stand(&rt, &tree, &[first, second]);
     Ok(())
 }

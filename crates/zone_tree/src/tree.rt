@@ -1,10 +1,10 @@
-ghost use Rattle.std.specs.Prelude.{◌≡◌, ◌+◌, ◌<◌, ◌≤◌, ◌↔◌, [], is_some, if◌then◌else◌, OnOk, OnErr, IsNone, IsTrue, IfSome, IfNone, option_copied};
+ghost use Rattle.std.specs.Prelude.{◌≡◌, ◌+◌, ◌<◌, ◌≤◌, ◌↔◌, [], is_some, if◌then◌else◌, OnOk, OnErr, IsNone, IsTrue, IfSome};
 ghost use Rattle.zone_tree.specs.Zone.{HasOrderedEdges};
 ghost use Rattle.zone_tree.specs.Conflict.{IsClean, IsFirstConflict};
 ghost use Rattle.zone_tree.specs.Order.{StandInOrder, HasNoZoneAt, with_zone, without_zone_at, zone_at};
 
 use crate::conflict::first_conflict;
-use crate::order::{find_at, place_of, position_at};
+use crate::order::{place_of, position_at};
 use crate::{Edge, Zone, Zones};
 use intervals::Memory;
 use std::alloc::Global;
@@ -30,7 +30,8 @@ impl Model for ZoneTree {
 impl ZoneTree {
     /// A tree of no zones and no places.
     pub fn new(alloc: Global) -> Self
-        ensures { result ≡ record { zones = []; free = 0 } }
+        ensures zones { result.zones ≡ [] }
+        ensures free { result.free ≡ 0 }
     {
         ZoneTree {
             zones: Vec::new(alloc),
@@ -64,14 +65,6 @@ impl ZoneTree {
         Zones::over(self.zones.as_slice())
     }
 
-    /// The zone of that left edge.
-    pub fn get(&self, left: Edge) -> Option<&Zone>
-        ensures zone { option_copied result ≡ zone_at left self.now.zones }
-        ensures none { IsNone result ↔ HasNoZoneAt left self.now.zones }
-    {
-        find_at(self.zones.as_slice(), left)
-    }
-
     /// Puts a zone of a new left edge into a reserved place.
     pub fn insert(&mut self, zone: Zone)
         requires room { 0 < self.old.free }
@@ -90,7 +83,6 @@ impl ZoneTree {
         ensures zone { result ≡ zone_at left self.old.zones }
         ensures zones { self.new.zones ≡ without_zone_at left self.old.zones }
         ensures free { self.new.free ≡ (if is_some result then self.old.free + 1 else self.old.free) }
-        ensures none { IfNone result (self.new ≡ self.old) }
     {
         let place = position_at(self.zones.as_slice(), left)?;
         Some(self.zones.remove(place))

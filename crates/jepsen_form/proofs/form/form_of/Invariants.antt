@@ -1,4 +1,4 @@
-use Rattle.edn_reader.specs.Pairs.{bytes_left}
+use Rattle.edn_reader.specs.Lent.{bytes_left}
 use Rattle.jepsen_form.proofs.Loops.{Found}
 use Rattle.jepsen_form.proofs.form.form_of.Given as goal
 

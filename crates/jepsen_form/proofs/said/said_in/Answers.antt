@@ -1,6 +1,6 @@
 use Rattle.std.proofs.Common.{None, Some}
-use Rattle.edn_reader.specs.Grammar.{piece_of}
-use Rattle.jepsen_form.proofs.Worths.{no_vector, of_vector}
+use Rattle.edn_reader.specs.Lent.{piece_of}
+use Rattle.jepsen_form.proofs.UnderValues.{no_vector, of_vector}
 use Rattle.jepsen_form.proofs.said.said_in.Goals as goal
 
 pub returns-in_default : goal.returns-in_default

@@ -1,4 +1,4 @@
-use Rattle.jepsen_form.proofs.Worths.{no_first, no_second, a_third, both}
+use Rattle.jepsen_form.proofs.UnderValues.{no_first, no_second, a_third, both}
 use Rattle.jepsen_form.proofs.said.the_two.Goals as goal
 
 pub returns-in_default : goal.returns-in_default

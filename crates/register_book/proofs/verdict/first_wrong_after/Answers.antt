@@ -4,7 +4,7 @@ use Rattle.intervals.specs.Least.{least_by}
 use Rattle.intervals.specs.Judging.{first_wrong, end_number}
 use Rattle.register_book.specs.Touch.{passes, is_touched}
 use Rattle.register_book.specs.Verdict.{is_wrong_touched, first_wrong_untouched}
-use Rattle.register_book.proofs.Split.{Joined, first_alone, second_alone, first_smaller, second_smaller}
+use Rattle.register_book.proofs.Split.{first_alone, second_alone, first_smaller, second_smaller}
 use Rattle.register_book.proofs.Untouched.{first_of_both}
 use Rattle.register_book.proofs.verdict.first_wrong_after.Goals as goal
 

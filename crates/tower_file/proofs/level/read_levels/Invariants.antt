@@ -1,5 +1,5 @@
 -- the tower so far is what the levels gone over give
-use Rattle.edn_reader.specs.Pairs.{members_left}
+use Rattle.edn_reader.specs.Lent.{members_left}
 use Rattle.tower_file.specs.Form.{IsLevel}
 use Rattle.tower_file.specs.Reading.{level_after}
 use Rattle.tower_file.specs.Views.{contents_with}

@@ -1,4 +1,4 @@
-use Rattle.edn_reader.specs.Grammar.{piece_of}
+use Rattle.edn_reader.specs.Lent.{piece_of}
 use Rattle.edn_reader.specs.Given.{seen}
 use Rattle.tower_file.specs.Form.{IsRegister, IsLevel}
 use Rattle.tower_file.proofs.Vectors.{vector_shows, no_vector}

@@ -1,5 +1,5 @@
 -- the parts so far are those of the elements that were gone over
-use Rattle.edn_reader.specs.Pairs.{members_left}
+use Rattle.edn_reader.specs.Lent.{members_left}
 use Rattle.tower_file.specs.Reading.{part_of}
 use Rattle.tower_file.proofs.Loops.{SoFar}
 use Rattle.tower_file.proofs.place.parts_of.Given as goal

@@ -1,5 +1,5 @@
 -- the registers so far are those that the elements gone over give
-use Rattle.edn_reader.specs.Pairs.{members_left}
+use Rattle.edn_reader.specs.Lent.{members_left}
 use Rattle.tower_file.specs.Form.{IsRegister}
 use Rattle.tower_file.specs.Reading.{with_register}
 use Rattle.tower_file.proofs.Loops.{After}

@@ -1,5 +1,5 @@
 -- the processes so far are those of the elements that were gone over
-use Rattle.edn_reader.specs.Pairs.{members_left}
+use Rattle.edn_reader.specs.Lent.{members_left}
 use Rattle.tower_file.specs.Reading.{process_of}
 use Rattle.tower_file.proofs.Loops.{SoFar}
 use Rattle.tower_file.proofs.said.processes_of.Given as goal

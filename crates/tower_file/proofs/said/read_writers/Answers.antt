@@ -1,6 +1,6 @@
 use Rattle.std.proofs.Common.{sym, ◌∙◌}
 use Rattle.std.proofs.lemmas.Result.{err_from_is_err_and}
-use Rattle.edn_reader.specs.Grammar.{piece_of}
+use Rattle.edn_reader.specs.Lent.{piece_of}
 use Rattle.edn_reader.specs.Given.{seen}
 use Rattle.tower_file.proofs.Vectors.{no_writers}
 use Rattle.tower_file.proofs.said.read_writers.Goals as goal

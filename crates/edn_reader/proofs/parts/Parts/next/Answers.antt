@@ -1,10 +1,11 @@
 use Rattle.std.proofs.Common.{rules, ◌≡◌, length, Option, None, refl, sym, ap, subst, ◌∙◌, arith}
 use Rattle.edn_reader.specs.declared.element.Element.{Element}
-use Rattle.edn_reader.specs.Pairs.{NextPart}
+use Rattle.edn_reader.specs.Lent.{NextPart}
 use Rattle.edn_reader.specs.Skipping.{kind_token}
 use Rattle.edn_reader.proofs.Stretches.{from_index}
 use Rattle.edn_reader.proofs.Skipping.{none_at_end, stands_token}
-use Rattle.edn_reader.proofs.Views.{none_left, no_core_left, next_part, given_is_element}
+use Rattle.edn_reader.proofs.Views.{none_left, no_core_left, found_piece, found_part, next_part}
+use Rattle.edn_reader.proofs.Lent.{found_is_element}
 use Rattle.edn_reader.proofs.parts.Parts.next.Goals as goal
 
 pub returns-in_err-first-clause-part : goal.returns-in_err-first-clause-part
@@ -39,16 +40,28 @@ returns-in_err-core_kind-clause-part c opener parts h =
     (no_core_left opener c.args.self.now c.in_ok-first.first.at inner.at c.in_ok-first.ensures.end c.in_ok-inner.ensures.end
     (ap kind_token (stands_token left inner inner.at c.in_ok-inner.ensures.stands.0 refl) ∙ sym c.kind_of-2.ensures ∙ c.in_err-core_kind.was) parts h)
 
+pub new-requires-2-clause-whole : goal.new-requires-2-clause-whole
+new-requires-2-clause-whole c =
+    let left = c.args.self.now.left.now in
+    let first = c.in_ok-first.first in
+    let inner = c.in_ok-inner.inner in
+    let end = c.end_behind-end.result in
+    found_is_element c.args.self.now c.new.result (found_piece c.args.self.now first.at inner.at end c.in_ok-kind.kind c.in_ok-core_kind.core_kind) c.requires
+    (λ opener parts h. found_part opener c.args.self.now c.new.result first.at inner.at end c.in_ok-kind.kind c.in_ok-core_kind.core_kind
+    c.in_ok-first.ensures.end c.in_ok-inner.ensures.end c.end_behind-end.ensures.end c.in_ok-inner.ensures.stands.1 (omega (arith, c.end_behind-end.ensures.forward))
+    (sym c.in_ok-kind.was ∙ c.kind_of.ensures ∙ ap kind_token (sym (stands_token left first first.at c.in_ok-first.ensures.stands.0 refl)))
+    (sym c.in_ok-core_kind.was ∙ c.kind_of-2.ensures ∙ ap kind_token (sym (stands_token left inner inner.at c.in_ok-inner.ensures.stands.0 refl)))
+    c.new.ensures.at (c.new.ensures.left ∙ from_index left end) parts h)
+
 pub returns-clause-part : goal.returns-clause-part
 returns-clause-part c opener parts h =
     let left = c.args.self.now.left.now in
     let first = c.in_ok-first.first in
     let inner = c.in_ok-inner.inner in
-    next_part opener c.args.self.now c.new.result c.new-2.result first.at inner.at c.end_behind-end.result c.in_ok-kind.kind c.in_ok-core_kind.core_kind
+    let end = c.end_behind-end.result in
+    next_part opener c.new.result c.new-2.result (found_piece c.args.self.now first.at inner.at end c.in_ok-kind.kind c.in_ok-core_kind.core_kind) c.new-2.ensures parts
+    (found_part opener c.args.self.now c.new.result first.at inner.at end c.in_ok-kind.kind c.in_ok-core_kind.core_kind
     c.in_ok-first.ensures.end c.in_ok-inner.ensures.end c.end_behind-end.ensures.end c.in_ok-inner.ensures.stands.1 (omega (arith, c.end_behind-end.ensures.forward))
     (sym c.in_ok-kind.was ∙ c.kind_of.ensures ∙ ap kind_token (sym (stands_token left first first.at c.in_ok-first.ensures.stands.0 refl)))
-    (sym c.in_ok-core_kind.was ∙ c.kind_of-2.ensures ∙ ap kind_token (sym (stands_token left inner inner.at c.in_ok-inner.ensures.stands.0 refl))) c.new-2.ensures
-    c.new.ensures.at (c.new.ensures.left ∙ from_index left c.end_behind-end.result) parts h
-
-pub returns-clause-whole : goal.returns-clause-whole
-returns-clause-whole c opener parts h = given_is_element opener c.args.self.now c.new.result c.new-2.result parts h (returns-clause-part c opener parts h)
+    (sym c.in_ok-core_kind.was ∙ c.kind_of-2.ensures ∙ ap kind_token (sym (stands_token left inner inner.at c.in_ok-inner.ensures.stands.0 refl)))
+    c.new.ensures.at (c.new.ensures.left ∙ from_index left end) parts h)

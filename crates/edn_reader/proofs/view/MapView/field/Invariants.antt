@@ -1,4 +1,4 @@
-use Rattle.edn_reader.specs.Pairs.{bytes_left}
+use Rattle.edn_reader.specs.Lent.{bytes_left}
 use Rattle.edn_reader.proofs.Views.{Seen}
 use Rattle.edn_reader.proofs.view.MapView.field.Given as goal
 

@@ -1,6 +1,7 @@
 use Rattle.std.proofs.Common.{◌≡◌, ◌<◌, true, false, sym, subst, ◌∙◌, is_err}
 use Rattle.std.specs.Option.{ForSome}
-use Rattle.pairing.specs.Known.{Known, StandsAfter, answer_beside}
+use Rattle.pairing.specs.Known.{Known, StandsAfter}
+use Rattle.pairing.specs.Kept.{answer_beside}
 use Rattle.pairing.proofs.Standing.{after_refused, after_taken, rows_rise}
 use Rattle.pairing.proofs.pairing.Pairing.take.Goals as goal
 

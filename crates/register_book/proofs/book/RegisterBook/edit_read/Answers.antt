@@ -4,10 +4,10 @@ use Rattle.intervals.specs.Operation.{writes}
 use Rattle.intervals.specs.Edit.{edited}
 use Rattle.intervals.specs.Judging.{first_wrong}
 use Rattle.intervals.specs.Refusal.{first_refusal}
-use Rattle.register_book.specs.Ids.{HasDistinctIds}
+use Rattle.intervals.specs.Standing.{HasDistinctIds}
 use Rattle.register_book.specs.Touch.{touch_of}
 use Rattle.register_book.specs.Verdict.{is_on_write}
-use Rattle.register_book.proofs.Ids.{distinct_edited}
+use Rattle.intervals.proofs.Ids.{distinct_edited}
 use Rattle.register_book.proofs.ReadEdits.{writes_edited}
 use Rattle.register_book.proofs.Untouched.{first_untouched}
 use Rattle.register_book.proofs.book.RegisterBook.edit_read.Goals as goal

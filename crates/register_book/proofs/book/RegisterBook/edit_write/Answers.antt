@@ -2,9 +2,9 @@ use Rattle.std.proofs.Common.{◌≡◌, None, rules, sym, subst}
 use Rattle.intervals.specs.Terms.{terms_of}
 use Rattle.intervals.specs.Edit.{edited}
 use Rattle.intervals.specs.Refusal.{first_refusal}
-use Rattle.register_book.specs.Ids.{HasDistinctIds}
+use Rattle.intervals.specs.Standing.{HasDistinctIds}
 use Rattle.register_book.specs.Touch.{touch_of}
-use Rattle.register_book.proofs.Ids.{distinct_edited}
+use Rattle.intervals.proofs.Ids.{distinct_edited}
 use Rattle.register_book.proofs.Untouched.{first_untouched}
 use Rattle.register_book.proofs.book.RegisterBook.edit_write.Goals as goal
 

@@ -1,8 +1,9 @@
 use Rattle.std.proofs.Common.{◌≡◌, Some, rules}
 use Rattle.intervals.specs.declared.operation.Op.{Op}
 use Rattle.intervals.specs.Judging.{first_wrong}
-use Rattle.register_book.specs.Ids.{HasDistinctIds}
-use Rattle.register_book.proofs.Ids.{found_by_id, each_stands}
+use Rattle.intervals.specs.Standing.{HasDistinctIds}
+use Rattle.intervals.proofs.Ids.{found_by_id}
+use Rattle.register_book.proofs.Ids.{each_stands}
 use Rattle.register_book.proofs.book.RegisterBook.wrong_op.Goals as goal
 
 pub returns-clause-stands : goal.returns-clause-stands

@@ -1,4 +1,4 @@
-use Rattle.std.proofs.Common.{Result, Ok, Err}
+use Rattle.std.proofs.Common.{Result, Ok, Err, inr}
 use Rattle.std.proofs.lemmas.Result.{err_from_is_err_and}
 use Rattle.tower_file.specs.declared.fault.TowerField.TheVariants.{File}
 use Rattle.tower_file.specs.declared.fault.TowerFault.{TowerFault}
@@ -6,7 +6,7 @@ use Rattle.tower_file.specs.declared.fault.TowerFault.TheVariants.{Shape}
 use Rattle.tower_file.specs.Contents.{Contents}
 use Rattle.tower_file.specs.Views.{contents_with}
 use Rattle.tower_file.proofs.Forms.{file_some}
-use Rattle.tower_file.proofs.Towers.{refused_text_reads, refused_text_refuses, answered_tower, answered_fault, answered_reads, answered_refuses, one_found, other_found}
+use Rattle.tower_file.proofs.Towers.{refused_text_reads, refused_text_refuses, answered_tower, answered_fault, answered_reads, answered_refuses, one_found, other_found, kept_file}
 use Rattle.tower_file.proofs.tower.Tower.read.Goals as goal
 
 pub returns-in_err-element-clause-reads : goal.returns-in_err-element-clause-reads
@@ -23,42 +23,42 @@ pub returns-in_err-levels-in-Once-clause-fault : goal.returns-in_err-levels-in-O
 returns-in_err-levels-in-Once-clause-fault c =
     let p = err_from_is_err_and c.from_residual-in_err-levels-in-Once.result c.from_residual-in_err-levels-in-Once.ensures.1 in
     let some = file_some c.pairs_of_map.ensures.some c.pairs_of_map.ensures.elements c.members_of_vector.ensures.some c.members_of_vector.ensures.elements in
-    let answered = one_found c.args.bytes.now c.in-Once.element c.in_ok-element.field-0 (Err c.in_err-levels-in-Once.field-0.0) (c.one_division.ensures c.args.bytes.now) c.in-Once.is c.in_ok-element.ensures.text c.in_ok-element.ensures.whole some c.in_err-levels-in-Once.ensures in
+    let answered = one_found c.args.bytes.now c.in-Once.element c.in_ok-element.field-0 (Err c.in_err-levels-in-Once.field-0.0) (c.one_division.ensures c.args.bytes.now) c.in-Once.is c.in_ok-element.ensures.text (c.each_lent_is_element.ensures c.in-Once.element) some c.in_err-levels-in-Once.ensures.says in
     rw (p.1, p.2) (answered_fault c.args.bytes.now (Err c.in_err-levels-in-Once.field-0.0) answered)
 
 pub returns-in_err-levels-in-Once-clause-reads : goal.returns-in_err-levels-in-Once-clause-reads
 returns-in_err-levels-in-Once-clause-reads c =
     let p = err_from_is_err_and c.from_residual-in_err-levels-in-Once.result c.from_residual-in_err-levels-in-Once.ensures.1 in
     let some = file_some c.pairs_of_map.ensures.some c.pairs_of_map.ensures.elements c.members_of_vector.ensures.some c.members_of_vector.ensures.elements in
-    let answered = one_found c.args.bytes.now c.in-Once.element c.in_ok-element.field-0 (Err c.in_err-levels-in-Once.field-0.0) (c.one_division.ensures c.args.bytes.now) c.in-Once.is c.in_ok-element.ensures.text c.in_ok-element.ensures.whole some c.in_err-levels-in-Once.ensures in
+    let answered = one_found c.args.bytes.now c.in-Once.element c.in_ok-element.field-0 (Err c.in_err-levels-in-Once.field-0.0) (c.one_division.ensures c.args.bytes.now) c.in-Once.is c.in_ok-element.ensures.text (c.each_lent_is_element.ensures c.in-Once.element) some c.in_err-levels-in-Once.ensures.says in
     rw (p.1, p.2) (answered_reads c.args.bytes.now (Err c.in_err-levels-in-Once.field-0.0) answered)
 
 pub returns-in_err-levels-in-Once-clause-refuses : goal.returns-in_err-levels-in-Once-clause-refuses
 returns-in_err-levels-in-Once-clause-refuses c =
     let p = err_from_is_err_and c.from_residual-in_err-levels-in-Once.result c.from_residual-in_err-levels-in-Once.ensures.1 in
     let some = file_some c.pairs_of_map.ensures.some c.pairs_of_map.ensures.elements c.members_of_vector.ensures.some c.members_of_vector.ensures.elements in
-    let answered = one_found c.args.bytes.now c.in-Once.element c.in_ok-element.field-0 (Err c.in_err-levels-in-Once.field-0.0) (c.one_division.ensures c.args.bytes.now) c.in-Once.is c.in_ok-element.ensures.text c.in_ok-element.ensures.whole some c.in_err-levels-in-Once.ensures in
+    let answered = one_found c.args.bytes.now c.in-Once.element c.in_ok-element.field-0 (Err c.in_err-levels-in-Once.field-0.0) (c.one_division.ensures c.args.bytes.now) c.in-Once.is c.in_ok-element.ensures.text (c.each_lent_is_element.ensures c.in-Once.element) some c.in_err-levels-in-Once.ensures.says in
     rw (p.1, p.2) (answered_refuses c.args.bytes.now (Err c.in_err-levels-in-Once.field-0.0) (c.text_or_fault.ensures.not_both c.args.bytes.now) answered)
 
 pub returns-in_ok-levels-in-Once-clause-tower : goal.returns-in_ok-levels-in-Once-clause-tower
 returns-in_ok-levels-in-Once-clause-tower c =
     let some = file_some c.pairs_of_map.ensures.some c.pairs_of_map.ensures.elements c.members_of_vector.ensures.some c.members_of_vector.ensures.elements in
     let tower = contents_with c.in_ok-levels-in-Once.levels c.in_ok-levels-in-Once.registers in
-    let answered = one_found c.args.bytes.now c.in-Once.element c.in_ok-element.field-0 (Ok tower) (c.one_division.ensures c.args.bytes.now) c.in-Once.is c.in_ok-element.ensures.text c.in_ok-element.ensures.whole some c.in_ok-levels-in-Once.ensures in
+    let answered = one_found c.args.bytes.now c.in-Once.element c.in_ok-element.field-0 (Ok tower) (c.one_division.ensures c.args.bytes.now) c.in-Once.is c.in_ok-element.ensures.text (c.each_lent_is_element.ensures c.in-Once.element) some c.in_ok-levels-in-Once.ensures.says in
     answered_tower c.args.bytes.now (Ok tower) answered
 
 pub returns-in_ok-levels-in-Once-clause-reads : goal.returns-in_ok-levels-in-Once-clause-reads
 returns-in_ok-levels-in-Once-clause-reads c =
     let some = file_some c.pairs_of_map.ensures.some c.pairs_of_map.ensures.elements c.members_of_vector.ensures.some c.members_of_vector.ensures.elements in
     let tower = contents_with c.in_ok-levels-in-Once.levels c.in_ok-levels-in-Once.registers in
-    let answered = one_found c.args.bytes.now c.in-Once.element c.in_ok-element.field-0 (Ok tower) (c.one_division.ensures c.args.bytes.now) c.in-Once.is c.in_ok-element.ensures.text c.in_ok-element.ensures.whole some c.in_ok-levels-in-Once.ensures in
+    let answered = one_found c.args.bytes.now c.in-Once.element c.in_ok-element.field-0 (Ok tower) (c.one_division.ensures c.args.bytes.now) c.in-Once.is c.in_ok-element.ensures.text (c.each_lent_is_element.ensures c.in-Once.element) some c.in_ok-levels-in-Once.ensures.says in
     answered_reads c.args.bytes.now (Ok tower) answered
 
 pub returns-in_ok-levels-in-Once-clause-refuses : goal.returns-in_ok-levels-in-Once-clause-refuses
 returns-in_ok-levels-in-Once-clause-refuses c =
     let some = file_some c.pairs_of_map.ensures.some c.pairs_of_map.ensures.elements c.members_of_vector.ensures.some c.members_of_vector.ensures.elements in
     let tower = contents_with c.in_ok-levels-in-Once.levels c.in_ok-levels-in-Once.registers in
-    let answered = one_found c.args.bytes.now c.in-Once.element c.in_ok-element.field-0 (Ok tower) (c.one_division.ensures c.args.bytes.now) c.in-Once.is c.in_ok-element.ensures.text c.in_ok-element.ensures.whole some c.in_ok-levels-in-Once.ensures in
+    let answered = one_found c.args.bytes.now c.in-Once.element c.in_ok-element.field-0 (Ok tower) (c.one_division.ensures c.args.bytes.now) c.in-Once.is c.in_ok-element.ensures.text (c.each_lent_is_element.ensures c.in-Once.element) some c.in_ok-levels-in-Once.ensures.says in
     answered_refuses c.args.bytes.now (Ok tower) (c.text_or_fault.ensures.not_both c.args.bytes.now) answered
 
 pub returns-in-Absent : goal.returns-in-Absent
@@ -70,4 +70,11 @@ returns-in-Absent c =
       fault = answered_fault c.args.bytes.now refused answered;
       reads = answered_reads c.args.bytes.now refused answered;
       refuses = answered_refuses c.args.bytes.now refused (c.text_or_fault.ensures.not_both c.args.bytes.now) answered;
+      memory = λ wanted. absurd cc;
     }
+
+pub returns-in_err-levels-in-Once-clause-memory : goal.returns-in_err-levels-in-Once-clause-memory
+returns-in_err-levels-in-Once-clause-memory c =
+    let p = err_from_is_err_and c.from_residual-in_err-levels-in-Once.result c.from_residual-in_err-levels-in-Once.ensures.1 in
+    let some = file_some c.pairs_of_map.ensures.some c.pairs_of_map.ensures.elements c.members_of_vector.ensures.some c.members_of_vector.ensures.elements in
+    rw (p.1, p.2) (λ wanted. inr (kept_file c.args.bytes.now c.in-Once.element c.in_ok-element.field-0 c.in-Once.is c.in_ok-element.ensures.text (c.each_lent_is_element.ensures c.in-Once.element) some (c.in_err-levels-in-Once.ensures.memory wanted)))

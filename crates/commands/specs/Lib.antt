@@ -1,0 +1,5 @@
+pub mod Input
+pub mod Listing
+pub mod Verdict
+pub mod Complaint
+pub mod Run

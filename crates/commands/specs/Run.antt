@@ -1,0 +1,28 @@
+-- What a run of the program did.
+use Rattle.std.specs.Prelude.{◌≡◌, ℕ, List, Option, Some, None, IfSome}
+use Rattle.std.specs.Io.KnownBytes.{Appends}
+use Rattle.clap.specs.Words.{Text}
+use Rattle.tower_file.specs.Contents.{Contents}
+use Rattle.tower_file.specs.Tower.{IsTowerOf}
+use Rattle.commands.specs.Verdict.{IsAudited}
+use Rattle.commands.specs.Listing.{tower_lines}
+use Rattle.words.specs.Words.{Asked, Safe, Tower, asked}
+
+-- a tower file was listed: the lines of the tower that it says were written
+pub record IsListed (file : List ℕ) (status : ℕ) (old new : Option (List ℕ)) : Type 0 where
+  pub tower : Contents
+  pub says : IsTowerOf file tower
+  pub written : Appends old new (tower_lines tower)
+  pub status_is : status ≡ 0
+
+-- a command was carried out, over files and a standard input whose bytes are known
+abbrev pub IsCarriedOut : Asked → (Text → Option (List ℕ)) → Option (List ℕ) → ℕ → Option (List ℕ) → Option (List ℕ) → Type 0
+IsCarriedOut (Safe None) files input status old new = IfSome input (λ bytes. IsAudited bytes status old new)
+IsCarriedOut (Safe (Some name)) files input status old new = IfSome (files name) (λ bytes. IsAudited bytes status old new)
+IsCarriedOut (Tower name) files input status old new = IfSome (files name) (λ bytes. IsListed bytes status old new)
+
+-- these words ask for a command, and it was carried out
+pub record IsDone (words : List Text) (files : Text → Option (List ℕ)) (input : Option (List ℕ)) (status : ℕ) (old new : Option (List ℕ)) : Type 0 where
+  pub command : Asked
+  pub asks : asked words ≡ Some command
+  pub carried_out : IsCarriedOut command files input status old new

@@ -1,0 +1,24 @@
+//! The program's commands, over files, a standard input and two outputs.
+//!
+//! ```text
+//! let files = &mut HostFiles::new(rt);
+//! let status = run(rt, words_of(rt), files, &mut input, &mut out, &mut err);
+//! ```
+//!
+//! The program `regaudit` is this call over the machine, and `rows` makes it for each row of data.
+//! Begin with `commands`: `run_words` carries out what words ask for, and `conclude` says why that
+//! broke off. `specs/Run.antt` says what a run did, `specs/Verdict.antt` what it printed.
+#![tactic(auto)]
+
+mod commands;
+mod fault;
+mod files;
+mod input;
+mod listing;
+
+pub use commands::{BROKEN, conclude, run, run_safe, run_words, words_of};
+pub use fault::RunFault;
+pub use files::{Files, HostFiles, Missing};
+
+#[cfg(test)]
+mod tests;

@@ -1,0 +1,42 @@
+-- What the reply rule keeps of the operations that stand.
+use Rattle.std.specs.Prelude.{◌≡◌, ◌≢◌, ◌<◌, ◌⊎◌, List, [], ◌∷◌, Some, None, All, IfSome}
+use Rattle.std.specs.List.{AllPairs}
+use Rattle.intervals.specs.declared.operation.Op.{Op}
+use Rattle.intervals.specs.declared.operation.Moment.{Moment}
+use Rattle.intervals.specs.declared.operation.Value.{Value}
+use Rattle.intervals.specs.Operation.{IsWrite, Overlaps, value_of}
+use Rattle.intervals.specs.Edit.{op_of}
+
+-- no two operations have one id
+abbrev pub HasDistinctIds : List Op → Type 0
+HasDistinctIds [] = Unit {0}
+HasDistinctIds (op ∷ ops) = (op_of ops op.id ≡ None) × HasDistinctIds ops
+
+-- the operation begins or ends at the moment
+abbrev pub IsMomentOf : Op → Moment → Type 0
+IsMomentOf op moment = (op.begin ≡ moment) ⊎ (op.end ≡ Some moment)
+
+-- no moment is one of both operations
+abbrev pub ShareNoMoment : Op → Op → Type 0
+ShareNoMoment a b = (moment : Moment) → IsMomentOf a moment → ¬ IsMomentOf b moment
+
+-- no two operations have a moment in common
+abbrev pub HasDistinctMoments : List Op → Type 0
+HasDistinctMoments ops = AllPairs ShareNoMoment ops
+
+-- each end is after its beginning
+abbrev pub HasEndsAfterBeginnings : List Op → Type 0
+HasEndsAfterBeginnings ops = All (λ op. IfSome op.end (λ end. op.begin.0 < end.0)) ops
+
+-- no two writes overlap
+abbrev pub HasNoOverlappingWrites : List Op → Type 0
+HasNoOverlappingWrites ops = AllPairs (λ v w. IsWrite v → IsWrite w → ¬ Overlaps v w) ops
+
+-- another write that has the value of this one
+abbrev pub IsHolder : Op → Op → Type 0
+IsHolder op other = (other.id ≢ op.id) × IsWrite other × (value_of other.act ≡ value_of op.act)
+
+-- no two writes have one value, and none has the initial value
+pub record HasDistinctValues (initial : Value) (ops : List Op) : Type 0 where
+  pub apart : AllPairs (λ v w. IsWrite v → IsWrite w → value_of v.act ≢ value_of w.act) ops
+  pub new : All (λ w. IsWrite w → value_of w.act ≢ initial) ops

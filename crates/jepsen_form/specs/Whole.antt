@@ -1,0 +1,28 @@
+-- What an item that was read has.
+use Rattle.std.specs.Prelude.{⊤, Option, IsSome}
+use Rattle.intervals.specs.declared.operation.RegId.{RegId}
+use Rattle.intervals.specs.declared.operation.Moment.{Moment}
+use Rattle.jepsen_form.specs.declared.item.Event.{Event as AnEvent}
+use Rattle.jepsen_form.specs.declared.item.Item.{Item}
+use Rattle.jepsen_form.specs.declared.item.Item.TheVariants.{Event, Amend, Withdraw, Ask, Skipped}
+use Rattle.jepsen_form.specs.declared.item.Stage.{Stage}
+use Rattle.jepsen_form.specs.declared.item.Stage.TheVariants.{Invoke, Ok, Fail, Info}
+
+-- The register and the moment are there where the stage needs them: at an invocation and at an answer that is :ok.
+abbrev pub HasWhatItNeeds : Stage → Option RegId → Option Moment → Type 0
+HasWhatItNeeds Invoke register moment = IsSome register × IsSome moment
+HasWhatItNeeds Ok register moment = IsSome register × IsSome moment
+HasWhatItNeeds Fail register moment = ⊤
+HasWhatItNeeds Info register moment = ⊤
+
+-- The event has the register and the moment that its stage needs.
+abbrev pub IsWholeEvent : AnEvent → Type 0
+IsWholeEvent event = HasWhatItNeeds event.answer event.register event.moment
+
+-- An event has them; other items need none.
+abbrev pub IsWhole : Item → Type 0
+IsWhole (Event event) = IsWholeEvent event
+IsWhole (Amend of change) = ⊤
+IsWhole (Withdraw of) = ⊤
+IsWhole (Ask register) = ⊤
+IsWhole Skipped = ⊤

@@ -1,9 +1,0 @@
-pub mod Steps
-pub mod Replay
-pub mod Log
-pub mod Progress
-pub mod Audit
-pub mod Input
-pub mod Words
-pub mod Listing
-pub mod Run

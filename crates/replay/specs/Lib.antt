@@ -1,0 +1,5 @@
+pub mod Steps
+pub mod Replay
+pub mod Log
+pub mod Progress
+pub mod Audit

@@ -1,0 +1,107 @@
+//! What a run is given, and what is to come of it.
+
+use percent_encoding::percent_decode;
+use std::alloc::{AllocError, Global};
+use std::io;
+use std::io::{Error, ErrorKind};
+
+/// A row of a file: a run for each input.
+#[derive(Drop)]
+pub struct Row {
+    pub name: String,
+    pub words: Vec<Vec<u8>>,
+    pub inputs: Vec<Vec<u8>>,
+    pub files: Vec<Named>,
+    pub out: Vec<u8>,
+    pub err: Vec<u8>,
+    pub status: Vec<u8>,
+    /// How many bytes the output takes.
+    pub room: usize,
+}
+
+#[derive(Drop)]
+pub struct Named {
+    pub name: Vec<u8>,
+    pub bytes: Vec<u8>,
+}
+
+/// The row of its text: the name, and then the sections.
+pub fn row_of(alloc: Global, text: &str) -> io::Result<Row> {
+    let mut sections = text.split("\n= ");
+    let mut row = Row {
+        name: String::from_str(alloc, sections.next().unwrap_or(""))?,
+        words: Vec::new(alloc),
+        inputs: Vec::new(alloc),
+        files: Vec::new(alloc),
+        out: Vec::new(alloc),
+        err: Vec::new(alloc),
+        status: Vec::new(alloc),
+        room: 65_536,
+    };
+    row.words.push(decoded(alloc, "regaudit")?)?;
+    for section in sections {
+        take_section(alloc, &mut row, section)?;
+    }
+    if row.inputs.is_empty() {
+        row.inputs.push(Vec::new(alloc))?;
+    }
+    Ok(row)
+}
+
+fn take_section(alloc: Global, row: &mut Row, section: &str) -> io::Result<()> {
+    let (head, body) = section.split_once("\n").unwrap_or((section, "%"));
+    match head.split_once(" ").unwrap_or((head, "")) {
+        ("word", word) => row.words.push(decoded(alloc, word)?)?,
+        ("file", name) => row.files.push(Named {
+            name: decoded(alloc, name)?,
+            bytes: text_of(alloc, body)?,
+        })?,
+        ("input", _) => row.inputs.push(text_of(alloc, body)?)?,
+        ("inputs", _) => take_inputs(alloc, row, body)?,
+        ("out", _) => row.out = text_of(alloc, body)?,
+        ("err", _) => row.err = text_of(alloc, body)?,
+        ("status", number) => row.status = decoded(alloc, number)?,
+        ("room", number) => row.room = number.parse().unwrap_or(0),
+        _ => return Err(Error::from(ErrorKind::InvalidData)),
+    }
+    Ok(())
+}
+
+/// Each line is an input.
+fn take_inputs(alloc: Global, row: &mut Row, body: &str) -> io::Result<()> {
+    for line in body.lines() {
+        row.inputs.push(decoded(alloc, line)?)?;
+    }
+    Ok(())
+}
+
+/// The lines of a section, the last of which has no line end where a `%` stands at its end.
+fn text_of(alloc: Global, body: &str) -> io::Result<Vec<u8>> {
+    if let Some(open) = body.strip_suffix("%") {
+        return Ok(decoded(alloc, open)?);
+    }
+    let mut text = decoded(alloc, body)?;
+    text.push(b'\n')?;
+    Ok(text)
+}
+
+/// `%` and two hexadecimal digits stand for a byte.
+fn decoded(alloc: Global, text: &str) -> Result<Vec<u8>, AllocError> {
+    let mut bytes = Vec::new(alloc);
+    percent_decode(text.as_bytes()).append_to(&mut bytes)?;
+    Ok(bytes)
+}
+
+impl Row {
+    /// The words as the system hands them over.
+    pub fn handed_over(&self, alloc: Global) -> io::Result<Vec<String>> {
+        let mut words = Vec::new(alloc);
+        for word in &self.words {
+            match String::from_utf8(word.clone()?) {
+                Ok(word) => words.push(word)?,
+                Err(_) => return Err(Error::from(ErrorKind::InvalidData)),
+            }
+        }
+        Ok(words)
+    }
+}

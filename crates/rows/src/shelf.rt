@@ -1,0 +1,49 @@
+//! The files of a row, and those of the folder that the program runs in.
+
+use crate::row::Row;
+use commands::{Files, HostFiles, Missing};
+use std::io::Read;
+use std::{io, rt};
+
+#[derive(Drop)]
+pub struct Shelf<'t, R: rt::Files> {
+    row: &'t Row,
+    host: HostFiles<'t, R>,
+}
+
+impl<'t, R: rt::Files> Shelf<'t, R> {
+    pub fn new(rt: &'t R, row: &'t Row) -> Self {
+        Shelf {
+            row,
+            host: HostFiles::new(rt),
+        }
+    }
+}
+
+impl<'t, R: rt::Files> Files for Shelf<'t, R> {
+    type Reader = Opened<'t, R::File>;
+
+    fn open(&mut self, name: &str) -> Result<Opened<'t, R::File>, Missing> {
+        for file in &self.row.files {
+            if file.name.as_slice() == name.as_bytes() {
+                return Ok(Opened::OfRow(file.bytes.as_slice()));
+            }
+        }
+        Ok(Opened::OfHost(self.host.open(name)?))
+    }
+}
+
+#[derive(Drop)]
+pub enum Opened<'t, F> {
+    OfRow(&'t [u8]),
+    OfHost(F),
+}
+
+impl<F: Read> Read for Opened<'_, F> {
+    fn read(&mut self, buf: &mut [u8]) -> io::Result<usize> {
+        match self {
+            Opened::OfRow(bytes) => bytes.read(buf),
+            Opened::OfHost(file) => file.read(buf),
+        }
+    }
+}

@@ -1,0 +1,94 @@
+-- What clap finds in words that are no options.
+use Rattle.std.proofs.Common.{◌≡◌, ◌==◌, ◌||◌, ℕ, Bool, true, false, not, List, [], ◌∷◌, length, Option, Some, None, refl, sym, subst, arith, codes}
+use Rattle.std.proofs.lemmas.Bool.{eqb-true}
+use Rattle.clap.proofs.OnLiterals.{clap_on_literals}
+use Rattle.clap.specs.Words.{Text, takes}
+use Rattle.words.specs.Words.{Asked, Safe, Tower, asked, command_line, is_plain}
+
+pub input : (program : Text) → asked (program ∷ codes "safe" ∷ []) ≡ Some (Safe None)
+unfolding clap_on_literals
+input program = refl
+
+pub alone : (program : Text) → asked (program ∷ []) ≡ None
+unfolding clap_on_literals
+alone program = refl
+
+pub any_trace : (program name : Text) → asked (program ∷ codes "safe" ∷ codes "--" ∷ name ∷ []) ≡ Some (Safe (Some name))
+unfolding clap_on_literals
+any_trace program name = refl
+
+pub any_tower : (program name : Text) → asked (program ∷ codes "tower" ∷ codes "--" ∷ name ∷ []) ≡ Some (Tower name)
+unfolding clap_on_literals
+any_tower program name = refl
+
+pub other : (program : Text) → asked (program ∷ codes "check" ∷ []) ≡ None
+unfolding clap_on_literals
+other program = refl
+
+pub help : (program : Text) → asked (program ∷ codes "--help" ∷ []) ≡ None
+unfolding clap_on_literals
+help program = refl
+
+pub no_file : (program : Text) → asked (program ∷ codes "tower" ∷ []) ≡ None
+unfolding clap_on_literals
+no_file program = refl
+
+pub nothing : asked [] ≡ None
+unfolding clap_on_literals
+nothing = refl
+
+pub refused : (takes command_line (codes "regaudit" ∷ codes "safe" ∷ codes "a" ∷ codes "b" ∷ []) ≡ false) × (takes command_line (codes "regaudit" ∷ codes "safe" ∷ codes "-x" ∷ []) ≡ false)
+    × (takes command_line (codes "regaudit" ∷ codes "tower" ∷ []) ≡ false) × (takes command_line (codes "regaudit" ∷ codes "help" ∷ []) ≡ false) × (takes command_line (codes "regaudit" ∷ []) ≡ false)
+unfolding clap_on_literals
+refused = (refl, refl, refl, refl, refl)
+
+pub taken : (takes command_line (codes "regaudit" ∷ codes "safe" ∷ []) ≡ true) × (takes command_line (codes "regaudit" ∷ codes "safe" ∷ codes "a" ∷ []) ≡ true)
+    × (takes command_line (codes "regaudit" ∷ codes "tower" ∷ codes "a" ∷ []) ≡ true) × (takes command_line (codes "regaudit" ∷ codes "tower" ∷ codes "--" ∷ codes "-x" ∷ []) ≡ true)
+unfolding clap_on_literals
+taken = (refl, refl, refl, refl)
+
+abbrev AsksSafe : Text → Text → Type 0
+AsksSafe program name = asked (program ∷ codes "safe" ∷ name ∷ []) ≡ Some (Safe (Some name))
+
+abbrev AsksTower : Text → Text → Type 0
+AsksTower program name = asked (program ∷ codes "tower" ∷ name ∷ []) ≡ Some (Tower name)
+
+safe_begins : (program : Text) (byte : ℕ) (bytes : Text) → (byte == 45) ≡ false → AsksSafe program (byte ∷ bytes)
+unfolding clap_on_literals
+safe_begins program byte bytes h = simp h
+
+tower_begins : (program : Text) (byte : ℕ) (bytes : Text) → (byte == 45) ≡ false → AsksTower program (byte ∷ bytes)
+unfolding clap_on_literals
+tower_begins program byte bytes h = simp h
+
+safe_hyphen : (program : Text) → AsksSafe program (45 ∷ [])
+unfolding clap_on_literals
+safe_hyphen program = refl
+
+tower_hyphen : (program : Text) → AsksTower program (45 ∷ [])
+unfolding clap_on_literals
+tower_hyphen program = refl
+
+safe_empty : (program : Text) → AsksSafe program []
+unfolding clap_on_literals
+safe_empty program = refl
+
+tower_empty : (program : Text) → AsksTower program []
+unfolding clap_on_literals
+tower_empty program = refl
+
+-- what holds of no word, of the hyphen alone and of words that begin otherwise holds of words that are no options
+by_first : (P : Text → Type 0) → P (45 ∷ []) → ((byte : ℕ) (bytes : Text) → (byte == 45) ≡ false → P (byte ∷ bytes)) → (byte : ℕ) (bytes : Text) (begins : Bool) → (byte == 45) ≡ begins → (not begins || length bytes == 0) ≡ true → P (byte ∷ bytes)
+by_first P hyphen other byte bytes false e h = other byte bytes e
+by_first P hyphen other byte [] true e h = subst (λ (b : ℕ). P (b ∷ [])) (sym (eqb-true byte 45 e)) hyphen
+by_first P hyphen other byte (next ∷ bytes) true e h = absurd (omega (arith, eqb-true (length (next ∷ bytes)) 0 h))
+
+plain : (P : Text → Type 0) → P [] → P (45 ∷ []) → ((byte : ℕ) (bytes : Text) → (byte == 45) ≡ false → P (byte ∷ bytes)) → (name : Text) → is_plain name ≡ true → P name
+plain P empty hyphen other [] h = empty
+plain P empty hyphen other (byte ∷ bytes) h = by_first P hyphen other byte bytes (byte == 45) refl h
+
+pub trace : (program name : Text) → is_plain name ≡ true → AsksSafe program name
+trace program = plain (AsksSafe program) (safe_empty program) (safe_hyphen program) (safe_begins program)
+
+pub tower : (program name : Text) → is_plain name ≡ true → AsksTower program name
+tower program = plain (AsksTower program) (tower_empty program) (tower_hyphen program) (tower_begins program)
