@@ -10,7 +10,7 @@
 //!     book.fault()                        // Some(Fault::Wrong(..)): the read, by its id
 //!     book.witness()                      // the read as it stands, lent as long as the trace
 //!
-//! The second row of `tests.rs` is this history, and the rows below it show each refusal.
+//! The second row of `tests.rt` is this history, and the rows below it show each refusal.
 //!
 //! Begin with `specs/Reply.antt` and `specs/Fault.antt`: what an edit is answered, and what a fault is.
 //! Their words are those of `intervals`. Then come the calls, in `book.rt`. How the verdict is found
