@@ -1,6 +1,6 @@
 -- A list with one member more: what its members come to, and the edits and steps among them.
 use Rattle.std.proofs.Common.{◌≡◌, ℕ, suc, List, [], ◌∷◌, ◌++◌, length, Option, Some, None, Result, Ok, Err, refl, sym, ap, ◌∙◌, append-nil}
-use Rattle.std.specs.Prelude.{option_to_list, filter_map}
+use Rattle.std.specs.Prelude.{option_to_list}
 use Rattle.std.proofs.lemmas.List.{append_assoc}
 use Rattle.std.proofs.lemmas.List.Elements.{filter_map-append}
 use Rattle.intervals.specs.declared.edit.Edit.{Edit}
@@ -9,7 +9,6 @@ use Rattle.intervals.specs.Refusal.{standing, after_edit}
 use Rattle.intervals.specs.Terms.{Terms}
 use Rattle.jepsen_form.specs.declared.fault.FormFault.{FormFault}
 use Rattle.jepsen_form.specs.declared.item.Item.{Item}
-use Rattle.pairing.specs.Accepted.{Placed}
 use Rattle.replay.specs.Steps.{Taken, gathered_behind, gathered, placed_behind, placed, step_behind, taken_behind, steps_of}
 use Rattle.replay.specs.Replay.{edit_to, edits_to}
 

@@ -1,5 +1,5 @@
 -- One more step in the log of a replay, and one more book.
-use Rattle.std.proofs.Common.{◌≡◌, ◌≢◌, ℕ, zero, suc, ◌+◌, ◌<◌, List, [], ◌∷◌, ◌++◌, map, length, drop, get_or, Option, Some, None, Result, Ok, Err, All, IfSome, OnOk, Vec, inl, inr, refl, sym, ap, subst, ◌∙◌, arith}
+use Rattle.std.proofs.Common.{◌≡◌, ◌≢◌, ℕ, zero, suc, ◌+◌, ◌<◌, List, [], ◌∷◌, ◌++◌, map, length, drop, Option, Some, None, Result, Ok, Err, All, IfSome, OnOk, Vec, inl, inr, refl, sym, ap, subst, ◌∙◌, arith}
 use Rattle.std.specs.Prelude.{option_map, option_to_list}
 use Rattle.std.specs.List.{AllZip, slice_get}
 use Rattle.std.specs.Option.{option_map_or, IsSomeAnd}
@@ -13,14 +13,13 @@ use Rattle.intervals.specs.declared.operation.RegId.{RegId}
 use Rattle.intervals.specs.declared.refusal.Refusal.{Refusal}
 use Rattle.intervals.specs.Terms.{Claimed}
 use Rattle.tower_file.specs.Contents.{Register as Said, Contents}
-use Rattle.pairing.specs.declared.step.Step.{Step}
 use Rattle.pairing.specs.declared.step.Step.TheVariants as steps
 use Rattle.replay.specs.declared.log.Log.{Log}
 use Rattle.replay.specs.declared.outcome.Answer.{Answer}
 use Rattle.replay.specs.declared.outcome.Code.{Code}
 use Rattle.replay.specs.declared.outcome.Code.TheVariants.{Register}
 use Rattle.replay.specs.declared.outcome.Refused.{Refused}
-use Rattle.replay.specs.Steps.{Taken, gathered}
+use Rattle.replay.specs.Steps.{Taken}
 use Rattle.replay.specs.Replay.{Question, IsAnswer, reply_of, registers_after, refused_behind, refusals, question_behind, questions}
 use Rattle.replay.specs.Log.{Shows, GoesOn, unedited, edited_at}
 use Rattle.replay.proofs.Gathering.{gathered_push, nothing_more}

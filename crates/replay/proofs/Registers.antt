@@ -1,17 +1,16 @@
 -- The registers of a tower after one step more.
-use Rattle.std.proofs.Common.{◌≡◌, ◌==◌, ℕ, zero, suc, ◌+◌, ◌<◌, Bool, true, false, List, [], ◌∷◌, ◌++◌, map, Option, Some, None, Result, Ok, Err, refl, sym, ap, ◌∙◌, arith, if◌then◌else◌}
-use Rattle.std.specs.Prelude.{option_map, slice_set}
+use Rattle.std.proofs.Common.{◌≡◌, ◌==◌, ℕ, zero, suc, ◌+◌, ◌<◌, Bool, true, false, List, [], ◌∷◌, ◌++◌, map, Option, Some, None, Ok, refl, sym, ap, ◌∙◌, arith}
+use Rattle.std.specs.Prelude.{option_map}
 use Rattle.std.specs.List.{slice_get}
 use Rattle.std.proofs.lemmas.Bool.{eqb-true, eqb-false}
 use Rattle.intervals.specs.declared.edit.Edit.{Edit}
 use Rattle.intervals.specs.declared.operation.Op.{Op}
 use Rattle.intervals.specs.declared.operation.RegId.{RegId}
-use Rattle.intervals.specs.Refusal.{standing}
 use Rattle.intervals.specs.Terms.{Claimed}
 use Rattle.tower_file.specs.Contents.{Contents, Register as Said}
 use Rattle.pairing.specs.declared.step.Step.TheVariants as steps
 use Rattle.replay.specs.Steps.{Taken}
-use Rattle.replay.specs.Replay.{edit_to, edits_to, held_after, held_from, registers_after}
+use Rattle.replay.specs.Replay.{edit_to, held_after, held_from, registers_after}
 use Rattle.replay.specs.Log.{unedited, changed_by, with_held, edited_at}
 use Rattle.replay.proofs.Gathering.{stands_still, goes_on_by}
 

@@ -1,5 +1,5 @@
 -- The steps of a trace: what each of its elements comes to, by those before it.
-use Rattle.std.specs.Prelude.{ℕ, ◌+◌, List, [], ◌∷◌, ◌++◌, length, Option, Some, None, option_to_list, Result, Ok, Err}
+use Rattle.std.specs.Prelude.{ℕ, List, [], ◌∷◌, ◌++◌, length, Option, Some, None, option_to_list, Result, Ok, Err}
 use Rattle.std.specs.List.{AllZip}
 use Rattle.edn_reader.specs.declared.fault.EdnFault.{EdnFault}
 use Rattle.edn_reader.specs.Grammar.{Piece}

@@ -1,11 +1,11 @@
 -- What is found in the words says which command they ask for.
-use Rattle.std.proofs.Common.{◌≡◌, ℕ, Bool, true, false, List, Option, Some, None, ◌∙◌, refl, sym, ap, codes}
+use Rattle.std.proofs.Common.{◌≡◌, true, false, List, Option, Some, None, ◌∙◌, refl, sym, codes}
 use Rattle.std.specs.Option.{option_map}
 use Rattle.std.specs.Str.{bytes_eq}
 use Rattle.clap.specs.Words.{Row, Text, first_of, first_value, found_of, rows_of, subcommand_rows_of, subcommand_name_of}
 use Rattle.clap.specs.declared.ArgMatches.{ArgMatches}
 use Rattle.clap.proofs.WalkLemmas.{first_value-rows}
-use Rattle.words.specs.Words.{Asked, Safe, Tower, asked_by}
+use Rattle.words.specs.Words.{Safe, Tower, asked_by}
 
 one_by_one : {A B C : Type 0} (f : B → C) (g : A → B) (found : Option A) → option_map f (option_map g found) ≡ option_map (λ a. f (g a)) found
 one_by_one f g None = refl

@@ -1,4 +1,4 @@
-use Rattle.std.proofs.Common.{◌≡◌, ◌∙◌, Some, sym, rules}
+use Rattle.std.proofs.Common.{◌∙◌, sym}
 use Rattle.words.proofs.Commands.{asks_safe, asks_tower}
 use Rattle.words.proofs.words.command_of.Goals as goal
 
