@@ -1,6 +1,6 @@
 //! The program's commands, over files, a standard input and two outputs.
 
-ghost use Rattle.std.specs.Prelude.{◌≡◌, ◌≢◌, OnOk, IfOk, IfErr, IfSome, MatchResult, Some, None, map, string_bytes};
+ghost use Rattle.std.specs.Prelude.{◌≡◌, ◌≢◌, OnOk, IsErr, IfOk, IfErr, IfSome, MatchResult, Some, None, map, string_bytes};
 ghost use Rattle.std.specs.Result.{IsOkAnd};
 ghost use Rattle.std.specs.Io.KnownBytes.{Appends, Keeps};
 ghost use Rattle.words.specs.Words.{Safe, asked, asked_of};
@@ -40,6 +40,7 @@ pub fn run<A: AllocGlobal, S: AsStr + Drop, F: Files, R: Read, W: Write, E: Writ
     ensures done { result ≢ BROKEN → IsOkAnd words (λ words. IsDone (map S.text words.items) (F.held files.old) (R.remaining input.old) result (W.contents out.old) (W.contents out.new)) }
     ensures silent { result ≢ BROKEN → Keeps (E.contents err.old) (E.contents err.new) }
     ensures input { IfOk words (λ words. asked (map S.text words.items) ≢ Some (Safe None) → input.new ≡ input.old) }
+    ensures unread { IsErr words → (out.new ≡ out.old) × (input.new ≡ input.old) }
 {
     match words {
         Ok(words) => {

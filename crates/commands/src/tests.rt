@@ -1,6 +1,7 @@
 //! What no row of data shows: readings and writings that fail or are cut, limits, and want of memory.
 
 use crate::commands::{conclude, run, run_safe, run_words};
+use crate::fault::RunFault;
 use crate::files::{Files, Missing};
 use crate::input::{read_whole, read_within};
 use std::alloc::{AllocError, Global};
@@ -106,17 +107,35 @@ fn the_call_that_finds_the_end_counts(rt: HostRuntime) -> Result<(), Fail> {
     Ok(())
 }
 
-/// A writer whose flush fails.
+/// A writer that takes one write, whatever its length, and counts them. Its flush may fail.
 #[derive(Drop)]
-struct Unflushed;
+struct Once {
+    writes: u32,
+    flushes: bool,
+}
 
-impl Write for Unflushed {
+impl Once {
+    fn new(flushes: bool) -> Self {
+        Once { writes: 0, flushes }
+    }
+}
+
+impl Write for Once {
     fn write(&mut self, buf: &[u8]) -> io::Result<usize> {
-        Ok(buf.len())
+        self.writes = self.writes.saturating_add(1);
+        if self.writes == 1 {
+            Ok(buf.len())
+        } else {
+            Err(Error::from(ErrorKind::Other))
+        }
     }
 
     fn flush(&mut self) -> io::Result<()> {
-        Err(Error::from(ErrorKind::Other))
+        if self.flushes {
+            Ok(())
+        } else {
+            Err(Error::from(ErrorKind::Other))
+        }
     }
 }
 
@@ -132,15 +151,19 @@ impl<'t> Files for OneFile<'t> {
     }
 }
 
-/// What a command says on standard error where its output cannot be flushed.
-fn said_unflushed(rt: &impl AllocGlobal, words: &[&str]) -> Result<Vec<u8>, AllocError> {
+/// What a command says on standard error, and its status, where its output takes one write.
+fn said_of_one_write(
+    rt: &impl AllocGlobal,
+    words: &[&str],
+    flushes: bool,
+) -> Result<Vec<u8>, AllocError> {
     let mut said = Vec::new(rt.alloc());
     let outcome = run_words(
         rt,
         words,
         &mut OneFile(TOWER),
         &mut Source::new(TRACE),
-        &mut Unflushed,
+        &mut Once::new(flushes),
     );
     let status = conclude(rt, outcome, &mut said);
     said.push(status)?;
@@ -150,9 +173,24 @@ fn said_unflushed(rt: &impl AllocGlobal, words: &[&str]) -> Result<Vec<u8>, Allo
 #[test]
 fn a_flush_that_fails_is_told(rt: HostRuntime) -> Result<(), Fail> {
     for words in [["regaudit", "safe", "file"], ["regaudit", "tower", "file"]] {
-        let said = said_unflushed(&rt, &words)?;
+        let said = said_of_one_write(&rt, &words, false)?;
         assert!(rt; said.as_slice() == b"regaudit: cannot write\n\x02".as_slice());
     }
+    Ok(())
+}
+
+#[test]
+fn a_line_leaves_in_one_write(rt: HostRuntime) -> Result<(), Fail> {
+    for (words, status) in [
+        (["regaudit", "safe", "file"], 3),
+        (["regaudit", "tower", "file"], 0),
+    ] {
+        let said = said_of_one_write(&rt, &words, true)?;
+        assert!(rt; said.as_slice() == [status].as_slice());
+    }
+    let mut err = Once::new(true);
+    let status = conclude(&rt, Err(RunFault::Unreadable("a name")), &mut err);
+    assert!(rt; status == 2 && err.writes == 1);
     Ok(())
 }
 

@@ -1,8 +1,11 @@
 //! The words of the command line.
 
-ghost use Rattle.std.specs.Prelude.{◌≡◌, Some, IfOk, map};
+ghost use Rattle.std.specs.Prelude.{◌≡◌, ◌⊎◌, [], true, None, Some, IfOk, IfErr, map};
 ghost use Rattle.std.specs.Option.{option_map};
-ghost use Rattle.clap.specs.Words.{app_of, subcommand_rows_of};
+ghost use Rattle.clap.specs.Words.{app_of, subcommand_rows_of, takes};
+ghost use Rattle.clap.specs.Values.{kind_of};
+ghost use Rattle.clap.specs.Faults.{fault_of};
+ghost use Rattle.clap.specs.declared.error.kind.ErrorKind.TheVariants.{OutOfMemory};
 ghost use Rattle.words.specs.Words.{asked, asked_of, asked_by, command_line as line_of_commands};
 
 use clap::error::ErrorKind;
@@ -31,10 +34,15 @@ docs/FORMATS.md describes traces, tower files and what is printed.";
 /// The command that words ask for, of which the first is the program's name. The error's text is
 /// for standard error.
 pub fn read_words<'a, S: AsStr>(alloc: Global, words: &'a [S]) -> Result<Command<'a>, Error>
-    ensures { IfOk result (λ command. asked (map S.text words.entry.now) ≡ Some (asked_of command)) }
+    ensures asks { IfOk result (λ command. asked (map S.text words.entry.now) ≡ Some (asked_of command)) }
+    ensures passes { IfErr result (λ error. takes line_of_commands (map S.text words.entry.now) ≡ true → (asked (map S.text words.entry.now) ≡ None) ⊎ (kind_of error ≡ OutOfMemory)) }
+    ensures refuses { IfOk result (λ command. fault_of line_of_commands (map S.text words.entry.now) ≡ []) }
 {
     let mut line = command_line(alloc)?;
-    let matches = line.try_get_matches_from_mut(words)?;
+    let matches = match line.try_get_matches_from_mut(words) {
+        Ok(matches) => matches,
+        Err(error) => return Err(error),
+    };
     match command_of(&matches) {
         Some(command) => Ok(command),
         None => Err(line.error(ErrorKind::MissingSubcommand, "a command is required")?),
