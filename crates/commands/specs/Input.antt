@@ -1,4 +1,4 @@
--- What one read call does to the bytes that were read so far.
+-- For private clauses alone: what one read call does to the bytes that were read so far.
 use Rattle.std.specs.Prelude.{◌≡◌, ℕ, List, ◌++◌, Option}
 use Rattle.std.specs.Io.KnownBytes.{Consumes}
 

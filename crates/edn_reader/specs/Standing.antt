@@ -1,4 +1,5 @@
--- Between two calls a reader stands behind whole elements, and keeps a fault of its input or want of memory.
+-- For an invariant and private clauses alone: between two calls a reader stands behind whole elements, and keeps a
+-- fault of its input or want of memory.
 use Rattle.std.specs.Prelude.{◌≡◌, ◌≤◌, ◌⊎◌, ℕ, List, [], length, Option, None, IfSome}
 use Rattle.edn_reader.specs.declared.fault.EdnFault.{EdnFault}
 use Rattle.edn_reader.specs.declared.nesting.Open.{Open}

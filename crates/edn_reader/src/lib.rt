@@ -7,9 +7,9 @@
 //! ```text
 //! let mut reader = Reader::new(alloc, b"{:f :write :k 7}");
 //! let element = reader.next()?;                 // Some: a Map from 0 to 16
-//! let map = element.as_map();                   // Some: two pairs
-//! let field = map.field(b":k");                 // Field::Once: an Atom from 14 to 15
-//! let number = value.as_int();                  // Some(7)
+//! let map = element.as_map()?;                  // two pairs
+//! let field = map.field(b":k");                 // Field::Once(seven): an Atom from 14 to 15
+//! let number = seven.as_int();                  // Some(7)
 //! let end = reader.next()?;                     // None, and None again
 //! ```
 //!

@@ -1,4 +1,4 @@
--- What the log of a replay knows of the steps so far.
+-- For private clauses alone: what the log of a replay knows of the steps so far.
 use Rattle.std.specs.Prelude.{◌≡◌, ℕ, List, [], ◌∷◌, ◌++◌, Option, Some, None, option_map, Result, slice_set}
 use Rattle.std.specs.List.{AllZip, slice_get}
 use Rattle.intervals.specs.declared.edit.Edit.{Edit}

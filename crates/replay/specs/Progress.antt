@@ -1,4 +1,4 @@
--- What the state of a replay knows of the elements so far.
+-- For private clauses alone: what the state of a replay knows of the elements so far.
 use Rattle.std.specs.Prelude.{◌≡◌, ◌<◌, List, length, Result}
 use Rattle.std.specs.Option.{ForSome}
 use Rattle.tower_file.specs.Contents.{Contents}

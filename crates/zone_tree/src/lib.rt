@@ -11,7 +11,7 @@
 //!     tree.remove(Edge::At(Moment(1)));
 //!     tree.clean()                    // true
 //!
-//! The rows of `tests.rt` run these calls: `4<5 1>6` there are the zones above.
+//! The rows of `tests.rt` run these calls: the zones above stand in the row `4<5 -<- 1>6`.
 //!
 //! Read `specs/Zone.antt` and `specs/Conflict.antt` first: what a zone is and what a conflict;
 //! then the calls in `tree.rt`, and in `laws.rt` what the definitions come to. The zones stand in one

@@ -1,0 +1,11 @@
+mod EdgeOrder
+mod Members
+mod Judged
+mod Sorting
+mod Clusters
+mod Nearest
+mod Excluded
+mod InTurn
+mod Existence
+mod OneTurn
+mod AnyOrder

@@ -1,0 +1,34 @@
+use Rattle.std.proofs.Common.{◌≢◌, Some, None, refl, arith, rules}
+use Rattle.intervals.specs.declared.operation.Op.{Op}
+use Rattle.intervals.specs.declared.operation.Value.TheVariants.{Nil}
+use Rattle.intervals.specs.declared.claim.Kind.TheVariants.{Atomic}
+use Rattle.intervals.specs.Operation.{IsWrite, value_of}
+use Rattle.intervals.specs.Histories.{claim_of, new_before_old}
+use Rattle.zones.specs.Examples.{unwritten_read, read_of_nothing, early_read, late_write, read_before_write, first_write, second_read, first_read, nil_read, back_to_nil}
+use Rattle.zones.proofs.Members.{pairs_from_each}
+use Rattle.zones.proofs.Excluded.{unwritten_excludes, early_excludes, crossing_excludes}
+use Rattle.zones.proofs.laws.worked_faults.Goals as goal
+
+abbrev AreApart : Op → Op → Type 0
+AreApart v w = IsWrite v → IsWrite w → value_of v.act ≢ value_of w.act
+
+pub returns-clause-no_order_with_unwritten : goal.returns-clause-no_order_with_unwritten
+returns-clause-no_order_with_unwritten c = unwritten_excludes (claim_of Atomic Nil None) read_of_nothing unwritten_read (1, omega arith, refl) (search rules)
+
+pub returns-clause-no_order_with_early : goal.returns-clause-no_order_with_early
+returns-clause-no_order_with_early c =
+    early_excludes (claim_of Atomic Nil None) read_before_write early_read late_write
+    (record { apart = pairs_from_each AreApart read_before_write (search rules); new = search rules })
+    (0, omega arith, refl) (1, omega arith, refl) (search rules)
+
+pub returns-clause-no_order_with_crossing : goal.returns-clause-no_order_with_crossing
+returns-clause-no_order_with_crossing c =
+    crossing_excludes (claim_of Atomic Nil None) new_before_old (Some first_write) second_read (Some second_read) first_read
+    (record { apart = pairs_from_each AreApart new_before_old (search rules); new = search rules })
+    (search rules)
+
+pub returns-clause-no_order_back_to_initial : goal.returns-clause-no_order_back_to_initial
+returns-clause-no_order_back_to_initial c =
+    crossing_excludes (claim_of Atomic Nil None) back_to_nil None first_write (Some first_write) nil_read
+    (record { apart = pairs_from_each AreApart back_to_nil (search rules); new = search rules })
+    (search rules)

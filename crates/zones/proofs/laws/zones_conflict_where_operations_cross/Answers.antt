@@ -1,0 +1,5 @@
+use Rattle.zones.proofs.Clusters.{crossing_of, conflict_of}
+use Rattle.zones.proofs.laws.zones_conflict_where_operations_cross.Goals as goal
+
+pub returns : goal.returns
+returns c = record { conflict = crossing_of; crossing = conflict_of }

@@ -1,0 +1,52 @@
+-- Four operations that no arrangement can order, and the four that a conflict names.
+use Rattle.std.specs.Prelude.{◌≡◌, ◌≢◌, List, Option, Some, None, Contains}
+use Rattle.intervals.specs.declared.operation.Op.{Op}
+use Rattle.intervals.specs.declared.operation.Value.{Value}
+use Rattle.intervals.specs.Operation.{Precedes, value_of, judged}
+use Rattle.zone_tree.specs.declared.edge.Edge.TheVariants.{At}
+use Rattle.zones.specs.Cluster.{edge_of_end, cluster_of, least_end_of, greatest_begin_of}
+
+-- the value of an operation; none stands for the initial write
+abbrev pub value_at : Value → Option Op → Value
+value_at initial None = initial
+value_at initial (Some op) = value_of op.act
+
+-- it is judged; so is the initial write
+abbrev pub StandsJudged : List Op → Option Op → Type 0
+StandsJudged ops None = Unit {0}
+StandsJudged ops (Some op) = Contains (judged ops) op
+
+-- it has ended before the operation begins; the initial write precedes every operation
+abbrev pub HasEndedBefore : Option Op → Op → Type 0
+HasEndedBefore None b = Unit {0}
+HasEndedBefore (Some a) b = Precedes a b
+
+-- a and d are of one value, b and c of another, a precedes b and c precedes d; the initial write may
+-- be a or c
+pub record IsCrossing (initial : Value) (ops : List Op) (a : Option Op) (b : Op) (c : Option Op) (d : Op) : Type 0 where
+  pub a_stands : StandsJudged ops a
+  pub b_stands : Contains (judged ops) b
+  pub c_stands : StandsJudged ops c
+  pub d_stands : Contains (judged ops) d
+  pub one_value : value_at initial a ≡ value_of d.act
+  pub other_value : value_at initial c ≡ value_of b.act
+  pub apart : value_of b.act ≢ value_of d.act
+  pub a_before_b : HasEndedBefore a b
+  pub c_before_d : HasEndedBefore c d
+
+-- it has the least end in the cluster of the value; in that of the initial value the initial write has it
+abbrev pub HasLeastEnd : Value → List Op → Value → Option Op → Type 0
+HasLeastEnd initial ops value None = value ≡ initial
+HasLeastEnd initial ops value (Some op) = Contains (cluster_of ops value) op × (edge_of_end op.end ≡ least_end_of initial ops value)
+
+-- it has the greatest beginning in the cluster of the value
+abbrev pub HasGreatestBegin : Value → List Op → Value → Op → Type 0
+HasGreatestBegin initial ops value op = Contains (cluster_of ops value) op × (At op.begin ≡ greatest_begin_of initial ops value)
+
+-- of two clusters a has the least end and d the greatest beginning in the one, b the greatest beginning
+-- and c the least end in the other
+pub record AreExtremes (initial : Value) (ops : List Op) (one other : Value) (a : Option Op) (b : Op) (c : Option Op) (d : Op) : Type 0 where
+  pub a_least : HasLeastEnd initial ops one a
+  pub b_greatest : HasGreatestBegin initial ops other b
+  pub c_least : HasLeastEnd initial ops other c
+  pub d_greatest : HasGreatestBegin initial ops one d

@@ -1,0 +1,86 @@
+-- Worked histories of many writers, small enough to judge by eye.
+use Rattle.std.specs.Prelude.{ℕ, true, false, List, [], ◌∷◌, None}
+use Rattle.intervals.specs.declared.operation.Op.{Op}
+use Rattle.intervals.specs.declared.operation.Act.TheVariants.{Read, Write}
+use Rattle.intervals.specs.declared.operation.Value.{Value}
+use Rattle.intervals.specs.declared.operation.Value.TheVariants.{Nil}
+use Rattle.intervals.specs.Histories.{number, op, from_to}
+use Rattle.zone_tree.specs.declared.edge.Edge.{Edge}
+use Rattle.zone_tree.specs.declared.edge.Edge.TheVariants.{At}
+use Rattle.zone_tree.specs.declared.zone.Zone.{Zone}
+
+-- the edge at that moment
+abbrev pub at : ℕ → Edge
+at n = At (record { 0 = n })
+
+-- a zone that runs forward
+abbrev pub forward : Edge → Edge → Value → Zone
+forward left right value = record { left = left; right = right; forward = true; value = value }
+
+-- a zone that runs backward
+abbrev pub backward : Edge → Edge → Value → Zone
+backward left right value = record { left = left; right = right; forward = false; value = value }
+
+-- two reads of nil, which no operation writes
+abbrev pub reads_of_nil : List Op
+reads_of_nil = from_to 0 (Read Nil) 2 9 ∷ from_to 1 (Read Nil) 7 8 ∷ []
+
+-- a write of 1 alone
+abbrev pub write_alone : List Op
+write_alone = from_to 0 (Write (number 1)) 0 1 ∷ []
+
+-- a write of 1, and a read of it after
+abbrev pub read_after : List Op
+read_after = from_to 0 (Write (number 1)) 0 1 ∷ from_to 1 (Read (number 1)) 6 7 ∷ []
+
+-- a write of 1, and a read of it within
+abbrev pub read_within : List Op
+read_within = from_to 0 (Write (number 1)) 2 9 ∷ from_to 1 (Read (number 1)) 4 5 ∷ []
+
+-- a write of 1 that has no end
+abbrev pub never_ended : List Op
+never_ended = op 0 (Write (number 1)) 0 None ∷ []
+
+-- the same, and a read of it
+abbrev pub never_ended_and_read : List Op
+never_ended_and_read = op 0 (Write (number 1)) 0 None ∷ from_to 1 (Read (number 1)) 5 6 ∷ []
+
+-- a read of 2, which nothing writes
+abbrev pub unwritten_read : Op
+unwritten_read = from_to 2 (Read (number 2)) 2 3
+
+-- after a write of 1 a read of 2
+abbrev pub read_of_nothing : List Op
+read_of_nothing = from_to 0 (Write (number 1)) 0 1 ∷ unwritten_read ∷ []
+
+-- a read of 1
+abbrev pub early_read : Op
+early_read = from_to 0 (Read (number 1)) 0 1
+
+-- the write of it, which begins later
+abbrev pub late_write : Op
+late_write = from_to 2 (Write (number 1)) 2 3
+
+-- a read of 1, and then the write of 1
+abbrev pub read_before_write : List Op
+read_before_write = early_read ∷ late_write ∷ []
+
+-- a write of 1
+abbrev pub first_write : Op
+first_write = from_to 0 (Write (number 1)) 0 1
+
+-- a read of 2
+abbrev pub second_read : Op
+second_read = from_to 3 (Read (number 2)) 4 5
+
+-- a later read of 1
+abbrev pub first_read : Op
+first_read = from_to 5 (Read (number 1)) 6 7
+
+-- a read of nil
+abbrev pub nil_read : Op
+nil_read = from_to 2 (Read Nil) 2 3
+
+-- a write of 1, and after it a read of nil
+abbrev pub back_to_nil : List Op
+back_to_nil = first_write ∷ nil_read ∷ []

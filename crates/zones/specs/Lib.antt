@@ -1,0 +1,5 @@
+pub mod Cluster
+pub mod Fault
+pub mod Crossing
+pub mod Turn
+pub mod Examples

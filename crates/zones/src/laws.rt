@@ -1,0 +1,138 @@
+//! Laws of the definitions. Each is the contract of a function that does nothing.
+
+ghost use Rattle.std.specs.Prelude.{◌≡◌, ◌≢◌, ◌↔◌, ◌⊎◌, All, Contains, IsPermutation, List, [], ◌∷◌, Option, Some, None};
+ghost use Rattle.std.specs.List.{AllPairs};
+ghost use Rattle.intervals.specs.declared.operation.Op.{Op};
+ghost use Rattle.intervals.specs.declared.operation.Value.{Value};
+ghost use Rattle.intervals.specs.declared.operation.Value.TheVariants.{Nil};
+ghost use Rattle.intervals.specs.declared.edit.Edit.{Edit};
+ghost use Rattle.intervals.specs.declared.claim.Kind.TheVariants.{Atomic};
+ghost use Rattle.intervals.specs.Terms.{Terms};
+ghost use Rattle.intervals.specs.Operation.{value_of, judged};
+ghost use Rattle.intervals.specs.Refusal.{standing};
+ghost use Rattle.intervals.specs.Standing.{HasDistinctMoments, HasEndsAfterBeginnings, HasDistinctValues};
+ghost use Rattle.intervals.specs.Kind.{Arranges, IsAtomic, Holds};
+ghost use Rattle.intervals.specs.Histories.{number, claim_of, new_before_old, unfinished_write, write_between};
+ghost use Rattle.zone_tree.specs.declared.edge.Edge.TheVariants.{Before, At, Never};
+ghost use Rattle.zone_tree.specs.declared.zone.Zone.{Zone};
+ghost use Rattle.zone_tree.specs.Edge.{ComesBefore};
+ghost use Rattle.zone_tree.specs.Conflict.{IsClean};
+ghost use Rattle.zone_tree.specs.Zone.{Conflicts, HasOrderedEdges};
+ghost use Rattle.zones.specs.Cluster.{edge_of_end, cluster_of, least_end_of, greatest_begin_of, zone_of, zones_of};
+ghost use Rattle.zones.specs.Fault.{IsUnwritten, IsEarly, IsFaultless};
+ghost use Rattle.zones.specs.Crossing.{IsCrossing, AreExtremes};
+ghost use Rattle.zones.specs.Turn.{IsInTurn};
+ghost use Rattle.zones.specs.Examples.{at, forward, backward, reads_of_nil, write_alone, read_after, read_within, never_ended, never_ended_and_read, unwritten_read, read_of_nothing, early_read, late_write, read_before_write, first_write, second_read, first_read, nil_read, back_to_nil};
+
+/// A register of many writers has an arrangement exactly where no read is unwritten, no read is
+/// early and no two zones conflict.
+pub fn faultless_exactly_where_arranged()
+    ensures { (claim : Terms) (ops : List Op) → HasDistinctMoments ops → HasEndsAfterBeginnings ops → HasDistinctValues claim.initial ops
+        → IsFaultless claim.initial ops ↔ IsAtomic claim ops }
+{}
+
+/// The same of what stands after any edits of an atomic register, with nothing asked of the edits.
+pub fn faultless_exactly_after_any_edits()
+    ensures { (claim : Terms) (edits : List Edit) → claim.kind ≡ Atomic
+        → IsFaultless claim.initial (standing claim [] edits) ↔ Holds claim (standing claim [] edits) }
+{}
+
+/// An unwritten read, an early read, or four operations that cross exclude every arrangement, each by
+/// itself. The initial write may be the first or the third of the four.
+pub fn one_fault_excludes_every_arrangement()
+    ensures unwritten { (claim : Terms) (ops : List Op) (r : Op) → Contains ops r → IsUnwritten claim.initial ops r → ¬ IsAtomic claim ops }
+    ensures early { (claim : Terms) (ops : List Op) (r w : Op) → HasDistinctValues claim.initial ops
+        → Contains ops r → Contains ops w → IsEarly r w → ¬ IsAtomic claim ops }
+    ensures crossing { (claim : Terms) (ops : List Op) (a : Option Op) (b : Op) (c : Option Op) (d : Op) → HasDistinctValues claim.initial ops
+        → IsCrossing claim.initial ops a b c d → ¬ IsAtomic claim ops }
+{}
+
+/// Where a register is faultless each order in turn is an arrangement; and there is such an order, and
+/// no second one.
+pub fn an_order_in_turn_is_an_arrangement()
+    ensures arranges { (claim : Terms) (ops order : List Op) → HasDistinctMoments ops → HasEndsAfterBeginnings ops → IsFaultless claim.initial ops
+        → IsPermutation (judged ops) order → IsInTurn claim.initial ops order → Arranges claim ops order }
+    ensures exists { (initial : Value) (ops : List Op) → (order : List Op) × IsPermutation (judged ops) order × IsInTurn initial ops order }
+    ensures one { (initial : Value) (ops order other : List Op) → HasDistinctMoments ops → IsPermutation (judged ops) order → IsPermutation (judged ops) other
+        → IsInTurn initial ops order → IsInTurn initial ops other → order ≡ other }
+{}
+
+/// A cluster holds the judged operations of its value, and its edges are theirs: none ends before the
+/// least end or begins after the greatest beginning, and one of them has it. The initial write is of the
+/// initial value's cluster, so no end there is less than its own.
+pub fn edges_are_those_of_the_cluster()
+    ensures members { (ops : List Op) (value : Value) (op : Op) → Contains (cluster_of ops value) op ↔ (Contains (judged ops) op × (value_of op.act ≡ value)) }
+    ensures least { (initial : Value) (ops : List Op) (value : Value) (op : Op) → Contains (cluster_of ops value) op
+        → ¬ ComesBefore (edge_of_end op.end) (least_end_of initial ops value) }
+    ensures greatest { (initial : Value) (ops : List Op) (value : Value) (op : Op) → Contains (cluster_of ops value) op
+        → ¬ ComesBefore (greatest_begin_of initial ops value) (At op.begin) }
+    ensures least_of_one { (initial : Value) (ops : List Op) (value : Value) → value ≢ initial
+        → (least_end_of initial ops value ≡ Never) ⊎ ((op : Op) × Contains (cluster_of ops value) op × (edge_of_end op.end ≡ least_end_of initial ops value)) }
+    ensures greatest_of_one { (initial : Value) (ops : List Op) (value : Value)
+        → (greatest_begin_of initial ops value ≡ Before) ⊎ ((op : Op) × Contains (cluster_of ops value) op × (At op.begin ≡ greatest_begin_of initial ops value)) }
+    ensures initial { (initial : Value) (ops : List Op) → least_end_of initial ops initial ≡ Before }
+{}
+
+/// The zones of two values conflict exactly where four operations of these values cross.
+pub fn zones_conflict_where_operations_cross()
+    ensures conflict { (initial : Value) (ops : List Op) (u v : Value) → u ≢ v → Conflicts (zone_of initial ops u) (zone_of initial ops v)
+        → (a : Option Op) × (b : Op) × (c : Option Op) × (d : Op) × IsCrossing initial ops a b c d × (value_of d.act ≡ u) × (value_of b.act ≡ v) }
+    ensures crossing { (initial : Value) (ops : List Op) (a : Option Op) (b : Op) (c : Option Op) (d : Op) → IsCrossing initial ops a b c d
+        → Conflicts (zone_of initial ops (value_of d.act)) (zone_of initial ops (value_of b.act)) }
+{}
+
+/// Of two zones that conflict the operations of least end and greatest beginning cross, and there are
+/// such operations, the initial write among them where one of the values is the initial one.
+pub fn extremes_of_a_conflict_cross()
+    ensures crossing { (initial : Value) (ops : List Op) (u v : Value) (a : Option Op) (b : Op) (c : Option Op) (d : Op) → u ≢ v
+        → Conflicts (zone_of initial ops u) (zone_of initial ops v) → AreExtremes initial ops u v a b c d → IsCrossing initial ops a b c d }
+    ensures exist { (initial : Value) (ops : List Op) (u v : Value) → Conflicts (zone_of initial ops u) (zone_of initial ops v)
+        → (a : Option Op) × (b : Op) × (c : Option Op) × (d : Op) × AreExtremes initial ops u v a b c d }
+{}
+
+/// Zones have their edges in order, and no two of one register have one left edge.
+pub fn zones_stand_apart()
+    ensures ordered { (initial : Value) (ops : List Op) → All HasOrderedEdges (zones_of initial ops) }
+    ensures left { (initial : Value) (ops : List Op) → HasDistinctMoments ops → HasDistinctValues initial ops
+        → AllPairs (λ a b. a.left ≢ b.left) (zones_of initial ops) }
+{}
+
+/// Whether zones are clean does not depend on the order in which they are given.
+pub fn clean_in_any_order()
+    ensures { (zones others : List Zone) → IsPermutation zones others → IsClean zones ↔ IsClean others }
+{}
+
+/// The zone of a value, from what its cluster holds.
+pub fn worked_zones()
+    ensures initial { zone_of Nil write_alone Nil ≡ backward Before Before Nil }
+    ensures initial_read { zone_of Nil reads_of_nil Nil ≡ forward Before (at 7) Nil }
+    ensures write { zone_of Nil write_alone (number 1) ≡ backward (at 0) (at 1) (number 1) }
+    ensures read_after { zone_of Nil read_after (number 1) ≡ forward (at 1) (at 6) (number 1) }
+    ensures read_within { zone_of Nil read_within (number 1) ≡ backward (at 4) (at 5) (number 1) }
+    ensures never_ended { zone_of Nil never_ended (number 1) ≡ backward (at 0) Never (number 1) }
+    ensures never_ended_and_read { zone_of Nil never_ended_and_read (number 1) ≡ backward (at 5) (at 6) (number 1) }
+{}
+
+/// A history for each way to fail, and none of them has an arrangement.
+pub fn worked_faults()
+    ensures unwritten { IsUnwritten Nil read_of_nothing unwritten_read }
+    ensures no_order_with_unwritten { ¬ IsAtomic (claim_of Atomic Nil None) read_of_nothing }
+    ensures early { IsEarly early_read late_write }
+    ensures no_order_with_early { ¬ IsAtomic (claim_of Atomic Nil None) read_before_write }
+    ensures zones { zones_of Nil new_before_old ≡ backward Before Before Nil ∷ forward (at 1) (at 6) (number 1) ∷ backward (at 4) (at 5) (number 2) ∷ [] }
+    ensures conflict { Conflicts (zone_of Nil new_before_old (number 1)) (zone_of Nil new_before_old (number 2)) }
+    ensures crossing { IsCrossing Nil new_before_old (Some first_write) second_read (Some second_read) first_read }
+    ensures extremes { AreExtremes Nil new_before_old (number 1) (number 2) (Some first_write) second_read (Some second_read) first_read }
+    ensures no_order_with_crossing { ¬ IsAtomic (claim_of Atomic Nil None) new_before_old }
+    ensures initial_first { IsCrossing Nil back_to_nil None first_write (Some first_write) nil_read }
+    ensures initial_extreme { AreExtremes Nil back_to_nil Nil (number 1) None first_write (Some first_write) nil_read }
+    ensures initial_third { IsCrossing Nil back_to_nil (Some first_write) nil_read None first_write }
+    ensures no_order_back_to_initial { ¬ IsAtomic (claim_of Atomic Nil None) back_to_nil }
+{}
+
+/// An unfinished write stands in turn after the read of the initial value, though it began before it.
+pub fn worked_turns()
+    ensures zones { zones_of Nil unfinished_write ≡ forward Before (at 2) Nil ∷ backward (at 5) (at 6) (number 1) ∷ [] }
+    ensures in_turn { IsInTurn Nil unfinished_write write_between }
+    ensures by_beginning { ¬ IsInTurn Nil unfinished_write unfinished_write }
+{}
