@@ -5,7 +5,7 @@ use intervals::Moment;
 
 /// An end of a zone. A write that ended before all events has its edges at `Before`, a write
 /// without an end has its end at `Never`.
-#[derive(Clone, Copy, Debug, PartialEq, Eq)]
+#[derive(Clone, Copy, Debug, PartialEq, Eq, PartialOrd, Ord)]
 pub enum Edge {
     Before,
     At(Moment),

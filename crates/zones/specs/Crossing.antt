@@ -1,10 +1,13 @@
 -- Four operations that no arrangement can order, and the four that a conflict names.
-use Rattle.std.specs.Prelude.{◌≡◌, ◌≢◌, List, Option, Some, None, Contains}
+use Rattle.std.specs.Prelude.{◌≡◌, ◌≢◌, List, Option, Some, None, Contains, IsPermutation}
 use Rattle.intervals.specs.declared.operation.Op.{Op}
 use Rattle.intervals.specs.declared.operation.Value.{Value}
 use Rattle.intervals.specs.Operation.{Precedes, value_of, judged}
 use Rattle.zone_tree.specs.declared.edge.Edge.TheVariants.{At}
-use Rattle.zones.specs.Cluster.{edge_of_end, cluster_of, least_end_of, greatest_begin_of}
+use Rattle.zone_tree.specs.declared.zone.Zone.{Zone}
+use Rattle.zone_tree.specs.Order.{IsByLeft}
+use Rattle.zone_tree.specs.Conflict.{IsFirstConflict}
+use Rattle.zones.specs.Cluster.{edge_of_end, cluster_of, least_end_of, greatest_begin_of, zones_of}
 
 -- the value of an operation; none stands for the initial write
 abbrev pub value_at : Value → Option Op → Value
@@ -50,3 +53,17 @@ pub record AreExtremes (initial : Value) (ops : List Op) (one other : Value) (a 
   pub b_greatest : HasGreatestBegin initial ops other b
   pub c_least : HasLeastEnd initial ops other c
   pub d_greatest : HasGreatestBegin initial ops one d
+
+-- the first conflict of the register's zones, by their left edges
+pub record HasFirstConflict (initial : Value) (ops : List Op) (first second : Zone) : Type 0 where
+  pub zones : List Zone
+  pub each_once : IsPermutation (zones_of initial ops) zones
+  pub by_left : IsByLeft zones
+  pub conflict : IsFirstConflict zones first second
+
+-- the extremes of the clusters of the first conflict
+pub record IsFirstCrossing (initial : Value) (ops : List Op) (a : Option Op) (b : Op) (c : Option Op) (d : Op) : Type 0 where
+  pub first : Zone
+  pub second : Zone
+  pub conflict : HasFirstConflict initial ops first second
+  pub extremes : AreExtremes initial ops first.value second.value a b c d

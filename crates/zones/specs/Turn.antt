@@ -1,8 +1,11 @@
 -- The order in which the operations of a faultless register are given.
-use Rattle.std.specs.Prelude.{◌≡◌, ◌≤◌, List, [], ◌∷◌}
+use Rattle.std.specs.Prelude.{◌≡◌, ◌≤◌, List, [], ◌∷◌, map}
 use Rattle.std.specs.List.{AllByRecursion}
 use Rattle.intervals.specs.declared.operation.Op.{Op}
+use Rattle.intervals.specs.declared.operation.OpId.{OpId}
 use Rattle.intervals.specs.declared.operation.Value.{Value}
+use Rattle.intervals.specs.Terms.{Terms}
+use Rattle.intervals.specs.Kind.{Arranges}
 use Rattle.intervals.specs.Operation.{IsWrite, is_write, value_of}
 use Rattle.zone_tree.specs.declared.edge.Edge.{Edge}
 use Rattle.zone_tree.specs.Edge.{ComesBefore}
@@ -24,3 +27,10 @@ pub record StandInTurn (initial : Value) (ops : List Op) (x y : Op) : Type 0 whe
 abbrev pub IsInTurn : Value → List Op → List Op → Type 0
 IsInTurn initial ops [] = Unit {0}
 IsInTurn initial ops (x ∷ later) = AllByRecursion (StandInTurn initial ops x) later × IsInTurn initial ops later
+
+-- ids of an arrangement in turn
+pub record IsOrder (claim : Terms) (ops : List Op) (ids : List OpId) : Type 0 where
+  pub order : List Op
+  pub named : ids ≡ map (λ op. op.id) order
+  pub arranges : Arranges claim ops order
+  pub in_turn : IsInTurn claim.initial ops order
