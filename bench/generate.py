@@ -1,11 +1,16 @@
 #!/usr/bin/env python3
-"""Writes a correct trace of one safe register to standard output, and makes towers.
+"""Writes a correct trace of one register to standard output, and makes towers.
 
-Process 0 writes, one write after the other; the other processes read. A read
-during which no write is open returns what was written last, or 0 before the
-first write; each other read returns a value by chance. Moments are the numbers
-of the lines, so they rise and none stands twice. Where the number of events is
-even, every operation is answered.
+Of a safe register process 0 writes, one write after the other; the other
+processes read. A read during which no write is open returns what was written
+last, or 0 before the first write; each other read returns a value by chance.
+
+Of an atomic register every process reads and writes. Each operation happens at
+once at some moment between its invocation and its answer, so a read returns what
+was there at that moment, which is nil at first; no value is written twice.
+
+Moments are the numbers of the lines, so they rise and none stands twice. Where
+the number of events is even, every operation is answered.
 """
 import argparse
 import random
@@ -51,6 +56,43 @@ def trace(events, seed=1, writes=0.5):
             yield EVENT % (process, "ok", "read", answer, index)
 
 
+def atomic_trace(events, seed=1, processes=10, reads=0.5):
+    """The lines of a trace of so many events; `reads` is the share of operations that read."""
+    chance = random.Random(seed)
+    value, written = "nil", 0
+    opened = {}        # process -> what it does, and with which value
+    to_happen = set()  # the open ones that did not happen yet
+
+    def happen(process):
+        nonlocal value
+        to_happen.discard(process)
+        act, own = opened[process]
+        if act == "write":
+            value = own
+        else:
+            opened[process] = act, value
+
+    for index in range(events):
+        if to_happen and chance.random() < 0.5:
+            happen(chance.choice(sorted(to_happen)))
+        last_ones = events - index <= len(opened)
+        if opened and (last_ones or len(opened) == processes or chance.random() < 0.5):
+            process = chance.choice(sorted(opened))
+            if process in to_happen:
+                happen(process)
+            yield EVENT % (process, "ok", *opened.pop(process), index)
+        else:
+            process = chance.choice([each for each in range(processes) if each not in opened])
+            if chance.random() < reads:
+                opened[process] = "read", "nil"
+            else:
+                written += 1
+                opened[process] = "write", written
+            to_happen.add(process)
+            yield EVENT % (process, "invoke", *opened[process], index)
+
+
+ATOMIC_TOWER = "{:levels [{:name top :registers [{:name x :kind :atomic :writers :any}]}]}\n"
 LEVELS = ["bits", "safe", "regular", "atomic"]
 KINDS = ["safe", "safe", "regular", "atomic"]
 
@@ -88,8 +130,13 @@ def main():
     words.add_argument("events", type=int)
     words.add_argument("--seed", type=int, default=1)
     words.add_argument("--writes", type=float, default=0.5, help="share of operations that write, 0 to 1")
+    words.add_argument("--atomic", action="store_true", help="of an atomic register of ten processes")
     told = words.parse_args()
-    for line in trace(told.events, told.seed, told.writes):
+    if told.atomic:
+        lines = atomic_trace(told.events, told.seed, reads=1 - told.writes)
+    else:
+        lines = trace(told.events, told.seed, told.writes)
+    for line in lines:
         print(line, end="")
 
 

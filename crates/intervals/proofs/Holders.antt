@@ -15,7 +15,7 @@ use Rattle.intervals.proofs.Agreement.{Decides-IsTrue, Decides-same_value}
 use Rattle.intervals.proofs.Found.{not_mapped, find-None, find-none, find-Some}
 use Rattle.intervals.proofs.Ids.{Decides-same_id_is}
 
-Decides-is_holder : (op other : Op) → Decides (is_holder op other) (IsHolder op other)
+pub Decides-is_holder : (op other : Op) → Decides (is_holder op other) (IsHolder op other)
 Decides-is_holder op other =
     let apart = Decides-and (not (same_id other.id op.id)) (is_write other) (Decides-not (same_id other.id op.id) (Decides-same_id_is other.id op.id)) (Decides-IsTrue (is_write other)) in
     Decides-like (is_holder op other) (λ h. (h.0.0, h.0.1, h.1)) (λ h. ((h.0, h.1), h.2))

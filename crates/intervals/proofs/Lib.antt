@@ -1,9 +1,9 @@
-mod Agreement
-mod LeastOf
+pub mod Agreement
+pub mod LeastOf
 mod JudgedAlone
-mod Found
-mod Holders
-mod Accepted
+pub mod Found
+pub mod Holders
+pub mod Accepted
 pub mod Ids
 pub mod EachPair
 pub mod Standing

@@ -1,5 +1,5 @@
-ghost use Rattle.std.specs.Prelude.{◌≡◌, ◌↔◌, ◌&&◌, not, [], List, length, None, OnOk, OnErr, IsTrue, option_copied};
-ghost use Rattle.intervals.specs.Edit.{op_of, edited, is_append, amended as op_amended};
+ghost use Rattle.std.specs.Prelude.{◌≡◌, ◌↔◌, ◌&&◌, not, [], List, length, None, OnOk, OnErr, IsTrue, option_copied, option_map};
+ghost use Rattle.intervals.specs.Edit.{op_of, edited, is_append, amended as op_amended, changed as after_change, new_op as new_one};
 ghost use Rattle.intervals.specs.Operation.{same_id};
 ghost use Rattle.intervals.specs.Refusal.{first_refusal, moments_refusal, ok_unless, has_early_end, has_large_moment, is_moment_of, find_other_with};
 
@@ -59,6 +59,17 @@ impl<'t> OpBook<'t> {
         find_op(self.ops.as_slice(), id)
     }
 
+    /// The operation that the edit adds or changes, as it is afterwards.
+    pub fn new_op(&self, edit: &Edit<'t>) -> Option<Op<'t>>
+        ensures { result ≡ new_one self.now edit.now }
+    {
+        match edit {
+            Edit::Append(op) => Some(*op),
+            Edit::Amend(id, change) => amended_op(self.ops.as_slice(), *id, change),
+            Edit::Withdraw(_) => None,
+        }
+    }
+
     /// The first refusal, from `UnknownOp` to `MomentTooLarge`, that holds of the edit. Whether a
     /// write is one that the register's claim allows is its judge's to say.
     pub fn check(&self, edit: &Edit<'t>) -> Result<(), Refusal>
@@ -85,6 +96,13 @@ impl<'t> OpBook<'t> {
         }
         Ok(())
     }
+}
+
+fn amended_op<'t>(ops: &[Op<'t>], id: OpId, change: &Change<'t>) -> Option<Op<'t>>
+    ensures { result ≡ option_map (λ op. after_change op change.now) (op_of ops.now id) }
+{
+    let op = find_op(ops, id)?;
+    Some(changed(op, change))
 }
 
 /// Changes the operation of that id in place.

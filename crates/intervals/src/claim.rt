@@ -1,6 +1,10 @@
 ghost use Rattle.std.specs.Prelude.{◌≡◌, Vec, IfOk, option_map};
 ghost use Rattle.std.specs.declared.alloc.Global.{Global};
 ghost use Rattle.intervals.specs.declared.operation.Value.{Value};
+ghost use Rattle.std.specs.List.{list_any};
+ghost use Rattle.std.specs.Ordering.{int_eq};
+ghost use Rattle.intervals.specs.Operation.{same_value};
+ghost use Rattle.intervals.specs.Refusal.{may_write as allows, is_in_domain};
 ghost use Rattle.intervals.specs.Terms.{terms_of, writers_of};
 
 use crate::{Memory, OpId, Value};
@@ -50,6 +54,50 @@ impl Claim {
             domain: copy_of_domain(alloc, &self.domain)?,
         })
     }
+
+    /// Whether the process is a writer of the register.
+    pub fn may_write(&self, process: i64) -> bool
+        ensures { result ≡ allows (terms_of self.now).writers process }
+    {
+        match &self.writers {
+            Writers::Any => true,
+            Writers::Listed(processes) => is_listed(processes.as_slice(), process),
+        }
+    }
+
+    /// Whether the value is in the value set, or none is given.
+    pub fn has_in_domain(&self, value: Value) -> bool
+        ensures { result ≡ is_in_domain (terms_of self.now).domain value }
+    {
+        match &self.domain {
+            None => true,
+            Some(values) => is_among(values.as_slice(), value),
+        }
+    }
+}
+
+fn is_listed(processes: &[i64], process: i64) -> bool
+    ensures { result ≡ list_any (λ p. int_eq p process) processes.now }
+{
+    processes.iter().any(|p| is_process(*p, process))
+}
+
+fn is_process(a: i64, b: i64) -> bool
+    ensures { result ≡ int_eq a b }
+{
+    a == b
+}
+
+fn is_among(values: &[Value], value: Value) -> bool
+    ensures { result ≡ list_any (λ v. same_value v value) values.now }
+{
+    values.iter().any(|v| is_value(*v, value))
+}
+
+fn is_value(a: Value, b: Value) -> bool
+    ensures { result ≡ same_value a b }
+{
+    a == b
 }
 
 fn copy_of_writers(alloc: Global, writers: &Writers) -> Result<Writers, Memory>

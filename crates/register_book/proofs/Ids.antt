@@ -1,9 +1,14 @@
--- An operation that stands is found by its id.
-use Rattle.std.proofs.Common.{◌≡◌, List, Option, Some, None, sym}
-use Rattle.std.specs.Prelude.{IfSome}
+-- Operations that stand are found again by their ids.
+use Rattle.std.proofs.Common.{◌≡◌, List, Option, Some, None, refl}
+use Rattle.std.specs.Prelude.{option_map}
 use Rattle.intervals.specs.declared.operation.Op.{Op}
 use Rattle.intervals.specs.Edit.{op_of}
+use Rattle.register_book.specs.Judge.{found_by, pair_by}
 
-pub each_stands : (ops : List Op) (x o : Option Op) → x ≡ o → ((r : Op) → o ≡ Some r → op_of ops r.id ≡ Some r) → IfSome x (λ op. op_of ops op.id ≡ Some op)
-each_stands ops None o e stands = tt
-each_stands ops (Some r) o e stands = stands r (sym e)
+pub found_again : (ops : List Op) (x : Option Op) → ((r : Op) → x ≡ Some r → op_of ops r.id ≡ Some r) → found_by ops (option_map (λ op. op.id) x) ≡ x
+found_again ops None stands = refl
+found_again ops (Some r) stands = stands r refl
+
+pub pair_found_again : (ops : List Op) (x : Option (Op × Op)) → ((r w : Op) → x ≡ Some (r, w) → (op_of ops r.id ≡ Some r) × (op_of ops w.id ≡ Some w)) → pair_by ops (option_map (λ pair. (pair.0.id, pair.1.id)) x) ≡ x
+pair_found_again ops None stand = refl
+pair_found_again ops (Some (r, w)) stand = let h = stand r w refl in rw (h.0, h.1) refl

@@ -1,6 +1,10 @@
 pub mod Refusals
 pub mod Verdicts
 pub mod Ids
+pub mod Stand
+pub mod Orders
+pub mod Excluding
+pub mod OneWitness
 pub mod Split
 pub mod Bearing
 pub mod ReadEdits

@@ -1,8 +1,7 @@
 -- No read is wrong exactly when the register keeps its claim.
 use Rattle.std.proofs.Common.{◌≡◌, ◌≢◌, ◌↔◌, Option, Some, None, List, refl, ap}
-use Rattle.std.specs.Prelude.{IsNone, option_map, is_some}
+use Rattle.std.specs.Prelude.{IsNone, is_some}
 use Rattle.intervals.specs.declared.operation.Op.{Op}
-use Rattle.intervals.specs.declared.operation.OpId.{OpId}
 use Rattle.intervals.specs.declared.claim.Kind.{Kind}
 use Rattle.intervals.specs.declared.claim.Kind.TheVariants.{Safe, Regular, Atomic}
 use Rattle.intervals.specs.Terms.{Terms}
@@ -14,12 +13,12 @@ by_kind Safe claim ops one_writer safe regular = safe refl
 by_kind Regular claim ops one_writer safe regular = regular refl
 by_kind Atomic claim ops one_writer safe regular = absurd (one_writer refl)
 
-none_named : (o : Option Op) (r : Option OpId) → r ≡ option_map (λ op. op.id) o → IsNone r ↔ (o ≡ None)
-none_named None r e = (λ _. refl, λ _. ap is_some e)
-none_named (Some op) r e = (λ h. absurd (let f = ap is_some e in cc), λ h. absurd (cc))
+nothing : (o r : Option Op) → r ≡ o → IsNone r ↔ (o ≡ None)
+nothing None r e = (λ _. refl, λ _. ap is_some e)
+nothing (Some op) r e = (λ h. absurd (let f = ap is_some e in cc), λ h. absurd (cc))
 
-pub none_exactly : (claim : Terms) (ops : List Op) (r : Option OpId) → claim.kind ≢ Atomic → r ≡ option_map (λ op. op.id) (first_wrong claim ops) → (claim.kind ≡ Safe → (first_wrong claim ops ≡ None) ↔ IsSafe claim ops) → (claim.kind ≡ Regular → (first_wrong claim ops ≡ None) ↔ IsRegular claim ops) → IsNone r ↔ Holds claim ops
+pub none_exactly : (claim : Terms) (ops : List Op) (r : Option Op) → claim.kind ≢ Atomic → r ≡ first_wrong claim ops → (claim.kind ≡ Safe → (first_wrong claim ops ≡ None) ↔ IsSafe claim ops) → (claim.kind ≡ Regular → (first_wrong claim ops ≡ None) ↔ IsRegular claim ops) → IsNone r ↔ Holds claim ops
 none_exactly claim ops r one_writer e safe regular =
-    let named = none_named (first_wrong claim ops) r e in
+    let none = nothing (first_wrong claim ops) r e in
     let kept = by_kind claim.kind claim ops one_writer safe regular in
-    (λ none. kept.0 (named.0 none), λ holds. named.1 (kept.1 holds))
+    (λ h. kept.0 (none.0 h), λ holds. none.1 (kept.1 holds))

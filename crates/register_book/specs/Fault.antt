@@ -1,43 +1,66 @@
 -- Which operations show that a register breaks its claim.
-use Rattle.std.specs.Prelude.{◌≡◌, List, Option, Some, None, option_map}
+use Rattle.std.specs.Prelude.{◌≡◌, ◌≢◌, Contains, List, [], ◌∷◌, ◌++◌, Option, Some, None}
 use Rattle.intervals.specs.declared.operation.Op.{Op}
+use Rattle.intervals.specs.declared.operation.Value.{Value}
 use Rattle.intervals.specs.declared.claim.Holder.{Holder}
 use Rattle.intervals.specs.declared.claim.Holder.TheVariants as holders
+use Rattle.intervals.specs.declared.claim.Kind.TheVariants.{Atomic}
 use Rattle.intervals.specs.Terms.{Terms}
-use Rattle.intervals.specs.Edit.{op_of}
 use Rattle.intervals.specs.Judging.{first_wrong}
+use Rattle.zones.specs.Fault.{IsUnwritten, IsEarly, first_unwritten, first_early}
+use Rattle.zones.specs.Crossing.{IsCrossing, IsFirstCrossing}
 use Rattle.register_book.specs.declared.fault.Fault.{Fault}
 use Rattle.register_book.specs.declared.fault.Fault.TheVariants as faults
 use Rattle.register_book.specs.declared.fault.Side.{Side}
 use Rattle.register_book.specs.declared.fault.Side.TheVariants as sides
 use Rattle.register_book.specs.declared.fault.Witness.{Witness}
-use Rattle.register_book.specs.declared.fault.Witness.TheVariants as witnesses
+use Rattle.register_book.specs.declared.fault.Witness.TheVariants.{Wrong, Unwritten, Early, Crossing}
 
--- safe and regular registers: the wrong read that ended first, by its id
-abbrev pub fault_of : Terms → List Op → Option Fault
-fault_of claim ops = option_map (λ op. faults.Wrong op.id) (first_wrong claim ops)
+-- an operation is itself, and none stands for the initial write
+abbrev pub op_at : Side → Option Op
+op_at (sides.Op op) = Some op
+op_at sides.Initial = None
 
--- the same read, as it stands
-abbrev pub witness_of : Terms → List Op → Option Witness
-witness_of claim ops = option_map (λ op. witnesses.Wrong op) (first_wrong claim ops)
+-- the operations that show it. Safe and regular: the wrong read that ended first. Atomic: the unwritten
+-- read that ended first; where there is none the early read that ended first, with its write; where
+-- there is neither the crossing of the first conflict, whose second and fourth are operations
+abbrev pub IsWitness : Terms → List Op → Witness → Type 0
+IsWitness claim ops (Wrong read) = (claim.kind ≢ Atomic) × (first_wrong claim ops ≡ Some read)
+IsWitness claim ops (Unwritten read) = (claim.kind ≡ Atomic) × (first_unwritten claim.initial ops ≡ Some read)
+IsWitness claim ops (Early read write) = (claim.kind ≡ Atomic) × (first_unwritten claim.initial ops ≡ None) × (first_early ops ≡ Some (read, write))
+IsWitness claim ops (Crossing a (sides.Op b) c (sides.Op d)) =
+    (claim.kind ≡ Atomic) × (first_unwritten claim.initial ops ≡ None) × (first_early ops ≡ None) × IsFirstCrossing claim.initial ops (op_at a) b (op_at c) d
+IsWitness claim ops (Crossing a b c d) = ⊥
 
--- the operation that stands by that id, or the value before any write
-abbrev pub IsSide : List Op → Holder → Side → Type 0
-IsSide ops (holders.Op id) (sides.Op op) = op_of ops id ≡ Some op
-IsSide ops (holders.Op id) sides.Initial = ⊥
-IsSide ops holders.Initial (sides.Op op) = ⊥
-IsSide ops holders.Initial sides.Initial = Unit {0}
+-- an unwritten read, an early read with the write of its value, or four operations that cross: what no
+-- atomic register has
+abbrev pub IsExcluding : Value → List Op → Witness → Type 0
+IsExcluding initial ops (Wrong read) = ⊥
+IsExcluding initial ops (Unwritten read) = Contains ops read × IsUnwritten initial ops read
+IsExcluding initial ops (Early read write) = Contains ops read × Contains ops write × IsEarly read write
+IsExcluding initial ops (Crossing a (sides.Op b) c (sides.Op d)) = IsCrossing initial ops (op_at a) b (op_at c) d
+IsExcluding initial ops (Crossing a b c d) = ⊥
 
--- a witness is the fault, with each id replaced by the operation that stands
-abbrev pub IsWitness : List Op → Fault → Witness → Type 0
-IsWitness ops (faults.Wrong id) (witnesses.Wrong op) = op_of ops id ≡ Some op
-IsWitness ops (faults.Unwritten id) (witnesses.Unwritten op) = op_of ops id ≡ Some op
-IsWitness ops (faults.Early r w) (witnesses.Early read write) = (op_of ops r ≡ Some read) × (op_of ops w ≡ Some write)
-IsWitness ops (faults.Crossing a b c d) (witnesses.Crossing e f g h) = IsSide ops a e × IsSide ops b f × IsSide ops c g × IsSide ops d h
-IsWitness ops fault witness = ⊥
+-- an operation by its id, or the register at first
+abbrev pub holder_of : Side → Holder
+holder_of (sides.Op op) = holders.Op op.id
+holder_of sides.Initial = holders.Initial
 
--- there is a witness where there is a fault, and it is the fault's
-abbrev pub Shows : List Op → Option Fault → Option Witness → Type 0
-Shows ops None None = Unit {0}
-Shows ops (Some fault) (Some witness) = IsWitness ops fault witness
-Shows ops fault witness = ⊥
+-- the fault of a witness: each operation replaced by its id
+abbrev pub ids_of : Witness → Fault
+ids_of (Wrong read) = faults.Wrong read.id
+ids_of (Unwritten read) = faults.Unwritten read.id
+ids_of (Early read write) = faults.Early read.id write.id
+ids_of (Crossing a b c d) = faults.Crossing (holder_of a) (holder_of b) (holder_of c) (holder_of d)
+
+-- the operation of a side, where it is one
+abbrev pub ops_at : Side → List Op
+ops_at (sides.Op op) = op ∷ []
+ops_at sides.Initial = []
+
+-- the operations of a witness
+abbrev pub operations_of : Witness → List Op
+operations_of (Wrong read) = read ∷ []
+operations_of (Unwritten read) = read ∷ []
+operations_of (Early read write) = read ∷ write ∷ []
+operations_of (Crossing a b c d) = ops_at a ++ ops_at b ++ ops_at c ++ ops_at d

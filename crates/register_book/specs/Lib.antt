@@ -2,5 +2,6 @@
 pub mod Reply
 pub mod Fault
 -- words of private clauses
+pub mod Judge
 pub mod Touch
 pub mod Verdict

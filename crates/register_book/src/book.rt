@@ -1,66 +1,47 @@
-ghost use Rattle.std.specs.Prelude.{◌≡◌, ◌≢◌, ◌↔◌, [], Some, None, false, length, IfOk, IfSome, OnOk, OnErr, IsNone, IsTrue, option_copied, option_map};
+ghost use Rattle.std.specs.Prelude.{◌≡◌, ◌↔◌, [], All, Some, None, length, IfOk, IfSome, OnOk, OnErr, IsNone, IsTrue, option_copied};
 ghost use Rattle.intervals.specs.Terms.{terms_of};
 ghost use Rattle.intervals.specs.Edit.{op_of, edited};
-ghost use Rattle.intervals.specs.Refusal.{reply_to, after_edit, first_refusal};
+ghost use Rattle.intervals.specs.Refusal.{reply_to, after_edit};
 ghost use Rattle.intervals.specs.Kind.{Holds};
-ghost use Rattle.intervals.specs.Judging.{first_wrong as first_wrong_of};
-ghost use Rattle.register_book.specs.Verdict.{is_on_write as on_write};
+ghost use Rattle.zones.specs.Turn.{IsOrder};
 ghost use Rattle.register_book.specs.Reply.{IsReply};
-ghost use Rattle.register_book.specs.Fault.{fault_of, witness_of, Shows};
+ghost use Rattle.register_book.specs.declared.fault.Witness.{Witness as AWitness};
+ghost use Rattle.register_book.specs.Fault.{IsWitness, ids_of, operations_of};
 
+use crate::judge::Judge;
+use crate::laws::a_witness_stands;
 use crate::refused::refusal_of;
-use crate::touch::touch_of;
-use crate::verdict::{first_wrong_after, is_on_write};
-use crate::writes::judge_after;
 use crate::{Fault, Reply, Witness};
-use intervals::laws::{
-    first_wrong_read_ended_first, regular_without_wrong_reads, safe_without_wrong_reads,
-};
-use intervals::{Claim, Edit, Kind, Memory, Op, OpBook, OpId};
-use safe_regular::SingleWriterJudge;
+use intervals::{Claim, Edit, Kind, Memory, Op, OpId};
 use std::alloc::Global;
 use std::marker::Model;
-use std::mem;
 
-/// A register with one writer, and the operations that stand.
+/// A register, and the operations that stand.
 #[derive(Drop)]
 pub struct RegisterBook<'t> {
-    alloc: Global,
-    claim: Claim,
-    ops: OpBook<'t>,
-    /// The judge of the writes.
-    judge: SingleWriterJudge<'t>,
-    /// The wrong read that ended first.
-    wrong: Option<Op<'t>>,
+    judge: Judge<'t>,
 }
 
 impl<'t> Model for RegisterBook<'t> {
-    ghost use Rattle.std.specs.Prelude.{◌≡◌, ◌≢◌};
-    ghost use Rattle.intervals.specs.Terms.{Claimed, terms_of};
-    ghost use Rattle.intervals.specs.Operation.{writes};
-    ghost use Rattle.intervals.specs.declared.claim.Kind.TheVariants.{Atomic};
-    ghost use Rattle.intervals.specs.Judging.{first_wrong};
-    ghost use Rattle.intervals.specs.Standing.{HasDistinctIds};
+    ghost use Rattle.intervals.specs.Terms.{Claimed};
 
     ghost Value = { Claimed };
 
-    ghost view = { λ b. record { claim = terms_of b.claim; ops = b.ops } };
+    ghost use Rattle.intervals.specs.Standing.{HasDistinctIds};
+    ghost use Rattle.register_book.specs.Judge.{held_by, IsOfItsKind};
 
-    ghost invariant = { λ b. (b.claim.kind ≢ Atomic) × HasDistinctIds b.ops × (b.judge ≡ record { claim = terms_of b.claim; ops = writes b.ops }) × (b.wrong ≡ first_wrong (terms_of b.claim) b.ops) };
+    ghost view = { λ b. held_by b.judge };
+
+    ghost invariant = { λ b. IsOfItsKind b.judge × HasDistinctIds (held_by b.judge).ops };
 }
 
 impl<'t> RegisterBook<'t> {
     /// A book of no operations. It keeps a claim of its own that says the same.
     pub fn new(alloc: Global, claim: &Claim) -> Result<Self, Memory>
-        requires { claim.now.kind ≢ Kind.Atomic }
         ensures { IfOk result (λ book. book ≡ record { claim = terms_of claim.now; ops = [] }) }
     {
         Ok(RegisterBook {
-            alloc,
-            claim: claim.try_clone(alloc)?,
-            ops: OpBook::new(alloc),
-            judge: SingleWriterJudge::new(alloc, claim)?,
-            wrong: None,
+            judge: Judge::new(alloc, claim)?,
         })
     }
 
@@ -68,14 +49,14 @@ impl<'t> RegisterBook<'t> {
     pub fn len(&self) -> usize
         ensures { result ≡ length self.now.ops }
     {
-        self.ops.len()
+        self.judge.operations().len()
     }
 
     /// The operation of that id, where it stands.
     pub fn get(&self, id: OpId) -> Option<&Op<'t>>
         ensures { option_copied result ≡ op_of self.now.ops id }
     {
-        self.ops.get(id)
+        self.judge.operations().get(id)
     }
 
     /// Carries an edit out and says whether the register holds since, or says why it is refused.
@@ -85,7 +66,7 @@ impl<'t> RegisterBook<'t> {
         ensures err { OnErr result (self.new ≡ self.old) }
         ensures memory { OnErr result (reply_to self.old.claim self.old.ops edit.entry ≡ None) }
     {
-        if let Some(refusal) = refusal_of(&self.ops, &self.judge, &edit) {
+        if let Some(refusal) = refusal_of(&self.judge, &edit) {
             return Ok(Reply::Refused(refusal));
         }
         self.carry_out(edit)?;
@@ -95,41 +76,11 @@ impl<'t> RegisterBook<'t> {
     }
 
     fn carry_out(&mut self, edit: Edit<'t>) -> Result<(), Memory>
-        requires { first_refusal self.old.ops edit ≡ None }
+        requires { reply_to self.old.claim self.old.ops edit ≡ None }
         ensures ok { OnOk result (self.new ≡ record self.old { ops = edited self.old.ops edit.entry }) }
         ensures err { OnErr result (self.new ≡ self.old) }
     {
-        if is_on_write(self.ops.operations(), &edit) {
-            self.edit_write(edit)
-        } else {
-            self.edit_read(edit)
-        }
-    }
-
-    /// Builds the judge of what the edit leaves before it changes anything.
-    fn edit_write(&mut self, edit: Edit<'t>) -> Result<(), Memory>
-        requires { first_refusal self.old.ops edit ≡ None }
-        ensures ok { OnOk result (self.new ≡ record self.old { ops = edited self.old.ops edit.entry }) }
-        ensures err { OnErr result (self.new ≡ self.old) }
-    {
-        let judge = judge_after(self.alloc, &self.claim, self.ops.operations(), &edit)?;
-        let touch = touch_of(&self.ops, &edit);
-        self.ops.admit(edit)?;
-        let _old = mem::replace(&mut self.judge, judge);
-        self.wrong = first_wrong_after(&self.judge, self.ops.operations(), self.wrong, &touch);
-        Ok(())
-    }
-
-    /// The writes stay, and so does their judge.
-    fn edit_read(&mut self, edit: Edit<'t>) -> Result<(), Memory>
-        requires accepted { first_refusal self.old.ops edit ≡ None }
-        requires read { on_write self.old.ops edit ≡ false }
-        ensures ok { OnOk result (self.new ≡ record self.old { ops = edited self.old.ops edit.entry }) }
-        ensures err { OnErr result (self.new ≡ self.old) }
-    {
-        let touch = touch_of(&self.ops, &edit);
-        self.ops.admit(edit)?;
-        self.wrong = first_wrong_after(&self.judge, self.ops.operations(), self.wrong, &touch);
+        self.judge.admit(edit)?;
         Ok(())
     }
 
@@ -137,41 +88,35 @@ impl<'t> RegisterBook<'t> {
     pub fn holds(&self) -> bool
         ensures { IsTrue result ↔ Holds self.now.claim self.now.ops }
     {
-        self.wrong_id().is_none()
+        self.judge.holds()
     }
 
-    /// Of the reads that break the sentence of the claimed kind the one that ended first.
+    /// Which operations show that the register fails, by their ids.
     pub fn fault(&self) -> Option<Fault>
-        ensures fault { result ≡ fault_of self.now.claim self.now.ops }
+        ensures fault { IfSome result (λ fault. (witness : AWitness) × IsWitness self.now.claim self.now.ops witness × (ids_of witness ≡ fault)) }
         ensures none { IsNone result ↔ Holds self.now.claim self.now.ops }
     {
-        let id = self.wrong_id()?;
-        Some(Fault::Wrong(id))
+        let witness = self.witness()?;
+        Some(witness.ids())
     }
 
-    /// The operations of the fault. They are lent as long as the trace, and not by the book.
+    /// Which operations show that the register fails. They are lent as long as the trace, and not by
+    /// the book.
     pub fn witness(&self) -> Option<Witness<'t>>
-        ensures witness { result ≡ witness_of self.now.claim self.now.ops }
-        ensures shows { Shows self.now.ops (fault_of self.now.claim self.now.ops) result }
-    {
-        let op = self.wrong_op()?;
-        Some(Witness::Wrong(op))
-    }
-
-    fn wrong_id(&self) -> Option<OpId>
-        ensures id { result ≡ option_map (λ op. op.id) (first_wrong_of self.now.claim self.now.ops) }
+        ensures witness { IfSome result (IsWitness self.now.claim self.now.ops) }
         ensures none { IsNone result ↔ Holds self.now.claim self.now.ops }
+        ensures stand { IfSome result (λ witness. All (λ op. op_of self.now.ops op.id ≡ Some op) (operations_of witness)) }
     {
-        safe_without_wrong_reads();
-        regular_without_wrong_reads();
-        self.wrong.map(|op| op.id)
+        a_witness_stands();
+        self.judge.witness()
     }
 
-    fn wrong_op(&self) -> Option<Op<'t>>
-        ensures op { result ≡ first_wrong_of self.now.claim self.now.ops }
-        ensures stands { IfSome result (λ op. op_of self.now.ops op.id ≡ Some op) }
+    /// An order of the operations that shows that an atomic register holds, by their ids: the clusters
+    /// by the left edges of their zones, in each the write and then its reads by their beginnings.
+    pub fn order(&self, alloc: Global) -> Result<Option<Vec<OpId>>, Memory>
+        ensures order { IfOk result (λ found. IfSome found (λ ids. IsOrder self.now.claim self.now.ops ids.items)) }
+        ensures none { IfOk result (λ found. IsNone found ↔ ¬ ((self.now.claim.kind ≡ Kind.Atomic) × Holds self.now.claim self.now.ops)) }
     {
-        first_wrong_read_ended_first();
-        self.wrong
+        self.judge.order(alloc)
     }
 }

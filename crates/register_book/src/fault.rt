@@ -1,3 +1,6 @@
+ghost use Rattle.std.specs.Prelude.{◌≡◌};
+ghost use Rattle.register_book.specs.Fault.{ids_of, holder_of};
+
 use intervals::{Holder, Op, OpId};
 
 /// Which operations show that a register breaks its claim.
@@ -5,15 +8,16 @@ use intervals::{Holder, Op, OpId};
 pub enum Fault {
     /// Safe or regular: the wrong read that ended first.
     Wrong(OpId),
-    /// Atomic: a read of a value that nothing wrote.
+    /// Atomic: of the reads of values that nothing wrote the one that ended first.
     Unwritten(OpId),
-    /// Atomic: a read that ended before the write of its value began.
+    /// Atomic, where there is no such read: of the reads that ended before the write of their value
+    /// began the one that ended first, and that write.
     Early {
         read: OpId,
         write: OpId,
     },
-    /// Atomic: `a` and `d` are of one value, `b` and `c` of another; `a` precedes `b` and `c`
-    /// precedes `d`.
+    /// Atomic, where there is neither: `a` and `d` are of one value, `b` and `c` of another; `a`
+    /// precedes `b` and `c` precedes `d`.
     Crossing {
         a: Holder,
         b: Holder,
@@ -29,7 +33,7 @@ pub enum Side<'t> {
     Initial,
 }
 
-/// A fault with the operations themselves in place of their ids. It is lent as long as the trace.
+/// The operations that show that a register breaks its claim. It is lent as long as the trace.
 #[derive(Clone, Copy, Debug)]
 pub enum Witness<'t> {
     Wrong(Op<'t>),
@@ -44,4 +48,35 @@ pub enum Witness<'t> {
         c: Side<'t>,
         d: Side<'t>,
     },
+}
+
+impl Witness<'_> {
+    /// The fault that it shows.
+    pub fn ids(&self) -> Fault
+        ensures { result ≡ ids_of self.now }
+    {
+        match self {
+            Witness::Wrong(read) => Fault::Wrong(read.id),
+            Witness::Unwritten(read) => Fault::Unwritten(read.id),
+            Witness::Early { read, write } => Fault::Early {
+                read: read.id,
+                write: write.id,
+            },
+            Witness::Crossing { a, b, c, d } => Fault::Crossing {
+                a: holder(a),
+                b: holder(b),
+                c: holder(c),
+                d: holder(d),
+            },
+        }
+    }
+}
+
+fn holder(side: &Side) -> Holder
+    ensures { result ≡ holder_of side.now }
+{
+    match side {
+        Side::Op(op) => Holder::Op(op.id),
+        Side::Initial => Holder::Initial,
+    }
 }

@@ -1,5 +1,5 @@
-//! One register of one writer: the operations that stand after any edits, the edits that are refused,
-//! and whether the register keeps what it claims.
+//! One register: the operations that stand after any edits, the edits that are refused, and whether the
+//! register keeps what it claims, be it safe, regular or atomic.
 //!
 //! A book begins with a claim and takes edits one by one:
 //!
@@ -10,17 +10,27 @@
 //!     book.fault()                        // Some(Fault::Wrong(..)): the read, by its id
 //!     book.witness()                      // the read as it stands, lent as long as the trace
 //!
-//! The second row of `tests.rt` is this history, and the rows below it show each refusal.
+//! The second row of `tests.rt` is this history, and the rows below it show each refusal. An atomic
+//! register that holds gives an order of its operations too; one that fails names an unwritten read, an
+//! early one, or four operations that no order has room for: the rows that begin with `atomic`.
 //!
-//! Begin with `specs/Reply.antt` and `specs/Fault.antt`: what an edit is answered, and what a fault is.
-//! Their words are those of `intervals`. Then come the calls, in `book.rt`. How the verdict is found
-//! after an edit (`touch.rt`, `verdict.rt`, and the words of `specs/Touch.antt` and
-//! `specs/Verdict.antt`) is the book's own affair: only the reads that the edit touches are judged again,
-//! and the judge of the writes is built anew by an edit of a write alone.
+//! Begin with `specs/Reply.antt` and `specs/Fault.antt`: what an edit is answered, and which operations
+//! show that a register fails. Their words are those of `intervals` and `zones`. Then come the calls, in
+//! `book.rt`, and what the words come to, in `laws.rt`.
+//!
+//! The rest is the book's own affair. `judge.rt` asks the judge of the claimed kind. That of an atomic
+//! register is `zones::Clusters`, and `many_writers.rt` finds the operations of its fault. That of the
+//! other two is in `one_writer.rt`: only the reads that an edit touches are judged again (`touch.rt`,
+//! `verdict.rt`, and the words of `specs/Touch.antt` and `specs/Verdict.antt`), and the judge of the
+//! writes is built anew by an edit of a write alone (`writes.rt`).
 #![tactic(auto)]
 
 mod book;
 mod fault;
+mod judge;
+pub mod laws;
+mod many_writers;
+mod one_writer;
 mod refused;
 mod reply;
 mod touch;

@@ -1,9 +1,11 @@
 //! Rows of histories as calls of a book, random histories beside a plain judge, and refused memory.
 
+mod plain;
+
 use super::*;
 use intervals::{
-    Act, Change, Claim, Edit, Kind, Lent, Memory, Moment, Op, OpId, Parts, Refusal, Value, Writers,
-    changed,
+    Act, Change, Claim, Edit, Holder, Kind, Lent, Memory, Moment, Op, OpId, Parts, Refusal, Value,
+    Writers, changed,
 };
 use safe_regular::SingleWriterJudge;
 use std::alloc::Global;
@@ -154,13 +156,26 @@ fn edit_of(step: &'static str) -> Edit<'static> {
     }
 }
 
-/// A claim that process 0 alone may write, as `regular 0 0,1,2` or `safe nil`.
+fn kind_of(word: Option<&str>) -> Kind {
+    match word {
+        Some("safe") => Kind::Safe,
+        Some("atomic") => Kind::Atomic,
+        _ => Kind::Regular,
+    }
+}
+
+/// Process 0 alone may write a register that is not atomic.
+fn writers_of(alloc: Global, kind: Kind) -> Result<Writers, Memory> {
+    match kind {
+        Kind::Atomic => Ok(Writers::Any),
+        _ => Ok(Writers::Listed(vec![in alloc; 0]?)),
+    }
+}
+
+/// A claim, as `regular 0 0,1,2` or `atomic nil`.
 fn claim_of(alloc: Global, text: &str) -> Result<Claim, Memory> {
     let mut rest = text.split(' ');
-    let kind = match rest.next() {
-        Some("safe") => Kind::Safe,
-        _ => Kind::Regular,
-    };
+    let kind = kind_of(rest.next());
     let initial = value(rest.next().unwrap_or("nil"));
     let mut domain = None;
     if let Some(words) = rest.next() {
@@ -172,15 +187,10 @@ fn claim_of(alloc: Global, text: &str) -> Result<Claim, Memory> {
     }
     Ok(Claim {
         kind,
-        writers: Writers::Listed(vec![in alloc; 0]?),
+        writers: writers_of(alloc, kind)?,
         initial,
         domain,
     })
-}
-
-fn book_of<R: AllocGlobal + Abort>(rt: &R, claim: &Claim) -> Result<RegisterBook<'static>, Memory> {
-    assert!(rt; claim.kind != Kind::Atomic);
-    RegisterBook::new(rt.alloc(), claim)
 }
 
 /// What stands after an edit that is accepted.
@@ -209,7 +219,9 @@ fn fault_anew<R: AllocGlobal + Abort>(
     claim: &Claim,
     ops: &[Op<'static>],
 ) -> Result<Option<Fault>, Memory> {
-    assert!(rt; claim.kind != Kind::Atomic);
+    if claim.kind == Kind::Atomic {
+        return plain::fault_of(rt.alloc(), claim.initial, ops);
+    }
     let mut judge = SingleWriterJudge::new(rt.alloc(), claim)?;
     for op in ops {
         if op.is_write() {
@@ -231,7 +243,7 @@ struct Beside {
 
 fn begun<R: AllocGlobal + Abort>(rt: &R, text: &str) -> Result<Beside, Memory> {
     let claim = claim_of(rt.alloc(), text)?;
-    let book = book_of(rt, &claim)?;
+    let book = RegisterBook::new(rt.alloc(), &claim)?;
     Ok(Beside {
         claim,
         book,
@@ -239,14 +251,28 @@ fn begun<R: AllocGlobal + Abort>(rt: &R, text: &str) -> Result<Beside, Memory> {
     })
 }
 
+fn ids_of(witness: Option<Witness>) -> Option<Fault> {
+    Some(witness?.ids())
+}
+
+/// Whether there is an order, asked again where memory was refused.
+fn has_order<R: AllocGlobal>(rt: &R, book: &RegisterBook<'static>) -> Result<bool, Memory> {
+    match book.order(rt.alloc()) {
+        Ok(order) => Ok(order.is_some()),
+        Err(Memory) => Ok(book.order(rt.alloc())?.is_some()),
+    }
+}
+
 /// Whether the book says of a fault one thing in each of its calls, and that of the list judged anew.
 fn is_as_anew<R: AllocGlobal + Abort>(rt: &R, beside: &Beside) -> Result<bool, Memory> {
     let fault = fault_anew(rt, &beside.claim, beside.ops.as_slice())?;
+    let is_ordered = beside.claim.kind == Kind::Atomic && fault.is_none();
     Ok(
         beside.book.len() == beside.ops.len()
             && beside.book.fault() == fault
             && beside.book.holds() == fault.is_none()
-            && beside.book.witness().is_some() == fault.is_some(),
+            && ids_of(beside.book.witness()) == fault
+            && has_order(rt, &beside.book)? == is_ordered,
     )
 }
 
@@ -276,7 +302,38 @@ fn tell_refusal(told: &mut Vec<u8>, refusal: Refusal) {
             tell_id(told, id);
         }
         Refusal::WritesOverlap(id) => tell_id(told, id),
+        Refusal::ValueTaken(holder) => tell_holder(told, holder),
         _ => {}
+    }
+}
+
+fn tell_holder(told: &mut Vec<u8>, holder: Holder) {
+    match holder {
+        Holder::Op(id) => tell_id(told, id),
+        Holder::Initial => {
+            let _ = write!(told, " initial");
+        }
+    }
+}
+
+fn tell_fault(told: &mut Vec<u8>, fault: Fault) {
+    match fault {
+        Fault::Wrong(id) => tell_id(told, id),
+        Fault::Unwritten(id) => {
+            let _ = write!(told, " unwritten");
+            tell_id(told, id);
+        }
+        Fault::Early { read, write } => {
+            let _ = write!(told, " early");
+            tell_id(told, read);
+            tell_id(told, write);
+        }
+        Fault::Crossing { a, b, c, d } => {
+            let _ = write!(told, " crossing");
+            for holder in [a, b, c, d] {
+                tell_holder(told, holder);
+            }
+        }
     }
 }
 
@@ -285,8 +342,8 @@ fn tell_reply(told: &mut Vec<u8>, reply: Reply, fault: Option<Fault>) {
         Reply::Refused(refusal) => tell_refusal(told, refusal),
         Reply::Accepted { holds } => {
             let _ = write!(told, "{}", if holds { "holds" } else { "fails" });
-            if let Some(Fault::Wrong(id)) = fault {
-                tell_id(told, id);
+            if let Some(fault) = fault {
+                tell_fault(told, fault);
             }
         }
     }
@@ -330,23 +387,61 @@ fn tell_standing(told: &mut Vec<u8>, op: Option<&Op>) {
     }
 }
 
-fn tell_witness(told: &mut Vec<u8>, witness: Option<Witness>) {
-    if let Some(Witness::Wrong(op)) = witness {
-        let _ = write!(told, ", wrong");
-        tell_op(told, &op);
+fn tell_side(told: &mut Vec<u8>, side: Side) {
+    match side {
+        Side::Op(op) => tell_op(told, &op),
+        Side::Initial => {
+            let _ = write!(told, " initial");
+        }
     }
 }
 
-/// Carries a step out, or shows what stands by an id, and says what is answered.
+fn tell_witness(told: &mut Vec<u8>, witness: Witness) {
+    match witness {
+        Witness::Wrong(read) => {
+            let _ = write!(told, ", wrong");
+            tell_op(told, &read);
+        }
+        Witness::Unwritten(read) => {
+            let _ = write!(told, ", unwritten");
+            tell_op(told, &read);
+        }
+        Witness::Early { read, write } => {
+            let _ = write!(told, ", early");
+            tell_op(told, &read);
+            tell_op(told, &write);
+        }
+        Witness::Crossing { a, b, c, d } => {
+            let _ = write!(told, ", crossing");
+            for side in [a, b, c, d] {
+                tell_side(told, side);
+            }
+        }
+    }
+}
+
+fn tell_order(told: &mut Vec<u8>, order: Option<Vec<OpId>>) {
+    let Some(ids) = order else {
+        let _ = write!(told, "no order");
+        return;
+    };
+    let _ = write!(told, "order");
+    for id in ids.as_slice() {
+        tell_id(told, *id);
+    }
+}
+
+/// Carries a step out, or shows what stands by an id or the order, and says what is answered.
 fn tell_step<R: AllocGlobal + Abort>(
     rt: &R,
     told: &mut Vec<u8>,
     beside: &mut Beside,
     step: &'static str,
 ) -> Result<(), Memory> {
-    match step.strip_prefix("show ") {
-        Some(word) => tell_standing(told, beside.book.get(id(word))),
-        None => {
+    match step.split_once(' ') {
+        None => tell_order(told, beside.book.order(rt.alloc())?),
+        Some(("show", word)) => tell_standing(told, beside.book.get(id(word))),
+        Some(_) => {
             let reply = carry_out(rt, beside, edit_of(step))?;
             tell_reply(told, reply, beside.book.fault());
         }
@@ -373,7 +468,9 @@ fn tell_end(told: &mut Vec<u8>, beside: Beside) {
     let witness = beside.book.witness();
     drop(beside);
     let _ = write!(told, "{len} stand");
-    tell_witness(told, witness);
+    if let Some(witness) = witness {
+        tell_witness(told, witness);
+    }
 }
 
 fn carry_out_each<R: AllocGlobal + Abort>(
@@ -392,6 +489,7 @@ fn register(name: &'static str) -> (&'static str, &'static str) {
     match name {
         "two writes" => ("regular 0 0,1,2", TWO_WRITES),
         "two wrong reads" => ("regular 0 0,1,2", TWO_WRONG_READS),
+        "new before old" => ("atomic nil", NEW_BEFORE_OLD),
         _ => (name, ""),
     }
 }
@@ -425,6 +523,12 @@ append 0:4 p1 r b50";
 /// Two reads of values that nothing wrote: the fault is the one that ended first.
 const TWO_WRONG_READS: &str = "append 0:4 p2 r2 b40 e49
 append 0:2 p1 r1 b20 e29";
+
+/// Two reads within the write of 2, the new value before the old one.
+const NEW_BEFORE_OLD: &str = "append 0:0 p0 w1 b0 e1
+append 0:2 p1 w2 b2 e9
+append 0:3 p2 r2 b4 e5
+append 0:5 p3 r1 b6 e7";
 
 const ROWS: &str =
     "safe 0 0,1,2,3,4,5,6,7,8,9 | append 0:0 p0 w1 b0; append 0:1 p1 r b1; answer 0:1 v7 e2; answer 0:0 e3 => holds, holds, holds, holds, 2 stand
@@ -472,7 +576,22 @@ two writes | answer 0:4 v1 e60; withdraw 0:2; withdraw 0:2; append 0:2 p0 w0 b30
 two writes | answer 0:4 v1 e60; amend 0:2 e; answer 0:2 e45; amend 0:4 e; show 0:4 => fails 0:4, holds, fails 0:4, holds, stands 0:4 r1 50- (append 0:4 p1 r b50) (answer 0:4 v1 e60) (amend 0:4 e), 3 stand
 two writes | append 0:8 p1 r7 b80 e90; answer 0:4 v1 e60; append 0:6 p2 r0 b41 e70 => fails 0:8, fails 0:4, fails 0:4, 5 stand, wrong 0:4 r1 50-60 (append 0:4 p1 r b50) (answer 0:4 v1 e60)
 two wrong reads | append 0:3 p0 w2 b30 e35; append 0:1 p0 w1 b10 e15; withdraw 0:3; withdraw 0:1; append 0:5 p0 w0 b50 e55; withdraw 0:5; append 0:6 p0 w1 b25; answer 0:6 e35; amend 0:6 v2; withdraw 0:2; withdraw 0:6 => fails 0:2, holds, fails 0:4, fails 0:2, fails 0:2, fails 0:2, fails 0:4, fails 0:4, fails 0:2, holds, fails 0:4, 1 stand, wrong 0:4 r2 40-49 (append 0:4 p2 r2 b40 e49)
-two wrong reads | append 0:1 p0 w1 b10 e15; amend 0:1 b50 e55; amend 0:1 b60 e65; amend 0:1 b21 e22; append 0:3 p0 w2 b50 e51; amend 0:3 b48; amend 0:1 b5; amend 0:3 b1 e2; amend 0:3 b30 e31; amend 0:1 b32 e33 => fails 0:4, fails 0:2, fails 0:2, fails 0:4, fails 0:4, holds, holds, fails 0:4, holds, fails 0:2, 4 stand, wrong 0:2 r1 20-29 (append 0:2 p1 r1 b20 e29)";
+two wrong reads | append 0:1 p0 w1 b10 e15; amend 0:1 b50 e55; amend 0:1 b60 e65; amend 0:1 b21 e22; append 0:3 p0 w2 b50 e51; amend 0:3 b48; amend 0:1 b5; amend 0:3 b1 e2; amend 0:3 b30 e31; amend 0:1 b32 e33 => fails 0:4, fails 0:2, fails 0:2, fails 0:4, fails 0:4, holds, holds, fails 0:4, holds, fails 0:2, 4 stand, wrong 0:2 r1 20-29 (append 0:2 p1 r1 b20 e29)
+atomic nil | append 0:0 p0 w1 b0 e1; append 0:2 p1 w2 b2 e9; append 0:3 p2 r2 b4 e5; append 0:5 p3 r1 b6 e7; order => holds, holds, holds, fails crossing 0:0 0:3 0:3 0:5, no order, 4 stand, crossing 0:0 w1 0-1 (append 0:0 p0 w1 b0 e1) 0:3 r2 4-5 (append 0:3 p2 r2 b4 e5) 0:3 r2 4-5 (append 0:3 p2 r2 b4 e5) 0:5 r1 6-7 (append 0:5 p3 r1 b6 e7)
+new before old | withdraw 0:5; order => holds, order 0:0 0:2 0:3, 3 stand
+new before old | amend 0:3 e8; order; amend 0:3 e5; amend 0:5 v2; order => holds, order 0:0 0:5 0:2 0:3, fails crossing 0:0 0:3 0:3 0:5, holds, order 0:0 0:2 0:3 0:5, 4 stand
+new before old | show 0:3; withdraw 0:9; append 0:7 p4 w3 b9 e10; append 0:7 p4 w3 b10 e11; append 0:12 p1 r3 b12 e13 => stands 0:3 r2 4-5 (append 0:3 p2 r2 b4 e5), X1 UnknownOp, X4 MomentTaken 9 0:2, fails crossing 0:0 0:3 0:3 0:5, fails crossing 0:0 0:3 0:3 0:5, 6 stand, crossing 0:0 w1 0-1 (append 0:0 p0 w1 b0 e1) 0:3 r2 4-5 (append 0:3 p2 r2 b4 e5) 0:3 r2 4-5 (append 0:3 p2 r2 b4 e5) 0:5 r1 6-7 (append 0:5 p3 r1 b6 e7)
+atomic nil | append 0:0 p0 w1 b0 e1; append 0:2 p1 w2 b2 e3; append 0:6 p2 r1 b6 e7; append 0:8 p3 r2 b8 e9; amend 0:6 b4; amend 0:2 e5; order => holds, holds, fails crossing 0:0 0:2 0:2 0:6, fails crossing 0:0 0:8 0:2 0:6, fails crossing 0:0 0:8 0:2 0:6, holds, order 0:0 0:6 0:2 0:8, 4 stand
+atomic nil | append 0:0 p0 w1 b0; append 0:1 p1 r b1 e2; append 0:3 p1 r1 b3 e4; order; append 0:5 p2 r b5 e6 => holds, holds, holds, order 0:1 0:0 0:3, fails crossing initial 0:3 0:3 0:5, 4 stand, crossing initial 0:3 r1 3-4 (append 0:3 p1 r1 b3 e4) 0:3 r1 3-4 (append 0:3 p1 r1 b3 e4) 0:5 r 5-6 (append 0:5 p2 r b5 e6)
+atomic nil | append 0:0 p0 w1 b0 e1; append 0:2 p1 r b2; order; answer 0:2 e3; amend 0:0 e; order => holds, holds, order 0:0, fails crossing initial 0:0 0:0 0:2, holds, order 0:2 0:0, 2 stand
+atomic nil | append 0:0 p0 r1 b0 e1 => fails unwritten 0:0, 1 stand, unwritten 0:0 r1 0-1 (append 0:0 p0 r1 b0 e1)
+atomic nil | append 0:0 p0 r1 b0 e1; append 0:2 p1 w1 b2 => fails unwritten 0:0, fails early 0:0 0:2, 2 stand, early 0:0 r1 0-1 (append 0:0 p0 r1 b0 e1) 0:2 w1 2- (append 0:2 p1 w1 b2)
+atomic 0 | append 0:0 p0 r5 b0; append 0:1 p1 w5 b2; order; answer 0:0 e1; answer 0:0 e3; order; answer 0:0 v6 e3; withdraw 0:0 => holds, holds, order 0:1, fails early 0:0 0:1, holds, order 0:1 0:0, fails unwritten 0:0, holds, 1 stand
+atomic nil | append 0:0 p0 w1 b0 e1; append 0:2 p1 r5 b2 e9; append 0:4 p2 r6 b4 e5; append 0:6 p0 w6 b6 e7; append 0:8 p3 w5 b8; withdraw 0:4 => holds, fails unwritten 0:2, fails unwritten 0:4, fails unwritten 0:2, fails early 0:4 0:6, holds, 4 stand
+atomic nil | append 0:0 p0 w1 b0 e1; append 0:2 p1 r1 b2 e3; withdraw 0:0; append 0:4 p2 w1 b4 e5; withdraw 0:4; append 0:0 p3 w1 b0 e1; order => holds, holds, fails unwritten 0:2, fails early 0:2 0:4, fails unwritten 0:2, holds, order 0:0 0:2, 2 stand
+atomic nil | append 0:0 p0 w1 b0 e1; append 0:2 p1 r1 b2 e3; append 0:4 p0 w2 b4 e5; amend 0:4 v1; amend 0:0 v3; amend 0:4 v1; amend 0:4 v2; amend 0:0 v1; order => holds, holds, holds, X8 ValueTaken 0:0, fails unwritten 0:2, fails early 0:2 0:4, fails unwritten 0:2, holds, order 0:0 0:2 0:4, 3 stand
+atomic nil 0,1 | append 0:0 p0 w b0; append 0:0 p5 w2 b0; append 0:0 p5 w1 b0; append 0:1 p6 w1 b1; append 0:1 p6 w0 b1; amend 0:1 v0; append 0:2 p7 r2 b2; order => X8 ValueTaken initial, X9 OutOfDomain, holds, X8 ValueTaken 0:0, holds, holds, holds, order 0:0 0:1, 3 stand
+two writes | order => no order, 3 stand";
 
 fn is_told<R: AllocGlobal + Abort>(rt: &R, row: &'static str, want: &str) -> Result<bool, Memory> {
     let mut told = Vec::new(rt.alloc());
@@ -493,6 +612,7 @@ fn rows_are_told(rt: HostRuntime) -> Result<(), Fail> {
 #[derive(Drop)]
 struct Dice {
     state: u64,
+    values: u64,
 }
 
 impl Dice {
@@ -505,11 +625,7 @@ impl Dice {
     }
 
     fn value(&mut self) -> Value {
-        match self.roll() % 3 {
-            0 => Value::Int(0),
-            1 => Value::Int(1),
-            _ => Value::Int(2),
-        }
+        Value::Int(i64::try_from(self.roll() % self.values.max(1)).unwrap_or(0))
     }
 
     /// An edit of one of few operations at few moments, so that many are accepted and many refused.
@@ -597,9 +713,17 @@ fn carry_out_one<R: AllocGlobal + Abort>(
 }
 
 /// Many edits, each beside the list judged anew.
-fn judged_anew<R: AllocGlobal + Abort>(rt: &R, claim: &str, seed: u64) -> Result<Counts, Memory> {
+fn judged_anew<R: AllocGlobal + Abort>(
+    rt: &R,
+    claim: &str,
+    values: u64,
+    seed: u64,
+) -> Result<Counts, Memory> {
     let mut beside = begun(rt, claim)?;
-    let mut dice = Dice { state: seed };
+    let mut dice = Dice {
+        state: seed,
+        values,
+    };
     let mut counts = Counts {
         accepted: 0,
         turns: 0,
@@ -612,9 +736,9 @@ fn judged_anew<R: AllocGlobal + Abort>(rt: &R, claim: &str, seed: u64) -> Result
 
 #[test]
 fn each_verdict_is_that_of_the_list_judged_anew(rt: HostRuntime) -> Result<(), Fail> {
-    for claim in ["safe 0 0,1", "regular 0 0,1"] {
+    for (claim, values) in [("safe 0 0,1", 3), ("regular 0 0,1", 3), ("atomic 0", 8)] {
         for seed in [1, 2, 3] {
-            let counts = judged_anew(&rt, claim, seed)?;
+            let counts = judged_anew(&rt, claim, values, seed)?;
             assert!(rt; counts.accepted > 100);
             assert!(rt; counts.turns > 20);
         }
@@ -623,10 +747,10 @@ fn each_verdict_is_that_of_the_list_judged_anew(rt: HostRuntime) -> Result<(), F
 }
 
 /// The same register whether memory is refused on the way to it or not.
-fn at_last<R: AllocGlobal + Abort>(rt: &R) -> Result<RegisterBook<'static>, Memory> {
-    match begun(rt, "regular 0 0,1,7") {
+fn at_last<R: AllocGlobal + Abort>(rt: &R, claim: &str) -> Result<RegisterBook<'static>, Memory> {
+    match begun(rt, claim) {
         Ok(beside) => Ok(beside.book),
-        Err(Memory) => Ok(begun(rt, "regular 0 0,1,7")?.book),
+        Err(Memory) => Ok(begun(rt, claim)?.book),
     }
 }
 
@@ -678,8 +802,11 @@ fn each_is_said(rt: &impl Abort, book: &mut RegisterBook<'static>) -> Result<(),
 /// To be run with each allocation refused in turn.
 #[test]
 fn refused_memory_changes_nothing(rt: HostRuntime) -> Result<(), Fail> {
-    let mut book = at_last(&rt)?;
-    each_is_said(&rt, &mut book)?;
-    assert!(rt; book.len() == 1);
+    for claim in ["regular 0 0,1,7", "atomic 0 0,1,7"] {
+        let mut book = at_last(&rt, claim)?;
+        each_is_said(&rt, &mut book)?;
+        assert!(rt; book.len() == 1);
+        assert!(rt; has_order(&rt, &book)? == claim.starts_with("atomic"));
+    }
     Ok(())
 }

@@ -3,7 +3,6 @@
 ghost use Rattle.std.specs.Prelude.{◌≡◌};
 ghost use Rattle.register_book.specs.Touch.{touch_of as touch_by, is_touched, passes, bears_on as write_bears_on};
 
-use crate::refused::new_op;
 use intervals::{Edit, Op, OpBook, OpId, overlaps, precedes};
 
 /// The operation of an edit, as it was and as it is afterwards.
@@ -31,7 +30,7 @@ pub fn touch_of<'t>(ops: &OpBook<'t>, edit: &Edit<'t>) -> Touch<'t>
     Touch {
         id,
         before: ops.get(id).copied(),
-        after: new_op(ops, edit),
+        after: ops.new_op(edit),
     }
 }
 

@@ -1,13 +1,10 @@
 -- One more step in the log of a replay, and one more book.
-use Rattle.std.proofs.Common.{◌≡◌, ◌≢◌, ℕ, zero, suc, ◌+◌, ◌<◌, List, [], ◌∷◌, ◌++◌, map, length, drop, Option, Some, None, Result, Ok, Err, All, IfSome, OnOk, Vec, inl, inr, refl, sym, ap, subst, ◌∙◌, arith}
+use Rattle.std.proofs.Common.{◌≡◌, ℕ, zero, suc, ◌+◌, ◌<◌, List, [], ◌∷◌, ◌++◌, map, length, drop, Option, Some, None, Result, Ok, Err, OnOk, Vec, refl, sym, ap, subst, ◌∙◌, arith}
 use Rattle.std.specs.Prelude.{option_map, option_to_list}
 use Rattle.std.specs.List.{AllZip, slice_get}
-use Rattle.std.specs.Option.{option_map_or, IsSomeAnd}
+use Rattle.std.specs.Option.{option_map_or}
 use Rattle.std.specs.declared.alloc.Global.{Global}
-use Rattle.std.proofs.lemmas.Option.{slice_get-get_or}
-use Rattle.std.proofs.lemmas.Bool.{cases_lt}
 use Rattle.std.proofs.lemmas.List.{append_assoc}
-use Rattle.intervals.specs.declared.claim.Kind.TheVariants.{Atomic}
 use Rattle.intervals.specs.declared.edit.Edit.{Edit}
 use Rattle.intervals.specs.declared.operation.RegId.{RegId}
 use Rattle.intervals.specs.declared.refusal.Refusal.{Refusal}
@@ -123,12 +120,6 @@ asked_of_none log place register none tower taken shows =
       refused = shows.refused ∙ sym (nothing_more (refused_behind tower) taken one refl);
     }
 
--- one register of those that are not atomic
-pub not_atomic : (registers : List Said) (n : ℕ) → All (λ register. register.claim.kind ≢ Atomic) registers → IfSome (slice_get registers n) (λ register. register.claim.kind ≢ Atomic)
-not_atomic [] n none = tt
-not_atomic (first ∷ registers) zero none = none 0 first (omega arith)
-not_atomic (first ∷ registers) (suc n) none = not_atomic registers n (λ i d within. none (suc i) d (omega (arith, within)))
-
 abbrev book_at : List Said → ℕ → List Claimed
 book_at registers n = option_map_or (λ (register : Said). unedited register ∷ []) (slice_get registers n) []
 
@@ -146,23 +137,3 @@ opened_on registers n old new within is so_far =
     ∙ append_assoc old (book_at registers n) (drop (suc n) (map unedited registers))
     ∙ ap (λ (left : List Claimed). old ++ left) (opened_from registers n within)
     ∙ so_far)
-
--- an atomic register among them
-pub atomic_there : (registers : List Said) (n : ℕ) → IsSomeAnd (slice_get registers n) (λ register. register.claim.kind ≡ Atomic) → ¬ All (λ register. register.claim.kind ≢ Atomic) registers
-atomic_there [] n atomic none = absurd atomic
-atomic_there (first ∷ registers) zero atomic none = none 0 first (omega arith) atomic
-atomic_there (first ∷ registers) (suc n) atomic none = atomic_there registers n atomic (λ i d within. none (suc i) d (omega (arith, within)))
-
--- none of the first registers is atomic
-abbrev pub NoneBelow : List Said → ℕ → Type 0
-NoneBelow registers n = (i : ℕ) → i < n → ¬ IsSomeAnd (slice_get registers i) (λ register. register.claim.kind ≡ Atomic)
-
-pub none_on : (registers : List Said) (n : ℕ) → NoneBelow registers n → ¬ IsSomeAnd (slice_get registers n) (λ register. register.claim.kind ≡ Atomic) → NoneBelow registers (n + 1)
-none_on registers n below here i lt atomic = elim (cases_lt i n) [
-  | inl before ↦ below i before atomic
-  | inr after ↦ let same : i ≡ n = omega (arith, lt, after) in here (subst (λ (k : ℕ). IsSomeAnd (slice_get registers k) (λ register. register.claim.kind ≡ Atomic)) same atomic)
-]
-
-pub none_at_all : (registers : List Said) (n : ℕ) → n ≡ length registers → NoneBelow registers n → All (λ register. register.claim.kind ≢ Atomic) registers
-none_at_all registers n is below i d within atomic =
-    below i (omega (arith, is, within)) (subst (λ (o : Option Said). IsSomeAnd o (λ register. register.claim.kind ≡ Atomic)) (sym (slice_get-get_or registers i d within)) atomic)

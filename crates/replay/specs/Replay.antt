@@ -1,7 +1,6 @@
 -- What the steps of a trace come to over the registers of a tower.
-use Rattle.std.specs.Prelude.{◌≡◌, ◌≢◌, ◌↔◌, ◌==◌, ℕ, ◌+◌, List, [], ◌∷◌, length, filter_map, All, Option, Some, None, option_map, Result, Ok, Err, IsTrue, if◌then◌else◌}
+use Rattle.std.specs.Prelude.{◌≡◌, ◌↔◌, ◌==◌, ℕ, ◌+◌, List, [], ◌∷◌, length, filter_map, Option, Some, None, option_map, Result, Ok, Err, IsTrue, if◌then◌else◌}
 use Rattle.std.specs.List.{AllZip, slice_get}
-use Rattle.intervals.specs.declared.claim.Kind.TheVariants.{Atomic}
 use Rattle.intervals.specs.declared.edit.Edit.{Edit}
 use Rattle.intervals.specs.declared.operation.RegId.{RegId}
 use Rattle.intervals.specs.declared.refusal.Refusal.{Refusal}
@@ -93,10 +92,6 @@ pub record IsAnswer (asked : Question) (answer : Answer) : Type 0 where
   pub register : answer.register ≡ asked.register
   pub verdict : IsTrue answer.holds ↔ Holds asked.held.claim asked.held.ops
   pub count : answer.operations ≡ length asked.held.ops
-
--- no register of the tower claims to be atomic
-abbrev pub HasNoAtomic : Contents → Type 0
-HasNoAtomic tower = All (λ register. register.claim.kind ≢ Atomic) tower.registers
 
 -- a replay says what the steps of the trace come to, up to its end or its first fault
 pub record IsReplay (tower : Contents) (chosen : MomentField) (trace : List ℕ) (replay : Replay) : Type 0 where

@@ -3,10 +3,8 @@
 //!
 //! ```text
 //! let tower = Tower::read(alloc, text)?;
-//! if has_no_atomic(&tower) {
-//!     let found = replay(alloc, &tower, trace, MomentField::Index)?;
-//!     // found.books[0].holds(), found.answers, found.refused, found.broken
-//! }
+//! let found = replay(alloc, &tower, trace, MomentField::Index)?;
+//! // found.books[0].holds(), found.answers, found.refused, found.broken
 //! ```
 //!
 //! Begin with `trace`: an element becomes an item, an item a step, and a step an edit of a book or
@@ -23,7 +21,7 @@ mod trace;
 
 pub use audit::{Audit, audit_trace};
 pub use outcome::{Answer, Code, Refused, Replay};
-pub use trace::{has_no_atomic, replay};
+pub use trace::replay;
 
 #[cfg(test)]
 mod tests;

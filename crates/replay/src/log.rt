@@ -1,15 +1,15 @@
 //! The books of a tower's registers, and what is noted of a trace by place.
 
-ghost use Rattle.std.specs.Prelude.{◌≡◌, ◌≢◌, ◌∷◌, ◌++◌, [], map, Ok, Err, Some, IfOk, IfSome, OnOk, option_copied};
+ghost use Rattle.std.specs.Prelude.{◌≡◌, ◌∷◌, ◌++◌, [], map, Ok, Err, Some, IfOk, OnOk, option_copied};
 ghost use Rattle.std.specs.Option.{option_map_or};
 ghost use Rattle.std.specs.List.{slice_get};
 ghost use Rattle.pairing.specs.declared.step.Step.TheVariants.{Edit as ToEdit, Ask};
 ghost use Rattle.replay.specs.Steps.{by_pairing};
-ghost use Rattle.replay.specs.Replay.{HasNoAtomic, IsAnswer, reply_of};
+ghost use Rattle.replay.specs.Replay.{IsAnswer, reply_of};
 ghost use Rattle.replay.specs.Log.{GoesOn, Shows, edited_at, unedited};
 
 use crate::outcome::{Answer, Code, Refused};
-use intervals::{Edit, Kind, Memory, Refusal, RegId};
+use intervals::{Edit, Memory, Refusal, RegId};
 use pairing::{PairFault, Step};
 use register_book::{RegisterBook, Reply};
 use std::alloc::Global;
@@ -26,7 +26,6 @@ pub struct Log<'t> {
 impl<'t> Log<'t> {
     /// Before the first step.
     pub fn new(alloc: Global, tower: &Tower) -> Result<Self, Memory>
-        requires { HasNoAtomic tower.now }
         ensures { IfOk result (λ log. Shows tower.now [] log) }
     {
         Ok(Log {
@@ -116,7 +115,6 @@ fn answer_by(book: &RegisterBook, place: u64, register: RegId) -> Answer
 
 /// A book of no operations for each register, by number.
 fn open_books<'t>(alloc: Global, tower: &Tower) -> Result<Vec<RegisterBook<'t>>, Memory>
-    requires { HasNoAtomic tower.now }
     ensures { IfOk result (λ books. books.items ≡ map unedited tower.now.registers) }
 {
     let mut books = Vec::new(alloc);
@@ -133,7 +131,6 @@ fn open_book<'t>(
     id: RegId,
     books: &mut Vec<RegisterBook<'t>>,
 ) -> Result<(), Memory>
-    requires { IfSome (slice_get tower.now.registers id.0) (λ register. register.claim.kind ≢ Kind.Atomic) }
     ensures { OnOk result (books.new.items ≡ books.old.items ++ option_map_or (λ register. unedited register ∷ []) (slice_get tower.now.registers id.0) []) }
 {
     let Some(claim) = tower.claim(id) else {

@@ -2,7 +2,6 @@
 
 ghost use Rattle.std.specs.Prelude.{◌≡◌, ◌↔◌, ◌+◌, ◌<◌, ◌^◌, ◌∷◌, ◌++◌, [], List, Result, OnOk, IfOk, Ok, Err, Some, IsTrue};
 ghost use Rattle.tower_file.specs.Contents.{Contents};
-ghost use Rattle.replay.specs.Replay.{HasNoAtomic};
 ghost use Rattle.replay.specs.Progress.{IsAhead, IsAt};
 
 use crate::log::Log;
@@ -25,7 +24,6 @@ pub struct Progress<'t> {
 impl<'t> Progress<'t> {
     /// The state before the first element.
     pub fn new(alloc: Global, tower: &Tower) -> Result<Self, Memory>
-        requires { HasNoAtomic tower.now }
         ensures place { IfOk result (λ progress. progress.place ≡ 0) }
         ensures ahead { IfOk result (λ progress. IsAhead progress) }
         ensures at { IfOk result (λ progress. IsAt tower.now [] progress) }

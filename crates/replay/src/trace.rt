@@ -1,14 +1,13 @@
 //! The replay of a whole trace over the registers of a tower.
 
-ghost use Rattle.std.specs.Prelude.{◌≡◌, ◌↔◌, IfOk, IsTrue, IsSomeAnd};
-ghost use Rattle.std.specs.List.{slice_get};
+ghost use Rattle.std.specs.Prelude.{◌≡◌, ◌↔◌, IfOk, IsTrue};
 ghost use Rattle.edn_reader.specs.Fault.{IsMemory};
-ghost use Rattle.replay.specs.Replay.{HasNoAtomic, IsReplay};
+ghost use Rattle.replay.specs.Replay.{IsReplay};
 
 use crate::outcome::Replay;
 use crate::progress::Progress;
 use edn_reader::{EdnFault, Reader};
-use intervals::{Kind, Memory, RegId};
+use intervals::Memory;
 use jepsen_form::{MomentField, read_item};
 use std::alloc::Global;
 use tower_file::Tower;
@@ -21,7 +20,6 @@ pub fn replay<'t>(
     trace: &'t [u8],
     field: MomentField,
 ) -> Result<Replay<'t>, Memory>
-    requires { HasNoAtomic tower.now }
     ensures { IfOk result (λ replay. IsReplay tower.now field trace.entry.now replay) }
 {
     let mut reader = Reader::new(alloc, trace);
@@ -37,27 +35,6 @@ pub fn replay<'t>(
                 return Ok(close(progress, Some(fault)));
             }
         }
-    }
-}
-
-/// Whether no register of the tower claims to be atomic.
-pub fn has_no_atomic(tower: &Tower) -> bool
-    ensures { IsTrue result ↔ HasNoAtomic tower.now }
-{
-    for number in 0..tower.len() {
-        if is_atomic(tower, RegId(number as u32)) {
-            return false;
-        }
-    }
-    true
-}
-
-fn is_atomic(tower: &Tower, id: RegId) -> bool
-    ensures { IsTrue result ↔ IsSomeAnd (slice_get tower.now.registers id.0) (λ register. register.claim.kind ≡ Kind.Atomic) }
-{
-    match tower.claim(id) {
-        Some(claim) => claim.kind == Kind::Atomic,
-        None => false,
     }
 }
 

@@ -1,7 +1,8 @@
-mod EdgeOrder
+pub mod EdgeOrder
 mod Pairs
 mod TwoZones
 mod Farthest
 mod OneFirst
-mod Places
+mod FirstFound
+pub mod Places
 mod OneOrder

@@ -61,6 +61,11 @@ pub fn one_first_conflict()
     ensures conflict { (zones : List Zone) (a b : Zone) → IsFirstConflict zones a b → ¬ IsClean zones }
 {}
 
+/// Zones that stand in order and of which two conflict have a first conflict.
+pub fn a_first_conflict_where_zones_conflict()
+    ensures { (zones : List Zone) → StandInOrder zones → ¬ IsClean zones → (first second : Zone) × IsFirstConflict zones first second }
+{}
+
 /// A zone of a new left edge comes to those that stand, and none is lost; all still stand in order.
 pub fn a_new_zone_has_one_place()
     ensures zones { (zone : Zone) (zones : List Zone) → StandInOrder zones → HasNoZoneAt zone.left zones

@@ -1,71 +1,11 @@
--- Edges are in one order; the earlier and the later of two.
-use Rattle.std.proofs.Common.{◌≡◌, ℕ, ◌<◌, ◌⊎◌, inl, inr, refl, sym, ap, subst, arith}
-use Rattle.std.proofs.lemmas.Bool.{ltb-true, lt-ltb, cases_order, both_ways, cond_both}
-use Rattle.intervals.specs.declared.operation.Moment.{Moment}
+-- The earlier and the later of two edges.
+use Rattle.std.proofs.Common.{◌≡◌, ◌⊎◌, inl, inr, refl}
+use Rattle.std.proofs.lemmas.Bool.{both_ways, cond_both}
 use Rattle.zone_tree.specs.declared.edge.Edge.{Edge}
 use Rattle.zone_tree.specs.declared.edge.Edge.TheVariants.{Before, At, Never}
 use Rattle.zone_tree.specs.Edge.{comes_before, ComesBefore}
 use Rattle.zones.specs.Cluster.{earlier_of, later_of}
-
-pub before_irreflexive : (a : Edge) → ¬ ComesBefore a a
-before_irreflexive Before h = absurd (cc)
-before_irreflexive (At m) h = let less : m.0 < m.0 = ltb-true m.0 m.0 h in omega arith
-before_irreflexive Never h = absurd (cc)
-
-pub before_transitive : (a b c : Edge) → ComesBefore a b → ComesBefore b c → ComesBefore a c
-before_transitive Before Before c p q = q
-before_transitive Before (At n) Before p q = q
-before_transitive Before (At n) (At o) p q = refl
-before_transitive Before (At n) Never p q = refl
-before_transitive Before Never c p q = absurd (cc)
-before_transitive (At m) Before c p q = absurd (cc)
-before_transitive (At m) (At n) Before p q = q
-before_transitive (At m) (At n) (At o) p q =
-    let first : m.0 < n.0 = ltb-true m.0 n.0 p in
-    let second : n.0 < o.0 = ltb-true n.0 o.0 q in
-    lt-ltb m.0 o.0 (omega arith)
-before_transitive (At m) (At n) Never p q = refl
-before_transitive (At m) Never c p q = absurd (cc)
-before_transitive Never b c p q = absurd (cc)
-
-same_moment : (m n : Moment) → m.0 ≡ n.0 → At m ≡ At n
-same_moment m n e = ap (λ (k : ℕ). At (record { 0 = k })) e
-
-before_cases_at : (m n : Moment) → (m.0 ≡ n.0) ⊎ ((m.0 < n.0) ⊎ (n.0 < m.0)) → ComesBefore (At m) (At n) ⊎ ((At m ≡ At n) ⊎ ComesBefore (At n) (At m))
-before_cases_at m n (inl e) = inr (inl (same_moment m n e))
-before_cases_at m n (inr (inl p)) = inl (lt-ltb m.0 n.0 p)
-before_cases_at m n (inr (inr p)) = inr (inr (lt-ltb n.0 m.0 p))
-
-pub before_cases : (a b : Edge) → ComesBefore a b ⊎ ((a ≡ b) ⊎ ComesBefore b a)
-before_cases Before Before = inr (inl refl)
-before_cases Before (At n) = inl refl
-before_cases Before Never = inl refl
-before_cases (At m) Before = inr (inr refl)
-before_cases (At m) (At n) = before_cases_at m n (cases_order m.0 n.0)
-before_cases (At m) Never = inl refl
-before_cases Never Before = inr (inr refl)
-before_cases Never (At n) = inr (inr refl)
-before_cases Never Never = inr (inl refl)
-
-pub not_both_ways : (a b : Edge) → ComesBefore a b → ¬ ComesBefore b a
-not_both_ways a b p q = before_irreflexive a (before_transitive a b a p q)
-
-not_after_by : (a b c : Edge) → ComesBefore a b → ¬ ComesBefore c b → ComesBefore b c ⊎ ((b ≡ c) ⊎ ComesBefore c b) → ComesBefore a c
-not_after_by a b c p n (inl q) = before_transitive a b c p q
-not_after_by a b c p n (inr (inl e)) = subst (λ (x : Edge). ComesBefore a x) e p
-not_after_by a b c p n (inr (inr q)) = absurd (n q)
-
--- what comes before an edge comes before every edge that is not before that one
-pub before_not_after : (a b c : Edge) → ComesBefore a b → ¬ ComesBefore c b → ComesBefore a c
-before_not_after a b c p n = not_after_by a b c p n (before_cases b c)
-
-not_before_by : (a b c : Edge) → ¬ ComesBefore b a → ComesBefore b c → ComesBefore a b ⊎ ((a ≡ b) ⊎ ComesBefore b a) → ComesBefore a c
-not_before_by a b c n q (inl p) = before_transitive a b c p q
-not_before_by a b c n q (inr (inl e)) = subst (λ (x : Edge). ComesBefore x c) (sym e) q
-not_before_by a b c n q (inr (inr p)) = absurd (n p)
-
-pub not_after_before : (a b c : Edge) → ¬ ComesBefore b a → ComesBefore b c → ComesBefore a c
-not_after_before a b c n q = not_before_by a b c n q (before_cases a b)
+pub use Rattle.zone_tree.proofs.EdgeOrder.{before_irreflexive, before_transitive, before_cases, not_both_ways, before_not_after, not_after_before}
 
 -- one edge does not come after another
 abbrev pub AtMost : Edge → Edge → Type 0

@@ -20,7 +20,7 @@ use Rattle.zones.specs.Crossing.{IsCrossing}
 use Rattle.zones.proofs.Judged.{is_judged, judged_read, judged_write}
 use Rattle.zones.proofs.Members.{kept, kept_stands, all_from, pairs_mapped}
 use Rattle.zones.proofs.Nearest.{clash, clash-flips, Decides-clash, StandsBefore, IsSound, NoneBefore, value_from, stands_first, no_return, one_first, write_first}
-use Rattle.zones.proofs.Clusters.{Cross, crossing_of, edges_in_order, left_edges_apart}
+use Rattle.zones.proofs.Cluster.{Cross, crossing_of, edges_in_order, left_edges_apart}
 
 -- the values that have a write are different
 pub values_apart : (initial : Value) (ops : List Op) → HasDistinctValues initial ops → AllPairs (λ u v. u ≢ v) (written_values initial ops)

@@ -21,7 +21,7 @@ use Rattle.zones.specs.Fault.{IsUnwritten, IsEarly, IsFaultless}
 use Rattle.zones.specs.Turn.{left_of, StandInTurn, IsInTurn}
 use Rattle.zones.proofs.EdgeOrder.{AtMost, at_most_transitive, at_most_both, before_all, before_irreflexive, before_not_after, not_after_before}
 use Rattle.zones.proofs.Members.{value_cases, here, there, in_none, contains_cases, kept, kept_stands, all_from, mapped, pair_of, by_recursion_from, from_recursion}
-use Rattle.zones.proofs.Clusters.{edge_from_end, EdgeIn, left, left_in, left_initial, left_is, left_at_most_least, left_at_most_greatest, least_at_most, greatest_at_least, settle, value_is, conflict_is}
+use Rattle.zones.proofs.Cluster.{edge_from_end, EdgeIn, left, left_in, left_initial, left_is, left_at_most_least, left_at_most_greatest, least_at_most, greatest_at_least, settle, value_is, conflict_is}
 use Rattle.zones.proofs.Judged.{is_judged, judged_write, is_judged_by_end}
 
 -- a write of the value, or none

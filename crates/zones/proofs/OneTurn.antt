@@ -12,15 +12,15 @@ use Rattle.intervals.specs.declared.operation.Op.{Op}
 use Rattle.intervals.specs.declared.operation.Moment.{Moment}
 use Rattle.intervals.specs.declared.operation.Value.{Value}
 use Rattle.intervals.specs.Operation.{is_write, value_of, judged}
-use Rattle.intervals.specs.Standing.{ShareNoMoment, HasDistinctMoments}
+use Rattle.intervals.specs.Standing.{IsMomentOf, ShareNoMoment, HasDistinctMoments}
 use Rattle.zones.specs.Turn.{left_of, StandInTurn, IsInTurn}
 use Rattle.zones.proofs.EdgeOrder.{at_most_both}
 use Rattle.zones.proofs.Judged.{is_judged}
 use Rattle.zones.proofs.Members.{here, there, in_none, contains_cases, kept_stands, from_recursion, pairs_head, pairs_tail}
-use Rattle.zones.proofs.Clusters.{EdgeIn, left_in, settle}
+use Rattle.zones.proofs.Cluster.{EdgeIn, left_in, settle}
 
 -- two that stand in a list are one, or the relation holds of them
-one_or_related : (R : Op → Op → Type 0) → ((x y : Op) → R x y → R y x) → (xs : List Op) → AllPairs R xs → (x y : Op) → Contains xs x → Contains xs y → (x ≡ y) ⊎ R x y
+pub one_or_related : (R : Op → Op → Type 0) → ((x y : Op) → R x y → R y x) → (xs : List Op) → AllPairs R xs → (x y : Op) → Contains xs x → Contains xs y → (x ≡ y) ⊎ R x y
 one_or_related R symmetric [] pairs x y hx hy = absurd (in_none x hx)
 one_or_related R symmetric (a ∷ xs) pairs x y hx hy =
     by_cases (contains_cases a xs x hx) (contains_cases a xs y hy) (λ hx hy. one_or_related R symmetric xs (pairs_tail R a xs pairs) x y hx hy)
@@ -31,7 +31,15 @@ one_or_related R symmetric (a ∷ xs) pairs x y hx hy =
     by_cases (inr h) (inl f) rest = inr (subst (λ (z : Op). R x z) f (symmetric a x (All-contains (R a) xs x (pairs_head R a xs pairs) h)))
     by_cases (inr h) (inr k) rest = rest h k
 
-same_moment : (m n : Moment) → m.0 ≡ n.0 → m ≡ n
+-- two operations that have one moment are one
+pub one_holder : (ops : List Op) → HasDistinctMoments ops → (x y : Op) → Contains ops x → Contains ops y → (m : Moment) → IsMomentOf x m → IsMomentOf y m → x ≡ y
+one_holder ops moments x y h k m p q = by_cases (one_or_related ShareNoMoment (λ a b n m p q. n m q p) ops moments x y h k)
+  where
+    by_cases : (x ≡ y) ⊎ ShareNoMoment x y → x ≡ y
+    by_cases (inl e) = e
+    by_cases (inr n) = absurd (n m p q)
+
+pub same_moment : (m n : Moment) → m.0 ≡ n.0 → m ≡ n
 same_moment m n e = ap (λ (k : ℕ). let moment : Moment = record { 0 = k } in moment) e
 
 same_act : (x y : Bool) → (y ≡ true → x ≡ true) → (x ≡ true → y ≡ true) → x ≡ y
@@ -52,7 +60,8 @@ module _ (initial : Value) (ops : List Op) (moments : HasDistinctMoments ops) wh
   -- two that may each stand before the other are one
   one_operation : (x y : Op) → Contains (judged ops) x → Contains (judged ops) y → StandInTurn initial ops x y → StandInTurn initial ops y x → x ≡ y
   one_operation x y h k s t =
-      by_cases (one_or_related ShareNoMoment (λ a b n m p q. n m q p) ops moments x y (kept_stands is_judged ops x h).0 (kept_stands is_judged ops y k).0)
+      one_holder ops moments x y (kept_stands is_judged ops x h).0 (kept_stands is_judged ops y k).0 x.begin
+      (inl refl) (inl (sym (same_moment x.begin y.begin begin)))
     where
       left : left_of initial ops x ≡ left_of initial ops y
       left = at_most_both (left_of initial ops x) (left_of initial ops y) s.by_zone t.by_zone
@@ -68,10 +77,6 @@ module _ (initial : Value) (ops : List Op) (moments : HasDistinctMoments ops) wh
 
       begin : x.begin.0 ≡ y.begin.0
       begin = omega (arith, s.by_beginning value act, t.by_beginning (sym value) (sym act))
-
-      by_cases : (x ≡ y) ⊎ ShareNoMoment x y → x ≡ y
-      by_cases (inl e) = e
-      by_cases (inr n) = absurd (n x.begin (inl refl) (inl (sym (same_moment x.begin y.begin begin))))
 
   -- lists in turn of the same operations
   abbrev IsAmong : List Op → List Op → Type 0

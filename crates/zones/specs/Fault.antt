@@ -1,5 +1,5 @@
 -- The three ways in which an atomic register fails, and that it fails in none.
-use Rattle.std.specs.Prelude.{◌≡◌, ◌≢◌, Bool, not, ◌&&◌, List, All, Option, Some, None, option_map, find}
+use Rattle.std.specs.Prelude.{◌≡◌, ◌≢◌, ◌≤◌, Bool, not, ◌&&◌, List, All, Any, Contains, Option, Some, None, option_map, find}
 use Rattle.std.specs.List.{list_any}
 use Rattle.intervals.specs.declared.operation.Op.{Op}
 use Rattle.intervals.specs.declared.operation.Value.{Value}
@@ -21,6 +21,16 @@ pub record IsEarly (r w : Op) : Type 0 where
   pub write : IsWrite w
   pub one_value : value_of w.act ≡ value_of r.act
   pub ends_before : Precedes r w
+
+-- it is early, with some write that stands
+abbrev pub HasLateWrite : List Op → Op → Type 0
+HasLateWrite ops r = Any (λ w. IsEarly r w) ops
+
+-- it stands and has the property, and none that has it ended before
+pub record IsFirstOf (Property : Op → Type 0) (ops : List Op) (r : Op) : Type 0 where
+  pub stands : Contains ops r
+  pub holds : Property r
+  pub first : All (λ other. Property other → end_number r ≤ end_number other) ops
 
 -- no read is unwritten, none is early, and no two zones conflict
 pub record IsFaultless (initial : Value) (ops : List Op) : Type 0 where

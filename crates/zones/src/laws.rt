@@ -19,10 +19,12 @@ ghost use Rattle.zone_tree.specs.Edge.{ComesBefore};
 ghost use Rattle.zone_tree.specs.Conflict.{IsClean};
 ghost use Rattle.zone_tree.specs.Zone.{Conflicts, HasOrderedEdges};
 ghost use Rattle.zones.specs.Cluster.{edge_of_end, cluster_of, least_end_of, greatest_begin_of, zone_of, zones_of};
-ghost use Rattle.zones.specs.Fault.{IsUnwritten, IsEarly, IsFaultless};
-ghost use Rattle.zones.specs.Crossing.{IsCrossing, AreExtremes};
+ghost use Rattle.zones.specs.Fault.{IsUnwritten, IsEarly, HasLateWrite, IsFirstOf, IsFaultless, first_unwritten, first_early};
+ghost use Rattle.zones.specs.Crossing.{IsCrossing, AreExtremes, HasFirstConflict, IsFirstCrossing};
 ghost use Rattle.zones.specs.Turn.{IsInTurn};
 ghost use Rattle.zones.specs.Examples.{at, forward, backward, reads_of_nil, write_alone, read_after, read_within, never_ended, never_ended_and_read, unwritten_read, read_of_nothing, early_read, late_write, read_before_write, first_write, second_read, first_read, nil_read, back_to_nil};
+
+use zone_tree::laws::{one_first_conflict, zones_have_one_order};
 
 /// A register of many writers has an arrangement exactly where no read is unwritten, no read is
 /// early and no two zones conflict.
@@ -90,6 +92,28 @@ pub fn extremes_of_a_conflict_cross()
         → (a : Option Op) × (b : Op) × (c : Option Op) × (d : Op) × AreExtremes initial ops u v a b c d }
 {}
 
+/// The first unwritten read is the unwritten read of which none ended before.
+pub fn first_unwritten_ended_first()
+    ensures first { (initial : Value) (ops : List Op) (r : Op) → first_unwritten initial ops ≡ Some r → IsFirstOf (IsUnwritten initial ops) ops r }
+    ensures only { (initial : Value) (ops : List Op) (r : Op) → HasDistinctMoments ops → IsFirstOf (IsUnwritten initial ops) ops r → first_unwritten initial ops ≡ Some r }
+    ensures none { (initial : Value) (ops : List Op) → (first_unwritten initial ops ≡ None) ↔ All (λ r. ¬ IsUnwritten initial ops r) ops }
+{}
+
+/// The first early read is the early read of which none ended before, with the write of its value.
+pub fn first_early_ended_first()
+    ensures first { (ops : List Op) (r w : Op) → first_early ops ≡ Some (r, w) → IsFirstOf (HasLateWrite ops) ops r × Contains ops w × IsEarly r w }
+    ensures only { (initial : Value) (ops : List Op) (r w : Op) → HasDistinctMoments ops → HasDistinctValues initial ops
+        → IsFirstOf (HasLateWrite ops) ops r → Contains ops w → IsEarly r w → first_early ops ≡ Some (r, w) }
+    ensures none { (ops : List Op) → (first_early ops ≡ None) ↔ All (λ r. All (λ w. ¬ IsEarly r w) ops) ops }
+{}
+
+/// A register is faultless exactly where there is no first unwritten read, no first early read and no
+/// conflict.
+pub fn faultless_where_no_fault_is_first()
+    ensures { (initial : Value) (ops : List Op) → IsFaultless initial ops
+        ↔ ((first_unwritten initial ops ≡ None) × (first_early ops ≡ None) × IsClean (zones_of initial ops)) }
+{}
+
 /// Zones have their edges in order, and no two of one register have one left edge.
 pub fn zones_stand_apart()
     ensures ordered { (initial : Value) (ops : List Op) → All HasOrderedEdges (zones_of initial ops) }
@@ -101,6 +125,18 @@ pub fn zones_stand_apart()
 pub fn clean_in_any_order()
     ensures { (zones others : List Zone) → IsPermutation zones others → IsClean zones ↔ IsClean others }
 {}
+
+/// A register has at most one first conflict and at most one first crossing, and that is a crossing.
+pub fn one_first_crossing()
+    ensures one_conflict { (initial : Value) (ops : List Op) (first second third fourth : Zone) → HasFirstConflict initial ops first second
+        → HasFirstConflict initial ops third fourth → (first ≡ third) × (second ≡ fourth) }
+    ensures one { (initial : Value) (ops : List Op) (a : Option Op) (b : Op) (c : Option Op) (d : Op) (e : Option Op) (f : Op) (g : Option Op) (h : Op) → HasDistinctMoments ops
+        → IsFirstCrossing initial ops a b c d → IsFirstCrossing initial ops e f g h → (a ≡ e) × (b ≡ f) × (c ≡ g) × (d ≡ h) }
+    ensures crossing { (initial : Value) (ops : List Op) (a : Option Op) (b : Op) (c : Option Op) (d : Op) → IsFirstCrossing initial ops a b c d → IsCrossing initial ops a b c d }
+{
+    zones_have_one_order();
+    one_first_conflict();
+}
 
 /// The zone of a value, from what its cluster holds.
 pub fn worked_zones()
@@ -117,12 +153,16 @@ pub fn worked_zones()
 pub fn worked_faults()
     ensures unwritten { IsUnwritten Nil read_of_nothing unwritten_read }
     ensures no_order_with_unwritten { ¬ IsAtomic (claim_of Atomic Nil None) read_of_nothing }
+    ensures first_unwritten { first_unwritten Nil read_of_nothing ≡ Some unwritten_read }
     ensures early { IsEarly early_read late_write }
+    ensures first_early { first_early read_before_write ≡ Some (early_read, late_write) }
     ensures no_order_with_early { ¬ IsAtomic (claim_of Atomic Nil None) read_before_write }
     ensures zones { zones_of Nil new_before_old ≡ backward Before Before Nil ∷ forward (at 1) (at 6) (number 1) ∷ backward (at 4) (at 5) (number 2) ∷ [] }
     ensures conflict { Conflicts (zone_of Nil new_before_old (number 1)) (zone_of Nil new_before_old (number 2)) }
     ensures crossing { IsCrossing Nil new_before_old (Some first_write) second_read (Some second_read) first_read }
     ensures extremes { AreExtremes Nil new_before_old (number 1) (number 2) (Some first_write) second_read (Some second_read) first_read }
+    ensures first_conflict { HasFirstConflict Nil new_before_old (forward (at 1) (at 6) (number 1)) (backward (at 4) (at 5) (number 2)) }
+    ensures first_crossing { IsFirstCrossing Nil new_before_old (Some first_write) second_read (Some second_read) first_read }
     ensures no_order_with_crossing { ¬ IsAtomic (claim_of Atomic Nil None) new_before_old }
     ensures initial_first { IsCrossing Nil back_to_nil None first_write (Some first_write) nil_read }
     ensures initial_extreme { AreExtremes Nil back_to_nil Nil (number 1) None first_write (Some first_write) nil_read }

@@ -1,14 +1,26 @@
-//! What the zones of an atomic register's history decide: whether some order of its operations keeps
-//! precedence and lets every read return the latest write before it (Gibbons and Korach 1997).
+//! The judge of an atomic register's history: whether some order of its operations keeps precedence and
+//! lets every read return the latest write before it (Gibbons and Korach 1997).
 //!
 //! A register that many processes write fails in three ways and in no other: a read returns what was
 //! never written, a read ends before the write of its value begins, or the zones of two values
-//! conflict. This crate has no calls yet; it says and proves just that.
+//! conflict. `Clusters` is told each edit, keeps the zones and says so at once:
 //!
-//!     write 1  [0 1]       zone of 1: its least end is 1, its greatest beginning 6, forward from 1 to 6
-//!     write 2  [2 9]       zone of 2: its least end is 5, its greatest beginning 4, backward from 4 to 5
-//!     read  2  [4 5]       the zones conflict, since 1 comes before 4 and 5 before 6:
-//!     read  1  [6 7]       the write of 1 precedes a read of 2, which precedes a read of 1
+//! ```text
+//! let mut clusters = Clusters::new(alloc, &claim)?;     // atomic, nil at first
+//! clusters.admit_write(&first)?;       // of 1, from 0 to 1
+//! clusters.admit_write(&second)?;      // of 2, from 2 to 9
+//! clusters.admit_read(&new)?;          // of 2, from 4 to 5
+//! clusters.admit_read(&old)?;          // of 1, from 6 to 7
+//! clusters.zone_of(Value::Int(1))      // forward from 1 to 6: its least end is 1, its greatest beginning 6
+//! clusters.zone_of(Value::Int(2))      // backward from 4 to 5: its least end is 5, its greatest beginning 4
+//! clusters.crossing()                  // 1 comes before 4 and 5 before 6: first ended before new
+//!                                      // began, and new before old did
+//! clusters.drop_read(old_id);
+//! clusters.holds()                     // true
+//! ```
+//!
+//! The rows of `tests.rt` run these calls; `laws::worked_faults` is this history, computed from the
+//! definitions.
 //!
 //! Read `specs/Cluster.antt` first: the cluster of a value and its zone; then `specs/Fault.antt`, the
 //! three ways to fail, `specs/Crossing.antt`, four operations that no order has room for, and
@@ -17,6 +29,25 @@
 //! distinct moments, ends after beginnings and distinct written values, and so after any edits; an
 //! unwritten read, an early read or a crossing excludes every arrangement by itself; an order in turn
 //! is an arrangement. Zones, edges and conflicts themselves are those of `zone_tree`.
+//!
+//! The calls are in `register.rt`. `index.rt` keeps the judged operations of each value by their ends and
+//! their beginnings, so that an edit looks at the first and the last of the values it touches alone
+//! (`zone_in.rt`) and moves two zones at most (`moves.rt`).
 #![tactic(auto)]
 
+mod crossing;
+mod firsts;
+mod index;
 pub mod laws;
+mod moves;
+mod order;
+mod register;
+mod spot;
+mod writes;
+mod zone_in;
+
+pub use crossing::Crossing;
+pub use register::Clusters;
+
+#[cfg(test)]
+mod tests;

@@ -1,4 +1,4 @@
-use Rattle.zones.proofs.Clusters.{members_of, member_of, least_at_most, greatest_at_least, least_of_one, greatest_of_one, least_initial}
+use Rattle.zones.proofs.Cluster.{members_of, member_of, least_at_most, greatest_at_least, least_of_one, greatest_of_one, least_initial}
 use Rattle.zones.proofs.laws.edges_are_those_of_the_cluster.Goals as goal
 
 pub returns : goal.returns

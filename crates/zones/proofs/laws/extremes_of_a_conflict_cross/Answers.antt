@@ -1,4 +1,4 @@
-use Rattle.zones.proofs.Clusters.{extremes_cross, extremes_of}
+use Rattle.zones.proofs.Cluster.{extremes_cross, extremes_of}
 use Rattle.zones.proofs.laws.extremes_of_a_conflict_cross.Goals as goal
 
 pub returns : goal.returns

@@ -1,0 +1,43 @@
+-- The operations of a witness stand.
+use Rattle.std.proofs.Common.{◌≡◌, List, [], ◌∷◌, ◌++◌, Option, Some}
+use Rattle.std.specs.Prelude.{All, Contains}
+use Rattle.std.proofs.lemmas.List.Elements.{All-append, All-cons, All-nil, All-contains, All-contains_itself, All-filter}
+use Rattle.intervals.specs.declared.operation.Op.{Op}
+use Rattle.intervals.specs.Operation.{judged}
+use Rattle.intervals.specs.Terms.{Terms}
+use Rattle.intervals.specs.Judging.{first_wrong}
+use Rattle.zones.specs.Fault.{first_unwritten, first_early}
+use Rattle.zones.specs.Crossing.{StandsJudged, IsCrossing, IsFirstCrossing}
+use Rattle.register_book.specs.declared.fault.Side.{Side}
+use Rattle.register_book.specs.declared.fault.Side.TheVariants.{Op as ItsOp, Initial}
+use Rattle.register_book.specs.declared.fault.Witness.{Witness}
+use Rattle.register_book.specs.declared.fault.Witness.TheVariants.{Wrong, Unwritten, Early, Crossing}
+use Rattle.register_book.specs.Fault.{IsWitness, op_at, ops_at, operations_of}
+
+module _ (P : Op → Type 0) (claim : Terms) (ops : List Op) (each : (op : Op) → Contains ops op → P op) where
+  one : (op : Op) → Contains ops op → All P (op ∷ [])
+  one op h = All-cons P op [] (each op h) (All-nil P)
+
+  judged_stands : (op : Op) → Contains (judged ops) op → Contains ops op
+  judged_stands op h = All-contains (Contains ops) (judged ops) op (All-filter _ (Contains ops) ops (All-contains_itself ops)) h
+
+  at_side : (side : Side) → StandsJudged ops (op_at side) → All P (ops_at side)
+  at_side (ItsOp op) h = one op (judged_stands op h)
+  at_side Initial h = All-nil P
+
+  -- what holds of each operation that stands holds of each of a witness
+  pub of_witness : ((r : Op) → first_wrong claim ops ≡ Some r → Contains ops r)
+      → ((r : Op) → first_unwritten claim.initial ops ≡ Some r → Contains ops r)
+      → ((r w : Op) → first_early ops ≡ Some (r, w) → Contains ops r × Contains ops w)
+      → ((a : Option Op) (b : Op) (c : Option Op) (d : Op) → IsFirstCrossing claim.initial ops a b c d → IsCrossing claim.initial ops a b c d)
+      → (witness : Witness) → IsWitness claim ops witness → All P (operations_of witness)
+  of_witness wrong unwritten early crossing (Wrong r) h = one r (wrong r h.1)
+  of_witness wrong unwritten early crossing (Unwritten r) h = one r (unwritten r h.1)
+  of_witness wrong unwritten early crossing (Early r w) h = let s = early r w h.2 in All-cons P r (w ∷ []) (each r s.0) (one w s.1)
+  of_witness wrong unwritten early crossing (Crossing a (ItsOp b) c (ItsOp d)) h =
+      let x = crossing (op_at a) b (op_at c) d h.3 in
+      let front = All-append P (ops_at a) (b ∷ []) (at_side a x.a_stands) (one b (judged_stands b x.b_stands)) in
+      All-append P (ops_at a ++ (b ∷ []) ++ ops_at c) (d ∷ [])
+      (All-append P (ops_at a ++ (b ∷ [])) (ops_at c) front (at_side c x.c_stands)) (one d (judged_stands d x.d_stands))
+  of_witness wrong unwritten early crossing (Crossing a Initial c d) h = absurd h
+  of_witness wrong unwritten early crossing (Crossing a (ItsOp b) c Initial) h = absurd h

@@ -1,0 +1,26 @@
+use Rattle.std.proofs.Common.{[], subst}
+use Rattle.intervals.specs.declared.claim.Kind.{Kind}
+use Rattle.intervals.specs.Kind.{Keeps}
+use Rattle.intervals.specs.Refusal.{standing}
+use Rattle.register_book.proofs.Excluding.{excluding, excluded}
+use Rattle.register_book.proofs.laws.a_witness_excludes_every_arrangement.Goals as goal
+
+pub returns-clause-excluding : goal.returns-clause-excluding
+returns-clause-excluding c = λ claim ops witness kind h.
+    excluding claim ops kind
+    (λ r e. let f = c.first_unwritten_ended_first.ensures.first claim.initial ops r e in (f.stands, f.holds))
+    (λ r w e. let f = c.first_early_ended_first.ensures.first ops r w e in (f.0.stands, f.1, f.2))
+    (c.one_first_crossing.ensures.crossing claim.initial ops) witness h
+
+pub returns-clause-excludes : goal.returns-clause-excludes
+returns-clause-excludes c = λ claim ops witness values h.
+    let each = c.one_fault_excludes_every_arrangement.ensures in
+    excluded claim ops _ (each.unwritten claim ops) (λ r w. each.early claim ops r w values) (λ a b c' d. each.crossing claim ops a b c' d values) witness h
+
+pub returns-clause-after_edits : goal.returns-clause-after_edits
+returns-clause-after_edits c = λ claim edits witness kind h holds.
+    let each = c.one_fault_excludes_every_arrangement.ensures in
+    let ops = standing claim [] edits in
+    let values = c.edits_keep_operations_apart.ensures.values claim edits kind in
+    excluded claim ops _ (each.unwritten claim ops) (λ r w. each.early claim ops r w values) (λ a b c' d. each.crossing claim ops a b c' d values) witness h
+    (subst (λ (k : Kind). Keeps k claim ops) kind holds)

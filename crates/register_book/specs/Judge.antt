@@ -1,0 +1,34 @@
+-- What the judge of a register holds. No public clause speaks of these words.
+use Rattle.std.specs.Prelude.{◌≡◌, ◌≢◌, List, Option, Some, None}
+use Rattle.intervals.specs.declared.operation.Op.{Op}
+use Rattle.intervals.specs.declared.operation.OpId.{OpId}
+use Rattle.intervals.specs.declared.claim.Kind.TheVariants.{Atomic}
+use Rattle.intervals.specs.Terms.{Claimed}
+use Rattle.intervals.specs.Edit.{op_of}
+use Rattle.register_book.specs.declared.judge.Judge.{Judge}
+use Rattle.register_book.specs.declared.judge.Judge.TheVariants.{One, Many}
+
+-- the claim, and the operations that stand
+abbrev pub held_by : Judge → Claimed
+held_by (One register) = register
+held_by (Many clusters) = clusters
+
+-- the judge is that of the claimed kind
+abbrev pub IsOfItsKind : Judge → Type 0
+IsOfItsKind (One register) = register.claim.kind ≢ Atomic
+IsOfItsKind (Many clusters) = clusters.claim.kind ≡ Atomic
+
+-- the operation of that id, where one is given
+abbrev pub found_by : List Op → Option OpId → Option Op
+found_by ops None = None
+found_by ops (Some id) = op_of ops id
+
+-- both, where both are there
+abbrev pub both_of : Option Op → Option Op → Option (Op × Op)
+both_of (Some a) (Some b) = Some (a, b)
+both_of a b = None
+
+-- the operations of two ids, where they are given
+abbrev pub pair_by : List Op → Option (OpId × OpId) → Option (Op × Op)
+pair_by ops None = None
+pair_by ops (Some (a, b)) = both_of (op_of ops a) (op_of ops b)

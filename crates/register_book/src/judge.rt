@@ -1,0 +1,103 @@
+//! The judge of a register's kind, asked alike whichever it is.
+
+ghost use Rattle.std.specs.Prelude.{◌≡◌, ◌↔◌, [], None, IfOk, IfSome, OnOk, OnErr, IsNone, IsTrue};
+ghost use Rattle.intervals.specs.Terms.{terms_of};
+ghost use Rattle.intervals.specs.Edit.{edited};
+ghost use Rattle.intervals.specs.Refusal.{reply_to, write_refusal, ok_unless};
+ghost use Rattle.intervals.specs.Standing.{HasDistinctIds};
+ghost use Rattle.intervals.specs.Kind.{Holds};
+ghost use Rattle.zones.specs.Turn.{IsOrder};
+ghost use Rattle.register_book.specs.Judge.{held_by, IsOfItsKind};
+ghost use Rattle.register_book.specs.Fault.{IsWitness};
+
+use crate::Witness;
+use crate::many_writers::witness_of;
+use crate::one_writer::OneWriter;
+use intervals::{Claim, Edit, Kind, Memory, Op, OpBook, OpId, Refusal};
+use std::alloc::Global;
+use zones::Clusters;
+
+/// The operations of a register: one writer's where it claims to be safe or regular, else many writers'.
+#[derive(Drop)]
+pub enum Judge<'t> {
+    One(OneWriter<'t>),
+    Many(Clusters<'t>),
+}
+
+impl<'t> Judge<'t> {
+    pub fn new(alloc: Global, claim: &Claim) -> Result<Self, Memory>
+        ensures held { IfOk result (λ judge. held_by judge ≡ record { claim = terms_of claim.now; ops = [] }) }
+        ensures kind { IfOk result IsOfItsKind }
+    {
+        if claim.kind == Kind::Atomic {
+            Ok(Judge::Many(Clusters::new(alloc, claim)?))
+        } else {
+            Ok(Judge::One(OneWriter::new(alloc, claim)?))
+        }
+    }
+
+    pub fn operations(&self) -> &OpBook<'t>
+        ensures { result.now ≡ (held_by self.now).ops }
+    {
+        match self {
+            Judge::One(register) => register.operations(),
+            Judge::Many(clusters) => clusters.operations(),
+        }
+    }
+
+    /// The first refusal of the write that the claim decides.
+    pub fn check_write(&self, op: &Op) -> Result<(), Refusal>
+        ensures { result ≡ ok_unless (write_refusal (held_by self.now).claim (held_by self.now).ops op.now) }
+    {
+        match self {
+            Judge::One(register) => register.check_write(op),
+            Judge::Many(clusters) => clusters.check_write(op),
+        }
+    }
+
+    /// Carries out an edit that nothing refuses.
+    pub fn admit(&mut self, edit: Edit<'t>) -> Result<(), Memory>
+        requires { reply_to (held_by self.old).claim (held_by self.old).ops edit ≡ None }
+        ensures ok { OnOk result (held_by self.new ≡ record (held_by self.old) { ops = edited (held_by self.old).ops edit.entry }) }
+        ensures err { OnErr result (self.new ≡ self.old) }
+        ensures kind { IsOfItsKind self.old → IsOfItsKind self.new }
+    {
+        match self {
+            Judge::One(register) => register.admit(edit),
+            Judge::Many(clusters) => clusters.admit(edit),
+        }
+    }
+
+    pub fn holds(&self) -> bool
+        requires { IsOfItsKind self.now }
+        ensures { IsTrue result ↔ Holds (held_by self.now).claim (held_by self.now).ops }
+    {
+        match self {
+            Judge::One(register) => register.holds(),
+            Judge::Many(clusters) => clusters.holds(),
+        }
+    }
+
+    pub fn witness(&self) -> Option<Witness<'t>>
+        requires kind { IsOfItsKind self.now }
+        requires ids { HasDistinctIds (held_by self.now).ops }
+        ensures witness { IfSome result (IsWitness (held_by self.now).claim (held_by self.now).ops) }
+        ensures none { IsNone result ↔ Holds (held_by self.now).claim (held_by self.now).ops }
+    {
+        match self {
+            Judge::One(register) => register.witness(),
+            Judge::Many(clusters) => witness_of(clusters),
+        }
+    }
+
+    pub fn order(&self, alloc: Global) -> Result<Option<Vec<OpId>>, Memory>
+        requires { IsOfItsKind self.now }
+        ensures order { IfOk result (λ found. IfSome found (λ ids. IsOrder (held_by self.now).claim (held_by self.now).ops ids.items)) }
+        ensures none { IfOk result (λ found. IsNone found ↔ ¬ (((held_by self.now).claim.kind ≡ Kind.Atomic) × Holds (held_by self.now).claim (held_by self.now).ops)) }
+    {
+        match self {
+            Judge::One(_) => Ok(None),
+            Judge::Many(clusters) => clusters.order(alloc),
+        }
+    }
+}

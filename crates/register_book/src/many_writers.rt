@@ -1,0 +1,86 @@
+//! Which operations show that an atomic register fails.
+
+ghost use Rattle.std.specs.Prelude.{◌≡◌, ◌↔◌, IfSome, IsNone};
+ghost use Rattle.intervals.specs.Standing.{HasDistinctIds};
+ghost use Rattle.intervals.specs.Kind.{Holds};
+ghost use Rattle.zones.specs.Fault.{first_unwritten as first_unwritten_of, first_early as first_early_of};
+ghost use Rattle.register_book.specs.Fault.{IsWitness, op_at};
+ghost use Rattle.register_book.specs.Judge.{found_by, pair_by};
+
+use crate::{Side, Witness};
+use intervals::{Kind, Op, OpBook, OpId};
+use zones::Clusters;
+use zones::laws::{
+    faultless_where_no_fault_is_first, first_early_ended_first, first_unwritten_ended_first,
+};
+
+/// The witness of the first fault, none where the register holds.
+pub fn witness_of<'t>(clusters: &Clusters<'t>) -> Option<Witness<'t>>
+    requires kind { clusters.now.claim.kind ≡ Kind.Atomic }
+    requires ids { HasDistinctIds clusters.now.ops }
+    ensures witness { IfSome result (IsWitness clusters.now.claim clusters.now.ops) }
+    ensures none { IsNone result ↔ Holds clusters.now.claim clusters.now.ops }
+{
+    faultless_where_no_fault_is_first();
+    if clusters.holds() {
+        return None;
+    }
+    if let Some(read) = first_unwritten(clusters) {
+        return Some(Witness::Unwritten(read));
+    }
+    if let Some((read, write)) = first_early(clusters) {
+        return Some(Witness::Early { read, write });
+    }
+    let crossing = clusters.crossing()?;
+    Some(Witness::Crossing {
+        a: side_of(crossing.a),
+        b: Side::Op(crossing.b),
+        c: side_of(crossing.c),
+        d: Side::Op(crossing.d),
+    })
+}
+
+/// The operation, or the initial write where none is given.
+fn side_of<'t>(op: Option<Op<'t>>) -> Side<'t>
+    ensures { op_at result ≡ op.entry }
+{
+    match op {
+        Some(op) => Side::Op(op),
+        None => Side::Initial,
+    }
+}
+
+/// The unwritten read that ended first.
+fn first_unwritten<'t>(clusters: &Clusters<'t>) -> Option<Op<'t>>
+    requires { HasDistinctIds clusters.now.ops }
+    ensures { result ≡ first_unwritten_of clusters.now.claim.initial clusters.now.ops }
+{
+    first_unwritten_ended_first();
+    op_by(clusters.operations(), clusters.first_unwritten())
+}
+
+/// The early read that ended first, and the write of its value.
+fn first_early<'t>(clusters: &Clusters<'t>) -> Option<(Op<'t>, Op<'t>)>
+    requires { HasDistinctIds clusters.now.ops }
+    ensures { result ≡ first_early_of clusters.now.ops }
+{
+    first_early_ended_first();
+    ops_by(clusters.operations(), clusters.first_early())
+}
+
+/// The operation of that id, where one is given.
+fn op_by<'t>(ops: &OpBook<'t>, id: Option<OpId>) -> Option<Op<'t>>
+    ensures { result ≡ found_by ops.now id }
+{
+    ops.get(id?).copied()
+}
+
+/// The operations of two ids, where they are given.
+fn ops_by<'t>(ops: &OpBook<'t>, ids: Option<(OpId, OpId)>) -> Option<(Op<'t>, Op<'t>)>
+    ensures { result ≡ pair_by ops.now ids }
+{
+    let (read, write) = ids?;
+    let read = ops.get(read)?;
+    let write = ops.get(write)?;
+    Some((*read, *write))
+}

@@ -1,0 +1,18 @@
+use Rattle.std.proofs.Common.{◌≡◌, ◌∙◌, false, Option, Some, None, sym, ap, rules}
+use Rattle.std.specs.Prelude.{option_map}
+use Rattle.intervals.specs.declared.claim.Holder.{Holder}
+use Rattle.intervals.specs.declared.refusal.Refusal.TheVariants.{ValueTaken}
+use Rattle.intervals.specs.Operation.{same_value, value_of}
+use Rattle.zones.proofs.WriteHolder.{refused_by}
+use Rattle.zones.proofs.writes.holder_of.Goals as goal
+
+pub returns-in_err-write : goal.returns-in_err-write
+returns-in_err-write c claim ops h apart same =
+    let other : same_value c.args.initial (value_of c.args.op.now.act) ≡ false = search rules in
+    refused_by claim ops c.args.op.now c.args.initial None same other (c.in_err-write.ensures claim ops h apart)
+    ∙ ap (λ (o : Option Holder). option_map ValueTaken o) (sym c.from_residual.ensures)
+
+pub returns : goal.returns
+returns c claim ops h apart same =
+    let other : same_value c.args.initial (value_of c.args.op.now.act) ≡ false = search rules in
+    refused_by claim ops c.args.op.now c.args.initial (Some c.in_ok-write.write) same other (c.in_ok-write.ensures claim ops h apart)

@@ -1,0 +1,85 @@
+-- The zones of a register in a tree, and what an edit does to them. No public clause speaks of these words.
+use Rattle.std.specs.Prelude.{◌≡◌, ◌≤◌, ◌⊎◌, Contains, List, Option, Some, None, IsNone, IsSome, IsSomeAnd, IfSome, option_map, ◌||◌, is_some, if◌then◌else◌}
+use Rattle.intervals.specs.declared.operation.Op.{Op}
+use Rattle.intervals.specs.declared.operation.Value.{Value}
+use Rattle.intervals.specs.Operation.{is_write, value_of, same_value}
+use Rattle.intervals.specs.declared.claim.Kind.TheVariants.{Atomic}
+use Rattle.intervals.specs.Standing.{HasDistinctIds, HasDistinctMoments, HasEndsAfterBeginnings, HasDistinctValues}
+use Rattle.intervals.specs.Terms.{Terms}
+use Rattle.zone_tree.specs.declared.zone.Zone.{Zone}
+use Rattle.zone_tree.specs.Order.{Contents, HasNoZoneAt, with_zone, without_zone_at}
+use Rattle.zone_tree.specs.Zone.{HasOrderedEdges}
+use Rattle.zones.specs.Cluster.{written_values, zone_of}
+
+-- operations of an atomic register that no edit brings together: what the reply rule keeps of them
+pub record StandApart (claim : Terms) (ops : List Op) : Type 0 where
+  pub atomic : claim.kind ≡ Atomic
+  pub ids : HasDistinctIds ops
+  pub moments : HasDistinctMoments ops
+  pub ends : HasEndsAfterBeginnings ops
+  pub values : HasDistinctValues claim.initial ops
+
+-- the operation, where it is judged
+abbrev pub judged_part : Option Op → Option Op
+judged_part None = None
+judged_part (Some op) = if is_write op || is_some op.end then Some op else None
+
+-- its value
+abbrev pub value_in : Option Op → Option Value
+value_in op = option_map (λ op. value_of op.act) op
+
+-- the second value, where it is not the first
+abbrev pub other_value : Option Value → Option Value → Option Value
+other_value None second = second
+other_value (Some first) None = None
+other_value (Some first) (Some second) = if same_value first second then None else Some second
+
+-- the zone of the value, where that has a write
+pub record IsZoneAt (initial : Value) (ops : List Op) (value : Value) (found : Option Zone) : Type 0 where
+  pub zone : IfSome found (λ zone. zone ≡ zone_of initial ops value)
+  pub none : IsNone found → ¬ Contains (written_values initial ops) value
+  pub some : IsSome found → Contains (written_values initial ops) value
+
+-- the same of a value that there may be
+abbrev pub IsZoneAtSome : Value → List Op → Option Value → Option Zone → Type 0
+IsZoneAtSome initial ops None found = found ≡ None
+IsZoneAtSome initial ops (Some value) found = IsZoneAt initial ops value found
+
+-- a tree has the zones of the values that have a write, and no others
+pub record AreZoned (initial : Value) (ops : List Op) (zones : List Zone) : Type 0 where
+  pub each : (value : Value) → Contains (written_values initial ops) value → Contains zones (zone_of initial ops value)
+  pub only : (zone : Zone) → Contains zones zone → Contains (written_values initial ops) zone.value × (zone ≡ zone_of initial ops zone.value)
+
+-- the zones without that one's left edge, where there is one
+abbrev pub without : Option Zone → List Zone → List Zone
+without None zones = zones
+without (Some zone) zones = without_zone_at zone.left zones
+
+-- the zones and that one, where there is one
+abbrev pub with : Option Zone → List Zone → List Zone
+with None zones = zones
+with (Some zone) zones = with_zone zone zones
+
+-- the zones of two values
+pub record AreZonesAt (initial : Value) (ops : List Op) (first second : Option Value) (found : Option Zone × Option Zone) : Type 0 where
+  pub one : IsZoneAtSome initial ops first found.0
+  pub other : IsZoneAtSome initial ops second found.1
+
+-- two zones for two others
+abbrev pub moved : Option Zone × Option Zone → Option Zone × Option Zone → List Zone → List Zone
+moved gone come zones = with come.1 (with come.0 (without gone.1 (without gone.0 zones)))
+
+-- the zone stands
+abbrev pub Stands : List Zone → Option Zone → Type 0
+Stands zones found = IsSomeAnd found (Contains zones)
+
+-- a zone of a new left edge that has its edges in order
+pub record IsNew (zones : List Zone) (found : Option Zone) : Type 0 where
+  pub edge : IfSome found (λ zone. HasNoZoneAt zone.left zones)
+  pub order : IfSome found HasOrderedEdges
+
+-- the tree has room for those that come when those that go are gone
+pub record CanMove (tree : Contents) (gone come : Option Zone × Option Zone) : Type 0 where
+  pub room : (2 ≤ tree.free) ⊎ ((come.1 ≡ None) × (IsSome come.0 → Stands tree.zones gone.0))
+  pub first : IsNew (without gone.1 (without gone.0 tree.zones)) come.0
+  pub second : IsNew (with come.0 (without gone.1 (without gone.0 tree.zones))) come.1

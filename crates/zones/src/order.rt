@@ -1,0 +1,109 @@
+//! The order in which the operations of a faultless register are given.
+
+ghost use Rattle.std.specs.Prelude.{◌≡◌, ◌++◌, ◌∷◌, [], ◌↔◌, Contains, IfOk, IfSome, IsNone, OnOk, map, is_some, ◌||◌};
+ghost use Rattle.intervals.specs.Operation.{judged, value_of, is_write as writes};
+ghost use Rattle.intervals.specs.Kind.{Arranges, IsAtomic};
+ghost use Rattle.zones.specs.Cluster.{written_values};
+ghost use Rattle.zones.specs.Fault.{IsFaultless};
+ghost use Rattle.zones.specs.Turn.{IsInTurn, IsOrder};
+ghost use Rattle.zones.specs.Order.{turn_of as turn_in, placed_of};
+
+use crate::register::Clusters;
+use intervals::{Memory, Moment, Op, OpId};
+use std::alloc::Global;
+use zone_tree::Edge;
+
+/// What an operation stands by: the left edge of the zone of its value, a write before reads, its beginning.
+#[derive(Clone, Copy, Debug, PartialEq, Eq, PartialOrd, Ord)]
+struct Turn {
+    left: Edge,
+    is_read: bool,
+    begin: Moment,
+}
+
+#[derive(Clone, Copy, Debug)]
+struct Placed<'t> {
+    turn: Turn,
+    op: Op<'t>,
+}
+
+impl<'t> Clusters<'t> {
+    /// Where there is an order of the judged operations that keeps precedence and lets every read return
+    /// the latest write before it, one such order, by ids: the clusters by the left edges of their zones, in
+    /// each the write and then its reads by their beginnings.
+    pub fn order(&self, alloc: Global) -> Result<Option<Vec<OpId>>, Memory>
+        ensures order { IfOk result (λ found. IfSome found (λ ids. IsOrder self.now.claim self.now.ops ids.items)) }
+        ensures none { IfOk result (λ found. IsNone found ↔ ¬ IsAtomic self.now.claim self.now.ops) }
+    {
+        if !self.holds() {
+            return Ok(None);
+        }
+        let placed = self.in_turn(alloc)?;
+        let ids = ids_of(alloc, &placed)?;
+        Ok(Some(ids))
+    }
+
+    /// The judged operations in turn.
+    fn in_turn(&self, alloc: Global) -> Result<Vec<Placed<'t>>, Memory>
+        requires { IsFaultless self.now.claim.initial self.now.ops }
+        ensures arranges { IfOk result (λ placed. Arranges self.now.claim self.now.ops (map (λ p. p.op) placed.items)) }
+        ensures in_turn { IfOk result (λ placed. IsInTurn self.now.claim.initial self.now.ops (map (λ p. p.op) placed.items)) }
+    {
+        let mut placed = self.placed(alloc, self.operations().operations())?;
+        placed.sort_unstable_by_key(|p| p.turn);
+        Ok(placed)
+    }
+
+    /// The judged operations, each with what it stands by.
+    fn placed(&self, alloc: Global, ops: &[Op<'t>]) -> Result<Vec<Placed<'t>>, Memory>
+        requires all { ops.now ≡ self.now.ops }
+        requires faultless { IsFaultless self.now.claim.initial self.now.ops }
+        ensures { IfOk result (λ placed. placed.items ≡ map (placed_of self.now.claim.initial self.now.ops) (judged self.now.ops)) }
+    {
+        let mut placed = Vec::new(alloc);
+        for op in ops {
+            self.place(&mut placed, op)?;
+        }
+        Ok(placed)
+    }
+
+    /// Adds the operation where it is judged.
+    fn place(&self, placed: &mut Vec<Placed<'t>>, op: &Op<'t>) -> Result<(), Memory>
+        requires faultless { IsFaultless self.now.claim.initial self.now.ops }
+        requires stands { Contains self.now.ops op.now }
+        ensures { OnOk result (placed.new.items ≡ placed.old.items ++ map (placed_of self.now.claim.initial self.now.ops) (judged (op.now ∷ []))) }
+    {
+        if is_judged(op) {
+            let turn = self.turn_of(op);
+            placed.push(Placed { turn, op: *op })?;
+        }
+        Ok(())
+    }
+
+    fn turn_of(&self, op: &Op) -> Turn
+        requires { Contains (written_values self.now.claim.initial self.now.ops) (value_of op.now.act) }
+        ensures { result ≡ turn_in self.now.claim.initial self.now.ops op.now }
+    {
+        let Some(zone) = self.zone_of(op.value()) else {
+            unreachable!()
+        };
+        Turn {
+            left: zone.left,
+            is_read: !op.is_write(),
+            begin: op.begin,
+        }
+    }
+}
+
+fn is_judged(op: &Op) -> bool
+    ensures { result ≡ (writes op.now || is_some op.now.end) }
+{
+    op.is_write() || op.end.is_some()
+}
+
+fn ids_of(alloc: Global, placed: &[Placed]) -> Result<Vec<OpId>, Memory>
+    ensures { IfOk result (λ ids. ids.items ≡ map (λ p. p.op.id) placed.now) }
+{
+    let ids = placed.iter().map(|place| place.op.id).collect(alloc)?;
+    Ok(ids)
+}

@@ -1,0 +1,235 @@
+//! Rows of histories, as calls of a judge.
+
+ghost use Rattle.std.specs.Prelude.{◌≡◌};
+ghost use Rattle.intervals.specs.Edit.{new_op as new_one};
+ghost use Rattle.intervals.specs.Refusal.{reply_to, first_refusal, new_write_refusal, write_refusal};
+
+use super::*;
+use intervals::{Act, Claim, Edit, Kind, Memory, Moment, Op, OpId, Parts, Refusal, Value, Writers};
+use std::alloc::Global;
+use std::fmt::Write;
+use std::test::Fail;
+use zone_tree::{Edge, Zone};
+
+const CLAIM: Claim = Claim {
+    kind: Kind::Atomic,
+    writers: Writers::Any,
+    initial: Value::Nil,
+    domain: None,
+};
+
+fn number(word: &str) -> u64 {
+    word.parse::<u64>().unwrap_or(0)
+}
+
+fn value(word: &str) -> Value {
+    match word {
+        "nil" => Value::Nil,
+        _ => Value::Int(word.parse::<i64>().unwrap_or(0)),
+    }
+}
+
+fn id(event: u64) -> OpId {
+    OpId { feeder: 0, event }
+}
+
+/// A write as `w1`, a read as `r1`.
+fn act(word: &str) -> Act {
+    match word.strip_prefix('w') {
+        Some(word) => Act::Write(value(word)),
+        None => Act::Read(value(word.strip_prefix('r').unwrap_or(word))),
+    }
+}
+
+fn end(word: &str) -> Option<Moment> {
+    match word {
+        "" => None,
+        _ => Some(Moment(number(word))),
+    }
+}
+
+/// `w1:0-9` is a write of 1 from 0 to 9, `r1:0-` a read that has no end; `!0` takes out what began at 0.
+fn edit_of(word: &'static str) -> Edit<'static> {
+    if let Some(word) = word.strip_prefix('!') {
+        return Edit::Withdraw(id(number(word)));
+    }
+    let (what, when) = word.split_once(':').unwrap_or((word, "0-"));
+    let (begin, ended) = when.split_once('-').unwrap_or((when, ""));
+    Edit::Append(Op {
+        id: id(number(begin)),
+        process: 0,
+        act: act(what),
+        begin: Moment(number(begin)),
+        end: end(ended),
+        parts: Parts {
+            invocation: word.as_bytes(),
+            answer: None,
+            amendment: None,
+        },
+    })
+}
+
+#[tactic(auto, using(crate::proofs::Refusals::err_ok_unless))]
+fn list_refusal<'t>(clusters: &Clusters<'t>, edit: &Edit<'t>) -> Option<Refusal>
+    ensures { result ≡ first_refusal clusters.now.ops edit.now }
+{
+    clusters.operations().check(edit).err()
+}
+
+#[tactic(auto, using(crate::proofs::Refusals::err_ok_unless))]
+fn refusal_of_write(clusters: &Clusters, op: &Op) -> Option<Refusal>
+    ensures { result ≡ write_refusal clusters.now.claim clusters.now.ops op.now }
+{
+    clusters.check_write(op).err()
+}
+
+fn new_refusal<'t>(clusters: &Clusters<'t>, edit: &Edit<'t>) -> Option<Refusal>
+    ensures { result ≡ new_write_refusal clusters.now.claim clusters.now.ops (new_one clusters.now.ops edit.now) }
+{
+    match clusters.operations().new_op(edit) {
+        Some(op) => refusal_of_write(clusters, &op),
+        None => None,
+    }
+}
+
+fn refusal_of<'t>(clusters: &Clusters<'t>, edit: &Edit<'t>) -> Option<Refusal>
+    ensures { result ≡ reply_to clusters.now.claim clusters.now.ops edit.now }
+{
+    let refusal = list_refusal(clusters, edit);
+    if refusal.is_some() {
+        return refusal;
+    }
+    new_refusal(clusters, edit)
+}
+
+/// Tells a refusal, or carries the edit out.
+fn edited<'t>(
+    told: &mut String,
+    clusters: &mut Clusters<'t>,
+    edit: Edit<'t>,
+) -> Result<(), Memory> {
+    match refusal_of(clusters, &edit) {
+        Some(refusal) => {
+            let _ = write!(told, "{refusal} ");
+        }
+        None => clusters.admit(edit)?,
+    }
+    Ok(())
+}
+
+fn tell_edge(told: &mut String, edge: Edge) {
+    let _ = match edge {
+        Edge::Before => write!(told, "-"),
+        Edge::At(moment) => write!(told, "{}", moment.0),
+        Edge::Never => write!(told, "+"),
+    };
+}
+
+/// `1>6` is a forward zone, `4<5` a backward one.
+fn tell_zone(told: &mut String, zone: &Zone) {
+    tell_edge(told, zone.left);
+    let _ = write!(told, "{}", if zone.forward { ">" } else { "<" });
+    tell_edge(told, zone.right);
+    let _ = write!(told, " ");
+}
+
+fn tell_zones(told: &mut String, clusters: &Clusters) {
+    for value in [Value::Nil, Value::Int(1), Value::Int(2)] {
+        match clusters.zone_of(value) {
+            Some(zone) => tell_zone(told, &zone),
+            None => {
+                let _ = write!(told, ". ");
+            }
+        }
+    }
+}
+
+/// The operation that began then; the initial write as `-`.
+fn tell_op(told: &mut String, op: Option<Op>) {
+    let _ = match op {
+        Some(op) => write!(told, "{} ", op.begin.0),
+        None => write!(told, "- "),
+    };
+}
+
+fn tell_crossing(told: &mut String, clusters: &Clusters) {
+    if let Some(x) = clusters.crossing() {
+        let _ = write!(told, "cross ");
+        tell_op(told, x.a);
+        tell_op(told, Some(x.b));
+        tell_op(told, x.c);
+        tell_op(told, Some(x.d));
+    }
+}
+
+fn tell_firsts(told: &mut String, clusters: &Clusters) {
+    match clusters.first_unwritten() {
+        Some(read) => {
+            let _ = write!(told, "unwritten {} ", read.event);
+        }
+        None => {}
+    }
+    match clusters.first_early() {
+        Some((read, write)) => {
+            let _ = write!(told, "early {} {} ", read.event, write.event);
+        }
+        None => {}
+    }
+}
+
+/// Whether the register holds, and then its operations in order, by where they began.
+fn tell_order(told: &mut String, alloc: Global, clusters: &Clusters) -> Result<(), Memory> {
+    match clusters.order(alloc)? {
+        Some(ids) => {
+            let _ = write!(told, "holds");
+            for id in &ids {
+                let _ = write!(told, " {}", id.event);
+            }
+        }
+        None => {
+            let _ = write!(told, "fault");
+        }
+    }
+    Ok(())
+}
+
+/// What is refused, the zones of nil, 1 and 2, what is wrong, and the order where nothing is.
+fn told(alloc: Global, words: &'static str) -> Result<String, Memory> {
+    let mut told = String::new(alloc);
+    let mut clusters = Clusters::new(alloc, &CLAIM)?;
+    for word in words.split(' ') {
+        edited(&mut told, &mut clusters, edit_of(word))?;
+    }
+    tell_zones(&mut told, &clusters);
+    tell_firsts(&mut told, &clusters);
+    tell_crossing(&mut told, &clusters);
+    tell_order(&mut told, alloc, &clusters)?;
+    Ok(told)
+}
+
+const ROWS: &str = "w1:0-1 w2:2-9 r2:4-5 r1:6-7 => -<- 1>6 4<5 cross 0 4 4 6 fault
+w1:0-1 w2:2-9 r2:4-5 r1:6-7 !6 => -<- 0<1 4<5 holds 0 2 4
+w1:0-1 w2:2-9 r2:4-5 r1:6- => -<- 0<1 4<5 holds 0 2 4
+w1:0-1 rnil:2-3 => ->2 0<1 . cross - 0 0 2 fault
+w1:0- rnil:2-3 r1:5-6 => ->2 5<6 . holds 2 0 5
+w1:0- => -<- 0<+ . holds 0
+w1:0-1 r3:2-3 r2:4-5 => -<- 0<1 . unwritten 2 fault
+w1:0-1 r3:2-3 r2:4-5 !2 => -<- 0<1 . unwritten 4 fault
+w1:0-1 r2:2-3 w2:4-5 => -<- 0<1 3>4 early 2 4 fault
+w1:0-1 r2:2-3 w2:4-5 !2 => -<- 0<1 4<5 holds 0 4
+w1:0-1 r2:2-3 w2:4-5 !4 => -<- 0<1 . unwritten 2 fault
+r1:0-1 r2:2-3 w2:4-5 w1:6-7 => -<- 1>6 3>4 early 0 6 cross 0 4 2 6 fault
+r1:0-1 r2:2-3 w2:4-5 w1:6-7 !0 => -<- 6<7 3>4 early 2 4 fault
+r1:0-1 r2:2-3 w2:4-5 w1:6-7 !0 !2 => -<- 6<7 4<5 holds 4 6
+w1:0-1 w1:2-3 wnil:4-5 !0 w1:6-7 => X8 ValueTaken X8 ValueTaken -<- 6<7 . holds 6
+w1:0-5 w2:5-6 !9 r1:7-7 => X4 MomentTaken X1 UnknownOp X3 EndNotAfterBegin -<- 0<5 . holds 0";
+
+#[test]
+fn rows_are_told(rt: HostRuntime) -> Result<(), Fail> {
+    for row in ROWS.lines() {
+        let (words, want) = row.split_once(" => ").ok_or("a row")?;
+        let found = told(rt.alloc(), words)?;
+        assert!(rt; found.as_str() == want, "{row}");
+    }
+    Ok(())
+}

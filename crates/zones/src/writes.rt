@@ -1,0 +1,63 @@
+//! Which writes a claim allows beside those that stand.
+
+ghost use Rattle.std.specs.Prelude.{◌≡◌, List, find, option_map};
+ghost use Rattle.intervals.specs.declared.operation.Op.{Op};
+ghost use Rattle.intervals.specs.declared.refusal.Refusal.{Refusal};
+ghost use Rattle.intervals.specs.Refusal.{write_refusal, value_refusal, ok_unless, is_holder};
+ghost use Rattle.intervals.specs.Terms.{Terms, terms_of};
+ghost use Rattle.zones.specs.Index.{AreMembers};
+ghost use Rattle.zones.specs.Refused.{refusal_beside};
+ghost use Rattle.zones.specs.Zoned.{StandApart};
+
+use crate::index::Members;
+use crate::zone_in::is_same;
+use intervals::{Claim, Holder, Op, Refusal, Value};
+
+pub fn check_write(claim: &Claim, members: &Members, op: &Op) -> Result<(), Refusal>
+    ensures { (ops : List Op) → AreMembers ops members.now → StandApart (terms_of claim.now) ops
+        → result ≡ ok_unless (write_refusal (terms_of claim.now) ops op.now) }
+{
+    check_beside(claim, op, holder_of(claim.initial, members, op))
+}
+
+fn check_beside(claim: &Claim, op: &Op, holder: Option<Holder>) -> Result<(), Refusal>
+    ensures { result ≡ ok_unless (refusal_beside (terms_of claim.now) op.now holder) }
+{
+    if !op.is_write() {
+        return Ok(());
+    }
+    if !claim.may_write(op.process) {
+        return Err(Refusal::NotAWriter);
+    }
+    if let Some(holder) = holder {
+        return Err(Refusal::ValueTaken(holder));
+    }
+    if !claim.has_in_domain(op.value()) {
+        return Err(Refusal::OutOfDomain);
+    }
+    Ok(())
+}
+
+/// Who has the value of the operation already.
+fn holder_of(initial: Value, members: &Members, op: &Op) -> Option<Holder>
+    ensures { (claim : Terms) (ops : List Op) → AreMembers ops members.now → StandApart claim ops → claim.initial ≡ initial
+        → value_refusal claim ops op.now ≡ option_map Refusal.ValueTaken result }
+{
+    if is_same(initial, op.value()) {
+        return Some(Holder::Initial);
+    }
+    let write = other_write(members, op)?;
+    Some(Holder::Op(write.id))
+}
+
+/// The write of its value, where that is another operation.
+fn other_write<'t>(members: &Members<'t>, op: &Op) -> Option<Op<'t>>
+    ensures { (claim : Terms) (ops : List Op) → AreMembers ops members.now → StandApart claim ops → result ≡ find (is_holder op.now) ops }
+{
+    let write = members.write_of(op.value())?;
+    if write.has_id(op.id) {
+        None
+    } else {
+        Some(write)
+    }
+}
