@@ -3,13 +3,13 @@ pub mod Cluster
 pub mod Fault
 pub mod Crossing
 pub mod Turn
+-- worked histories
+pub mod Examples
 -- words of private clauses
 pub mod Members
 pub mod Index
 pub mod Firsts
-pub mod Order
 pub mod Zoned
 pub mod Together
 pub mod Refused
--- worked histories
-pub mod Examples
+pub mod Order

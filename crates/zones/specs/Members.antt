@@ -1,4 +1,5 @@
--- The members of the clusters: which of them ended first, which began last, and what an edit does to them.
+-- The members of the clusters: which of them ended first, which began last, and what an edit does to
+-- them. No public clause speaks of these words.
 use Rattle.std.specs.Prelude.{◌≡◌, ◌≢◌, ◌⊎◌, All, Contains, List, Option, Some, IfSome}
 use Rattle.intervals.specs.declared.operation.Op.{Op}
 use Rattle.intervals.specs.declared.operation.Value.{Value}

@@ -149,6 +149,16 @@ pub fn worked_zones()
     ensures never_ended_and_read { zone_of Nil never_ended_and_read (number 1) ≡ backward (at 5) (at 6) (number 1) }
 {}
 
+/// The histories of those zones hold: the operations, as they are listed, are an arrangement.
+pub fn worked_orders()
+    ensures reads_of_nil { Arranges (claim_of Atomic Nil None) reads_of_nil reads_of_nil }
+    ensures write { Arranges (claim_of Atomic Nil None) write_alone write_alone }
+    ensures read_after { Arranges (claim_of Atomic Nil None) read_after read_after }
+    ensures read_within { Arranges (claim_of Atomic Nil None) read_within read_within }
+    ensures never_ended { Arranges (claim_of Atomic Nil None) never_ended never_ended }
+    ensures never_ended_and_read { Arranges (claim_of Atomic Nil None) never_ended_and_read never_ended_and_read }
+{}
+
 /// A history for each way to fail, and none of them has an arrangement.
 pub fn worked_faults()
     ensures unwritten { IsUnwritten Nil read_of_nothing unwritten_read }
