@@ -1,9 +1,9 @@
 ghost use Rattle.std.specs.Prelude.{◌≡◌, ◌↔◌, ◌&&◌, not, [], List, length, None, OnOk, OnErr, IsTrue, option_copied, option_map};
-ghost use Rattle.intervals.specs.Edit.{op_of, edited, is_append, amended as op_amended, changed as after_change, new_op as new_one};
+ghost use Rattle.intervals.specs.Edit.{op_of, edited, is_append, changed as after_change, new_op as new_one};
 ghost use Rattle.intervals.specs.Operation.{same_id};
 ghost use Rattle.intervals.specs.Refusal.{first_refusal, moments_refusal, ok_unless, has_early_end, has_large_moment, is_moment_of, find_other_with};
 
-use crate::{Change, Edit, Memory, Moment, Op, OpId, Refusal, changed};
+use crate::{Change, Edit, Memory, Moment, Op, OpId, Refusal, amended, changed};
 use std::alloc::Global;
 use std::marker::Model;
 
@@ -111,17 +111,6 @@ fn amend<'t>(ops: &mut Vec<Op<'t>>, id: OpId, change: &Change<'t>)
 {
     for op in ops.iter_mut() {
         *op = amended(op, id, change);
-    }
-}
-
-/// The operation, changed where it has that id.
-fn amended<'t>(op: &Op<'t>, id: OpId, change: &Change<'t>) -> Op<'t>
-    ensures { result ≡ op_amended id change.now op.now }
-{
-    if op.has_id(id) {
-        changed(op, change)
-    } else {
-        *op
     }
 }
 

@@ -7,7 +7,7 @@ ghost use Rattle.intervals.specs.Operation.{same_value};
 ghost use Rattle.intervals.specs.Refusal.{may_write as allows, is_in_domain};
 ghost use Rattle.intervals.specs.Terms.{terms_of, writers_of};
 
-use crate::{Memory, OpId, Value};
+use crate::{Memory, OpId, Value, is_same_value};
 use std::alloc::Global;
 
 /// What a register claims to be (Lamport 1986).
@@ -91,13 +91,7 @@ fn is_process(a: i64, b: i64) -> bool
 fn is_among(values: &[Value], value: Value) -> bool
     ensures { result ≡ list_any (λ v. same_value v value) values.now }
 {
-    values.iter().any(|v| is_value(*v, value))
-}
-
-fn is_value(a: Value, b: Value) -> bool
-    ensures { result ≡ same_value a b }
-{
-    a == b
+    values.iter().any(|v| is_same_value(*v, value))
 }
 
 fn copy_of_writers(alloc: Global, writers: &Writers) -> Result<Writers, Memory>

@@ -1,5 +1,5 @@
 ghost use Rattle.std.specs.Prelude.{◌≡◌};
-ghost use Rattle.intervals.specs.Edit.{changed as after_change, edit_id, act_with, parts_with};
+ghost use Rattle.intervals.specs.Edit.{changed as after_change, amended as op_amended, edit_id, act_with, parts_with};
 
 use crate::{Act, Moment, Op, OpId, Parts, Value};
 
@@ -52,6 +52,17 @@ pub fn changed<'t>(op: &Op<'t>, change: &Change<'t>) -> Op<'t>
         begin: change.begin.unwrap_or(op.begin),
         end: change.end.unwrap_or(op.end),
         parts: with_part(op.parts, change.lent),
+    }
+}
+
+/// The operation, changed where it has that id.
+pub fn amended<'t>(op: &Op<'t>, id: OpId, change: &Change<'t>) -> Op<'t>
+    ensures { result ≡ op_amended id change.now op.now }
+{
+    if op.has_id(id) {
+        changed(op, change)
+    } else {
+        *op
     }
 }
 

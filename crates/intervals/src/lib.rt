@@ -30,6 +30,8 @@ mod refusal;
 
 pub use book::OpBook;
 pub use claim::{Claim, Holder, Kind, Writers};
-pub use edit::{Change, Edit, Lent, changed};
-pub use operation::{Act, Memory, Moment, Op, OpId, Parts, RegId, Value, overlaps, precedes};
+pub use edit::{Change, Edit, Lent, amended, changed};
+pub use operation::{
+    Act, Memory, Moment, Op, OpId, Parts, RegId, Value, is_same_value, overlaps, precedes,
+};
 pub use refusal::Refusal;

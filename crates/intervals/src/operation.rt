@@ -1,5 +1,6 @@
 ghost use Rattle.std.specs.Prelude.{◌≡◌, ◌↔◌, IsTrue};
-ghost use Rattle.intervals.specs.Operation.{Precedes, Overlaps, is_write as writes, same_id, value_of, precedes as does_precede, overlaps as does_overlap};
+ghost use Rattle.intervals.specs.Operation.{Precedes, Overlaps, is_write as writes, is_judged_read as judged_read, same_id, same_value, value_of, precedes as does_precede, overlaps as does_overlap};
+ghost use Rattle.intervals.specs.Judging.{end_number as number_of_end};
 
 use std::alloc::{AllocError, AllocFailed};
 use thiserror::Error;
@@ -95,6 +96,30 @@ impl Op<'_> {
             Act::Read(value) => value,
         }
     }
+
+    /// Whether it is a read that has an end.
+    pub fn is_judged_read(&self) -> bool
+        ensures { result ≡ judged_read self.now }
+    {
+        !self.is_write() && self.end.is_some()
+    }
+
+    /// The number of the moment at which it ended, 0 where it did not.
+    pub fn end_number(&self) -> u64
+        ensures { result ≡ number_of_end self.now }
+    {
+        match self.end {
+            Some(end) => end.0,
+            None => 0,
+        }
+    }
+}
+
+/// Whether two values are one.
+pub fn is_same_value(a: Value, b: Value) -> bool
+    ensures { result ≡ same_value a b }
+{
+    a == b
 }
 
 /// Whether the first operation ended before the second began.

@@ -1,6 +1,6 @@
-ghost use Rattle.std.specs.Prelude.{◌≡◌, ◌↔◌, [], All, Some, None, length, IfOk, IfSome, OnOk, OnErr, IsNone, IsTrue, option_copied};
+ghost use Rattle.std.specs.Prelude.{◌≡◌, ◌↔◌, [], All, Some, None, length, IfOk, IfSome, OnOk, OnErr, IsNone, IsSome, IsTrue, option_copied};
 ghost use Rattle.intervals.specs.Terms.{terms_of};
-ghost use Rattle.intervals.specs.Edit.{op_of, edited};
+ghost use Rattle.intervals.specs.Edit.{op_of, edited, new_op};
 ghost use Rattle.intervals.specs.Refusal.{reply_to, after_edit};
 ghost use Rattle.intervals.specs.Kind.{Holds};
 ghost use Rattle.zones.specs.Turn.{IsOrder};
@@ -59,12 +59,14 @@ impl<'t> RegisterBook<'t> {
         self.judge.operations().get(id)
     }
 
-    /// Carries an edit out and says whether the register holds since, or says why it is refused.
+    /// Carries an edit out and says whether the register holds since, or says why it is refused. To
+    /// withdraw an operation of an atomic register takes no memory.
     pub fn apply(&mut self, edit: Edit<'t>) -> Result<Reply, Memory>
         ensures reply { IfOk result (λ reply. IsReply self.old.claim self.old.ops edit.entry reply) }
         ensures after { OnOk result (self.new ≡ record self.old { ops = after_edit self.old.claim self.old.ops edit.entry }) }
         ensures err { OnErr result (self.new ≡ self.old) }
         ensures memory { OnErr result (reply_to self.old.claim self.old.ops edit.entry ≡ None) }
+        ensures withdrawal { OnErr result (self.old.claim.kind ≡ Kind.Atomic → IsSome (new_op self.old.ops edit.entry)) }
     {
         if let Some(refusal) = refusal_of(&self.judge, &edit) {
             return Ok(Reply::Refused(refusal));
@@ -79,6 +81,7 @@ impl<'t> RegisterBook<'t> {
         requires { reply_to self.old.claim self.old.ops edit ≡ None }
         ensures ok { OnOk result (self.new ≡ record self.old { ops = edited self.old.ops edit.entry }) }
         ensures err { OnErr result (self.new ≡ self.old) }
+        ensures memory { OnErr result (self.old.claim.kind ≡ Kind.Atomic → IsSome (new_op self.old.ops edit.entry)) }
     {
         self.judge.admit(edit)?;
         Ok(())
@@ -116,6 +119,7 @@ impl<'t> RegisterBook<'t> {
     pub fn order(&self, alloc: Global) -> Result<Option<Vec<OpId>>, Memory>
         ensures order { IfOk result (λ found. IfSome found (λ ids. IsOrder self.now.claim self.now.ops ids.items)) }
         ensures none { IfOk result (λ found. IsNone found ↔ ¬ ((self.now.claim.kind ≡ Kind.Atomic) × Holds self.now.claim self.now.ops)) }
+        ensures memory { OnErr result ((self.now.claim.kind ≡ Kind.Atomic) × Holds self.now.claim self.now.ops) }
     {
         self.judge.order(alloc)
     }

@@ -1,8 +1,8 @@
 //! The judge of a register's kind, asked alike whichever it is.
 
-ghost use Rattle.std.specs.Prelude.{◌≡◌, ◌↔◌, [], None, IfOk, IfSome, OnOk, OnErr, IsNone, IsTrue};
+ghost use Rattle.std.specs.Prelude.{◌≡◌, ◌↔◌, [], None, IfOk, IfSome, OnOk, OnErr, IsNone, IsSome, IsTrue};
 ghost use Rattle.intervals.specs.Terms.{terms_of};
-ghost use Rattle.intervals.specs.Edit.{edited};
+ghost use Rattle.intervals.specs.Edit.{edited, new_op};
 ghost use Rattle.intervals.specs.Refusal.{reply_to, write_refusal, ok_unless};
 ghost use Rattle.intervals.specs.Standing.{HasDistinctIds};
 ghost use Rattle.intervals.specs.Kind.{Holds};
@@ -60,6 +60,7 @@ impl<'t> Judge<'t> {
         requires { reply_to (held_by self.old).claim (held_by self.old).ops edit ≡ None }
         ensures ok { OnOk result (held_by self.new ≡ record (held_by self.old) { ops = edited (held_by self.old).ops edit.entry }) }
         ensures err { OnErr result (self.new ≡ self.old) }
+        ensures memory { OnErr result (IsOfItsKind self.old → (held_by self.old).claim.kind ≡ Kind.Atomic → IsSome (new_op (held_by self.old).ops edit.entry)) }
         ensures kind { IsOfItsKind self.old → IsOfItsKind self.new }
     {
         match self {
@@ -94,6 +95,7 @@ impl<'t> Judge<'t> {
         requires { IsOfItsKind self.now }
         ensures order { IfOk result (λ found. IfSome found (λ ids. IsOrder (held_by self.now).claim (held_by self.now).ops ids.items)) }
         ensures none { IfOk result (λ found. IsNone found ↔ ¬ (((held_by self.now).claim.kind ≡ Kind.Atomic) × Holds (held_by self.now).claim (held_by self.now).ops)) }
+        ensures memory { OnErr result (((held_by self.now).claim.kind ≡ Kind.Atomic) × Holds (held_by self.now).claim (held_by self.now).ops) }
     {
         match self {
             Judge::One(_) => Ok(None),

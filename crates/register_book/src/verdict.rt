@@ -99,16 +99,7 @@ fn first_of<'t>(
 fn ended_before(a: &Op, b: &Op) -> bool
     ensures { result ≡ nat_lt (end_number a.now) (end_number b.now) }
 {
-    end_of(a) < end_of(b)
-}
-
-fn end_of(op: &Op) -> u64
-    ensures { result ≡ end_number op.now }
-{
-    match op.end {
-        Some(end) => end.0,
-        None => 0,
-    }
+    a.end_number() < b.end_number()
 }
 
 /// Whether the edit adds, changes or takes out a write. An amendment makes no read a write.

@@ -3,9 +3,9 @@
 ghost use Rattle.std.specs.Prelude.{◌≡◌, ◌≢◌, ◌++◌, ◌∷◌, [], IfOk, OnOk};
 ghost use Rattle.intervals.specs.Operation.{writes};
 ghost use Rattle.intervals.specs.Terms.{terms_of};
-ghost use Rattle.intervals.specs.Edit.{edited, amended as op_amended};
+ghost use Rattle.intervals.specs.Edit.{edited};
 
-use intervals::{Change, Claim, Edit, Kind, Memory, Op, OpId, changed};
+use intervals::{Change, Claim, Edit, Kind, Memory, Op, OpId, amended};
 use safe_regular::SingleWriterJudge;
 use std::alloc::Global;
 
@@ -82,17 +82,6 @@ fn admit_other<'t>(judge: &mut SingleWriterJudge<'t>, op: &Op<'t>, id: OpId) -> 
         Ok(())
     } else {
         admit_if_write(judge, op)
-    }
-}
-
-/// The operation, changed where it has that id.
-fn amended<'t>(op: &Op<'t>, id: OpId, change: &Change<'t>) -> Op<'t>
-    ensures { result ≡ op_amended id change.now op.now }
-{
-    if op.has_id(id) {
-        changed(op, change)
-    } else {
-        *op
     }
 }
 

@@ -2,28 +2,15 @@
 
 ghost use Rattle.std.specs.Prelude.{◌≡◌, ◌&&◌, not};
 ghost use Rattle.std.specs.List.{list_any};
-ghost use Rattle.intervals.specs.Operation.{is_judged_read as judged_read, same_value};
 ghost use Rattle.intervals.specs.Terms.{terms_of};
 ghost use Rattle.intervals.specs.Least.{less_of, least_by};
-ghost use Rattle.intervals.specs.Judging.{is_write_before as write_before, later_of as later_one, last_before as last_one_before, is_returned_at as returned_at, returns_last as returns_the_last, is_write_over as write_over, overlaps_write as overlaps_some, is_allowed as allowed, is_safe_read as safe_read, is_returned_over as returned_over, is_regular_read as regular_read, is_right_read as right_read, is_wrong_read as wrong_read, end_number as end_of};
+ghost use Rattle.intervals.specs.Judging.{is_write_before as write_before, later_of as later_one, last_before as last_one_before, is_returned_at as returned_at, returns_last as returns_the_last, is_write_over as write_over, overlaps_write as overlaps_some, is_allowed as allowed, is_safe_read as safe_read, is_returned_over as returned_over, is_regular_read as regular_read, is_right_read as right_read, is_wrong_read as wrong_read, end_number};
 
-use intervals::{Claim, Kind, Moment, Op, Value, overlaps, precedes};
-
-fn is_judged_read(op: &Op) -> bool
-    ensures { result ≡ judged_read op.now }
-{
-    !op.is_write() && op.end.is_some()
-}
-
-pub fn is_same(a: Value, b: Value) -> bool
-    ensures { result ≡ same_value a b }
-{
-    a == b
-}
+use intervals::{Claim, Kind, Moment, Op, Value, is_same_value, overlaps, precedes};
 
 /// Of those reads the wrong one that ended first, beside the operations.
 pub fn first_wrong_among<'r>(claim: &Claim, ops: &[Op], reads: &[Op<'r>]) -> Option<Op<'r>>
-    ensures { result ≡ least_by end_of (wrong_read (terms_of claim.now) ops.now) reads.now }
+    ensures { result ≡ least_by end_number (wrong_read (terms_of claim.now) ops.now) reads.now }
 {
     let mut found = None;
     for op in reads {
@@ -33,10 +20,10 @@ pub fn first_wrong_among<'r>(claim: &Claim, ops: &[Op], reads: &[Op<'r>]) -> Opt
 }
 
 fn first_of<'r>(claim: &Claim, ops: &[Op], found: Option<Op<'r>>, op: &Op<'r>) -> Option<Op<'r>>
-    ensures { result ≡ less_of end_of (wrong_read (terms_of claim.now) ops.now) found.entry op.now }
+    ensures { result ≡ less_of end_number (wrong_read (terms_of claim.now) ops.now) found.entry op.now }
 {
     let is_first = match found {
-        Some(earlier) => end_number(op) < end_number(&earlier),
+        Some(earlier) => op.end_number() < earlier.end_number(),
         None => true,
     };
     if is_wrong_read(claim, ops, op) && is_first {
@@ -46,19 +33,10 @@ fn first_of<'r>(claim: &Claim, ops: &[Op], found: Option<Op<'r>>, op: &Op<'r>) -
     }
 }
 
-fn end_number(op: &Op) -> u64
-    ensures { result ≡ end_of op.now }
-{
-    match op.end {
-        Some(end) => end.0,
-        None => 0,
-    }
-}
-
 pub fn is_wrong_read(claim: &Claim, ops: &[Op], read: &Op) -> bool
     ensures { result ≡ wrong_read (terms_of claim.now) ops.now read.now }
 {
-    is_judged_read(read) && !is_right_read(claim, ops, read)
+    read.is_judged_read() && !is_right_read(claim, ops, read)
 }
 
 fn is_right_read(claim: &Claim, ops: &[Op], read: &Op) -> bool
@@ -108,29 +86,20 @@ fn is_write_over(read: &Op, op: &Op) -> bool
 fn is_returned_over(read: &Op, op: &Op) -> bool
     ensures { result ≡ returned_over read.now op.now }
 {
-    is_write_over(read, op) && is_same(op.value(), read.value())
+    is_write_over(read, op) && is_same_value(op.value(), read.value())
 }
 
 fn is_allowed(claim: &Claim, value: Value) -> bool
     ensures { result ≡ allowed (terms_of claim.now).domain claim.now.initial value }
 {
-    match &claim.domain {
-        None => true,
-        Some(values) => is_among(values.as_slice(), value) || is_same(claim.initial, value),
-    }
-}
-
-pub fn is_among(values: &[Value], value: Value) -> bool
-    ensures { result ≡ list_any (λ v. same_value v value) values.now }
-{
-    values.iter().any(|v| is_same(*v, value))
+    claim.has_in_domain(value) || is_same_value(claim.initial, value)
 }
 
 fn returns_last(initial: Value, ops: &[Op], read: &Op) -> bool
     ensures { result ≡ returns_the_last initial ops.now read.now }
 {
     match last_before(ops, read) {
-        None => is_same(initial, read.value()),
+        None => is_same_value(initial, read.value()),
         Some(begin) => returns_at(ops, read, begin),
     }
 }
@@ -144,7 +113,7 @@ fn returns_at(ops: &[Op], read: &Op, begin: Moment) -> bool
 fn is_returned_at(read: &Op, begin: Moment, op: &Op) -> bool
     ensures { result ≡ returned_at read.now begin op.now }
 {
-    is_write_before(read, op) && op.begin.0 == begin.0 && is_same(op.value(), read.value())
+    is_write_before(read, op) && op.begin.0 == begin.0 && is_same_value(op.value(), read.value())
 }
 
 fn is_write_before(read: &Op, op: &Op) -> bool

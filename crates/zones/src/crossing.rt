@@ -9,8 +9,7 @@ ghost use Rattle.zones.specs.Crossing.{HasLeastEnd, AreExtremes};
 ghost use Rattle.zones.specs.Index.{AreMembers};
 
 use crate::index::Members;
-use crate::zone_in::is_same;
-use intervals::{Op, Value};
+use intervals::{Op, Value, is_same_value};
 
 /// Four operations that no order has room for: `a` and `d` are of one value, `b` and `c` of another, `a`
 /// precedes `b` and `c` precedes `d`. None is the initial write.
@@ -46,7 +45,7 @@ pub fn extremes<'t>(
 fn first_to_end<'t>(members: &Members<'t>, initial: Value, value: Value) -> Option<Op<'t>>
     ensures { (ops : List Op) → AreMembers ops members.now → least_end_of initial ops value ≢ Never → HasLeastEnd initial ops value result }
 {
-    if is_same(initial, value) {
+    if is_same_value(initial, value) {
         return None;
     }
     members.first_to_end(value)

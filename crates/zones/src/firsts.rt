@@ -4,7 +4,7 @@ ghost use Rattle.std.specs.Prelude.{◌≡◌, [], List, MatchOption, nat_lt, na
 ghost use Rattle.std.specs.List.{list_any};
 ghost use Rattle.intervals.specs.declared.operation.Op.{Op};
 ghost use Rattle.intervals.specs.declared.operation.Value.{Value};
-ghost use Rattle.intervals.specs.Operation.{is_judged_read as judged_read, value_of};
+ghost use Rattle.intervals.specs.Operation.{value_of};
 ghost use Rattle.intervals.specs.Least.{less_of};
 ghost use Rattle.intervals.specs.Judging.{end_number};
 ghost use Rattle.intervals.specs.Standing.{HasDistinctMoments, HasEndsAfterBeginnings};
@@ -15,8 +15,7 @@ ghost use Rattle.zones.specs.Index.{AreMembers};
 ghost use Rattle.zones.specs.Firsts.{AreFirsts, FindsFirst, FindsWrite, IsFaulty, IsOfValue, lacks_write as lacks, is_faulty as faulty, first_faulty, read_of as read_in, is_touched as touched, is_ended_by as ended_by, earlier_of as earlier, is_of_value as of_value};
 
 use crate::index::Members;
-use crate::zone_in::is_same;
-use intervals::{Op, Value, precedes};
+use intervals::{Op, Value, is_same_value, precedes};
 
 /// The faults that a read has by itself.
 #[derive(Clone, Copy, Debug)]
@@ -178,7 +177,7 @@ fn first_of<'t>(
     ensures { (ops : List Op) → AreMembers ops members.now → HaveOwnPlaces ops → result ≡ less_of end_number (faulty fault initial ops) found.entry op.now }
 {
     let is_first = match found {
-        Some(earlier) => end_of(op) < end_of(&earlier),
+        Some(earlier) => op.end_number() < earlier.end_number(),
         None => true,
     };
     if is_faulty(fault, initial, members, op) && is_first {
@@ -195,14 +194,14 @@ fn is_faulty(fault: Fault, initial: Value, members: &Members, op: &Op) -> bool
         Fault::Unwritten => lacks_write(initial, members, op),
         Fault::Early => ends_before_write(members, op),
     };
-    is_judged_read(op) && is_wrong
+    op.is_judged_read() && is_wrong
 }
 
 fn lacks_write(initial: Value, members: &Members, op: &Op) -> bool
     ensures { (ops : List Op) → AreMembers ops members.now → result ≡ lacks initial ops op.now }
 {
     let is_written = is_written(members, op);
-    !is_same(initial, op.value()) && !is_written
+    !is_same_value(initial, op.value()) && !is_written
 }
 
 fn is_written(members: &Members, op: &Op) -> bool
@@ -227,12 +226,6 @@ fn write_for<'t>(members: &Members<'t>, op: &Op) -> Option<Op<'t>>
     members.write_of(op.value())
 }
 
-fn is_judged_read(op: &Op) -> bool
-    ensures { result ≡ judged_read op.now }
-{
-    !op.is_write() && op.end.is_some()
-}
-
 fn is_touched(op: Option<Op>, old: Option<Op>, new: Option<Op>) -> bool
     ensures { result ≡ touched op.entry old.entry new.entry }
 {
@@ -246,7 +239,7 @@ fn is_of_value(op: Option<Op>, other: &Op) -> bool
     ensures { result ≡ of_value op.entry other.now }
 {
     match op {
-        Some(op) => is_same(other.value(), op.value()),
+        Some(op) => is_same_value(other.value(), op.value()),
         None => false,
     }
 }
@@ -255,7 +248,7 @@ fn is_ended_by(a: Option<Op>, b: Option<Op>) -> bool
     ensures { result ≡ ended_by a.entry b.entry }
 {
     match (a, b) {
-        (Some(a), Some(b)) => end_of(&a) <= end_of(&b),
+        (Some(a), Some(b)) => a.end_number() <= b.end_number(),
         _ => false,
     }
 }
@@ -264,17 +257,14 @@ fn earlier_of<'t>(a: Option<Op<'t>>, b: Option<Op<'t>>) -> Option<Op<'t>>
     ensures { result ≡ earlier a.entry b.entry }
 {
     match (a, b) {
-        (Some(x), Some(y)) => { if end_of(&y) < end_of(&x) { b } else { a } }
+        (Some(x), Some(y)) => {
+            if y.end_number() < x.end_number() {
+                b
+            } else {
+                a
+            }
+        }
         (None, _) => b,
         _ => a,
-    }
-}
-
-fn end_of(op: &Op) -> u64
-    ensures { result ≡ end_number op.now }
-{
-    match op.end {
-        Some(end) => end.0,
-        None => 0,
     }
 }

@@ -1,6 +1,6 @@
 //! The order in which the operations of a faultless register are given.
 
-ghost use Rattle.std.specs.Prelude.{◌≡◌, ◌++◌, ◌∷◌, [], ◌↔◌, Contains, IfOk, IfSome, IsNone, OnOk, map, is_some, ◌||◌};
+ghost use Rattle.std.specs.Prelude.{◌≡◌, ◌++◌, ◌∷◌, [], ◌↔◌, Contains, IfOk, IfSome, IsNone, OnOk, OnErr, map, is_some, ◌||◌};
 ghost use Rattle.intervals.specs.Operation.{judged, value_of, is_write as writes};
 ghost use Rattle.intervals.specs.Kind.{Arranges, IsAtomic};
 ghost use Rattle.zones.specs.Cluster.{written_values};
@@ -34,6 +34,7 @@ impl<'t> Clusters<'t> {
     pub fn order(&self, alloc: Global) -> Result<Option<Vec<OpId>>, Memory>
         ensures order { IfOk result (λ found. IfSome found (λ ids. IsOrder self.now.claim self.now.ops ids.items)) }
         ensures none { IfOk result (λ found. IsNone found ↔ ¬ IsAtomic self.now.claim self.now.ops) }
+        ensures memory { OnErr result (IsAtomic self.now.claim self.now.ops) }
     {
         if !self.holds() {
             return Ok(None);

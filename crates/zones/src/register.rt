@@ -22,8 +22,8 @@ use crate::index::Members;
 use crate::laws::{faultless_exactly_where_arranged, faultless_where_no_fault_is_first};
 use crate::moves::{make_room, move_zones};
 use crate::writes::check_write;
-use crate::zone_in::{is_same, zone_in, zone_of, zones_in};
-use intervals::{Claim, Edit, Kind, Memory, Op, OpBook, OpId, Refusal, Value};
+use crate::zone_in::{zone_in, zone_of, zones_in};
+use intervals::{Claim, Edit, Kind, Memory, Op, OpBook, OpId, Refusal, Value, is_same_value};
 use std::alloc::Global;
 use std::marker::Model;
 use zone_tree::{Zone, ZoneTree};
@@ -254,7 +254,7 @@ fn other_value(first: Option<Value>, second: Option<Value>) -> Option<Value>
     ensures { result ≡ other first second }
 {
     match (first, second) {
-        (Some(first), Some(second)) if is_same(first, second) => None,
+        (Some(first), Some(second)) if is_same_value(first, second) => None,
         (_, second) => second,
     }
 }

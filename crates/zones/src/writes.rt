@@ -10,8 +10,7 @@ ghost use Rattle.zones.specs.Refused.{refusal_beside};
 ghost use Rattle.zones.specs.Zoned.{StandApart};
 
 use crate::index::Members;
-use crate::zone_in::is_same;
-use intervals::{Claim, Holder, Op, Refusal, Value};
+use intervals::{Claim, Holder, Op, Refusal, Value, is_same_value};
 
 pub fn check_write(claim: &Claim, members: &Members, op: &Op) -> Result<(), Refusal>
     ensures { (ops : List Op) → AreMembers ops members.now → StandApart (terms_of claim.now) ops
@@ -43,7 +42,7 @@ fn holder_of(initial: Value, members: &Members, op: &Op) -> Option<Holder>
     ensures { (claim : Terms) (ops : List Op) → AreMembers ops members.now → StandApart claim ops → claim.initial ≡ initial
         → value_refusal claim ops op.now ≡ option_map Refusal.ValueTaken result }
 {
-    if is_same(initial, op.value()) {
+    if is_same_value(initial, op.value()) {
         return Some(Holder::Initial);
     }
     let write = other_write(members, op)?;

@@ -3,13 +3,12 @@
 ghost use Rattle.std.specs.Prelude.{◌≡◌, ◌↔◌, List, Contains, IsTrue};
 ghost use Rattle.intervals.specs.declared.operation.Op.{Op};
 ghost use Rattle.intervals.specs.declared.operation.Value.{Value};
-ghost use Rattle.intervals.specs.Operation.{same_value};
 ghost use Rattle.zones.specs.Cluster.{edge_of_end as edge_of, least_end_of, greatest_begin_of, written_values, zone_between as between, zone_of as zone_in_list};
 ghost use Rattle.zones.specs.Index.{AreMembers};
 ghost use Rattle.zones.specs.Zoned.{IsZoneAt, IsZoneAtSome, AreZonesAt};
 
 use crate::index::Members;
-use intervals::{Moment, Value};
+use intervals::{Moment, Value, is_same_value};
 use zone_tree::{Edge, Zone};
 
 /// The zone of the value, where that is the initial one or has a write.
@@ -50,7 +49,7 @@ pub fn zones_in(
 fn is_written(members: &Members, initial: Value, value: Value) -> bool
     ensures { (ops : List Op) → AreMembers ops members.now → IsTrue result ↔ Contains (written_values initial ops) value }
 {
-    is_same(initial, value) || members.write_of(value).is_some()
+    is_same_value(initial, value) || members.write_of(value).is_some()
 }
 
 /// The zone of the value, whether that has a write or not.
@@ -88,7 +87,7 @@ fn zone_between(least: Edge, greatest: Edge, value: Value) -> Zone
 fn least_end(members: &Members, initial: Value, value: Value) -> Edge
     ensures { (ops : List Op) → AreMembers ops members.now → result ≡ least_end_of initial ops value }
 {
-    if is_same(initial, value) {
+    if is_same_value(initial, value) {
         return Edge::Before;
     }
     match members.first_to_end(value) {
@@ -113,10 +112,4 @@ fn edge_of_end(end: Option<Moment>) -> Edge
         Some(end) => Edge::At(end),
         None => Edge::Never,
     }
-}
-
-pub fn is_same(a: Value, b: Value) -> bool
-    ensures { result ≡ same_value a b }
-{
-    a == b
 }

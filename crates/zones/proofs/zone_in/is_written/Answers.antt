@@ -5,8 +5,8 @@ use Rattle.zones.specs.Cluster.{written_values}
 use Rattle.zones.proofs.Extremes.{written_found}
 use Rattle.zones.proofs.zone_in.is_written.Goals as goal
 
-pub returns-else-is_same : goal.returns-else-is_same
-returns-else-is_same c ops h =
+pub returns-else-is_same_value : goal.returns-else-is_same_value
+returns-else-is_same_value c ops h =
     let other : same_value c.args.initial c.args.value ≡ false = search rules in
     let found : is_some c.write_of.result ≡ c.is_some.result = search rules in
     subst (λ (t : Bool). IsTrue t ↔ Contains (written_values c.args.initial ops) c.args.value) found
