@@ -32,8 +32,8 @@ IsWitness claim ops (Crossing a (sides.Op b) c (sides.Op d)) =
     (claim.kind ≡ Atomic) × (first_unwritten claim.initial ops ≡ None) × (first_early ops ≡ None) × IsFirstCrossing claim.initial ops (op_at a) b (op_at c) d
 IsWitness claim ops (Crossing a b c d) = ⊥
 
--- an unwritten read, an early read with the write of its value, or four operations that cross: what no
--- atomic register has
+-- an unwritten read, an early read with the write of its value, or four operations that cross: each
+-- excludes every arrangement
 abbrev pub IsExcluding : Value → List Op → Witness → Type 0
 IsExcluding initial ops (Wrong read) = ⊥
 IsExcluding initial ops (Unwritten read) = Contains ops read × IsUnwritten initial ops read

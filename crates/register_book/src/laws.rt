@@ -1,21 +1,26 @@
 //! Laws of the definitions. Each is the contract of a function that does nothing.
 
-ghost use Rattle.std.specs.Prelude.{◌≡◌, All, List, [], Some};
+ghost use Rattle.std.specs.Prelude.{◌≡◌, All, List, [], Some, None};
 ghost use Rattle.intervals.specs.declared.operation.Op.{Op};
 ghost use Rattle.intervals.specs.declared.edit.Edit.{Edit};
 ghost use Rattle.intervals.specs.declared.claim.Kind.TheVariants.{Atomic};
+ghost use Rattle.intervals.specs.declared.operation.Value.TheVariants.{Nil};
 ghost use Rattle.intervals.specs.Terms.{Terms};
 ghost use Rattle.intervals.specs.Edit.{op_of};
 ghost use Rattle.intervals.specs.Refusal.{standing};
 ghost use Rattle.intervals.specs.Standing.{HasDistinctIds, HasDistinctMoments, HasDistinctValues};
 ghost use Rattle.intervals.specs.Kind.{IsAtomic, Holds};
+ghost use Rattle.intervals.specs.Histories.{claim_of, new_before_old};
+ghost use Rattle.zones.specs.Examples.{unwritten_read, read_of_nothing, early_read, late_write, read_before_write, first_write, second_read, first_read};
+ghost use Rattle.register_book.specs.declared.fault.Side.TheVariants as sides;
 ghost use Rattle.register_book.specs.declared.fault.Witness.{Witness};
+ghost use Rattle.register_book.specs.declared.fault.Witness.TheVariants.{Unwritten, Early, Crossing};
 ghost use Rattle.register_book.specs.Fault.{IsWitness, IsExcluding, operations_of};
 
 use intervals::laws::{edits_keep_operations_apart, first_wrong_read_ended_first};
 use zones::laws::{
     first_early_ended_first, first_unwritten_ended_first, one_fault_excludes_every_arrangement,
-    one_first_crossing,
+    one_first_crossing, worked_faults,
 };
 
 /// The operations of a witness stand, each found by its id.
@@ -53,4 +58,13 @@ pub fn one_witness()
         → witness ≡ other }
 {
     one_first_crossing();
+}
+
+/// The witness of a history for each way to fail.
+pub fn worked_witnesses()
+    ensures unwritten { IsWitness (claim_of Atomic Nil None) read_of_nothing (Unwritten unwritten_read) }
+    ensures early { IsWitness (claim_of Atomic Nil None) read_before_write (Early early_read late_write) }
+    ensures crossing { IsWitness (claim_of Atomic Nil None) new_before_old (Crossing (sides.Op first_write) (sides.Op second_read) (sides.Op second_read) (sides.Op first_read)) }
+{
+    worked_faults();
 }

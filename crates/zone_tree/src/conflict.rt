@@ -8,7 +8,7 @@ ghost use Rattle.zone_tree.specs.Order.{StandInOrder};
 
 use crate::Zone;
 
-/// The first zone that conflicts with an earlier forward one, behind the farthest of those.
+/// The farthest earlier forward zone, and the first zone that conflicts with an earlier forward one.
 pub fn first_conflict(zones: &[Zone]) -> Option<(Zone, Zone)>
     requires { StandInOrder zones.now }
     ensures first { IfSome result (λ pair. IsFirstConflict zones.now pair.0 pair.1) }

@@ -95,8 +95,8 @@ impl ZoneTree {
         self.first_conflict().is_none()
     }
 
-    /// Of the zones that conflict with an earlier forward one the first by left edge, behind the
-    /// earlier forward zone of greatest right edge.
+    /// The earlier forward zone of greatest right edge, and the first zone by left edge that conflicts
+    /// with an earlier forward one.
     pub fn first_conflict(&self) -> Option<(Zone, Zone)>
         ensures first { IfSome result (λ pair. IsFirstConflict self.now.zones pair.0 pair.1) }
         ensures none { IsNone result ↔ IsClean self.now.zones }

@@ -15,7 +15,7 @@ use Rattle.zones.specs.declared.crossing.Crossing.{Crossing}
 use Rattle.zones.specs.Cluster.{edge_of_end, cluster_of, least_end_of, greatest_begin_of, written_values, zone_of}
 use Rattle.zones.specs.Crossing.{AreExtremes, HasFirstConflict, HasGreatestBegin, HasLeastEnd, IsFirstCrossing}
 use Rattle.zones.proofs.FirstCrossing.{of_values}
-use Rattle.zones.specs.Members.{IsFirstToEnd, IsLastToBegin, IsWriteOf}
+use Rattle.zones.specs.Members.{IsFirstToEnd, IsLastToBegin, IsTheWriteAt}
 use Rattle.zones.proofs.Members.{Decides-same_value, in_none}
 use Rattle.zones.proofs.EdgeOrder.{AtMost, at_most_both, before_all}
 use Rattle.zones.proofs.Cluster.{member_of, least_at_most, least_of_one, greatest_at_least, greatest_of_one}
@@ -46,10 +46,10 @@ module _ (initial : Value) (ops : List Op) (v : Value) (op : Op) where
 
 -- what is not the initial value has a write where one is found
 pub written_found : (initial : Value) (ops : List Op) (v : Value) (found : Option Op) → same_value initial v ≡ false
-    → MatchOption found (All (λ w. IsWrite w → value_of w.act ≢ v) ops) (IsWriteOf ops v) → IsTrue (is_some found) ↔ Contains (written_values initial ops) v
+    → MatchOption found (All (λ w. IsWrite w → value_of w.act ≢ v) ops) (IsTheWriteAt ops v) → IsTrue (is_some found) ↔ Contains (written_values initial ops) v
 written_found initial ops v None apart none = ((λ t. absurd (cc)), λ h. absurd (by_cases (written_cases initial ops v h)))
   where
-    by_cases : (initial ≡ v) ⊎ ((w : Op) × IsWriteOf ops v w) → ⊥
+    by_cases : (initial ≡ v) ⊎ ((w : Op) × IsTheWriteAt ops v w) → ⊥
     by_cases (inl e) = both_ways (same_value initial v) apart ((Decides-same_value initial v).1 e)
     by_cases (inr (w, is)) = All-contains (λ w. IsWrite w → value_of w.act ≢ v) ops w none is.stands is.write is.same
 written_found initial ops v (Some w) apart is = ((λ t. written_by initial ops v w is), λ h. refl)

@@ -17,7 +17,7 @@ use Rattle.zones.specs.declared.firsts.Fault.{Fault}
 use Rattle.zones.specs.declared.firsts.Fault.TheVariants.{Unwritten, Early}
 use Rattle.zones.specs.Cluster.{edge_of_end, cluster_of}
 use Rattle.zones.specs.Fault.{IsUnwritten, IsEarly, HasLateWrite, IsFirstOf, is_write_of, is_late_for, is_early, with_late_write, first_early}
-use Rattle.zones.specs.Members.{IsFirstToEnd, IsWriteOf, HaveOwnPlaces, IsChange}
+use Rattle.zones.specs.Members.{IsFirstToEnd, IsTheWriteAt, HaveOwnPlaces, IsChange}
 use Rattle.zones.specs.Firsts.{FindsWrite, IsFaulty, is_faulty, first_faulty, read_of, FindsFirst, IsOfValue, is_of_value, is_touched, is_ended_by, earlier_of}
 use Rattle.zones.proofs.Judged.{is_judged, judged_read, judged_write, is_judged_by_end}
 use Rattle.zones.proofs.Members.{Decides-same_value, all_from, in_none, kept, kept_stands}
@@ -66,7 +66,7 @@ module _ (ops : List Op) (r : Op) where
   is_late None = false
   is_late (Some w) = precedes r w
 
-  the_write : HaveOwnPlaces ops → (w : Op) → IsWriteOf ops (value_of r.act) w → (x : Op) → Contains ops x → IsWriteFor r x → x ≡ w
+  the_write : HaveOwnPlaces ops → (w : Op) → IsTheWriteAt ops (value_of r.act) w → (x : Op) → Contains ops x → IsWriteFor r x → x ≡ w
   the_write own w is x h for = own.by_value x w (kept is_judged ops x h (judged_write x for.0)) (kept is_judged ops w is.stands (judged_write w is.write)) (for.1 ∙ sym is.same) for.0 is.write
 
   pub late_by : HaveOwnPlaces ops → (found : Option Op) → FindsWrite ops r found → is_late found ≡ list_any (is_late_for r) ops

@@ -15,7 +15,7 @@ use Rattle.zones.specs.declared.spot.Spot.{Spot}
 use Rattle.zones.specs.declared.spot.Index.{Index}
 use Rattle.zones.specs.declared.spot.Index.TheVariants.{Writes, Ends, Begins}
 use Rattle.zones.specs.Cluster.{edge_of_end, has_value, cluster_of}
-use Rattle.zones.specs.Members.{IsFirstToEnd, IsLastToBegin, IsWriteOf}
+use Rattle.zones.specs.Members.{IsFirstToEnd, IsLastToBegin, IsTheWriteAt}
 use Rattle.zones.specs.Index.{spot_cmp, with_edge, spot_of, IsIndex}
 use Rattle.zones.proofs.Members.{Decides-same_value, here, kept, kept_stands, all_from}
 use Rattle.zones.proofs.Judged.{is_judged, judged_write}
@@ -31,7 +31,7 @@ at value edge = record { value = value; edge = edge }
 
 module _ (ops : List Op) (value : Value) where
   -- the write of the value is the one that stands among the writes
-  pub write_found : (map : BTreeMap Spot Op) → IsIndex Writes (judged ops) map → (found : Option Op) → found ≡ get spot_cmp map (at value Before) → MatchOption found (All (λ w. IsWrite w → value_of w.act ≢ value) ops) (IsWriteOf ops value)
+  pub write_found : (map : BTreeMap Spot Op) → IsIndex Writes (judged ops) map → (found : Option Op) → found ≡ get spot_cmp map (at value Before) → MatchOption found (All (λ w. IsWrite w → value_of w.act ≢ value) ops) (IsTheWriteAt ops value)
   write_found map index None e =
       all_from (λ w. IsWrite w → value_of w.act ≢ value) ops
       (λ w h is_write same.

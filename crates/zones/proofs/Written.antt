@@ -8,7 +8,7 @@ use Rattle.intervals.specs.Standing.{HasDistinctMoments}
 use Rattle.zone_tree.specs.declared.edge.Edge.{Edge}
 use Rattle.zone_tree.specs.declared.edge.Edge.TheVariants.{Before, At, Never}
 use Rattle.zones.specs.Cluster.{edge_of_end, least_end_of, greatest_begin_of, zone_between, zone_of, written_values}
-use Rattle.zones.specs.Members.{IsWriteOf, IsChange}
+use Rattle.zones.specs.Members.{IsTheWriteAt, IsChange}
 use Rattle.zones.proofs.Judged.{is_judged, judged_write}
 use Rattle.zones.proofs.Members.{here, there, contains_cases, kept, kept_stands, mapped}
 use Rattle.zones.proofs.EdgeOrder.{AtMost, at_most_both, before_all}
@@ -19,33 +19,33 @@ use Rattle.zones.proofs.Edited.{from_map}
 abbrev pub IsWritten : Value → List Op → Value → Type 0
 IsWritten initial ops v = Contains (written_values initial ops) v
 
-pub written_cases : (initial : Value) (ops : List Op) (v : Value) → IsWritten initial ops v → (initial ≡ v) ⊎ ((w : Op) × IsWriteOf ops v w)
+pub written_cases : (initial : Value) (ops : List Op) (v : Value) → IsWritten initial ops v → (initial ≡ v) ⊎ ((w : Op) × IsTheWriteAt ops v w)
 written_cases initial ops v h = by_cases (contains_cases initial (map (λ w. value_of w.act) (writes ops)) v h)
   where
-    by_write : (w : Op) × Contains (writes ops) w × (value_of w.act ≡ v) → (w : Op) × IsWriteOf ops v w
+    by_write : (w : Op) × Contains (writes ops) w × (value_of w.act ≡ v) → (w : Op) × IsTheWriteAt ops v w
     by_write (w, k, e) = let (stands, write) = kept_stands is_write ops w k in (w, record { stands = stands; write = write; same = e })
 
-    by_cases : (initial ≡ v) ⊎ Contains (map (λ w. value_of w.act) (writes ops)) v → (initial ≡ v) ⊎ ((w : Op) × IsWriteOf ops v w)
+    by_cases : (initial ≡ v) ⊎ Contains (map (λ w. value_of w.act) (writes ops)) v → (initial ≡ v) ⊎ ((w : Op) × IsTheWriteAt ops v w)
     by_cases (inl e) = inl e
     by_cases (inr k) = inr (by_write (from_map (λ w. value_of w.act) (writes ops) v k))
 
 pub written_initial : (initial : Value) (ops : List Op) → IsWritten initial ops initial
 written_initial initial ops = here initial (map (λ w. value_of w.act) (writes ops))
 
-pub written_by : (initial : Value) (ops : List Op) (v : Value) (w : Op) → IsWriteOf ops v w → IsWritten initial ops v
+pub written_by : (initial : Value) (ops : List Op) (v : Value) (w : Op) → IsTheWriteAt ops v w → IsWritten initial ops v
 written_by initial ops v w is =
     there initial (map (λ w. value_of w.act) (writes ops)) v
     (subst (λ (u : Value). Contains (map (λ w. value_of w.act) (writes ops)) u) is.same
     (mapped (λ w. value_of w.act) (writes ops) w (kept is_write ops w is.stands is.write)))
 
-write_member : (initial : Value) (ops : List Op) (v : Value) (w : Op) → IsWriteOf ops v w → IsMember initial ops v w
+write_member : (initial : Value) (ops : List Op) (v : Value) (w : Op) → IsTheWriteAt ops v w → IsMember initial ops v w
 write_member initial ops v w is = (kept is_judged ops w is.stands (judged_write w is.write), is.same)
 
 -- the left edges of different values that have a write are different
 edge_written : (initial : Value) (ops : List Op) (v : Value) → IsWritten initial ops v → EdgeIn initial ops v (left initial ops v)
 edge_written initial ops v h = by_cases (written_cases initial ops v h)
   where
-    by_cases : (initial ≡ v) ⊎ ((w : Op) × IsWriteOf ops v w) → EdgeIn initial ops v (left initial ops v)
+    by_cases : (initial ≡ v) ⊎ ((w : Op) × IsTheWriteAt ops v w) → EdgeIn initial ops v (left initial ops v)
     by_cases (inl e) = subst (λ (u : Value). EdgeIn initial ops u (left initial ops u)) e (subst (EdgeIn initial ops initial) (sym (left_initial initial ops)) refl)
     by_cases (inr (w, is)) = left_in initial ops v w (write_member initial ops v w is)
 
@@ -80,22 +80,22 @@ module _ (initial : Value) (before : List Op) (old new : Option Op) (after : Lis
   pub written_still : ((op : Op) → old ≡ Some op → value_of op.act ≢ v) → IsWritten initial before v → IsWritten initial after v
   written_still apart h = by_cases (written_cases initial before v h)
     where
-      by_write : (w : Op) → IsWriteOf before v w → (old ≡ Some w) ⊎ Contains (judged after) w → IsWritten initial after v
+      by_write : (w : Op) → IsTheWriteAt before v w → (old ≡ Some w) ⊎ Contains (judged after) w → IsWritten initial after v
       by_write w is (inl e) = absurd (apart w e is.same)
       by_write w is (inr k) = written_by initial after v w (record { stands = (kept_stands is_judged after w k).0; write = is.write; same = is.same })
 
-      by_cases : (initial ≡ v) ⊎ ((w : Op) × IsWriteOf before v w) → IsWritten initial after v
+      by_cases : (initial ≡ v) ⊎ ((w : Op) × IsTheWriteAt before v w) → IsWritten initial after v
       by_cases (inl e) = subst (λ (u : Value). IsWritten initial after u) e (written_initial initial after)
       by_cases (inr (w, is)) = by_write w is (change.stay w (write_member initial before v w is).0)
 
   pub written_stood : ((op : Op) → new ≡ Some op → value_of op.act ≢ v) → IsWritten initial after v → IsWritten initial before v
   written_stood apart h = by_cases (written_cases initial after v h)
     where
-      by_write : (w : Op) → IsWriteOf after v w → (new ≡ Some w) ⊎ (Contains (judged before) w × (old ≢ Some w)) → IsWritten initial before v
+      by_write : (w : Op) → IsTheWriteAt after v w → (new ≡ Some w) ⊎ (Contains (judged before) w × (old ≢ Some w)) → IsWritten initial before v
       by_write w is (inl e) = absurd (apart w e is.same)
       by_write w is (inr (k, n)) = written_by initial before v w (record { stands = (kept_stands is_judged before w k).0; write = is.write; same = is.same })
 
-      by_cases : (initial ≡ v) ⊎ ((w : Op) × IsWriteOf after v w) → IsWritten initial before v
+      by_cases : (initial ≡ v) ⊎ ((w : Op) × IsTheWriteAt after v w) → IsWritten initial before v
       by_cases (inl e) = subst (λ (u : Value). IsWritten initial before u) e (written_initial initial before)
       by_cases (inr (w, is)) = by_write w is (change.stood w (write_member initial after v w is).0)
 

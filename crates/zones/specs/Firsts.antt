@@ -9,7 +9,7 @@ use Rattle.intervals.specs.Judging.{end_number}
 use Rattle.zones.specs.declared.firsts.Fault.{Fault}
 use Rattle.zones.specs.declared.firsts.Fault.TheVariants.{Unwritten, Early}
 use Rattle.zones.specs.declared.firsts.Firsts.{Firsts}
-use Rattle.zones.specs.Members.{IsWriteOf}
+use Rattle.zones.specs.Members.{IsTheWriteAt}
 use Rattle.zones.specs.Fault.{IsUnwritten, HasLateWrite, IsFirstOf, is_write_of, is_unwritten, first_unwritten, is_early, first_early}
 
 -- they are those of the list
@@ -19,7 +19,7 @@ pub record AreFirsts (initial : Value) (ops : List Op) (firsts : Firsts) : Type 
 
 -- the write of the value of r is found, or there is none
 abbrev pub FindsWrite : List Op → Op → Option Op → Type 0
-FindsWrite ops r found = MatchOption found (All (λ w. IsWrite w → value_of w.act ≢ value_of r.act) ops) (IsWriteOf ops (value_of r.act))
+FindsWrite ops r found = MatchOption found (All (λ w. IsWrite w → value_of w.act ≢ value_of r.act) ops) (IsTheWriteAt ops (value_of r.act))
 
 -- the value is not the initial one, and no write has it
 abbrev pub lacks_write : Value → List Op → Op → Bool

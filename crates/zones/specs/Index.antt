@@ -1,4 +1,5 @@
--- The maps of the members: each judged operation stands at its end and at its beginning, each write at its value.
+-- The maps of the members: each judged operation stands at its end and at its beginning, each write at
+-- its value. No public clause speaks of these words.
 use Rattle.std.specs.Prelude.{◌≡◌, Bool, false, Contains, List, Option, Some, None, IsSome, if◌then◌else◌}
 use Rattle.std.specs.declared.cmp.Ordering.{Ordering}
 use Rattle.std.specs.BTreeMap.{BTreeMap, get, is_at}

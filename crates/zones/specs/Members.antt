@@ -19,7 +19,7 @@ pub record IsLastToBegin (ops : List Op) (value : Value) (op : Op) : Type 0 wher
   pub last : All (λ other. ¬ ComesBefore (At op.begin) (At other.begin)) (cluster_of ops value)
 
 -- it is the write of the value
-pub record IsWriteOf (ops : List Op) (value : Value) (op : Op) : Type 0 where
+pub record IsTheWriteAt (ops : List Op) (value : Value) (op : Op) : Type 0 where
   pub stands : Contains ops op
   pub write : IsWrite op
   pub same : value_of op.act ≡ value

@@ -11,7 +11,7 @@ use Rattle.zone_tree.specs.Order.{Contents, HasNoZoneAt, with_zone, without_zone
 use Rattle.zone_tree.specs.Zone.{HasOrderedEdges}
 use Rattle.zones.specs.Cluster.{written_values, zone_of}
 
--- operations of an atomic register that no edit brings together: what the reply rule keeps of them
+-- what the reply rule keeps of an atomic register's operations
 pub record StandApart (claim : Terms) (ops : List Op) : Type 0 where
   pub atomic : claim.kind ≡ Atomic
   pub ids : HasDistinctIds ops

@@ -6,7 +6,7 @@ ghost use Rattle.intervals.specs.declared.operation.Op.{Op};
 ghost use Rattle.intervals.specs.Operation.{IsWrite, value_of};
 ghost use Rattle.zones.specs.declared.spot.Spot.{Spot};
 ghost use Rattle.zones.specs.Cluster.{cluster_of};
-ghost use Rattle.zones.specs.Members.{IsFirstToEnd, IsLastToBegin, IsWriteOf, IsChange};
+ghost use Rattle.zones.specs.Members.{IsFirstToEnd, IsLastToBegin, IsTheWriteAt, IsChange};
 ghost use Rattle.zones.specs.Index.{AreMembers, AreSame, HasPlace, spot_cmp, put_at, changed_at, spot_in as at};
 
 use crate::spot::{Index, Spot, is_one, spot_at, spot_in, with_value};
@@ -72,7 +72,7 @@ impl<'t> Members<'t> {
 
     /// The write of the value.
     pub fn write_of(&self, value: Value) -> Option<Op<'t>>
-        ensures { (ops : List Op) → AreMembers ops self.now → MatchOption result (All (λ w. IsWrite w → value_of w.act ≢ value) ops) (IsWriteOf ops value) }
+        ensures { (ops : List Op) → AreMembers ops self.now → MatchOption result (All (λ w. IsWrite w → value_of w.act ≢ value) ops) (IsTheWriteAt ops value) }
     {
         self.writes.get(&spot_at(value, Edge::Before)).copied()
     }
@@ -97,7 +97,8 @@ impl<'t> Members<'t> {
     }
 }
 
-/// Makes a place for the new operation, where nothing stands at its spot. Where one was made.
+/// Makes a place for the new operation, where nothing stands at its spot, and
+/// answers the spot where it made one.
 fn make_place<'t>(
     map: &mut BTreeMap<Spot, Op<'t>>,
     index: Index,

@@ -6,7 +6,7 @@ ghost use Rattle.zones.specs.Zoned.{IsNew, CanMove, Stands, with, without, moved
 use intervals::{Memory, Op};
 use zone_tree::{Zone, ZoneTree};
 
-/// Makes room for the zones of a value that an operation comes to. Where none comes no memory is taken.
+/// Makes room for two zones where an operation comes; where none does, takes no memory.
 pub fn make_room(tree: &mut ZoneTree, new: Option<Op>) -> Result<(), Memory>
     ensures zones { tree.new.zones ≡ tree.old.zones }
     ensures room { OnOk result (IsSome new.entry → 2 ≤ tree.new.free) }

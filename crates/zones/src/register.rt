@@ -175,12 +175,13 @@ impl<'t> Clusters<'t> {
         self.first_conflict().is_none()
     }
 
-    /// Of the zones that conflict with an earlier forward one the first by left edge, behind the
-    /// earlier forward zone of greatest right edge.
+    /// The earlier forward zone of greatest right edge, and the first zone by left edge that conflicts
+    /// with an earlier forward one.
     pub fn first_conflict(&self) -> Option<(Zone, Zone)>
         ensures first { IfSome result (λ pair. HasFirstConflict self.now.claim.initial self.now.ops pair.0 pair.1) }
         ensures none { IsNone result ↔ IsClean (zones_of self.now.claim.initial self.now.ops) }
     {
+        // That the zones stand in order is known of what is gone over.
         let _ = self.tree.iter();
         self.tree.first_conflict()
     }

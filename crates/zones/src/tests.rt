@@ -1,6 +1,6 @@
 //! Rows of histories, as calls of a judge.
 
-ghost use Rattle.std.specs.Prelude.{◌≡◌};
+ghost use Rattle.std.specs.Prelude.{◌≡◌, None};
 ghost use Rattle.intervals.specs.Edit.{new_op as new_one};
 ghost use Rattle.intervals.specs.Refusal.{reply_to, first_refusal, new_write_refusal, write_refusal};
 
@@ -102,6 +102,29 @@ fn refusal_of<'t>(clusters: &Clusters<'t>, edit: &Edit<'t>) -> Option<Refusal>
     new_refusal(clusters, edit)
 }
 
+/// Carries the edit out by the call that is named after it, where there is one.
+fn carried_out<'t>(clusters: &mut Clusters<'t>, edit: Edit<'t>) -> Result<(), Memory>
+    requires { reply_to clusters.old.claim clusters.old.ops edit ≡ None }
+{
+    match edit {
+        Edit::Append(op) if op.is_write() => clusters.admit_write(&op),
+        Edit::Append(op) => clusters.admit_read(&op),
+        Edit::Amend(..) => clusters.admit(edit),
+        Edit::Withdraw(id) => {
+            withdraw(clusters, id);
+            Ok(())
+        }
+    }
+}
+
+fn withdraw(clusters: &mut Clusters, id: OpId) {
+    match clusters.operations().get(id) {
+        Some(op) if op.is_write() => clusters.drop_write(id),
+        Some(_) => clusters.drop_read(id),
+        None => {}
+    }
+}
+
 /// Tells a refusal, or carries the edit out.
 fn edited<'t>(
     told: &mut String,
@@ -112,7 +135,7 @@ fn edited<'t>(
         Some(refusal) => {
             let _ = write!(told, "{refusal} ");
         }
-        None => clusters.admit(edit)?,
+        None => carried_out(clusters, edit)?,
     }
     Ok(())
 }
@@ -153,8 +176,10 @@ fn tell_op(told: &mut String, op: Option<Op>) {
 }
 
 fn tell_crossing(told: &mut String, clusters: &Clusters) {
-    if let Some(x) = clusters.crossing() {
+    if !clusters.clean() {
         let _ = write!(told, "cross ");
+    }
+    if let Some(x) = clusters.crossing() {
         tell_op(told, x.a);
         tell_op(told, Some(x.b));
         tell_op(told, x.c);
@@ -179,16 +204,13 @@ fn tell_firsts(told: &mut String, clusters: &Clusters) {
 
 /// Whether the register holds, and then its operations in order, by where they began.
 fn tell_order(told: &mut String, alloc: Global, clusters: &Clusters) -> Result<(), Memory> {
-    match clusters.order(alloc)? {
-        Some(ids) => {
-            let _ = write!(told, "holds");
-            for id in &ids {
-                let _ = write!(told, " {}", id.event);
-            }
-        }
-        None => {
-            let _ = write!(told, "fault");
-        }
+    let verdict = if clusters.holds() { "holds" } else { "fails" };
+    let _ = write!(told, "{verdict}");
+    let Some(ids) = clusters.order(alloc)? else {
+        return Ok(());
+    };
+    for id in &ids {
+        let _ = write!(told, " {}", id.event);
     }
     Ok(())
 }
@@ -207,19 +229,19 @@ fn told(alloc: Global, words: &'static str) -> Result<String, Memory> {
     Ok(told)
 }
 
-const ROWS: &str = "w1:0-1 w2:2-9 r2:4-5 r1:6-7 => -<- 1>6 4<5 cross 0 4 4 6 fault
+const ROWS: &str = "w1:0-1 w2:2-9 r2:4-5 r1:6-7 => -<- 1>6 4<5 cross 0 4 4 6 fails
 w1:0-1 w2:2-9 r2:4-5 r1:6-7 !6 => -<- 0<1 4<5 holds 0 2 4
 w1:0-1 w2:2-9 r2:4-5 r1:6- => -<- 0<1 4<5 holds 0 2 4
-w1:0-1 rnil:2-3 => ->2 0<1 . cross - 0 0 2 fault
+w1:0-1 rnil:2-3 => ->2 0<1 . cross - 0 0 2 fails
 w1:0- rnil:2-3 r1:5-6 => ->2 5<6 . holds 2 0 5
 w1:0- => -<- 0<+ . holds 0
-w1:0-1 r3:2-3 r2:4-5 => -<- 0<1 . unwritten 2 fault
-w1:0-1 r3:2-3 r2:4-5 !2 => -<- 0<1 . unwritten 4 fault
-w1:0-1 r2:2-3 w2:4-5 => -<- 0<1 3>4 early 2 4 fault
+w1:0-1 r3:2-3 r2:4-5 => -<- 0<1 . unwritten 2 fails
+w1:0-1 r3:2-3 r2:4-5 !2 => -<- 0<1 . unwritten 4 fails
+w1:0-1 r2:2-3 w2:4-5 => -<- 0<1 3>4 early 2 4 fails
 w1:0-1 r2:2-3 w2:4-5 !2 => -<- 0<1 4<5 holds 0 4
-w1:0-1 r2:2-3 w2:4-5 !4 => -<- 0<1 . unwritten 2 fault
-r1:0-1 r2:2-3 w2:4-5 w1:6-7 => -<- 1>6 3>4 early 0 6 cross 0 4 2 6 fault
-r1:0-1 r2:2-3 w2:4-5 w1:6-7 !0 => -<- 6<7 3>4 early 2 4 fault
+w1:0-1 r2:2-3 w2:4-5 !4 => -<- 0<1 . unwritten 2 fails
+r1:0-1 r2:2-3 w2:4-5 w1:6-7 => -<- 1>6 3>4 early 0 6 cross 0 4 2 6 fails
+r1:0-1 r2:2-3 w2:4-5 w1:6-7 !0 => -<- 6<7 3>4 early 2 4 fails
 r1:0-1 r2:2-3 w2:4-5 w1:6-7 !0 !2 => -<- 6<7 4<5 holds 4 6
 w1:0-1 w1:2-3 wnil:4-5 !0 w1:6-7 => X8 ValueTaken X8 ValueTaken -<- 6<7 . holds 6
 w1:0-5 w2:5-6 !9 r1:7-7 => X4 MomentTaken X1 UnknownOp X3 EndNotAfterBegin -<- 0<5 . holds 0";

@@ -2,7 +2,7 @@ use Rattle.std.proofs.Common.{◌≡◌, ◌≢◌, ◌∙◌, true, false, sym,
 use Rattle.std.specs.Prelude.{All}
 use Rattle.intervals.specs.declared.operation.Value.{Value}
 use Rattle.intervals.specs.Operation.{IsWrite, same_id, value_of}
-use Rattle.zones.specs.Members.{IsWriteOf}
+use Rattle.zones.specs.Members.{IsTheWriteAt}
 use Rattle.zones.proofs.WriteHolder.{none_holds, itself_holds, other_holds}
 use Rattle.zones.proofs.writes.other_write.Goals as goal
 
@@ -16,10 +16,10 @@ pub returns-then-has_id : goal.returns-then-has_id
 returns-then-has_id c claim ops h apart =
     let value : c.value.result ≡ value_of c.args.op.now.act = search rules in
     let same : same_id c.in_ok-write.write.id c.args.op.now.id ≡ true = search rules in
-    sym (itself_holds claim ops c.args.op.now apart c.in_ok-write.write (subst (λ (v : Value). IsWriteOf ops v c.in_ok-write.write) value (c.in_ok-write.ensures ops h)) same)
+    sym (itself_holds claim ops c.args.op.now apart c.in_ok-write.write (subst (λ (v : Value). IsTheWriteAt ops v c.in_ok-write.write) value (c.in_ok-write.ensures ops h)) same)
 
 pub returns-else-has_id : goal.returns-else-has_id
 returns-else-has_id c claim ops h apart =
     let value : c.value.result ≡ value_of c.args.op.now.act = search rules in
     let other : same_id c.in_ok-write.write.id c.args.op.now.id ≡ false = search rules in
-    sym (other_holds claim ops c.args.op.now apart c.in_ok-write.write (subst (λ (v : Value). IsWriteOf ops v c.in_ok-write.write) value (c.in_ok-write.ensures ops h)) other)
+    sym (other_holds claim ops c.args.op.now apart c.in_ok-write.write (subst (λ (v : Value). IsTheWriteAt ops v c.in_ok-write.write) value (c.in_ok-write.ensures ops h)) other)
