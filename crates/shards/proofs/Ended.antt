@@ -1,0 +1,82 @@
+-- The shards that an auditor leaves, and the books in them.
+use Rattle.std.specs.Prelude.{◌≡◌, ◌<◌, ◌%◌, ◌/◌, ◌+◌, ◌*◌, ℕ, List, [], length, map, slice_index_or, Option, Some, option_map, unwrap_or, All}
+use Rattle.std.specs.List.{slice_get}
+use Rattle.std.proofs.Common.{ap, subst, ◌∙◌, arith, inl, inr}
+use Rattle.std.proofs.lemmas.List.{length-map}
+use Rattle.std.proofs.lemmas.List.Elements.{All-map, All-weaker}
+use Rattle.std.proofs.lemmas.Nat.{div-add-mod', mod_below}
+use Rattle.std.proofs.lemmas.Option.{slice_get-map, slice_get_cases}
+use Rattle.shards.specs.declared.fault.ShardFault.{ShardFault}
+use Rattle.shards.specs.declared.shard.Shard.{Shard}
+use Rattle.shards.specs.Plan.{Plan}
+use Rattle.shards.specs.Journal.{IsLegalJournal}
+use Rattle.shards.specs.Pass.{Passed}
+use Rattle.shards.specs.Closing.{AreComplete, AreItsPasses, Held, Ended, IsClosed, IsClosingFault, IsSettled, IsUnfinished, books_of, journal_of, left_by}
+use Rattle.shards.specs.Shard.{IsKept, ended_of, held_of}
+
+-- what stands at a place of a list
+record At {X : Type 0} (xs : List X) (place : ℕ) : Type 0 where
+  one : X
+  is : slice_get xs place ≡ Some one
+  read : slice_index_or xs place one ≡ one
+
+one_at : {X : Type 0} (xs : List X) (place : ℕ) → place < length xs → At xs place
+one_at xs place within =
+    elim (slice_get_cases xs place).1 as (λ _. At xs place) [
+      | inl found ↦ record { one = found.0; is = found.2; read = found.3 }
+      | inr past ↦ absurd (omega (arith, past.0))
+    ]
+
+ended_at : (shards : List Shard) (place : ℕ) (shard : Shard) → slice_get shards place ≡ Some shard → slice_get (map ended_of shards) place ≡ Some (ended_of shard)
+ended_at shards place shard e = slice_get-map ended_of shards place ∙ ap (option_map ended_of) e
+
+journal_at : (shards : List Shard) (place : ℕ) (shard : Shard) → slice_get shards place ≡ Some shard → journal_of (map ended_of shards) place ≡ shard.journal.items
+journal_at shards place shard e = ap (λ (found : Option Ended). unwrap_or (option_map (λ one. one.journal) found) []) (ended_at shards place shard e)
+
+books_at : (shards : List Shard) (place : ℕ) (shard : Shard) → slice_get shards place ≡ Some shard → books_of (map ended_of shards) place ≡ shard.books.items
+books_at shards place shard e = ap (λ (found : Option Ended). unwrap_or (option_map (λ one. one.books) found) []) (ended_at shards place shard e)
+
+-- a register stands in one slot of one shard
+book_at : (plan : Plan) (shard : Shard) (register : ℕ) → IsKept plan shard → shard.at ≡ register % plan.shards
+    → slice_get shard.books.items (register / plan.shards) ≡ option_map (left_by shard.journal.items register) (slice_get plan.claims register)
+book_at plan shard register kept here =
+    let number : (register / plan.shards) * plan.shards + shard.at ≡ register =
+    ap (λ (at : ℕ). (register / plan.shards) * plan.shards + at) here ∙ div-add-mod' register plan.shards in
+    kept.books (register / plan.shards)
+    ∙ ap (λ (one : ℕ). option_map (left_by shard.journal.items one) (slice_get plan.claims one)) number
+
+-- shards without a fault are closed
+pub closed : (plan : Plan) (passes : List Passed) (shards : List Shard) → length shards ≡ plan.shards → 0 < plan.shards → All (IsKept plan) shards
+    → AreItsPasses plan passes × AreComplete plan.feeders passes
+    → ((place : ℕ) (shard : Held) → slice_get (map held_of shards) place ≡ Some shard → (shard.at ≡ place) × IsSettled plan passes place shard.journal)
+    → IsClosed plan passes (map ended_of shards)
+closed plan passes shards many some kept whole finished =
+    let many' : length (map ended_of shards) ≡ plan.shards = length-map shards ended_of ∙ many in
+    let held : (place : ℕ) (there : At shards place) → (there.one.at ≡ place) × IsSettled plan passes place there.one.journal.items =
+    λ place there. finished place (held_of there.one) (slice_get-map held_of shards place ∙ ap (option_map held_of) there.is) in
+    record {
+      of_plan = whole.0;
+      complete = whole.1;
+      many = many';
+      finished = λ place within.
+          let there = one_at shards place (omega (arith, many, many')) in
+          rw (journal_at shards place there.one there.is) ((held place there).1);
+      books = λ register.
+          let place = register % plan.shards in
+          let within : place < length shards = omega (arith, many, mod_below register plan.shards some) in
+          let there = one_at shards place within in
+          rw (many', books_at shards place there.one there.is, journal_at shards place there.one there.is)
+          (book_at plan there.one register (subst (IsKept plan) there.read (kept place there.one within)) ((held place there).0));
+    }
+
+-- shards with a fault are not
+pub unfinished : (plan : Plan) (passes : List Passed) (shards : List Shard) (fault : ShardFault) → length shards ≡ plan.shards → All (IsKept plan) shards
+    → IsClosingFault plan passes (map held_of shards) fault
+    → IsUnfinished plan passes fault
+unfinished plan passes shards fault many kept fault_is = record {
+  shards = map held_of shards;
+  many = length-map shards held_of ∙ many;
+  legal = All-map (λ held. (held.at < plan.shards) × IsLegalJournal plan held.at held.journal) held_of shards
+      (All-weaker (IsKept plan) (λ shard. (shard.at < plan.shards) × IsLegalJournal plan shard.at shard.journal.items) (λ shard is. (is.here, is.legal)) shards kept);
+  fault_is = fault_is;
+}

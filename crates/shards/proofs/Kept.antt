@@ -1,0 +1,163 @@
+-- A shard one entry later.
+use Rattle.std.proofs.Common.{◌≡◌, ℕ, ◌+◌, ◌*◌, ◌/◌, ◌%◌, ◌<◌, List, [], ◌∷◌, ◌++◌, set, length, get_or, Option, Some, None, refl, sym, ap, subst, ◌∙◌, inl, inr, arith}
+use Rattle.std.specs.Prelude.{◌↔◌, option_map, All, IfSome, IsNone, IsTrue}
+use Rattle.std.specs.List.{slice_get}
+use Rattle.std.proofs.lemmas.Bool.{cases_eq}
+use Rattle.std.proofs.lemmas.Option.{slice_get_within, get_or_from_slice_get}
+use Rattle.std.proofs.lemmas.List.{length-set}
+use Rattle.std.proofs.lemmas.List.Elements.{All-push}
+use Rattle.intervals.specs.declared.operation.Op.{Op}
+use Rattle.intervals.specs.Terms.{Terms, Claimed}
+use Rattle.intervals.specs.Refusal.{after_edit}
+use Rattle.intervals.specs.Kind.{Holds}
+use Rattle.register_book.specs.Reply.{IsReply}
+use Rattle.register_book.specs.Fault.{IsWitness, ids_of}
+use Rattle.shards.specs.declared.entry.Answer.{Answer}
+use Rattle.shards.specs.declared.entry.Entry.{Entry}
+use Rattle.shards.specs.declared.shard.Shard.{Shard}
+use Rattle.shards.specs.Plan.{Plan}
+use Rattle.shards.specs.Journal.{IsAnswered, IsLegalJournal, standing_of, count_by}
+use Rattle.shards.specs.Steps.{IsStanding}
+use Rattle.shards.specs.Closing.{left_by}
+use Rattle.shards.specs.Shard.{AreBooks, AreCounts, IsKept}
+use Rattle.shards.proofs.Slots.{register_of, slot_of, some_within, get_set_same, get_set_other}
+use Rattle.shards.proofs.Journals.{each_after_push, standing_push_own, standing_push_other, count_push_own, count_push_other}
+
+-- the book of a register that the shard has
+book_is : (plan : Plan) (at : ℕ) (journal : List Entry) (books : List Claimed) (register : ℕ) (claim : Terms) → AreBooks plan at journal books → register % plan.shards ≡ at → slice_get plan.claims register ≡ Some claim
+    → slice_get books (register / plan.shards) ≡ Some (left_by journal register claim)
+book_is plan at journal books register claim are here known =
+    are (register / plan.shards)
+    ∙ ap (λ (n : ℕ). option_map (left_by journal n) (slice_get plan.claims n)) (register_of register plan.shards at here)
+    ∙ ap (option_map (left_by journal register)) known
+
+-- a register's claim, and its book
+pub record HasBook (plan : Plan) (shard : Shard) (register : ℕ) : Type 0 where
+  pub claim : Terms
+  pub known : slice_get plan.claims register ≡ Some claim
+  pub book : slice_get shard.books.items (register / shard.shards) ≡ Some (left_by shard.journal.items register claim)
+
+has_book : (plan : Plan) (shard : Shard) (register : ℕ) → IsKept plan shard → register % plan.shards ≡ shard.at → register < length plan.claims → HasBook plan shard register
+has_book plan shard register kept here known =
+    let found : (claim : Terms) × (slice_get plan.claims register ≡ Some claim) = some_within plan.claims register known in
+    record {
+      claim = found.0;
+      known = found.1;
+      book = ap (λ (many : ℕ). slice_get shard.books.items (register / many)) kept.shards ∙ book_is plan shard.at shard.journal.items shard.books.items register found.0 kept.books here found.1;
+    }
+
+pub slot_within : (plan : Plan) (shard : Shard) (register : ℕ) → IsKept plan shard → register % plan.shards ≡ shard.at → register < length plan.claims → register / shard.shards < length shard.books.items
+slot_within plan shard register kept here known =
+    let has : HasBook plan shard register = has_book plan shard register kept here known in
+    slice_get_within shard.books.items (register / shard.shards) (left_by shard.journal.items register has.claim) has.book
+
+same_book : (plan : Plan) (shard : Shard) (register : ℕ) (book : Claimed) (has : HasBook plan shard register) → book ≡ get_or shard.books.items (register / shard.shards) book → book ≡ left_by shard.journal.items register has.claim
+same_book plan shard register book has is = is ∙ get_or_from_slice_get shard.books.items (register / shard.shards) (left_by shard.journal.items register has.claim) book has.book
+
+left_same : (journal longer : List Entry) (register : ℕ) (claim : Option Terms) → standing_of register longer ≡ standing_of register journal → option_map (left_by journal register) claim ≡ option_map (left_by longer register) claim
+left_same journal longer register None same = refl
+left_same journal longer register (Some claim) same = ap (λ (ops : List Op). Some (record { claim = claim; ops = ops })) (sym same)
+
+books_push : (plan : Plan) (at : ℕ) (journal : List Entry) (books : List Claimed) (entry : Entry) (claim : Terms) (book : Claimed)
+    → AreBooks plan at journal books → at < plan.shards → entry.register.0 % plan.shards ≡ at → slice_get plan.claims entry.register.0 ≡ Some claim
+    → IsReply claim (standing_of entry.register.0 journal) entry.edit entry.reply
+    → book ≡ record { claim = claim; ops = after_edit claim (standing_of entry.register.0 journal) entry.edit }
+    → AreBooks plan at (journal ++ entry ∷ []) (set books (entry.register.0 / plan.shards) book)
+books_push plan at journal books entry claim book are below here known reply is slot =
+    let own : ℕ = entry.register.0 / plan.shards in
+    let there : slice_get books own ≡ Some (left_by journal entry.register.0 claim) = book_is plan at journal books entry.register.0 claim are here known in
+    elim (cases_eq slot own) [
+      | inl same ↦
+          ap (slice_get (set books own book)) same
+          ∙ get_set_same books own book (slice_get_within books own (left_by journal entry.register.0 claim) there)
+          ∙ ap Some (is ∙ ap (λ (ops : List Op). record { claim = claim; ops = ops }) (sym (standing_push_own claim journal entry reply)))
+          ∙ sym (ap (option_map (left_by (journal ++ entry ∷ []) entry.register.0)) known)
+          ∙ sym (ap (λ (n : ℕ). option_map (left_by (journal ++ entry ∷ []) n) (slice_get plan.claims n)) (ap (λ (k : ℕ). k * plan.shards + at) same ∙ register_of entry.register.0 plan.shards at here))
+      | inr other ↦
+          get_set_other books own slot book other
+          ∙ are slot
+          ∙ left_same journal (journal ++ entry ∷ []) (slot * plan.shards + at) (slice_get plan.claims (slot * plan.shards + at))
+          (standing_push_other (slot * plan.shards + at) journal entry (λ is_own. other (slot_of entry.register.0 plan.shards at slot below (sym is_own))))
+    ]
+
+counts_push : (plan : Plan) (journal : List Entry) (counts : List ℕ) (entry : Entry) (count : ℕ)
+    → AreCounts plan journal counts → entry.feeder < plan.feeders → count ≡ count_by entry.feeder journal + 1
+    → AreCounts plan (journal ++ entry ∷ []) (set counts entry.feeder count)
+counts_push plan journal counts entry count are feeder is = (
+  length-set counts entry.feeder count ∙ are.0,
+  λ other below. elim (cases_eq other entry.feeder) [
+    | inl same ↦
+        ap (slice_get (set counts entry.feeder count)) same
+        ∙ get_set_same counts entry.feeder count (omega (arith, are.0, feeder))
+        ∙ ap Some (is ∙ ap (λ (f : ℕ). count_by f journal + 1) (sym same) ∙ sym (count_push_own other journal entry (sym same)))
+    | inr apart ↦
+        get_set_other counts entry.feeder other count apart
+        ∙ are.1 other below
+        ∙ ap Some (sym (count_push_other other journal entry (λ same. apart (sym same))))
+  ],
+)
+
+-- the reply of a book is that of what stands after the journal
+pub answered_by : (plan : Plan) (shard : Shard) (entry : Entry) (book : Claimed) → IsKept plan shard → entry.register.0 % plan.shards ≡ shard.at → entry.register.0 < length plan.claims
+    → book ≡ get_or shard.books.items (entry.register.0 / shard.shards) book → IsReply book.claim book.ops entry.edit entry.reply
+    → IsAnswered plan shard.at shard.journal.items entry
+answered_by plan shard entry book kept here known is reply =
+    let has : HasBook plan shard entry.register.0 = has_book plan shard entry.register.0 kept here known in
+    record {
+      here = here;
+      claim = has.claim;
+      known = has.known;
+      reply = subst (λ (held : Claimed). IsReply held.claim held.ops entry.edit entry.reply) (same_book plan shard entry.register.0 book has is) reply;
+    }
+
+pub count_of_feeder : (plan : Plan) (shard : Shard) (feeder count : ℕ) → IsKept plan shard → feeder < plan.feeders → count ≡ get_or shard.counts.items feeder count → count ≡ count_by feeder shard.journal.items
+count_of_feeder plan shard feeder count kept below is = is ∙ get_or_from_slice_get shard.counts.items feeder (count_by feeder shard.journal.items) count (kept.counts.1 feeder below)
+
+-- the shard with the entry
+pub kept_push : (plan : Plan) (old new : Shard) (entry : Entry) (book : Claimed) (count : ℕ) → IsKept plan old → entry.register.0 % plan.shards ≡ old.at → entry.register.0 < length plan.claims → entry.feeder < plan.feeders
+    → book ≡ get_or old.books.items (entry.register.0 / old.shards) book → IsReply book.claim book.ops entry.edit entry.reply → count ≡ get_or old.counts.items entry.feeder count
+    → new.at ≡ old.at → new.shards ≡ old.shards → new.journal.items ≡ old.journal.items ++ entry ∷ []
+    → new.books.items ≡ set old.books.items (entry.register.0 / old.shards) (record { claim = book.claim; ops = after_edit book.claim book.ops entry.edit })
+    → new.counts.items ≡ set old.counts.items entry.feeder (count + 1)
+    → IsKept plan new
+kept_push plan old new entry book count kept here known feeder is reply count_is at_is shards_is journal_is books_are counts_are =
+    let has : HasBook plan old entry.register.0 = has_book plan old entry.register.0 kept here known in
+    let held : book ≡ left_by old.journal.items entry.register.0 has.claim = same_book plan old entry.register.0 book has is in
+    let answered : IsAnswered plan old.at old.journal.items entry = answered_by plan old entry book kept here known is reply in
+    let edited_book : Claimed = record { claim = book.claim; ops = after_edit book.claim book.ops entry.edit } in
+    let edited_is : edited_book ≡ record { claim = has.claim; ops = after_edit has.claim (standing_of entry.register.0 old.journal.items) entry.edit } =
+    ap (λ (b : Claimed). record { claim = b.claim; ops = after_edit b.claim b.ops entry.edit }) held in
+    let longer : List Entry = old.journal.items ++ entry ∷ [] in
+    record {
+      shards = shards_is ∙ kept.shards;
+      here = subst (λ (at : ℕ). at < plan.shards) (sym at_is) kept.here;
+      legal = subst (λ (at : ℕ). IsLegalJournal plan at new.journal.items) (sym at_is) (subst (IsLegalJournal plan old.at) (sym journal_is) (each_after_push (IsAnswered plan old.at) [] old.journal.items entry kept.legal answered));
+      books = subst (λ (at : ℕ). AreBooks plan at new.journal.items new.books.items) (sym at_is)
+          (subst (λ (journal : List Entry). AreBooks plan old.at journal new.books.items) (sym journal_is)
+          (subst (AreBooks plan old.at longer) (sym (books_are ∙ ap (λ (many : ℕ). set old.books.items (entry.register.0 / many) edited_book) kept.shards))
+          (books_push plan old.at old.journal.items old.books.items entry has.claim edited_book kept.books kept.here here has.known
+          (subst (λ (b : Claimed). IsReply b.claim b.ops entry.edit entry.reply) held reply) edited_is)));
+      counts = subst (λ (journal : List Entry). AreCounts plan journal new.counts.items) (sym journal_is)
+          (subst (AreCounts plan longer) (sym counts_are) (counts_push plan old.journal.items old.counts.items entry (count + 1) kept.counts feeder (ap (λ (n : ℕ). n + 1) (count_of_feeder plan old entry.feeder count kept feeder count_is))));
+      feeders = subst (All (λ (e : Entry). e.feeder < plan.feeders)) (sym journal_is) (All-push (λ (e : Entry). e.feeder < plan.feeders) old.journal.items entry kept.feeders feeder);
+    }
+
+-- what a book answers is what stands after the journal
+pub answer_by : (plan : Plan) (shard : Shard) (register : ℕ) (book : Claimed) (answer : Answer) → IsKept plan shard → register % plan.shards ≡ shard.at → register < length plan.claims
+    → book ≡ get_or shard.books.items (register / shard.shards) book
+    → IsTrue answer.holds ↔ Holds book.claim book.ops → answer.operations ≡ length book.ops → IfSome answer.witness (IsWitness book.claim book.ops) → IsNone answer.witness ↔ Holds book.claim book.ops
+    → answer.fault ≡ option_map ids_of answer.witness → answer.number ≡ length shard.journal.items
+    → IsStanding plan register shard.journal.items answer
+answer_by plan shard register book answer kept here known is verdict operations witness none fault number =
+    let has : HasBook plan shard register = has_book plan shard register kept here known in
+    let held : book ≡ left_by shard.journal.items register has.claim = same_book plan shard register book has is in
+    record {
+      claim = has.claim;
+      known = has.known;
+      verdict = subst (λ (b : Claimed). IsTrue answer.holds ↔ Holds b.claim b.ops) held verdict;
+      operations = operations ∙ ap (λ (b : Claimed). length b.ops) held;
+      witness = subst (λ (b : Claimed). IfSome answer.witness (IsWitness b.claim b.ops)) held witness;
+      none = subst (λ (b : Claimed). IsNone answer.witness ↔ Holds b.claim b.ops) held none;
+      fault = fault;
+      number = number;
+    }

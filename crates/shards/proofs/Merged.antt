@@ -1,0 +1,118 @@
+-- A journal in which each entry is owned, and that has as many entries of each feeder as its pass submitted,
+-- is a merge.
+use Rattle.std.proofs.Common.{◌≡◌, ◌≢◌, ℕ, ◌+◌, ◌<◌, Bool, true, false, List, [], ◌∷◌, Some, length, map, get_or, refl, sym, ap, subst, ◌∙◌, cond, arith, eqb-true}
+use Rattle.std.specs.Prelude.{All, Any, Contains}
+use Rattle.std.specs.List.{AllByRecursion, AllPairs, filter, slice_get}
+use Rattle.std.proofs.lemmas.List.{length-map}
+use Rattle.std.proofs.lemmas.Simd.{map-map}
+use Rattle.std.proofs.lemmas.List.Elements.{All-map, All-weaker, Contains-get_or, recursion_from_All}
+use Rattle.std.proofs.lemmas.Option.{get_or_from_slice_get, slice_get_within}
+use Rattle.shards.specs.declared.entry.Entry.{Entry}
+use Rattle.shards.specs.declared.entry.Numbered.{Numbered}
+use Rattle.shards.specs.declared.shard.Shard.{Shard}
+use Rattle.shards.specs.Plan.{Plan}
+use Rattle.shards.specs.Plain.{PlainEntry, plain_entry, plain_numbered}
+use Rattle.shards.specs.Journal.{IsLegalJournal, count_by, is_by}
+use Rattle.shards.specs.Pass.{Passed, told}
+use Rattle.shards.specs.Merge.{IsMerge, numbered, is_numbered_by, entries_of}
+use Rattle.shards.specs.Closing.{AreComplete, AreFit, Fits, Held, IsSettled}
+use Rattle.shards.specs.Shard.{AreOwned, IsKept, IsOwned, Rises, held_of}
+use Rattle.shards.proofs.Covers.{IsAmong, Above, same_from_covers}
+use Rattle.shards.proofs.Strangers.{told_from_owned}
+
+-- a feeder's entries without their numbers
+entries_by : (feeder n : ℕ) (journal : List Entry) → map (λ known. known.entry) (filter (is_numbered_by feeder) (numbered n journal)) ≡ filter (is_by feeder) journal
+entries_by feeder n [] = refl
+entries_by feeder n (entry ∷ journal) = by_test (is_by feeder entry) (entries_by feeder (n + 1) journal)
+  where
+    by_test : (t : Bool) → map (λ (known : Numbered). known.entry) (filter (is_numbered_by feeder) (numbered (n + 1) journal)) ≡ filter (is_by feeder) journal
+        → map (λ (known : Numbered). known.entry) (cond t (record { number = n; entry = entry } ∷ filter (is_numbered_by feeder) (numbered (n + 1) journal)) (filter (is_numbered_by feeder) (numbered (n + 1) journal)))
+        ≡ cond t (entry ∷ filter (is_by feeder) journal) (filter (is_by feeder) journal)
+    by_test true e = ap (λ (xs : List Entry). entry ∷ xs) e
+    by_test false e = e
+
+count_of : (feeder : ℕ) (journal : List Entry) → length (entries_of feeder journal) ≡ count_by feeder journal
+count_of feeder journal = sym (length-map (entries_of feeder journal) (λ known. known.entry)) ∙ ap length (entries_by feeder 0 journal)
+
+above_numbered : (a : Numbered) (n : ℕ) (journal : List Entry) → a.number < n → Above a (numbered n journal)
+above_numbered a n [] l = tt
+above_numbered a n (entry ∷ journal) l = (l, above_numbered a (n + 1) journal (omega arith))
+
+numbers_rise : (n : ℕ) (journal : List Entry) → Rises (numbered n journal)
+numbers_rise n [] = tt
+numbers_rise n (entry ∷ journal) = (above_numbered (record { number = n; entry = entry }) (n + 1) journal (omega arith), numbers_rise (n + 1) journal)
+
+above_filter : (test : Numbered → Bool) (a : Numbered) (xs : List Numbered) → Above a xs → Above a (filter test xs)
+above_filter test a [] up = tt
+above_filter test a (x ∷ xs) up = by_test (test x) (above_filter test a xs up.1)
+  where
+    by_test : (t : Bool) → Above a (filter test xs) → Above a (cond t (x ∷ filter test xs) (filter test xs))
+    by_test true rest = (up.0, rest)
+    by_test false rest = rest
+
+filter_rises : (test : Numbered → Bool) (xs : List Numbered) → Rises xs → Rises (filter test xs)
+filter_rises test [] up = tt
+filter_rises test (x ∷ xs) up = by_test (test x) (filter_rises test xs up.1)
+  where
+    by_test : (t : Bool) → Rises (filter test xs) → Rises (cond t (x ∷ filter test xs) (filter test xs))
+    by_test true rest = (above_filter test x xs up.0, rest)
+    by_test false rest = rest
+
+module _ (at : ℕ) (passes : List Passed) (apart : AllPairs (λ a b. a.feeder ≢ b.feeder) passes) where
+  -- the owned entries of a pass's feeder are among its own
+  among_own : (pass : Passed) → Contains passes pass → (xs : List Numbered) → AllByRecursion (IsOwned passes at) xs → AllByRecursion (IsAmong (told pass at)) (filter (is_numbered_by pass.feeder) xs)
+  among_own pass h [] owned = tt
+  among_own pass h (x ∷ xs) owned = by_test (is_numbered_by pass.feeder x) refl (among_own pass h xs owned.1)
+    where
+      by_test : (t : Bool) → is_numbered_by pass.feeder x ≡ t → AllByRecursion (IsAmong (told pass at)) (filter (is_numbered_by pass.feeder) xs)
+          → AllByRecursion (IsAmong (told pass at)) (cond t (x ∷ filter (is_numbered_by pass.feeder) xs) (filter (is_numbered_by pass.feeder) xs))
+      by_test true e rest = (told_from_owned passes at x pass apart h (sym (eqb-true x.entry.feeder pass.feeder e)) owned.0, rest)
+      by_test false e rest = rest
+
+  own_entries : (journal : List Entry) → AreOwned passes at journal → (pass : Passed) → Contains passes pass → Rises (told pass at) → count_by pass.feeder journal ≡ length (told pass at)
+      → map plain_numbered (entries_of pass.feeder journal) ≡ map plain_numbered (told pass at)
+  own_entries journal owned pass h up count =
+      same_from_covers (entries_of pass.feeder journal) (told pass at) (filter_rises (is_numbered_by pass.feeder) (numbered 0 journal) (numbers_rise 0 journal)) up
+      (among_own pass h (numbered 0 journal) (recursion_from_All (IsOwned passes at) (numbered 0 journal) owned))
+      (count_of pass.feeder journal ∙ count)
+
+  is_merge : (journal : List Entry) → AreOwned passes at journal → All (λ pass. Rises (told pass at)) passes → All (λ pass. count_by pass.feeder journal ≡ length (told pass at)) passes
+      → All (λ entry. Any (λ pass. pass.feeder ≡ entry.feeder) passes) journal → IsMerge at passes journal
+  is_merge journal owned rise counts of_all = record {
+    of_each = λ k d l. own_entries journal owned (get_or passes k d) (Contains-get_or passes k d l) (rise k d l) (counts k d l);
+    of_all = of_all;
+  }
+
+-- an entry without its number
+abbrev plain_of : ℕ × PlainEntry → PlainEntry
+plain_of pair = pair.1
+
+pub as_submitted : (at : ℕ) (pass : Passed) (journal : List Entry) → map plain_numbered (entries_of pass.feeder journal) ≡ map plain_numbered (told pass at)
+    → map plain_entry (filter (is_by pass.feeder) journal) ≡ map (λ own. plain_entry own.entry) (told pass at)
+as_submitted at pass journal same =
+    ap (map plain_entry) (sym (entries_by pass.feeder 0 journal)) ∙ (map-map _ _ (entries_of pass.feeder journal) ∙ (sym (map-map _ _ (entries_of pass.feeder journal)) ∙ (ap (map plain_of) same ∙ map-map _ _ (told pass at))))
+
+-- what is known of a shard besides
+record Kept (plan : Plan) (shard : Held) : Type 0 where
+  legal : IsLegalJournal plan shard.at shard.journal
+  feeders : All (λ entry. entry.feeder < plan.feeders) shard.journal
+
+module _ (plan : Plan) (passes : List Passed) (apart : AllPairs (λ a b. a.feeder ≢ b.feeder) passes) (complete : AreComplete plan.feeders passes) where
+  finished_at : (place : ℕ) (shard : Held) → Kept plan shard → Fits passes place shard → All (λ pass. Rises (told pass place)) passes → AreOwned passes place shard.journal → IsSettled plan passes place shard.journal
+  finished_at place shard kept fits rise owned = record {
+    legal = subst (λ (at : ℕ). IsLegalJournal plan at shard.journal) fits.in_place kept.legal;
+    merge = is_merge place passes apart shard.journal owned rise (λ k d l. (fits.keeping k d l).count) (λ k d l. complete (get_or shard.journal k d).feeder (kept.feeders k d l));
+    farthest = λ k d l. (fits.keeping k d l).farthest;
+  }
+
+  -- shards that fit the passes and have no stranger are finished
+  pub finished : (shards : List Shard) → All (IsKept plan) shards → AreFit passes (map held_of shards) → ((place : ℕ) → place < length shards → All (λ pass. Rises (told pass place)) passes)
+      → ((place : ℕ) (shard : Held) → slice_get (map held_of shards) place ≡ Some shard → AreOwned passes place shard.journal)
+      → (place : ℕ) (shard : Held) → slice_get (map held_of shards) place ≡ Some shard → (shard.at ≡ place) × IsSettled plan passes place shard.journal
+  finished shards kept fit rise owned place shard e =
+      let within : place < length (map held_of shards) = slice_get_within (map held_of shards) place shard e in
+      let long : length (map held_of shards) ≡ length shards = length-map shards held_of in
+      let each : All (Kept plan) (map held_of shards) =
+      All-map (Kept plan) held_of shards (All-weaker (IsKept plan) (λ s. Kept plan (held_of s)) (λ s k. record { legal = k.legal; feeders = k.feeders }) shards kept) in
+      let this : Kept plan shard = subst (Kept plan) (get_or_from_slice_get (map held_of shards) place shard shard e) (each place shard within) in
+      ((fit place shard e).in_place, finished_at place shard this (fit place shard e) (rise place (omega arith)) (owned place shard e))

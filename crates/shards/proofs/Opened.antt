@@ -1,0 +1,76 @@
+-- The books of a shard before any edit.
+use Rattle.std.proofs.Common.{◌≡◌, ℕ, zero, suc, ◌+◌, ◌*◌, ◌<◌, ◌≤◌, List, [], ◌∷◌, ◌++◌, length, replicate, Option, Some, None, refl, sym, ap, subst, ◌∙◌, inl, inr, arith}
+use Rattle.std.specs.Prelude.{All, option_map, option_to_list}
+use Rattle.std.specs.List.{slice_get}
+use Rattle.std.proofs.lemmas.Bool.{cases_lt}
+use Rattle.std.proofs.lemmas.List.{length_push, length-replicate, get_or-replicate}
+use Rattle.std.proofs.lemmas.List.Elements.{All-nil}
+use Rattle.std.proofs.lemmas.Nat.{mul-le}
+use Rattle.std.proofs.lemmas.Option.{none-some, slice_get_past, slice_get-get_or}
+use Rattle.intervals.specs.Terms.{Terms, Claimed}
+use Rattle.shards.specs.declared.entry.Entry.{Entry}
+use Rattle.shards.specs.declared.shard.Shard.{Shard}
+use Rattle.shards.specs.Plan.{Plan}
+use Rattle.shards.specs.Journal.{IsLegalJournal}
+use Rattle.shards.specs.Shard.{AreBooks, AreCounts, IsKept, unedited}
+use Rattle.shards.proofs.Slots.{get_push_below, get_push_at}
+
+-- each book so far is the unedited one of its register
+abbrev pub AreOpened : List Terms → ℕ → ℕ → List Claimed → Type 0
+AreOpened claims shards at books = (slot : ℕ) → slot < length books → slice_get books slot ≡ option_map unedited (slice_get claims (slot * shards + at))
+
+none_past : {X : Type 0} (xs : List X) (i : ℕ) → slice_get xs i ≡ None → length xs ≤ i
+none_past [] i none = omega arith
+none_past (x ∷ xs) zero none = absurd (none-some x (sym none))
+none_past (x ∷ xs) (suc i) none = omega (arith, none_past xs i none)
+
+-- the next register is that of the next book
+pub record AreOpenedTo (claims : List Terms) (shards at register : ℕ) (books : List Claimed) : Type 0 where
+  pub next : register ≡ length books * shards + at
+  pub books_are : AreOpened claims shards at books
+
+pub none_opened : (claims : List Terms) (shards at : ℕ) (books : List Claimed) → books ≡ [] → AreOpenedTo claims shards at at books
+none_opened claims shards at books none = subst (AreOpenedTo claims shards at at) (sym none) (record { next = omega arith; books_are = λ slot below. absurd (omega arith) })
+
+opened_push : (claims : List Terms) (shards at register : ℕ) (books : List Claimed) (claim : Option Terms) → slice_get claims register ≡ claim → register < length claims → AreOpenedTo claims shards at register books
+    → AreOpenedTo claims shards at (register + shards) (books ++ option_to_list (option_map unedited claim))
+opened_push claims shards at register books None is within are = absurd (omega (arith, within, none_past claims register is))
+opened_push claims shards at register books (Some claim) is within are = record {
+  next = rw (length_push books (unedited claim)) (omega (arith, are.next));
+  books_are = λ slot below. elim (cases_lt slot (length books)) [
+    | inl earlier ↦ get_push_below books (unedited claim) slot earlier ∙ are.books_are slot earlier
+    | inr later ↦
+        let last : slot ≡ length books = omega (arith, below, length_push books (unedited claim)) in
+        ap (slice_get (books ++ unedited claim ∷ [])) last
+        ∙ get_push_at books (unedited claim)
+        ∙ ap (option_map unedited) (sym is ∙ ap (slice_get claims) (are.next ∙ ap (λ (k : ℕ). k * shards + at) (sym last)))
+  ];
+}
+
+pub one_opened : (claims : List Terms) (shards at register : ℕ) (books more : List Claimed) → register < length claims → more ≡ books ++ option_to_list (option_map unedited (slice_get claims register)) → AreOpenedTo claims shards at register books
+    → AreOpenedTo claims shards at (register + shards) more
+one_opened claims shards at register books more within is are = subst (AreOpenedTo claims shards at (register + shards)) (sym is) (opened_push claims shards at register books (slice_get claims register) refl within are)
+
+-- past the last register every one has its book
+pub all_opened : (plan : Plan) (at register : ℕ) (books : List Claimed) → AreOpenedTo plan.claims plan.shards at register books → length plan.claims ≤ register → AreBooks plan at [] books
+all_opened plan at register books are past slot = elim (cases_lt slot (length books)) [
+  | inl below ↦ are.books_are slot below
+  | inr beyond ↦
+      slice_get_past books slot beyond
+      ∙ sym (ap (option_map unedited) (slice_get_past plan.claims (slot * plan.shards + at) (omega (arith, past, are.next, mul-le (length books) plan.shards slot plan.shards beyond (omega arith)))))
+]
+
+get_replicate : (n i x : ℕ) → i < n → slice_get (replicate n x) i ≡ Some x
+get_replicate n i x below = slice_get-get_or (replicate n x) i x (omega (arith, below, length-replicate n x)) ∙ ap Some (get_or-replicate n i x x below)
+
+-- a shard with such books, with no entries and no counts
+pub opened : (plan : Plan) (shard : Shard) → shard.shards ≡ plan.shards → shard.at < plan.shards → shard.journal.items ≡ [] → AreBooks plan shard.at [] shard.books.items → shard.counts.items ≡ replicate plan.feeders 0 → IsKept plan shard
+opened plan shard shards here empty books counts = record {
+  shards = shards;
+  here = here;
+  legal = subst (IsLegalJournal plan shard.at) (sym empty) tt;
+  books = subst (λ (journal : List Entry). AreBooks plan shard.at journal shard.books.items) (sym empty) books;
+  counts = subst (λ (journal : List Entry). AreCounts plan journal shard.counts.items) (sym empty)
+      (subst (AreCounts plan []) (sym counts) (length-replicate plan.feeders 0, λ feeder below. get_replicate plan.feeders feeder 0 below));
+  feeders = subst (All (λ (entry : Entry). entry.feeder < plan.feeders)) (sym empty) (All-nil (λ (entry : Entry). entry.feeder < plan.feeders));
+}

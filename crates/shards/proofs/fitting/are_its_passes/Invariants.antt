@@ -1,0 +1,7 @@
+-- those so far are its passes
+use Rattle.std.proofs.Common.{take}
+use Rattle.shards.specs.Closing.{AreItsPasses}
+use Rattle.shards.proofs.fitting.are_its_passes.Given as goal
+
+abbrev pub invariant-loop-i : goal.invariant-loop-i
+invariant-loop-i g l = AreItsPasses g.O.Opening.plan (take l.i l.passes)

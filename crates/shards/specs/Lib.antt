@@ -1,0 +1,10 @@
+-- what the public clauses speak of
+pub mod Plan
+pub mod Plain
+pub mod Journal
+pub mod Pass
+pub mod Steps
+pub mod Merge
+pub mod Closing
+-- words of private clauses
+pub mod Shard

@@ -1,0 +1,87 @@
+-- Entries as they read: field by field, texts by their bytes, wherever they lie in memory.
+use Rattle.std.specs.Prelude.{ℕ, ℤ, List, Option, option_map}
+use Rattle.intervals.specs.declared.operation.Op.{Op}
+use Rattle.intervals.specs.declared.operation.OpId.{OpId}
+use Rattle.intervals.specs.declared.operation.RegId.{RegId}
+use Rattle.intervals.specs.declared.operation.Act.{Act}
+use Rattle.intervals.specs.declared.operation.Moment.{Moment}
+use Rattle.intervals.specs.declared.operation.Value.{Value}
+use Rattle.intervals.specs.declared.operation.Parts.{Parts}
+use Rattle.intervals.specs.declared.edit.Change.{Change}
+use Rattle.intervals.specs.declared.edit.Lent.{Lent}
+use Rattle.intervals.specs.declared.edit.Lent.TheVariants as lents
+use Rattle.intervals.specs.declared.edit.Edit.{Edit}
+use Rattle.intervals.specs.declared.edit.Edit.TheVariants as edits
+use Rattle.register_book.specs.declared.reply.Reply.{Reply}
+use Rattle.shards.specs.declared.entry.Entry.{Entry}
+use Rattle.shards.specs.declared.entry.Numbered.{Numbered}
+
+-- the texts of an operation
+pub record PlainParts : Type 0 where
+  pub invocation : List ℕ
+  pub answer : Option (List ℕ)
+  pub amendment : Option (List ℕ)
+
+-- an operation
+pub record PlainOp : Type 0 where
+  pub id : OpId
+  pub process : ℤ
+  pub act : Act
+  pub begin : Moment
+  pub end : Option Moment
+  pub parts : PlainParts
+
+-- the text that a change brings
+pub data PlainLent : Type 0 where
+  answer : List ℕ → PlainLent
+  amendment : List ℕ → PlainLent
+
+-- a change
+pub record PlainChange : Type 0 where
+  pub value : Option Value
+  pub begin : Option Moment
+  pub end : Option (Option Moment)
+  pub lent : PlainLent
+
+-- an edit
+pub data PlainEdit : Type 0 where
+  append : PlainOp → PlainEdit
+  amend : OpId → PlainChange → PlainEdit
+  withdraw : OpId → PlainEdit
+
+-- an entry of a journal
+pub record PlainEntry : Type 0 where
+  pub feeder : ℕ
+  pub register : RegId
+  pub edit : PlainEdit
+  pub reply : Reply
+
+abbrev pub plain_parts : Parts → PlainParts
+plain_parts parts = record {
+  invocation = parts.invocation.now;
+  answer = option_map (λ text. text.now) parts.answer;
+  amendment = option_map (λ text. text.now) parts.amendment;
+}
+
+abbrev pub plain_op : Op → PlainOp
+plain_op op = record { id = op.id; process = op.process; act = op.act; begin = op.begin; end = op.end; parts = plain_parts op.parts }
+
+abbrev pub plain_lent : Lent → PlainLent
+plain_lent (lents.Answer text) = answer text.now
+plain_lent (lents.Amendment text) = amendment text.now
+
+abbrev pub plain_change : Change → PlainChange
+plain_change change = record { value = change.value; begin = change.begin; end = change.end; lent = plain_lent change.lent }
+
+abbrev pub plain_edit : Edit → PlainEdit
+plain_edit (edits.Append op) = append (plain_op op)
+plain_edit (edits.Amend id change) = amend id (plain_change change)
+plain_edit (edits.Withdraw id) = withdraw id
+
+-- an entry as it reads
+abbrev pub plain_entry : Entry → PlainEntry
+plain_entry entry = record { feeder = entry.feeder; register = entry.register; edit = plain_edit entry.edit; reply = entry.reply }
+
+-- the same with its number
+abbrev pub plain_numbered : Numbered → ℕ × PlainEntry
+plain_numbered known = (known.number, plain_entry known.entry)

@@ -1,0 +1,54 @@
+-- For private clauses alone: what the fields of a shard are beside its journal.
+use Rattle.std.specs.Prelude.{◌≡◌, ◌<◌, ◌+◌, ◌*◌, ℕ, List, [], ◌∷◌, length, Some, option_map, All, Any}
+use Rattle.std.specs.List.{AllByRecursion, slice_get}
+use Rattle.intervals.specs.Terms.{Terms, Claimed}
+use Rattle.shards.specs.declared.entry.Entry.{Entry}
+use Rattle.shards.specs.declared.entry.Numbered.{Numbered}
+use Rattle.shards.specs.declared.shard.Shard.{Shard}
+use Rattle.shards.specs.Plan.{Plan}
+use Rattle.shards.specs.Journal.{IsLegalJournal, count_by}
+use Rattle.shards.specs.Pass.{Passed}
+use Rattle.shards.specs.Merge.{IsTold, numbered}
+use Rattle.shards.specs.Closing.{Held, Ended, left_by}
+
+-- each book is what the journal leaves of its register: book k is that of register k * shards + at
+abbrev pub AreBooks : Plan → ℕ → List Entry → List Claimed → Type 0
+AreBooks plan at journal books =
+    (slot : ℕ) → slice_get books slot ≡ option_map (left_by journal (slot * plan.shards + at)) (slice_get plan.claims (slot * plan.shards + at))
+
+-- a book of no operations
+abbrev pub unedited : Terms → Claimed
+unedited claim = record { claim = claim; ops = [] }
+
+-- each count is the number of a feeder's entries
+abbrev pub AreCounts : Plan → List Entry → List ℕ → Type 0
+AreCounts plan journal counts = (length counts ≡ plan.feeders) × ((feeder : ℕ) → feeder < plan.feeders → slice_get counts feeder ≡ Some (count_by feeder journal))
+
+-- a shard of the plan, whose journal is legal, whose books are what it leaves, and whose counts are those of
+-- its entries
+pub record IsKept (plan : Plan) (shard : Shard) : Type 0 where
+  pub shards : shard.shards ≡ plan.shards
+  pub here : shard.at < plan.shards
+  pub legal : IsLegalJournal plan shard.at shard.journal.items
+  pub books : AreBooks plan shard.at shard.journal.items shard.books.items
+  pub counts : AreCounts plan shard.journal.items shard.counts.items
+  pub feeders : All (λ entry. entry.feeder < plan.feeders) shard.journal.items
+
+abbrev pub held_of : Shard → Held
+held_of shard = record { at = shard.at; journal = shard.journal.items }
+
+abbrev pub ended_of : Shard → Ended
+ended_of shard = record { journal = shard.journal.items; books = shard.books.items }
+
+-- the numbers rise
+abbrev pub Rises : List Numbered → Type 0
+Rises [] = Unit {0}
+Rises (a ∷ rest) = AllByRecursion (λ b. a.number < b.number) rest × Rises rest
+
+-- a pass of its feeder submitted the entry at its number
+abbrev pub IsOwned : List Passed → ℕ → Numbered → Type 0
+IsOwned passes at known = Any (λ pass. (pass.feeder ≡ known.entry.feeder) × IsTold pass at known) passes
+
+-- so it is for each entry of the journal: none is a stranger
+abbrev pub AreOwned : List Passed → ℕ → List Entry → Type 0
+AreOwned passes at journal = All (IsOwned passes at) (numbered 0 journal)

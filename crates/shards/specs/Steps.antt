@@ -1,0 +1,93 @@
+-- What one call comes to: an edit that is entered in a journal, or a question that is answered from one.
+use Rattle.std.specs.Prelude.{◌≡◌, ◌↔◌, ◌⊎◌, ◌%◌, ◌<◌, ◌≤◌, ◌-◌, ℕ, List, [], ◌∷◌, ◌++◌, length, Option, Some, option_map, IfSome, IsNone, IsTrue}
+use Rattle.std.specs.List.{slice_get}
+use Rattle.intervals.specs.declared.operation.RegId.{RegId}
+use Rattle.intervals.specs.declared.edit.Edit.{Edit}
+use Rattle.intervals.specs.Terms.{Terms}
+use Rattle.intervals.specs.Kind.{Holds}
+use Rattle.register_book.specs.declared.reply.Reply.{Reply}
+use Rattle.register_book.specs.Fault.{IsWitness, ids_of}
+use Rattle.shards.specs.declared.entry.Answer.{Answer}
+use Rattle.shards.specs.declared.entry.Entry.{Entry}
+use Rattle.shards.specs.declared.entry.Numbered.{Numbered}
+use Rattle.shards.specs.declared.entry.Receipt.{Receipt}
+use Rattle.shards.specs.declared.fault.ShardFault.{ShardFault}
+use Rattle.shards.specs.declared.fault.ShardFault.TheVariants.{UnknownRegister, Memory, JournalBehind, ForeignPass}
+use Rattle.shards.specs.Plan.{Plan}
+use Rattle.shards.specs.Journal.{standing_of, IsLegalJournal}
+use Rattle.shards.specs.Pass.{Passed, IsPassOf, IsInKeeping, IsBehind, last_of, with_own, with_seen}
+
+abbrev pub entry_of : ℕ → RegId → Edit → Reply → Entry
+entry_of feeder register edit reply = record { feeder = feeder; register = register; edit = edit; reply = reply }
+
+abbrev pub numbered_entry : ℕ → Entry → Numbered
+numbered_entry number entry = record { number = number; entry = entry }
+
+-- a pass after its edit was answered with a receipt: it has the entry at its number
+abbrev pub entered : Passed → RegId → Edit → Receipt → Passed
+entered pass register edit receipt = with_own pass receipt.shard (numbered_entry receipt.number (entry_of pass.feeder register edit receipt.reply))
+
+-- the last entry of a journal, with its number
+abbrev pub last_entry : List Entry → Option Numbered
+last_entry journal = option_map (numbered_entry (length journal - 1)) (last_of journal)
+
+-- the answer is the verdict on what stands of the register after the journal, how much stands, why the
+-- register fails where it does, and the journal's length
+pub record IsStanding (plan : Plan) (register : ℕ) (journal : List Entry) (answer : Answer) : Type 0 where
+  pub claim : Terms
+  pub known : slice_get plan.claims register ≡ Some claim
+  pub verdict : IsTrue answer.holds ↔ Holds claim (standing_of register journal)
+  pub operations : answer.operations ≡ length (standing_of register journal)
+  pub witness : IfSome answer.witness (IsWitness claim (standing_of register journal))
+  pub none : IsNone answer.witness ↔ Holds claim (standing_of register journal)
+  pub fault : answer.fault ≡ option_map ids_of answer.witness
+  pub number : answer.number ≡ length journal
+
+-- there is a legal journal whose last entry is the edit with the reply of its receipt, at the receipt's
+-- number; without it, it is in keeping with the pass
+pub record IsSubmitted (plan : Plan) (pass : Passed) (register : RegId) (edit : Edit) (receipt : Receipt) : Type 0 where
+  pub of_plan : IsPassOf plan pass
+  pub known : register.0 < length plan.claims
+  pub shard : receipt.shard ≡ register.0 % plan.shards
+  pub before : List Entry
+  pub legal : IsLegalJournal plan receipt.shard (before ++ entry_of pass.feeder register edit receipt.reply ∷ [])
+  pub number : receipt.number ≡ length before
+  pub keeping : IsInKeeping receipt.shard pass before
+
+-- there is a legal journal, in keeping with the pass, of which this is the answer; the pass has then seen
+-- its last entry
+pub record IsLive (plan : Plan) (pass pass' : Passed) (register : ℕ) (answer : Answer) : Type 0 where
+  pub of_plan : IsPassOf plan pass
+  pub journal : List Entry
+  pub legal : IsLegalJournal plan (register % plan.shards) journal
+  pub keeping : IsInKeeping (register % plan.shards) pass journal
+  pub standing : IsStanding plan register journal answer
+  pub seen : pass' ≡ with_seen pass (register % plan.shards) (last_entry journal)
+
+-- why a shard refuses a question: its journal is not in keeping with the pass
+abbrev pub IsQuestionRefusal : ℕ → Passed → List Entry → ShardFault → Type 0
+IsQuestionRefusal at pass journal (JournalBehind shard seen found) = (shard ≡ at) × (found ≡ length journal) × IsBehind at pass journal seen
+IsQuestionRefusal at pass journal fault = ⊥
+
+-- why it refuses an edit: for want of memory, where the journal is in keeping with the pass; else as a question
+abbrev pub IsStateRefusal : ℕ → Passed → List Entry → ShardFault → Type 0
+IsStateRefusal at pass journal Memory = IsInKeeping at pass journal
+IsStateRefusal at pass journal fault = IsQuestionRefusal at pass journal fault
+
+-- why an auditor refuses an edit or a question: the pass is another auditor's; else the register is not
+-- there; else the lock guards another shard, and both numbers are 0, or there is a legal journal that is not in
+-- keeping with the pass; else there is one that is, and memory is wanting
+abbrev pub IsRefusal : Plan → Passed → ℕ → ShardFault → Type 0
+IsRefusal plan pass register ForeignPass = ¬ IsPassOf plan pass
+IsRefusal plan pass register UnknownRegister = IsPassOf plan pass × (length plan.claims ≤ register)
+IsRefusal plan pass register (JournalBehind shard seen found) =
+    IsPassOf plan pass
+    × (register < length plan.claims)
+    × (shard ≡ register % plan.shards)
+    × (((seen ≡ 0) × (found ≡ 0))
+    ⊎ ((journal : List Entry) × IsLegalJournal plan shard journal × (found ≡ length journal) × IsBehind shard pass journal seen))
+IsRefusal plan pass register Memory =
+    IsPassOf plan pass
+    × (register < length plan.claims)
+    × ((journal : List Entry) × IsLegalJournal plan (register % plan.shards) journal × IsInKeeping (register % plan.shards) pass journal)
+IsRefusal plan pass register fault = ⊥

@@ -1,0 +1,66 @@
+//! What an auditor leaves.
+
+ghost use Rattle.std.specs.Prelude.{◌≡◌, [], map, option_copied};
+ghost use Rattle.shards.specs.Closing.{book_of, journal_of};
+ghost use Rattle.shards.specs.Shard.{ended_of};
+
+use crate::Entry;
+use crate::shard::Shard;
+use intervals::RegId;
+use register_book::RegisterBook;
+use std::marker::Model;
+
+/// The journals of all shards, and the books that they leave.
+#[derive(Drop)]
+pub struct Closed<'t> {
+    shards: Vec<Shard<'t>>,
+}
+
+impl<'t> Model for Closed<'t> {
+    ghost use Rattle.std.specs.Prelude.{List, map};
+    ghost use Rattle.shards.specs.Closing.{Ended};
+    ghost use Rattle.shards.specs.Shard.{ended_of};
+
+    ghost Value = { List Ended };
+
+    ghost view = { λ c. map ended_of c.shards.items };
+}
+
+impl<'t> Closed<'t> {
+    pub(crate) fn new(shards: Vec<Shard<'t>>) -> Self
+        ensures { result ≡ map ended_of shards.entry.items }
+    {
+        Closed { shards }
+    }
+
+    /// The book of a register, as its journal leaves it.
+    pub fn book(&self, register: RegId) -> Option<&RegisterBook<'t>>
+        ensures { option_copied result ≡ book_of self.now register.0 }
+    {
+        let many = self.shards.len();
+        if many == 0 {
+            return None;
+        }
+        let register = register.0 as usize;
+        match self.shards.get(register % many) {
+            Some(shard) => shard.books.get(register / many),
+            None => None,
+        }
+    }
+
+    /// What was answered in a shard, in order. Nothing in one that is not there.
+    pub fn journal(&self, shard: u32) -> &[Entry<'t>]
+        ensures { result.now ≡ journal_of self.now shard }
+    {
+        match self.shards.get(shard as usize) {
+            Some(shard) => shard.journal.as_slice(),
+            None => nothing(self),
+        }
+    }
+}
+
+fn nothing<'a, 't>(_closed: &'a Closed<'t>) -> &'a [Entry<'t>]
+    ensures { result.now ≡ [] }
+{
+    &[]
+}

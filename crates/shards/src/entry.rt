@@ -1,0 +1,40 @@
+//! What is entered in a journal, and what a caller is told.
+
+use intervals::{Edit, RegId};
+use register_book::{Fault, Reply, Witness};
+
+/// An edit that was answered with a receipt.
+#[derive(Clone, Copy, Debug)]
+pub struct Entry<'t> {
+    pub feeder: u32,
+    pub register: RegId,
+    pub edit: Edit<'t>,
+    pub reply: Reply,
+}
+
+/// An entry with its place in the journal of its shard, from 0.
+#[derive(Clone, Copy, Debug)]
+pub struct Numbered<'t> {
+    pub number: u64,
+    pub entry: Entry<'t>,
+}
+
+/// What a feeder is told of an edit: where it was entered, a refused one too.
+#[derive(Clone, Copy, Debug, PartialEq, Eq)]
+pub struct Receipt {
+    pub shard: u32,
+    pub number: u64,
+    pub reply: Reply,
+}
+
+/// What stands of a register when it is asked for.
+#[derive(Clone, Copy, Debug)]
+pub struct Answer<'t> {
+    pub holds: bool,
+    /// How many operations stand, unfinished ones among them.
+    pub operations: u64,
+    pub fault: Option<Fault>,
+    pub witness: Option<Witness<'t>>,
+    /// How many entries the journal of the register's shard has then.
+    pub number: u64,
+}

@@ -1,0 +1,53 @@
+//! Shards: the registers of a tower behind locks, with a journal of what was answered in each.
+//!
+//! An auditor is opened for a tower, a number of shards and a number of feeders. Register `r` stands in
+//! shard `r` modulo the number of shards. Each feeder has a pass, with which it submits edits and asks
+//! questions, from any thread:
+//!
+//!     let (auditor, mut passes) = Auditor::open(alloc, 7, &tower, 2, 2)?;
+//!     auditor.submit(rt, &NoGate, &mut pass, RegId(0), edit)?   // number 0, Accepted { holds: true }
+//!     auditor.standing(rt, &NoGate, &mut pass, RegId(0))?       // holds, 1 operation, of a journal of 1 entry
+//!     other.learn(pass.seen())?                                 // the other pass now knows of that entry
+//!     auditor.finish(passes)?                                   // the journals and the books
+//!
+//! Begin with `specs/Journal.antt`: a legal journal, in which each entry is answered by what stands after
+//! the entries before it. `specs/Pass.antt` has what a feeder knows, and which journals are in keeping with
+//! that; `specs/Steps.antt` what an edit and a question come to; `specs/Merge.antt` and `specs/Closing.antt`
+//! what is left at the end. `laws.rt` says what these words come to.
+//!
+//! The value under a shard's lock is a `ShardState`: its type says that the journal is legal, that each book
+//! is what the journal leaves of its register, and that each feeder's count is the number of its entries. A
+//! lock forgets all of a value but its type, so the plan that the journal is legal for is a parameter of the
+//! type: an `Opening`, of which a caller picks one (`opening.rt`).
+#![tactic(auto)]
+
+mod auditor;
+mod closed;
+mod closing;
+mod entry;
+mod fault;
+mod fitting;
+mod gate;
+mod keeping;
+pub mod laws;
+mod opening;
+mod parts;
+mod pass;
+mod same;
+mod seen;
+mod shard;
+mod state;
+mod submitted;
+
+pub use auditor::{Auditor, Unfinished};
+pub use closed::Closed;
+pub use entry::{Answer, Entry, Numbered, Receipt};
+pub use fault::ShardFault;
+pub use gate::{Gate, NoGate};
+pub use opening::Opening;
+pub use pass::Pass;
+pub use seen::Seen;
+pub use state::ShardState;
+
+#[cfg(test)]
+mod tests;

@@ -1,0 +1,175 @@
+//! The registers of one shard, with the journal of what was answered.
+
+ghost use Rattle.std.specs.Prelude.{◌≡◌, ◌<◌, ◌%◌, ◌/◌, ◌++◌, ◌∷◌, [], ℕ, IfOk, IfErr, OnOk, OnErr, length, replicate, option_map, option_to_list};
+ghost use Rattle.std.specs.List.{slice_get};
+ghost use Rattle.shards.specs.declared.fault.ShardFault.TheVariants.{Memory};
+ghost use Rattle.register_book.specs.Fault.{ids_of};
+ghost use Rattle.shards.specs.Plan.{plan_of, claims_of};
+ghost use Rattle.shards.specs.Journal.{IsAnswered, count_by};
+ghost use Rattle.shards.specs.Shard.{AreBooks, IsKept, held_of, unedited};
+ghost use Rattle.shards.specs.Steps.{IsStanding, entry_of, last_entry, numbered_entry};
+
+use crate::{Answer, Entry, Numbered, Opening, ShardFault};
+use intervals::{Edit, RegId};
+use register_book::{Fault, RegisterBook, Witness};
+use std::alloc::Global;
+use tower_file::Tower;
+
+/// Book `k` is that of register `k * shards + at`. Count `f` is how many entries of the journal are of
+/// feeder `f`.
+#[derive(Drop)]
+pub struct Shard<'t> {
+    pub at: u32,
+    pub shards: u32,
+    pub counts: Vec<usize>,
+    pub books: Vec<RegisterBook<'t>>,
+    pub journal: Vec<Entry<'t>>,
+}
+
+impl<'t> Shard<'t> {
+    /// A shard of a tower before any edit.
+    pub fn new(
+        alloc: Global,
+        tower: &Tower,
+        at: u32,
+        shards: u32,
+        feeders: u32,
+    ) -> Result<Self, ShardFault>
+        requires { at < shards }
+        ensures kept { IfOk result (λ shard. (name : ℕ) → IsKept (plan_of name tower.now shards feeders) shard) }
+        ensures empty { IfOk result (λ shard. held_of shard ≡ record { at = at; journal = [] }) }
+        ensures memory { IfErr result (λ fault. fault ≡ Memory) }
+    {
+        Ok(Shard {
+            at,
+            shards,
+            counts: no_counts(alloc, feeders)?,
+            books: open_books(alloc, tower, at, shards)?,
+            journal: Vec::new(alloc),
+        })
+    }
+
+    /// Carries an edit out, or has it refused, and enters it in the journal. All growths come first.
+    pub fn enter<O: Opening>(
+        &mut self,
+        feeder: u32,
+        register: RegId,
+        edit: Edit<'t>,
+    ) -> Result<Numbered<'t>, ShardFault>
+        requires kept { IsKept O.plan self.old }
+        requires here { register.0 % O.plan.shards ≡ self.old.at }
+        requires known { register.0 < length O.plan.claims }
+        requires feeder { feeder < O.plan.feeders }
+        ensures kept { IsKept O.plan self.new }
+        ensures journal { IfOk result (λ known. held_of self.new ≡ record { at = self.old.at; journal = self.old.journal.items ++ known.entry ∷ [] }) }
+        ensures answered { IfOk result (λ known. IsAnswered O.plan self.old.at self.old.journal.items known.entry) }
+        ensures entry { IfOk result (λ known. known ≡ numbered_entry (length self.old.journal.items) (entry_of feeder register edit.entry known.entry.reply)) }
+        ensures memory { IfErr result (λ fault. fault ≡ Memory) }
+        ensures err { OnErr result (held_of self.new ≡ held_of self.old) }
+    {
+        let number = self.journal.len() as u64;
+        self.journal.reserve(1)?;
+        let slot = (register.0 / self.shards) as usize;
+        let reply = self.books[slot].apply(edit)?;
+        let entry = Entry {
+            feeder,
+            register,
+            edit,
+            reply,
+        };
+        self.journal.push_reserved(entry);
+        self.counts[feeder as usize] += 1;
+        Ok(Numbered { number, entry })
+    }
+
+    /// What stands of a register.
+    pub fn answer<O: Opening>(&self, register: RegId) -> Answer<'t>
+        requires kept { IsKept O.plan self.now }
+        requires here { register.0 % O.plan.shards ≡ self.now.at }
+        requires known { register.0 < length O.plan.claims }
+        ensures { IsStanding O.plan register.0 self.now.journal.items result }
+    {
+        let slot = (register.0 / self.shards) as usize;
+        let book = &self.books[slot];
+        let witness = book.witness();
+        Answer {
+            holds: book.holds(),
+            operations: book.len() as u64,
+            fault: fault_by(witness),
+            witness,
+            number: self.journal.len() as u64,
+        }
+    }
+
+    /// How many entries are a feeder's.
+    pub fn count<O: Opening>(&self, feeder: u32) -> u64
+        requires kept { IsKept O.plan self.now }
+        requires feeder { feeder < O.plan.feeders }
+        ensures { result ≡ count_by feeder self.now.journal.items }
+    {
+        self.counts[feeder as usize] as u64
+    }
+
+    /// The last entry.
+    pub fn last(&self) -> Option<Numbered<'t>>
+        ensures { result ≡ last_entry self.now.journal.items }
+    {
+        match self.journal.last() {
+            Some(entry) => Some(Numbered {
+                number: (self.journal.len() - 1) as u64,
+                entry: *entry,
+            }),
+            None => None,
+        }
+    }
+}
+
+/// Which operations a witness has, by their ids.
+fn fault_by(witness: Option<Witness>) -> Option<Fault>
+    ensures { result ≡ option_map ids_of witness.entry }
+{
+    Some(witness?.ids())
+}
+
+fn no_counts(alloc: Global, feeders: u32) -> Result<Vec<usize>, ShardFault>
+    ensures counts { IfOk result (λ counts. counts.items ≡ replicate feeders 0) }
+    ensures memory { IfErr result (λ fault. fault ≡ Memory) }
+{
+    Ok(vec![in alloc; 0; feeders as usize]?)
+}
+
+/// A book of no operations for each register of a shard.
+fn open_books<'t>(
+    alloc: Global,
+    tower: &Tower,
+    at: u32,
+    shards: u32,
+) -> Result<Vec<RegisterBook<'t>>, ShardFault>
+    requires { at < shards }
+    ensures books { IfOk result (λ books. (name feeders : ℕ) → AreBooks (plan_of name tower.now shards feeders) at [] books.items) }
+    ensures memory { IfErr result (λ fault. fault ≡ Memory) }
+{
+    let mut books = Vec::new(alloc);
+    let mut register = at as usize;
+    while register < tower.len() {
+        open_book(alloc, tower, RegId(register as u32), &mut books)?;
+        register += shards as usize;
+    }
+    Ok(books)
+}
+
+/// One book more, where there is a register of that number.
+fn open_book<'t>(
+    alloc: Global,
+    tower: &Tower,
+    id: RegId,
+    books: &mut Vec<RegisterBook<'t>>,
+) -> Result<(), ShardFault>
+    ensures books { OnOk result (books.new.items ≡ books.old.items ++ option_to_list (option_map unedited (slice_get (claims_of tower.now) id.0))) }
+    ensures memory { IfErr result (λ fault. fault ≡ Memory) }
+{
+    if let Some(claim) = tower.claim(id) {
+        books.push(RegisterBook::new(alloc, claim)?)?;
+    }
+    Ok(())
+}
