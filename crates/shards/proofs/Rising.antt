@@ -6,12 +6,12 @@ use Rattle.std.proofs.lemmas.Option.{slice_get_past, IfSome_then}
 use Rattle.std.proofs.lemmas.Bool.{cases_lt}
 use Rattle.shards.specs.declared.entry.Entry.{Entry}
 use Rattle.shards.specs.declared.entry.Numbered.{Numbered}
-use Rattle.shards.specs.Pass.{HasEntry, last_of}
+use Rattle.shards.specs.Pass.{HasEntry, last_in}
 use Rattle.shards.specs.Shard.{Rises}
 
 -- where the last number is below a bound, each is
 all_below : (bound : ℕ) (entries : List Numbered) → Rises entries →
-    IfSome (last_of entries) (λ last. last.number < bound) → AllByRecursion (λ entry. entry.number < bound) entries
+    IfSome (last_in entries) (λ last. last.number < bound) → AllByRecursion (λ entry. entry.number < bound) entries
 all_below bound [] rises last = tt
 all_below bound (entry ∷ []) rises last = (last, tt)
 all_below bound (entry ∷ (next ∷ entries)) rises last =
@@ -41,8 +41,8 @@ has_within journal known has =
 
 -- where a journal has the last one, its next entry goes to the end
 pub rises_entered : (journal : List Entry) (entries : List Numbered) (known : Numbered) → Rises entries →
-    IfSome (last_of entries) (HasEntry journal) → known.number ≡ length journal → Rises (entries ++ known ∷ [])
+    IfSome (last_in entries) (HasEntry journal) → known.number ≡ length journal → Rises (entries ++ known ∷ [])
 rises_entered journal entries known rises last next =
-    let below = IfSome_then (last_of entries) {P = HasEntry journal} {Q = λ at. at.number < known.number} last
+    let below = IfSome_then (last_in entries) {P = HasEntry journal} {Q = λ at. at.number < known.number} last
     (λ at has. let within = has_within journal at has in omega arith) in
     rises_more entries known rises (all_below known.number entries rises below)

@@ -51,8 +51,8 @@ abbrev pub told : Passed → ℕ → List Numbered
 told pass at = unwrap_or (slice_get pass.own at) []
 
 -- the last of a list
-abbrev pub last_of : {X : Type 0} → List X → Option X
-last_of xs = slice_get xs (length xs - 1)
+abbrev pub last_in : {X : Type 0} → List X → Option X
+last_in xs = slice_get xs (length xs - 1)
 
 -- the journal has the entry at its number
 abbrev pub HasEntry : List Entry → Numbered → Type 0
@@ -64,7 +64,7 @@ HasFarthest at pass journal = IfSome (farthest_of pass at) (HasEntry journal)
 
 -- the same of the last entry that the pass submitted there
 abbrev pub HasLastOwn : ℕ → Passed → List Entry → Type 0
-HasLastOwn at pass journal = IfSome (last_of (told pass at)) (HasEntry journal)
+HasLastOwn at pass journal = IfSome (last_in (told pass at)) (HasEntry journal)
 
 -- a journal of a shard in keeping with a pass: it has, each at its number, the farthest entry that the pass
 -- knows there and the pass's own last entry, and so many entries of its feeder as the pass submitted there
@@ -79,7 +79,7 @@ abbrev pub IsBehind : ℕ → Passed → List Entry → ℕ → Type 0
 IsBehind at pass journal seen =
     ((known : Numbered) × (farthest_of pass at ≡ Some known) × (¬ HasEntry journal known) × (seen ≡ known.number))
     ⊎ (HasFarthest at pass journal
-    × (((known : Numbered) × (last_of (told pass at) ≡ Some known) × (¬ HasEntry journal known) × (seen ≡ known.number))
+    × (((known : Numbered) × (last_in (told pass at) ≡ Some known) × (¬ HasEntry journal known) × (seen ≡ known.number))
     ⊎ (HasLastOwn at pass journal × (count_by pass.feeder journal ≢ length (told pass at)) × (seen ≡ length (told pass at)))))
 
 -- what was seen, with another farthest entry in a shard

@@ -15,7 +15,7 @@ use Rattle.shards.specs.declared.fault.ShardFault.{ShardFault}
 use Rattle.shards.specs.declared.fault.ShardFault.TheVariants.{UnknownRegister, Memory, JournalBehind, ForeignPass}
 use Rattle.shards.specs.Plan.{Plan}
 use Rattle.shards.specs.Journal.{standing_of, IsLegalJournal}
-use Rattle.shards.specs.Pass.{Passed, IsPassOf, IsInKeeping, IsBehind, last_of, with_own, with_seen}
+use Rattle.shards.specs.Pass.{Passed, IsPassOf, IsInKeeping, IsBehind, last_in, with_own, with_seen}
 
 abbrev pub entry_of : ℕ → RegId → Edit → Reply → Entry
 entry_of feeder register edit reply = record { feeder = feeder; register = register; edit = edit; reply = reply }
@@ -29,7 +29,7 @@ entered pass register edit receipt = with_own pass receipt.shard (numbered_entry
 
 -- the last entry of a journal, with its number
 abbrev pub last_entry : List Entry → Option Numbered
-last_entry journal = option_map (numbered_entry (length journal - 1)) (last_of journal)
+last_entry journal = option_map (numbered_entry (length journal - 1)) (last_in journal)
 
 -- the answer is the verdict on what stands of the register after the journal, how much stands, why the
 -- register fails where it does, and the journal's length

@@ -3,7 +3,7 @@
 ghost use Rattle.std.specs.Prelude.{◌≡◌, ◌<◌, ◌%◌, ◌++◌, ◌∷◌, [], IfOk, IfErr, IfSome, OnErr, length};
 ghost use Rattle.shards.specs.declared.fault.ShardFault.TheVariants.{Memory};
 ghost use Rattle.shards.specs.Journal.{IsAnswered};
-ghost use Rattle.shards.specs.Pass.{HasEntry, last_of};
+ghost use Rattle.shards.specs.Pass.{HasEntry, last_in};
 ghost use Rattle.shards.specs.Shard.{IsKept, Rises, held_of};
 ghost use Rattle.shards.specs.Steps.{entry_of, numbered_entry};
 
@@ -59,7 +59,7 @@ impl<'t> Submitted<'t> {
         requires here { register.0 % O.plan.shards ≡ shard.old.at }
         requires known { register.0 < length O.plan.claims }
         requires feeder { feeder < O.plan.feeders }
-        requires last { IfSome (last_of self.old) (HasEntry shard.old.journal.items) }
+        requires last { IfSome (last_in self.old) (HasEntry shard.old.journal.items) }
         ensures kept { IsKept O.plan shard.new }
         ensures journal { IfOk result (λ known. held_of shard.new ≡ record { at = shard.old.at; journal = shard.old.journal.items ++ known.entry ∷ [] }) }
         ensures answered { IfOk result (λ known. IsAnswered O.plan shard.old.at shard.old.journal.items known.entry) }
