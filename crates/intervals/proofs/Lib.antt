@@ -8,3 +8,5 @@ pub mod Ids
 pub mod EachPair
 pub mod Standing
 pub mod Verdicts
+mod Texts
+mod Arrangements

@@ -1,6 +1,5 @@
 -- Worked histories and edits, small enough to judge by eye. Their texts are left empty.
 use Rattle.std.specs.Prelude.{ℕ, pos, List, [], ◌∷◌, map, take, Option, Some, None, option_map}
-use Rattle.std.specs.Borrow.{Bor}
 use Rattle.intervals.specs.declared.operation.Op.{Op}
 use Rattle.intervals.specs.declared.operation.OpId.{OpId}
 use Rattle.intervals.specs.declared.operation.Moment.{Moment}
@@ -15,10 +14,7 @@ use Rattle.intervals.specs.declared.claim.Kind.{Kind}
 use Rattle.intervals.specs.declared.claim.Kind.TheVariants.{Regular}
 use Rattle.intervals.specs.Terms.{Terms}
 use Rattle.intervals.specs.Judging.{first_wrong}
-
--- an empty text
-abbrev pub text : Bor (List ℕ)
-text = record { ref_ptr = (0, 0); now = [] }
+use Rattle.intervals.specs.Bare.{no_text, no_parts}
 
 -- an integer as a value
 abbrev pub number : ℕ → Value
@@ -36,7 +32,7 @@ op n act begin end = record {
   act = act;
   begin = record { 0 = begin };
   end = end;
-  parts = record { invocation = text; answer = None; amendment = None };
+  parts = no_parts;
 }
 
 -- an operation of that place in its trace, from one moment to the other
@@ -103,11 +99,11 @@ a_write_and_a_read = from_to 0 (Write (number 1)) 0 1 ∷ op 2 (Read Nil) 5 None
 
 -- an amendment of the operation of that place, which ends it at the moment
 abbrev pub end_at : ℕ → ℕ → Edit
-end_at n end = Amend (place n) (record { value = None; begin = None; end = Some (Some (record { 0 = end })); lent = Amendment text })
+end_at n end = Amend (place n) (record { value = None; begin = None; end = Some (Some (record { 0 = end })); lent = Amendment no_text })
 
 -- the operation with the text of that amendment
 abbrev pub mended : Op → Op
-mended a = record a { parts = record { invocation = text; answer = None; amendment = Some text } }
+mended a = record a { parts = record no_parts { amendment = Some no_text } }
 
 -- two appends, one of a taken moment, a change, an append, a withdrawal of nothing and one of the read
 abbrev pub edits_with_refused_ones : List Edit

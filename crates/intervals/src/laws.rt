@@ -1,6 +1,6 @@
 //! Laws of the definitions. Each is the contract of a function that does nothing.
 
-ghost use Rattle.std.specs.Prelude.{◌≡◌, ◌≢◌, ◌↔◌, All, Contains, IsTrue, List, [], ◌∷◌, ◌++◌, take, drop, None, Some};
+ghost use Rattle.std.specs.Prelude.{◌≡◌, ◌≢◌, ◌↔◌, All, Contains, IsTrue, List, [], ◌∷◌, ◌++◌, map, length, take, drop, None, Some};
 ghost use Rattle.intervals.specs.declared.operation.Op.{Op};
 ghost use Rattle.intervals.specs.declared.operation.OpId.{OpId};
 ghost use Rattle.intervals.specs.declared.refusal.Refusal.TheVariants.{UnknownOp, OpTaken, EndNotAfterBegin, MomentTaken, MomentTooLarge, NotAWriter, WritesOverlap, ValueTaken, OutOfDomain};
@@ -14,10 +14,11 @@ ghost use Rattle.intervals.specs.declared.operation.Act.TheVariants.{Read, Write
 ghost use Rattle.intervals.specs.declared.operation.Value.TheVariants.{Nil};
 ghost use Rattle.intervals.specs.Operation.{Precedes, Overlaps, IsJudgedRead, value_of, judged, writes};
 ghost use Rattle.intervals.specs.Edit.{op_of};
-ghost use Rattle.intervals.specs.Refusal.{first_refusal, write_refusal, overlap_refusal, is_overlapped, value_refusal, standing};
+ghost use Rattle.intervals.specs.Bare.{bare, bare_edit};
+ghost use Rattle.intervals.specs.Refusal.{first_refusal, write_refusal, overlap_refusal, is_overlapped, value_refusal, reply_to, standing};
 ghost use Rattle.intervals.specs.Standing.{HasDistinctIds, HasDistinctMoments, HasEndsAfterBeginnings, HasNoOverlappingWrites, HasDistinctValues, IsHolder};
 ghost use Rattle.intervals.specs.Least.{IsLeast, least_by};
-ghost use Rattle.intervals.specs.Kind.{IsSafe, IsRegular, IsSafeRead, IsRegularRead, Arranges};
+ghost use Rattle.intervals.specs.Kind.{IsSafe, IsRegular, IsSafeRead, IsRegularRead, Arranges, Holds};
 ghost use Rattle.intervals.specs.Judging.{first_wrong, is_wrong_read, end_number};
 ghost use Rattle.intervals.specs.Histories.{number, place, op, from_to, mended, end_at, a_write_and_a_read, edits_with_refused_ones, two_writers, two_writes, written_by, fault_of, late_reads, reads_over_two, faults_one_by_one, claim_of, read_after_write, read_within_write, digits, new_before_old, older_of_two, old_before_new, unfinished_write, write_between};
 
@@ -94,6 +95,15 @@ pub fn writes_alone_decide()
     ensures read { (claim : Terms) (ops : List Op) (r : Op) → is_wrong_read claim (writes ops) r ≡ is_wrong_read claim ops r }
     ensures fault { (claim : Terms) (ops : List Op) → least_by end_number (is_wrong_read claim (writes ops)) ops ≡ first_wrong claim ops }
     ensures refusal { (claim : Terms) (ops : List Op) (op : Op) → write_refusal claim (writes ops) op ≡ write_refusal claim ops op }
+{}
+
+/// The texts that operations lend decide no reply and no verdict, and of what stands only its texts.
+pub fn texts_decide_nothing()
+    ensures reply { (claim : Terms) (ops : List Op) (edit : Edit) → reply_to claim (map bare ops) (bare_edit edit) ≡ reply_to claim ops edit }
+    ensures standing { (claim : Terms) (edits : List Edit) → map bare (standing claim [] (map bare_edit edits)) ≡ map bare (standing claim [] edits) }
+    ensures verdict { (claim : Terms) (ops : List Op) → Holds claim (map bare ops) ↔ Holds claim ops }
+    ensures alike { (claim : Terms) (edits others : List Edit) → map bare_edit edits ≡ map bare_edit others
+        → (Holds claim (standing claim [] edits) ↔ Holds claim (standing claim [] others)) × (length (standing claim [] edits) ≡ length (standing claim [] others)) }
 {}
 
 /// Safe registers: which reads are right after a write, and within one.

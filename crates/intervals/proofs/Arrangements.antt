@@ -1,0 +1,118 @@
+-- The texts that operations lend decide no verdict.
+use Rattle.std.proofs.Common.{◌≡◌, ◌↔◌, ℕ, ◌<◌, List, [], ◌∷◌, map, length, get_or, set, swap, IsPermutation, refl, sym, ap, subst, ◌∙◌, arith}
+use Rattle.std.specs.List.{AllByRecursion}
+use Rattle.std.proofs.lemmas.List.{map-set, get_or-map, length-map}
+use Rattle.std.proofs.lemmas.List.Sorted.{IsPermutation-refl, IsPermutation-trans, IsPermutation-swap, IsPermutation-map, IsPermutation-keeps}
+use Rattle.intervals.specs.declared.operation.Op.{Op}
+use Rattle.intervals.specs.declared.operation.Value.{Value}
+use Rattle.intervals.specs.declared.edit.Edit.{Edit}
+use Rattle.intervals.specs.declared.claim.Kind.{Kind}
+use Rattle.intervals.specs.declared.claim.Kind.TheVariants.{Safe, Regular, Atomic}
+use Rattle.intervals.specs.Terms.{Terms}
+use Rattle.intervals.specs.Operation.{Precedes, judged}
+use Rattle.intervals.specs.Bare.{bare, bare_edit}
+use Rattle.intervals.specs.Refusal.{standing}
+use Rattle.intervals.specs.Kind.{KeepsPrecedence, ReadsNearest, value_after, IsAtomic, Keeps, Holds}
+use Rattle.intervals.proofs.JudgedAlone.{is_judged}
+use Rattle.intervals.proofs.Texts.{filter_bare, IsSafe-bare, IsRegular-bare, standing_alike}
+
+-- an order of the images is the image of an order
+module _ {X Y : Type 0} (f : X → Y) where
+  map_swap : (xs : List X) (i j : ℕ) → i < length xs → j < length xs → map f (swap xs i j) ≡ swap (map f xs) i j
+  map_swap [] i j p q = refl
+  map_swap (d ∷ ys) i j p q =
+      let xs = d ∷ ys in
+      map-set f (set xs i (get_or xs j d)) j (get_or xs i d)
+      ∙ (λ t. set (map-set f xs i (get_or xs j d) t) j (f (get_or xs i d)))
+      ∙ sym (λ t. set (set (map f xs) i (get_or-map f xs j d (f d) q t)) j (get_or-map f xs i d (f d) p t))
+
+  abbrev IsImage : List X → List Y → Type 0
+  IsImage xs l = (zs : List X) × IsPermutation xs zs × (map f zs ≡ l)
+
+  swapped : (xs : List X) (l : List Y) (i j : ℕ) → i < length l → j < length l → IsImage xs l → IsImage xs (swap l i j)
+  swapped xs l i j p q h =
+      let zs = h.0 in
+      let long : length l ≡ length zs = ap length (sym h.2) ∙ length-map zs f in
+      let i_in : i < length zs = omega arith in
+      let j_in : j < length zs = omega arith in (
+        swap zs i j,
+        IsPermutation-trans xs zs (swap zs i j) h.1 (IsPermutation-swap zs (swap zs i j) i j i_in j_in refl),
+        map_swap zs i j i_in j_in ∙ ap (λ (k : List Y). swap k i j) h.2,
+      )
+
+  permuted_before : (xs : List X) (ys : List Y) → IsPermutation (map f xs) ys → IsImage xs ys
+  permuted_before xs ys = IsPermutation-keeps (map f xs) (IsImage xs) (xs, IsPermutation-refl xs, refl) (swapped xs) ys
+
+judged_bare : (ops : List Op) → judged (map bare ops) ≡ map bare (judged ops)
+judged_bare = filter_bare is_judged is_judged (λ op. refl)
+
+none_before : (a : Op) (later : List Op) → AllByRecursion (λ b. ¬ Precedes b a) later → AllByRecursion (λ b. ¬ Precedes b a) (map bare later)
+none_before a [] h = tt
+none_before a (b ∷ later) h = (h.0, none_before a later h.1)
+
+none_before_back : (a : Op) (later : List Op) → AllByRecursion (λ b. ¬ Precedes b a) (map bare later) → AllByRecursion (λ b. ¬ Precedes b a) later
+none_before_back a [] h = tt
+none_before_back a (b ∷ later) h = (h.0, none_before_back a later h.1)
+
+keeps_bare : (order : List Op) → KeepsPrecedence order → KeepsPrecedence (map bare order)
+keeps_bare [] h = tt
+keeps_bare (a ∷ later) h = (none_before a later h.0, keeps_bare later h.1)
+
+keeps_back : (order : List Op) → KeepsPrecedence (map bare order) → KeepsPrecedence order
+keeps_back [] h = tt
+keeps_back (a ∷ later) h = (none_before_back a later h.0, keeps_back later h.1)
+
+reads_bare : (value : Value) (order : List Op) → ReadsNearest value order → ReadsNearest value (map bare order)
+reads_bare value [] h = tt
+reads_bare value (a ∷ later) h = (h.0, reads_bare (value_after value a.act) later h.1)
+
+reads_back : (value : Value) (order : List Op) → ReadsNearest value (map bare order) → ReadsNearest value order
+reads_back value [] h = tt
+reads_back value (a ∷ later) h = (h.0, reads_back (value_after value a.act) later h.1)
+
+IsAtomic-bare : (claim : Terms) (ops : List Op) → IsAtomic claim ops → IsAtomic claim (map bare ops)
+IsAtomic-bare claim ops h = (
+  map bare h.0,
+  record {
+    each_once = subst (λ (l : List Op). IsPermutation l (map bare h.0)) (sym (judged_bare ops)) (IsPermutation-map bare (judged ops) h.0 h.1.each_once);
+    keeps = keeps_bare h.0 h.1.keeps;
+    reads = reads_bare claim.initial h.0 h.1.reads;
+  },
+)
+
+IsAtomic-back : (claim : Terms) (ops : List Op) → IsAtomic claim (map bare ops) → IsAtomic claim ops
+IsAtomic-back claim ops h =
+    let image = permuted_before bare (judged ops) h.0 (subst (λ (l : List Op). IsPermutation l h.0) (judged_bare ops) h.1.each_once) in (
+      image.0,
+      record {
+        each_once = image.1;
+        keeps = keeps_back image.0 (subst KeepsPrecedence (sym image.2) h.1.keeps);
+        reads = reads_back claim.initial image.0 (subst (ReadsNearest claim.initial) (sym image.2) h.1.reads);
+      },
+    )
+
+keeps_both : (kind : Kind) (claim : Terms) (ops : List Op) → Keeps kind claim (map bare ops) ↔ Keeps kind claim ops
+keeps_both Safe claim ops = IsSafe-bare claim ops
+keeps_both Regular claim ops = IsRegular-bare claim ops
+keeps_both Atomic claim ops = (IsAtomic-back claim ops, IsAtomic-bare claim ops)
+
+pub Holds-bare : (claim : Terms) (ops : List Op) → Holds claim (map bare ops) ↔ Holds claim ops
+Holds-bare claim ops = keeps_both claim.kind claim ops
+
+pub standing_bare : (claim : Terms) (edits : List Edit) → map bare (standing claim [] (map bare_edit edits)) ≡ map bare (standing claim [] edits)
+standing_bare claim edits = standing_alike claim [] [] edits refl
+
+-- of lists that are the same without their texts
+holds_alike : (claim : Terms) (xs ys : List Op) → map bare xs ≡ map bare ys → Holds claim xs → Holds claim ys
+holds_alike claim xs ys e h = (Holds-bare claim ys).0 (subst (Holds claim) e ((Holds-bare claim xs).1 h))
+
+length_alike : (xs ys : List Op) → map bare xs ≡ map bare ys → length xs ≡ length ys
+length_alike xs ys e = sym (length-map xs bare) ∙ ap length e ∙ length-map ys bare
+
+pub decided_alike : (claim : Terms) (edits others : List Edit) → map bare_edit edits ≡ map bare_edit others
+    → (Holds claim (standing claim [] edits) ↔ Holds claim (standing claim [] others)) × (length (standing claim [] edits) ≡ length (standing claim [] others))
+decided_alike claim edits others e =
+    let xs = standing claim [] edits in
+    let ys = standing claim [] others in
+    let same : map bare xs ≡ map bare ys = sym (standing_bare claim edits) ∙ ap (λ (l : List Edit). map bare (standing claim [] l)) e ∙ standing_bare claim others in
+    ((holds_alike claim xs ys same, holds_alike claim ys xs (sym same)), length_alike xs ys same)
