@@ -1,0 +1,99 @@
+-- A feeder with one more doing.
+use Rattle.std.proofs.Common.{◌≡◌, ℕ, ◌+◌, ◌<◌, List, [], ◌∷◌, ◌++◌, length, Option, Some, None, refl, sym, ap, subst, ◌∙◌, arith, append-nil, append_assoc}
+use Rattle.std.specs.Prelude.{option_to_list}
+use Rattle.std.proofs.lemmas.List.{map-append, length-map, length-replicate}
+use Rattle.std.proofs.lemmas.List.Elements.{filter_map-append}
+use Rattle.shards.specs.declared.entry.Numbered.{Numbered}
+use Rattle.shards.specs.Journal.{EachAfter}
+use Rattle.shards.specs.Plan.{Plan}
+use Rattle.shards.specs.Pass.{IsPassOf, IsSightOf, Passed, fresh, told}
+use Rattle.feeders.specs.declared.log.Line.{Line}
+use Rattle.feeders.specs.Steps.{Taken}
+use Rattle.feeders.specs.Doings.{Doing, IsAnsweredAfter, entered_in, entry_in, lines_at, lines_from, taken_of, what_of}
+use Rattle.feeders.specs.Progress.{HasDone}
+
+each_after_push : {X : Type 0} (R : List X → X → Type 0) (before xs : List X) (x : X) → EachAfter R before xs → R (before ++ xs) x → EachAfter R before (xs ++ x ∷ [])
+each_after_push {X = X} R before [] x each is = (subst (λ (front : List X). R front x) (append-nil before) is, tt)
+each_after_push {X = X} R before (y ∷ ys) x each is = (each.0, each_after_push R (before ++ y ∷ []) ys x each.1 (subst (λ (front : List X). R front x) (sym (append_assoc before (y ∷ []) ys)) is))
+
+-- the lines of one more doing come behind
+lines_on : (place : ℕ) (doings : List Doing) (doing : Doing) → lines_from place (doings ++ doing ∷ []) ≡ lines_from place doings ++ lines_at (place + length doings) (what_of doing)
+lines_on place [] doing = append-nil (lines_at place (what_of doing)) ∙ ap (λ (n : ℕ). lines_at n (what_of doing)) (omega arith)
+lines_on place (first ∷ doings) doing =
+    ap (λ (rest : List Line). lines_at place (what_of first) ++ rest) (lines_on (place + 1) doings doing)
+    ∙ sym (append_assoc (lines_at place (what_of first)) (lines_from (place + 1) doings) (lines_at (place + 1 + length doings) (what_of doing)))
+    ∙ ap (λ (n : ℕ). (lines_at place (what_of first) ++ lines_from (place + 1) doings) ++ lines_at n (what_of doing)) (omega arith)
+
+listed : (shards feeder at : ℕ) (doing : Doing) (found : Option Numbered) → entry_in shards feeder at doing ≡ found → entered_in shards feeder at (doing ∷ []) ≡ option_to_list (entry_in shards feeder at doing)
+listed shards feeder at doing None is = rw is refl
+listed shards feeder at doing (Some known) is = rw is refl
+
+-- so do its entries
+entered_on : (shards feeder at : ℕ) (doings : List Doing) (doing : Doing) → entered_in shards feeder at (doings ++ doing ∷ []) ≡ entered_in shards feeder at doings ++ option_to_list (entry_in shards feeder at doing)
+entered_on shards feeder at doings doing =
+    filter_map-append (entry_in shards feeder at) doings (doing ∷ [])
+    ∙ ap (λ (more : List Numbered). entered_in shards feeder at doings ++ more) (listed shards feeder at doing (entry_in shards feeder at doing) refl)
+
+-- the pass was told of the doing, has as many shards as before, and its sight is of the same auditor
+pub record IsTold (shards : ℕ) (doing : Doing) (old new : Passed) : Type 0 where
+  pub feeder_is : new.feeder ≡ old.feeder
+  pub many : length new.own ≡ length old.own
+  pub sight : (plan : Plan) → IsSightOf plan old.seen → IsSightOf plan new.seen
+  pub own : (at : ℕ) → at < shards → told new at ≡ told old at ++ option_to_list (entry_in shards old.feeder at doing)
+
+-- a pass that was not touched was told of no entry
+pub told_nothing : (shards : ℕ) (doing : Doing) (pass : Passed) → ((feeder at : ℕ) → entry_in shards feeder at doing ≡ None) → IsTold shards doing pass pass
+told_nothing shards doing pass none = record {
+  feeder_is = refl;
+  many = refl;
+  sight = λ plan is. is;
+  own = λ at within. sym (append-nil (told pass at)) ∙ ap (λ (found : Option Numbered). told pass at ++ option_to_list found) (sym (none pass.feeder at));
+}
+
+pub goes_on : (plan : Plan) (old new : Passed) (lines more : List Line) (place : ℕ) (doing : Doing)
+    → IsTold plan.shards doing old new
+    → more ≡ lines ++ lines_at place (what_of doing)
+    → ((doings : List Doing) → ((at : ℕ) → at < plan.shards → told old at ≡ entered_in plan.shards old.feeder at doings) → IsAnsweredAfter plan old.feeder doings doing)
+    → (feeder : ℕ) (steps : List Taken) → place ≡ length steps → HasDone plan feeder old lines steps → HasDone plan feeder new more (steps ++ taken_of doing ∷ [])
+goes_on plan old new lines more place doing told_is noted answered feeder steps at has =
+    let own : (n : ℕ) → n < plan.shards → told old n ≡ entered_in plan.shards old.feeder n has.doings =
+    λ n within. has.own n within ∙ ap (λ (f : ℕ). entered_in plan.shards f n has.doings) (sym has.feeder_is) in
+    let many : length has.doings ≡ length steps = sym (length-map has.doings taken_of) ∙ ap length has.done.for_steps in
+    let behind : place ≡ 0 + length has.doings = omega arith in
+    record {
+      doings = has.doings ++ doing ∷ [];
+      done = record {
+        for_steps = map-append taken_of has.doings (doing ∷ []) ∙ ap (λ (front : List Taken). front ++ taken_of doing ∷ []) has.done.for_steps;
+        noted = noted
+            ∙ ap (λ (front : List Line). front ++ lines_at place (what_of doing)) has.done.noted
+            ∙ ap (λ (n : ℕ). lines_from 0 has.doings ++ lines_at n (what_of doing)) behind
+            ∙ sym (lines_on 0 has.doings doing);
+        answers = each_after_push (IsAnsweredAfter plan feeder) [] has.doings doing has.done.answers
+            (subst (λ (f : ℕ). IsAnsweredAfter plan f has.doings doing) has.feeder_is (answered has.doings own));
+      };
+      feeder_is = told_is.feeder_is ∙ has.feeder_is;
+      of_plan = (told_is.sight plan has.of_plan.0, told_is.many ∙ has.of_plan.1, subst (λ (f : ℕ). f < plan.feeders) (sym told_is.feeder_is) has.of_plan.2);
+      own = λ n within.
+          told_is.own n within
+          ∙ ap (λ (f : ℕ). told old n ++ option_to_list (entry_in plan.shards f n doing)) has.feeder_is
+          ∙ ap (λ (front : List Numbered). front ++ option_to_list (entry_in plan.shards feeder n doing)) (has.own n within)
+          ∙ sym (entered_on plan.shards feeder n has.doings doing);
+    }
+
+-- a fresh pass of one of the feeders is the plan's
+pub fresh_is_of : (plan : Plan) (pass : Passed) → pass ≡ fresh plan pass.feeder → pass.feeder < plan.feeders → IsPassOf plan pass
+fresh_is_of plan pass is known = (
+  (ap (λ (p : Passed). p.seen.auditor) is, ap (λ (p : Passed). length p.seen.farthest) is ∙ length-replicate {A = Option Numbered} plan.shards None),
+  ap (λ (p : Passed). length p.own) is ∙ length-replicate {A = List Numbered} plan.shards [],
+  known,
+)
+
+-- before any
+pub nothing_done : (plan : Plan) (pass : Passed) (lines : List Line) → IsPassOf plan pass → ((at : ℕ) → told pass at ≡ []) → lines ≡ [] → HasDone plan pass.feeder pass lines []
+nothing_done plan pass lines is none empty = record {
+  doings = [];
+  done = record { for_steps = refl; noted = empty; answers = tt };
+  feeder_is = refl;
+  of_plan = is;
+  own = λ at within. none at;
+}

@@ -1,0 +1,129 @@
+-- What a run leaves of its traces, by the closed journals.
+use Rattle.std.proofs.Common.{◌≡◌, ℕ, zero, suc, ◌+◌, ◌<◌, List, [], ◌∷◌, length, get_or, map, refl, sym, ap, subst, ◌∙◌, arith}
+use Rattle.std.specs.Prelude.{Contains}
+use Rattle.std.specs.Borrow.{Bor}
+use Rattle.std.specs.List.{AllByRecursion, range_with_len}
+use Rattle.std.proofs.lemmas.List.{length-map}
+use Rattle.std.proofs.lemmas.List.Elements.{Contains-get_or, recursion_from_All}
+use Rattle.tower_file.specs.Contents.{Contents}
+use Rattle.jepsen_form.specs.declared.item.MomentField.{MomentField}
+use Rattle.shards.specs.Plain.{plain_numbered}
+use Rattle.shards.specs.Plan.{Plan, plan_of}
+use Rattle.shards.specs.Pass.{IsPassOf, Passed, fresh, told}
+use Rattle.shards.specs.Merge.{entries_of}
+use Rattle.shards.specs.Closing.{AreComplete, AreItsPasses, Ended, Held, IsClosed, IsClosingFault, IsUnfinished, journal_of}
+use Rattle.shards.specs.declared.fault.ShardFault.{ShardFault}
+use Rattle.shards.specs.declared.fault.ShardFault.TheVariants as faults
+use Rattle.feeders.specs.declared.fed.Fed.{Fed}
+use Rattle.feeders.specs.declared.log.Log.{Log}
+use Rattle.feeders.specs.Doings.{entered_in}
+use Rattle.feeders.specs.Ending.{MayEnd, ended_by}
+use Rattle.feeders.specs.Progress.{AreFed, IsFed}
+use Rattle.feeders.specs.Run.{EachNumbered, IsRun, IsTraced, plan_of_run}
+
+-- the entries of the pass's feeder in the journal of a shard are those that the pass submitted there
+abbrev IsMergedAt : List Ended → ℕ → Passed → Type 0
+IsMergedAt closed at pass = map plain_numbered (entries_of pass.feeder (journal_of closed at)) ≡ map plain_numbered (told pass at)
+
+abbrev IsMergedBelow : ℕ → List Ended → Fed → Type 0
+IsMergedBelow shards closed fed = (at : ℕ) → at < shards → IsMergedAt closed at fed.pass
+
+merged_each : (shards : ℕ) (closed : List Ended) (feds : List Fed)
+    → ((at : ℕ) → at < shards → AllByRecursion (IsMergedAt closed at) (map (λ fed. fed.pass) feds)) → AllByRecursion (IsMergedBelow shards closed) feds
+merged_each shards closed [] merged = tt
+merged_each shards closed (fed ∷ feds) merged = (λ at below. (merged at below).0, merged_each shards closed feds (λ at below. (merged at below).1))
+
+merged_of : (plan : Plan) (closed : List Ended) (feds : List Fed) → IsClosed plan (map (λ fed. fed.pass) feds) closed → AllByRecursion (IsMergedBelow plan.shards closed) feds
+merged_of plan closed feds is = merged_each plan.shards closed feds
+    (λ at below. recursion_from_All (IsMergedAt closed at) (map (λ fed. fed.pass) feds) (is.finished at (omega (arith, is.many))).merge.of_each)
+
+module _ (plan : Plan) (tower : Contents) (chosen : MomentField) (closed : List Ended) where
+  one_traced : (feeder : ℕ) (trace : List ℕ) (fed : Fed) → IsFed plan tower chosen feeder trace fed → IsMergedBelow plan.shards closed fed
+      → IsTraced plan tower chosen closed feeder trace fed.log
+  one_traced feeder trace fed is merged = record {
+    items = is.items;
+    are = is.are;
+    doings = is.done.doings;
+    done = is.done.done;
+    entries = λ at below. subst
+        (λ (number : ℕ). map plain_numbered (entries_of number (journal_of closed at)) ≡ map plain_numbered (entered_in plan.shards feeder at is.done.doings))
+        is.done.feeder_is
+        (merged at below ∙ ap (map plain_numbered) (is.done.own at below));
+  }
+
+  each_traced : (number : ℕ) (traces : List (Bor (List ℕ))) (feds : List Fed)
+      → AreFed plan tower chosen (map (fresh plan) (range_with_len number (length traces))) traces feds → AllByRecursion (IsMergedBelow plan.shards closed) feds
+      → EachNumbered (IsTraced plan tower chosen closed) number (map (λ trace. trace.now) traces) (map (λ fed. fed.log) feds)
+  each_traced number [] [] are merged = tt
+  each_traced number [] (fed ∷ feds) are merged = absurd are
+  each_traced number (trace ∷ traces) [] are merged = absurd are
+  each_traced number (trace ∷ traces) (fed ∷ feds) are merged = (one_traced number trace.now fed are.0 merged.0, each_traced (number + 1) traces feds are.1 merged.1)
+
+-- a run: the passes that an auditor gave, what was fed with them, and what it left
+pub run_of : (plan : Plan) (tower : Contents) (chosen : MomentField) (shards : ℕ) (traces : List (Bor (List ℕ))) (opened : List Passed) (feds : List Fed) (passes : List Passed) (logs : List Log) (closed : List Ended)
+    → plan ≡ plan_of 0 tower shards (length traces) → opened ≡ map (fresh plan) (range_with_len 0 (length traces)) → AreFed plan tower chosen opened traces feds
+    → passes ≡ map (λ fed. fed.pass) feds → logs ≡ map (λ fed. fed.log) feds → IsClosed plan passes closed
+    → IsRun tower chosen shards (map (λ trace. trace.now) traces) closed logs
+run_of plan tower chosen shards traces opened feds passes logs closed opening fresh_ones fed passes_are logs_are is =
+    let same : plan ≡ plan_of_run tower shards (map (λ (trace : Bor (List ℕ)). trace.now) traces) = opening ∙ ap (plan_of 0 tower shards) (sym (length-map traces (λ (trace : Bor (List ℕ)). trace.now))) in
+    let traced : EachNumbered (IsTraced plan tower chosen closed) 0 (map (λ (trace : Bor (List ℕ)). trace.now) traces) (map (λ (fed : Fed). fed.log) feds) =
+    each_traced plan tower chosen closed 0 traces feds (subst (λ (ps : List Passed). AreFed plan tower chosen ps traces feds) fresh_ones fed)
+    (merged_of plan closed feds (subst (λ (ps : List Passed). IsClosed plan ps closed) passes_are is)) in
+    record {
+      passes = passes;
+      finished = subst (λ (p : Plan). IsClosed p passes closed) same is;
+      traced = subst (λ (p : Plan). EachNumbered (IsTraced p tower chosen closed) 0 (map (λ (trace : Bor (List ℕ)). trace.now) traces) logs) same
+          (subst (EachNumbered (IsTraced plan tower chosen closed) 0 (map (λ (trace : Bor (List ℕ)). trace.now) traces)) (sym logs_are) traced);
+    }
+
+module _ (plan : Plan) (tower : Contents) (chosen : MomentField) where
+  as_many : (number : ℕ) (traces : List (Bor (List ℕ))) (feds : List Fed) → AreFed plan tower chosen (map (fresh plan) (range_with_len number (length traces))) traces feds → length feds ≡ length traces
+  as_many number [] [] are = refl
+  as_many number [] (fed ∷ feds) are = absurd are
+  as_many number (trace ∷ traces) [] are = absurd are
+  as_many number (trace ∷ traces) (fed ∷ feds) are = ap suc (as_many (number + 1) traces feds are.1)
+
+  -- each pass is the auditor's, and its feeder is its place
+  passed_at : (number : ℕ) (traces : List (Bor (List ℕ))) (feds : List Fed) → AreFed plan tower chosen (map (fresh plan) (range_with_len number (length traces))) traces feds
+      → (i : ℕ) (d : Passed) → i < length (map (λ fed. fed.pass) feds) → IsPassOf plan (get_or (map (λ fed. fed.pass) feds) i d) × ((get_or (map (λ fed. fed.pass) feds) i d).feeder ≡ number + i)
+  passed_at number [] [] are i d below = absurd (omega arith)
+  passed_at number [] (fed ∷ feds) are i d below = absurd are
+  passed_at number (trace ∷ traces) [] are i d below = absurd are
+  passed_at number (trace ∷ traces) (fed ∷ feds) are zero d below = (are.0.done.of_plan, are.0.done.feeder_is ∙ omega arith)
+  passed_at number (trace ∷ traces) (fed ∷ feds) are (suc i) d below =
+      let rest : IsPassOf plan (get_or (map (λ (fed : Fed). fed.pass) feds) i d) × ((get_or (map (λ (fed : Fed). fed.pass) feds) i d).feeder ≡ number + 1 + i) = passed_at (number + 1) traces feds are.1 i d (omega arith) in
+      (rest.0, rest.1 ∙ omega arith)
+
+  its_passes : (traces : List (Bor (List ℕ))) (feds : List Fed) → AreFed plan tower chosen (map (fresh plan) (range_with_len 0 (length traces))) traces feds → AreItsPasses plan (map (λ fed. fed.pass) feds)
+  its_passes traces feds are = record {
+    each = λ k d below. (passed_at 0 traces feds are k d below).0;
+    apart = λ i j d lesser below same.
+        let first = (passed_at 0 traces feds are i d (omega arith)).1 in
+        let second = (passed_at 0 traces feds are j d below).1 in
+        omega (arith, first, second, same, lesser);
+  }
+
+  complete : (traces : List (Bor (List ℕ))) (feds : List Fed) → plan.feeders ≡ length traces → AreFed plan tower chosen (map (fresh plan) (range_with_len 0 (length traces))) traces feds → AreComplete plan.feeders (map (λ fed. fed.pass) feds)
+  complete traces feds many are feeder below =
+      let passes : List Passed = map (λ (fed : Fed). fed.pass) feds in
+      let within : feeder < length passes = omega (arith, length-map feds (λ (fed : Fed). fed.pass), as_many 0 traces feds are) in
+      let there : Contains passes (get_or passes feeder (fresh plan 0)) = Contains-get_or passes feeder (fresh plan 0) within in
+      (there.0, get_or passes feeder (fresh plan 0), there.1, there.2, (passed_at 0 traces feds are feeder (fresh plan 0) within).1 ∙ omega arith)
+
+closing_ends : (plan : Plan) (passes : List Passed) (shards : List Held) (fault : ShardFault) → AreItsPasses plan passes → AreComplete plan.feeders passes → IsClosingFault plan passes shards fault → MayEnd (ended_by fault)
+closing_ends plan passes shards faults.UnknownRegister its all is = tt
+closing_ends plan passes shards faults.Memory its all is = tt
+closing_ends plan passes shards (faults.JournalBehind at seen found) its all is = tt
+closing_ends plan passes shards (faults.PassMissing feeder) its all is = is.1.1 (all feeder is.1.0)
+closing_ends plan passes shards (faults.Stranger at feeder number) its all is = tt
+closing_ends plan passes shards faults.ForeignPass its all is = is its
+
+-- why a run ends where its auditor is not finished: the passes are the auditor's, one for each feeder
+pub may_end : (plan : Plan) (tower : Contents) (chosen : MomentField) (traces : List (Bor (List ℕ))) (opened : List Passed) (feds : List Fed) (passes : List Passed) (fault : ShardFault)
+    → plan.feeders ≡ length traces → opened ≡ map (fresh plan) (range_with_len 0 (length traces)) → AreFed plan tower chosen opened traces feds
+    → passes ≡ map (λ fed. fed.pass) feds → IsUnfinished plan passes fault → MayEnd (ended_by fault)
+may_end plan tower chosen traces opened feds passes fault many fresh_ones fed passes_are unfinished =
+    let are : AreFed plan tower chosen (map (fresh plan) (range_with_len 0 (length traces))) traces feds = subst (λ (ps : List Passed). AreFed plan tower chosen ps traces feds) fresh_ones fed in
+    closing_ends plan passes unfinished.shards fault
+    (subst (AreItsPasses plan) (sym passes_are) (its_passes plan tower chosen traces feds are))
+    (subst (AreComplete plan.feeders) (sym passes_are) (complete plan tower chosen traces feds many are)) unfinished.fault_is

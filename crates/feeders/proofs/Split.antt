@@ -1,0 +1,66 @@
+-- Passes and traces in two parts.
+use Rattle.std.proofs.Common.{◌≡◌, ℕ, zero, suc, ◌+◌, ◌≤◌, List, [], ◌∷◌, ◌++◌, length, map, take, drop, Result, Ok, Err, OnOk, IfOk, refl, sym, ap, subst, ◌∙◌, arith}
+use Rattle.std.specs.Borrow.{Bor}
+use Rattle.std.specs.List.{range_with_len}
+use Rattle.tower_file.specs.Contents.{Contents}
+use Rattle.jepsen_form.specs.declared.item.MomentField.{MomentField}
+use Rattle.shards.specs.Plan.{Plan}
+use Rattle.shards.specs.Pass.{Passed, fresh}
+use Rattle.feeders.specs.declared.fed.Fed.{Fed}
+use Rattle.feeders.specs.Progress.{AreFed, AreFresh}
+
+pub fresh_take : (plan : Plan) (n : ℕ) (passes : List Passed) → AreFresh plan passes → AreFresh plan (take n passes)
+fresh_take plan zero passes are = tt
+fresh_take plan (suc n) [] are = tt
+fresh_take plan (suc n) (pass ∷ passes) are = (are.0, are.1, fresh_take plan n passes are.2)
+
+pub fresh_drop : (plan : Plan) (n : ℕ) (passes : List Passed) → AreFresh plan passes → AreFresh plan (drop n passes)
+fresh_drop plan zero passes are = are
+fresh_drop plan (suc n) [] are = tt
+fresh_drop plan (suc n) (pass ∷ passes) are = fresh_drop plan n passes are.2
+
+-- both parts, where a call made them
+pub fresh_parts : {V E : Type 0} (plan : Plan) (n : ℕ) (before front : List Passed) (back : V → List Passed) (result : Result V E) → AreFresh plan before
+    → OnOk result (front ≡ take n before) → IfOk result (λ rest. back rest ≡ drop n before) → IfOk result (λ rest. AreFresh plan front × AreFresh plan (back rest))
+fresh_parts plan n before front back (Ok rest) are is_front is_back = (
+  subst (AreFresh plan) (sym is_front) (fresh_take plan n before are),
+  subst (AreFresh plan) (sym is_back) (fresh_drop plan n before are),
+)
+fresh_parts plan n before front back (Err fault) are is_front is_back = tt
+
+-- the passes that an auditor gives
+pub fresh_all : (plan : Plan) (first n : ℕ) → first + n ≤ plan.feeders → AreFresh plan (map (fresh plan) (range_with_len first n))
+fresh_all plan first zero within = tt
+fresh_all plan first (suc n) within = (refl, omega arith, fresh_all plan (first + 1) n (omega arith))
+
+module _ (plan : Plan) (tower : Contents) (chosen : MomentField) where
+  -- what the first traces gave, and then what the others gave
+  pub fed_halves : (n : ℕ) (passes : List Passed) (traces : List (Bor (List ℕ))) (front back : List Fed)
+      → AreFed plan tower chosen (take n passes) (take n traces) front → AreFed plan tower chosen (drop n passes) (drop n traces) back
+      → AreFed plan tower chosen passes traces (front ++ back)
+  fed_halves zero passes traces [] back first rest = rest
+  fed_halves zero passes traces (fed ∷ front) back first rest = absurd first
+  fed_halves (suc n) [] [] [] back first rest = rest
+  fed_halves (suc n) [] [] (fed ∷ front) back first rest = absurd first
+  fed_halves (suc n) [] (trace ∷ traces) [] back first rest = absurd first
+  fed_halves (suc n) [] (trace ∷ traces) (fed ∷ front) back first rest = absurd first
+  fed_halves (suc n) (pass ∷ passes) [] [] back first rest = absurd first
+  fed_halves (suc n) (pass ∷ passes) [] (fed ∷ front) back first rest = absurd first
+  fed_halves (suc n) (pass ∷ passes) (trace ∷ traces) [] back first rest = absurd first
+  fed_halves (suc n) (pass ∷ passes) (trace ∷ traces) (fed ∷ front) back first rest = (first.0, fed_halves n passes traces front back first.1 rest)
+
+  -- the same, where the parts were made before
+  pub fed_parts : (n : ℕ) (passes front_passes back_passes : List Passed) (traces front_traces back_traces : List (Bor (List ℕ))) (front back all : List Fed)
+      → front_passes ≡ take (length front_traces) passes → back_passes ≡ drop (length front_traces) passes → length front_traces ≡ n
+      → front_traces ≡ take n traces → back_traces ≡ drop n traces → all ≡ front ++ back
+      → AreFed plan tower chosen front_passes front_traces front → AreFed plan tower chosen back_passes back_traces back → AreFed plan tower chosen passes traces all
+  fed_parts n passes front_passes back_passes traces front_traces back_traces front back all is_front is_back long is_front_of is_back_of is first rest =
+      let first_passes : front_passes ≡ take n passes = is_front ∙ ap (λ (k : ℕ). take k passes) long in
+      let rest_passes : back_passes ≡ drop n passes = is_back ∙ ap (λ (k : ℕ). drop k passes) long in
+      let first_part : AreFed plan tower chosen (take n passes) (take n traces) front =
+      subst (λ (ps : List Passed). AreFed plan tower chosen ps (take n traces) front) first_passes
+      (subst (λ (ts : List (Bor (List ℕ))). AreFed plan tower chosen front_passes ts front) is_front_of first) in
+      let rest_part : AreFed plan tower chosen (drop n passes) (drop n traces) back =
+      subst (λ (ps : List Passed). AreFed plan tower chosen ps (drop n traces) back) rest_passes
+      (subst (λ (ts : List (Bor (List ℕ))). AreFed plan tower chosen back_passes ts back) is_back_of rest) in
+      subst (AreFed plan tower chosen passes traces) (sym is) (fed_halves n passes traces front back first_part rest_part)

@@ -1,0 +1,33 @@
+-- The elements of an input are slices of it.
+use Rattle.std.proofs.Common.{◌≡◌, ℕ, List, [], ◌++◌, length, take, drop, Option, Some, None, refl, sym, ap, ◌∙◌, append_assoc, arith, length-append}
+use Rattle.std.specs.List.{AllByRecursion}
+use Rattle.std.proofs.Math.Seq.{drop-append_seam, take-append_seam}
+use Rattle.edn_reader.specs.Grammar.{Piece, IsElements, none, next}
+use Rattle.edn_reader.proofs.Places.{moved_gap, moved_element}
+use Rattle.feeders.specs.declared.log.Broken.{Broken}
+use Rattle.feeders.specs.Broken.{AreElements}
+use Rattle.feeders.specs.Texts.{IsSlice}
+
+-- what stands behind a front of the input
+slice_behind : (input front left : List ℕ) (piece : Piece) (beyond : List ℕ) → input ≡ front ++ left → piece.start ≡ length front → left ≡ piece.text ++ beyond → IsSlice input piece
+slice_behind input front left piece beyond is at whole =
+    ap (λ (bytes : List ℕ). take (length piece.text) bytes)
+    (ap (drop piece.start) is ∙ ap (λ (n : ℕ). drop n (front ++ left)) at ∙ drop-append_seam front left ∙ whole)
+    ∙ take-append_seam piece.text beyond
+
+slices : {room place after : ℕ} {bytes rest : List ℕ} {pieces : List Piece} → IsElements room place bytes pieces after rest
+    → (input front : List ℕ) → input ≡ front ++ bytes → place ≡ length front → AllByRecursion (IsSlice input) pieces
+slices none input front is at = tt
+slices {bytes = bytes} (next {left = left} {beyond = beyond} {piece = piece} gap element whole els) input front is at =
+    let g = (moved_gap gap left (λ h. h, λ h. h, λ h. h)).2 in
+    let e = (moved_element element beyond (λ h. h)).place in
+    let before : input ≡ (front ++ g.front) ++ left = is ∙ ap (λ (s : List ℕ). front ++ s) g.here ∙ sym (append_assoc front g.front left) in
+    let start : piece.start ≡ length (front ++ g.front) = omega (arith, g.place, at, length-append front g.front) in
+    let behind : input ≡ ((front ++ g.front) ++ e.front) ++ beyond = before ∙ ap (λ (s : List ℕ). (front ++ g.front) ++ s) e.here ∙ sym (append_assoc (front ++ g.front) e.front beyond) in (
+      slice_behind input (front ++ g.front) left piece beyond before start whole,
+      slices els input ((front ++ g.front) ++ e.front) behind (omega (arith, e.place, start, length-append (front ++ g.front) e.front)),
+    )
+
+pub slices_of : (input : List ℕ) (broken : Option Broken) (pieces : List Piece) → AreElements input broken pieces → AllByRecursion (IsSlice input) pieces
+slices_of input None pieces (at, after, front, gap) = slices front input [] refl refl
+slices_of input (Some broken) pieces (fault, is, before, code) = slices before.1 input [] refl refl

@@ -1,0 +1,92 @@
+-- What a feeder does with the steps of its trace, and what it notes of them.
+use Rattle.std.specs.Prelude.{◌≡◌, ◌==◌, ◌%◌, ◌+◌, ℕ, List, [], ◌∷◌, ◌++◌, map, filter_map, length, Option, Some, None, IfSome, Ok, Err, if◌then◌else◌}
+use Rattle.intervals.specs.declared.edit.Edit.{Edit}
+use Rattle.intervals.specs.declared.operation.RegId.{RegId}
+use Rattle.register_book.specs.declared.reply.Reply.{Reply}
+use Rattle.register_book.specs.declared.reply.Reply.TheVariants.{Accepted, Refused as NotAccepted}
+use Rattle.pairing.specs.declared.step.Step.TheVariants as steps
+use Rattle.shards.specs.declared.entry.Answer.{Answer}
+use Rattle.shards.specs.declared.entry.Entry.{Entry}
+use Rattle.shards.specs.declared.entry.Numbered.{Numbered}
+use Rattle.shards.specs.Plan.{Plan}
+use Rattle.shards.specs.Pass.{HasEntry, last_in}
+use Rattle.shards.specs.Journal.{EachAfter, IsLegalJournal, count_by}
+use Rattle.shards.specs.Steps.{IsStanding, entry_of, numbered_entry}
+use Rattle.feeders.specs.declared.log.Code.{Code}
+use Rattle.feeders.specs.declared.log.Code.TheVariants.{Register}
+use Rattle.feeders.specs.declared.log.Line.{Line}
+use Rattle.feeders.specs.declared.log.What.{What}
+use Rattle.feeders.specs.declared.log.What.TheVariants.{Refused, Answered}
+use Rattle.feeders.specs.Steps.{Taken}
+
+-- what became of one element: it was refused by its form or by the pairing; nothing was to be done; its edit was
+-- entered in the journal of its register's shard, at a number and with a reply; its question was answered
+pub data Doing : Type 0 where
+  refused : (code : Code) → Doing
+  nothing : Doing
+  entered : (register : RegId) (edit : Edit) (number : ℕ) (reply : Reply) → Doing
+  answered : (register : RegId) (answer : Answer) → Doing
+
+-- the step that it was done for
+abbrev pub taken_of : Doing → Taken
+taken_of (refused code) = Err code
+taken_of nothing = Ok None
+taken_of (entered register edit number reply) = Ok (Some (steps.Edit register edit))
+taken_of (answered register answer) = Ok (Some (steps.Ask register))
+
+-- the entry of an edit whose register stands in the shard
+abbrev pub entry_in : ℕ → ℕ → ℕ → Doing → Option Numbered
+entry_in shards feeder at (refused code) = None
+entry_in shards feeder at nothing = None
+entry_in shards feeder at (entered register edit number reply) =
+    if register.0 % shards == at then Some (numbered_entry number (entry_of feeder register edit reply)) else None
+entry_in shards feeder at (answered register answer) = None
+
+-- a feeder's entries in a shard, with their numbers, in order
+abbrev pub entered_in : ℕ → ℕ → ℕ → List Doing → List Numbered
+entered_in shards feeder at doings = filter_map (entry_in shards feeder at) doings
+
+-- what is noted of an edit's reply: a refusal
+abbrev pub what_of_reply : Reply → Option What
+what_of_reply (Accepted holds) = None
+what_of_reply (NotAccepted refusal) = Some (Refused (Register refusal))
+
+-- what is noted of a doing: a refusal, whoever refused, and an answer
+abbrev pub what_of : Doing → Option What
+what_of (refused code) = Some (Refused code)
+what_of nothing = None
+what_of (entered register edit number reply) = what_of_reply reply
+what_of (answered register answer) = Some (Answered register answer)
+
+-- a line for it, with the place of its element
+abbrev pub lines_at : ℕ → Option What → List Line
+lines_at place None = []
+lines_at place (Some what) = record { event = place; what = what } ∷ []
+
+-- the lines of doings, of which the first is of the element at this place
+abbrev pub lines_from : ℕ → List Doing → List Line
+lines_from place [] = []
+lines_from place (doing ∷ doings) = lines_at place (what_of doing) ++ lines_from (place + 1) doings
+
+-- the answer is the standing of its register after a legal journal of its shard, which has as many of the
+-- feeder's entries as it entered there before, and the last of these at its number
+pub record IsAnswerAfter (plan : Plan) (feeder : ℕ) (before : List Doing) (register : RegId) (answer : Answer) : Type 0 where
+  pub journal : List Entry
+  pub legal : IsLegalJournal plan (register.0 % plan.shards) journal
+  pub standing : IsStanding plan register.0 journal answer
+  pub own : count_by feeder journal ≡ length (entered_in plan.shards feeder (register.0 % plan.shards) before)
+  pub last : IfSome (last_in (entered_in plan.shards feeder (register.0 % plan.shards) before)) (HasEntry journal)
+
+-- a question was answered so; of the rest its step and its entry say it all
+abbrev pub IsAnsweredAfter : Plan → ℕ → List Doing → Doing → Type 0
+IsAnsweredAfter plan feeder before (refused code) = Unit {0}
+IsAnsweredAfter plan feeder before nothing = Unit {0}
+IsAnsweredAfter plan feeder before (entered register edit number reply) = Unit {0}
+IsAnsweredAfter plan feeder before (answered register answer) = IsAnswerAfter plan feeder before register answer
+
+-- the doings are for these steps, one for each; the lines are what is noted of them; and each question was
+-- answered after what was done before it
+pub record AreDone (plan : Plan) (feeder : ℕ) (steps : List Taken) (lines : List Line) (doings : List Doing) : Type 0 where
+  pub for_steps : map taken_of doings ≡ steps
+  pub noted : lines ≡ lines_from 0 doings
+  pub answers : EachAfter (IsAnsweredAfter plan feeder) [] doings

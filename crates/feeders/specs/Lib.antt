@@ -1,0 +1,9 @@
+-- what the public clauses speak of
+pub mod Steps
+pub mod Broken
+pub mod Doings
+pub mod Run
+pub mod Ending
+pub mod Texts
+-- words of private clauses
+pub mod Progress

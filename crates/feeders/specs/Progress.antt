@@ -1,0 +1,58 @@
+-- For private clauses alone: how far a feeder has come, and what it gives.
+use Rattle.std.specs.Prelude.{◌≡◌, ◌<◌, ℕ, List, [], ◌∷◌, ◌++◌, length, Result}
+use Rattle.std.specs.Borrow.{Bor}
+use Rattle.std.specs.Option.{ForSome}
+use Rattle.tower_file.specs.Contents.{Contents}
+use Rattle.jepsen_form.specs.declared.fault.FormFault.{FormFault}
+use Rattle.jepsen_form.specs.declared.item.Item.{Item}
+use Rattle.jepsen_form.specs.declared.item.MomentField.{MomentField}
+use Rattle.pairing.specs.Known.{StandsAfter}
+use Rattle.shards.specs.Plan.{Plan}
+use Rattle.shards.specs.Pass.{IsPassOf, Passed, fresh, told}
+use Rattle.feeders.specs.declared.fed.Fed.{Fed}
+use Rattle.feeders.specs.declared.log.Line.{Line}
+use Rattle.feeders.specs.declared.progress.Progress.{Progress}
+use Rattle.feeders.specs.Steps.{AreItems, Taken, placed, steps_of}
+use Rattle.feeders.specs.Doings.{Doing, AreDone, entered_in}
+
+-- the feeder has done these steps: its pass has the entries of its doings, and its log their lines
+pub record HasDone (plan : Plan) (feeder : ℕ) (pass : Passed) (lines : List Line) (steps : List Taken) : Type 0 where
+  pub doings : List Doing
+  pub done : AreDone plan feeder steps lines doings
+  pub feeder_is : pass.feeder ≡ feeder
+  pub of_plan : IsPassOf plan pass
+  pub own : (at : ℕ) → at < plan.shards → told pass at ≡ entered_in plan.shards feeder at doings
+
+-- the feeder goes on by one step, at the place of its element, whatever those so far are
+abbrev pub GoesOn : Plan → Fed → Fed → ℕ → Taken → Type 0
+GoesOn plan old new place step = (feeder : ℕ) (steps : List Taken) → place ≡ length steps
+    → HasDone plan feeder old.pass old.log.lines.items steps → HasDone plan feeder new.pass new.log.lines.items (steps ++ step ∷ [])
+
+-- each place that the pairing took is before the next
+abbrev pub IsAhead : Progress → Type 0
+IsAhead progress = ForSome progress.pairing.last (λ last. last < progress.place)
+
+-- the state of the program is that of these elements
+pub record IsAt (plan : Plan) (feeder : ℕ) (items : List (Result Item FormFault)) (progress : Progress) : Type 0 where
+  pub place : progress.place ≡ length items
+  pub feeder_is : progress.pairing.feeder ≡ feeder
+  pub pairing : StandsAfter progress.pairing (placed items)
+  pub done : HasDone plan feeder progress.fed.pass progress.fed.log.lines.items (steps_of feeder items)
+
+-- a feeder has gone through its trace, up to the end or to where it broke
+pub record IsFed (plan : Plan) (tower : Contents) (chosen : MomentField) (feeder : ℕ) (trace : List ℕ) (fed : Fed) : Type 0 where
+  pub items : List (Result Item FormFault)
+  pub are : AreItems tower chosen trace fed.log.broken items
+  pub done : HasDone plan feeder fed.pass fed.log.lines.items (steps_of feeder items)
+
+-- each of these passes has gone through its trace
+abbrev pub AreFed : Plan → Contents → MomentField → List Passed → List (Bor (List ℕ)) → List Fed → Type 0
+AreFed plan tower chosen [] [] [] = Unit {0}
+AreFed plan tower chosen (pass ∷ passes) (trace ∷ traces) (fed ∷ feds) =
+    IsFed plan tower chosen pass.feeder trace.now fed × AreFed plan tower chosen passes traces feds
+AreFed plan tower chosen passes traces feds = ⊥
+
+-- nothing was done with any of these passes, each of one of the feeders
+abbrev pub AreFresh : Plan → List Passed → Type 0
+AreFresh plan [] = Unit {0}
+AreFresh plan (pass ∷ passes) = (pass ≡ fresh plan pass.feeder) × (pass.feeder < plan.feeders) × AreFresh plan passes

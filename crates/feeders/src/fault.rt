@@ -1,0 +1,49 @@
+//! Why a run ends without its logs and journals.
+
+ghost use Rattle.std.specs.Prelude.{◌≡◌};
+ghost use Rattle.shards.specs.declared.fault.ShardFault.{ShardFault as AShardFault};
+ghost use Rattle.feeders.specs.declared.fault.RunFault.TheVariants.{Memory as NoMemory};
+
+use shards::ShardFault;
+use std::alloc::{AllocError, AllocFailed};
+use thiserror::Error;
+
+#[derive(Clone, Copy, Debug, PartialEq, Eq, Error)]
+pub enum RunFault {
+    /// A growth was refused.
+    #[error("Memory")]
+    Memory,
+    /// A shard refused an edit, a question or the end.
+    #[error("{0}")]
+    Shard(ShardFault),
+}
+
+impl From<AllocError> for RunFault {
+    ghost from_gives = { λ _ fault. fault ≡ NoMemory };
+
+    fn from(_e: AllocError) -> RunFault {
+        RunFault::Memory
+    }
+}
+
+impl<T: Drop> From<AllocFailed<T>> for RunFault {
+    ghost from_gives = { λ _ fault. fault ≡ NoMemory };
+
+    fn from(_e: AllocFailed<T>) -> RunFault {
+        RunFault::Memory
+    }
+}
+
+/// Want of memory in a shard is want of memory.
+impl From<ShardFault> for RunFault {
+    ghost use Rattle.feeders.specs.Ending.{ended_by};
+
+    ghost from_gives = { λ fault ended. ended ≡ ended_by fault };
+
+    fn from(fault: ShardFault) -> RunFault {
+        match fault {
+            ShardFault::Memory => RunFault::Memory,
+            other => RunFault::Shard(other),
+        }
+    }
+}

@@ -1,0 +1,120 @@
+//! Feeders in threads, by halves.
+
+ghost use Rattle.std.specs.Prelude.{◌≡◌, ◌≤◌, ◌<◌, IfErr, IfOk, length, map, take, drop, vec_len};
+ghost use Rattle.std.specs.Thread.{IsSync};
+ghost use Rattle.feeders.specs.Ending.{MayEnd};
+ghost use Rattle.feeders.specs.Progress.{AreFed, AreFresh};
+
+use crate::fault::RunFault;
+use crate::fed::Fed;
+use crate::log::Log;
+use crate::trace::feed_trace;
+use jepsen_form::MomentField;
+use shards::{Auditor, Gate, Opening, Pass};
+use std::alloc::{AllocError, Global};
+use std::sync::Wait;
+use std::thread::{Threads, join};
+use tower_file::Tower;
+
+/// Goes through each trace with its pass. Of two traces or more the first half is fed by a thread of its own
+/// while this one feeds the rest; where no thread can be made, this one feeds both. Where several feeders fail
+/// the fault of the least one is answered, when all have ended.
+pub fn feed_all<'t, O: Opening + Send + Sync, R: Threads + Wait + Sync, G: Gate>(
+    rt: &R,
+    alloc: Global,
+    auditor: &Auditor<'t, O>,
+    gate: &G,
+    tower: &Tower,
+    field: MomentField,
+    mut passes: Vec<Pass<'t>>,
+    traces: &[&'t [u8]],
+) -> Result<Vec<Fed<'t>>, RunFault>
+    requires some { 0 < O.plan.shards }
+    requires fresh { AreFresh O.plan passes.items }
+    requires each { vec_len passes ≡ length traces.now }
+    ensures fed { IfOk result (λ feds. AreFed O.plan tower.now field passes.entry.items traces.entry.now feds.items) }
+    ensures fault { IfErr result MayEnd }
+{
+    if traces.len() < 2 {
+        return feed_alone(rt, alloc, auditor, gate, tower, field, passes, traces);
+    }
+    let (front, back) = traces.split_at(traces.len() / 2);
+    let rest = passes_from::<O>(&mut passes, front.len())?;
+    let (first, second) = join(
+        rt,
+        || -> Result<Vec<Fed>, RunFault>
+            requires { IsSync R.row × (0 < O.plan.shards) × AreFresh O.plan passes.items × (vec_len passes ≡ length front.now) }
+            ensures fed { IfOk result (λ feds. AreFed O.plan tower.entry.now field passes.entry.items front.entry.now feds.items) }
+            ensures fault { IfErr result MayEnd }
+        { feed_all(rt, alloc, auditor, gate, tower, field, passes, front) },
+        || -> Result<Vec<Fed>, RunFault>
+            requires { IsSync R.row × (0 < O.plan.shards) × AreFresh O.plan rest.items × (vec_len rest ≡ length back.now) }
+            ensures fed { IfOk result (λ feds. AreFed O.plan tower.entry.now field rest.entry.items back.entry.now feds.items) }
+            ensures fault { IfErr result MayEnd }
+        { feed_all(rt, alloc, auditor, gate, tower, field, rest, back) },
+    );
+    let mut feds = first?;
+    let mut more = second?;
+    feds.append(&mut more)?;
+    Ok(feds)
+}
+
+/// One trace with its pass, or none.
+fn feed_alone<'t, O: Opening, R: Wait, G: Gate>(
+    rt: &R,
+    alloc: Global,
+    auditor: &Auditor<'t, O>,
+    gate: &G,
+    tower: &Tower,
+    field: MomentField,
+    mut passes: Vec<Pass<'t>>,
+    traces: &[&'t [u8]],
+) -> Result<Vec<Fed<'t>>, RunFault>
+    requires some { 0 < O.plan.shards }
+    requires fresh { AreFresh O.plan passes.items }
+    requires each { vec_len passes ≡ length traces.now }
+    requires few { length traces.now < 2 }
+    ensures fed { IfOk result (λ feds. AreFed O.plan tower.now field passes.entry.items traces.entry.now feds.items) }
+    ensures fault { IfErr result MayEnd }
+{
+    let mut feds = Vec::new(alloc);
+    let Some(trace) = traces.first() else {
+        return Ok(feds);
+    };
+    let Some(pass) = passes.pop() else {
+        return Ok(feds);
+    };
+    feds.push(feed_trace(rt, alloc, auditor, gate, tower, field, pass, trace)?)?;
+    Ok(feds)
+}
+
+/// Takes away the passes from a number on.
+fn passes_from<'t, O: Opening>(
+    passes: &mut Vec<Pass<'t>>,
+    number: usize,
+) -> Result<Vec<Pass<'t>>, AllocError>
+    requires within { number ≤ vec_len passes.old }
+    requires fresh { AreFresh O.plan passes.old.items }
+    ensures front { IfOk result (λ rest. passes.new.items ≡ take number passes.old.items) }
+    ensures rest { IfOk result (λ rest. rest.items ≡ drop number passes.old.items) }
+    ensures fresh { IfOk result (λ rest. AreFresh O.plan passes.new.items × AreFresh O.plan rest.items) }
+{
+    passes.split_off(number)
+}
+
+/// The passes and the logs.
+pub fn taken_apart<'t>(
+    alloc: Global,
+    feds: Vec<Fed<'t>>,
+) -> Result<(Vec<Pass<'t>>, Vec<Log<'t>>), AllocError>
+    ensures passes { IfOk result (λ parts. parts.0.items ≡ map (λ fed. fed.pass) feds.entry.items) }
+    ensures logs { IfOk result (λ parts. parts.1.items ≡ map (λ fed. fed.log) feds.entry.items) }
+{
+    let mut passes = Vec::with_capacity(alloc, feds.len())?;
+    let mut logs = Vec::with_capacity(alloc, feds.len())?;
+    for fed in feds {
+        passes.push_reserved(fed.pass);
+        logs.push_reserved(fed.log);
+    }
+    Ok((passes, logs))
+}

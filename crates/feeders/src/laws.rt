@@ -1,0 +1,45 @@
+//! What a run's texts are: laws of the definitions. Each is the contract of a function that does nothing.
+
+ghost use Rattle.std.specs.Prelude.{◌≡◌, ◌%◌, ℕ, List, Option, Some, length, All};
+ghost use Rattle.std.specs.List.{AllByRecursion, slice_get};
+ghost use Rattle.intervals.specs.Terms.{Claimed};
+ghost use Rattle.tower_file.specs.Contents.{Contents};
+ghost use Rattle.edn_reader.specs.Grammar.{Piece};
+ghost use Rattle.jepsen_form.specs.declared.item.MomentField.{MomentField};
+ghost use Rattle.shards.specs.declared.entry.Entry.{Entry};
+ghost use Rattle.shards.specs.Plan.{Plan};
+ghost use Rattle.shards.specs.Journal.{IsLegalJournal, standing_of};
+ghost use Rattle.shards.specs.Closing.{Ended, book_of, journal_of};
+ghost use Rattle.feeders.specs.declared.log.Broken.{Broken};
+ghost use Rattle.feeders.specs.declared.log.Log.{Log};
+ghost use Rattle.feeders.specs.Broken.{AreElements};
+ghost use Rattle.feeders.specs.Run.{IsRun};
+ghost use Rattle.feeders.specs.Texts.{Part, text_of, IsLastSettled, IsSlice, Reading, IsOfStep, IsLentByTrace};
+
+/// Each text of an operation that stands after a legal journal is what the last of its accepted edits that makes
+/// something of this text makes of it, and so it is where there is none.
+pub fn the_last_edit_settles_a_text()
+    ensures { (plan : Plan) (at register : ℕ) (journal : List Entry) → IsLegalJournal plan at journal
+        → All (λ op. (part : Part) → IsLastSettled register journal op.id part (text_of part op.parts)) (standing_of register journal) }
+{}
+
+/// The bytes of each element of a trace are those of the trace from its first place on.
+pub fn elements_are_slices()
+    ensures { (trace : List ℕ) (broken : Option Broken) (pieces : List Piece) → AreElements trace broken pieces → AllByRecursion (IsSlice trace) pieces }
+{}
+
+/// Each entry of a journal of a run is the edit of a step of its feeder's trace, and a text that it brings is the
+/// element at the step's place.
+pub fn an_entry_is_the_edit_of_a_step()
+    ensures { (tower : Contents) (chosen : MomentField) (shards : ℕ) (traces : List (List ℕ)) (closed : List Ended) (logs : List Log) → IsRun tower chosen shards traces closed logs
+        → (at number : ℕ) (entry : Entry) → slice_get (journal_of closed at) number ≡ Some entry
+        → (reading : Reading tower chosen traces logs entry.feeder) × (place : ℕ) × IsOfStep entry.feeder reading.trace reading.are.pieces reading.items entry place }
+{}
+
+/// Each text that an operation of a run lends is an element of its feeder's trace: the invocation the one at the
+/// event of its id, the answer and the amendment later ones, each of the last accepted edit that brings it.
+pub fn texts_are_elements_of_their_trace()
+    ensures { (tower : Contents) (chosen : MomentField) (shards : ℕ) (traces : List (List ℕ)) (closed : List Ended) (logs : List Log) → IsRun tower chosen shards traces closed logs
+        → (register : ℕ) (held : Claimed) → book_of closed register ≡ Some held
+        → All (IsLentByTrace tower chosen traces logs register (journal_of closed (register % length closed))) held.ops }
+{}

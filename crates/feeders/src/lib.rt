@@ -1,0 +1,25 @@
+//! Feeders: traces in threads of their own, submitted to the registers of a tower.
+//!
+//!     let run = run_traces(rt, alloc, &tower, &[first, second], MomentField::Index, 2, &NoGate)?;
+//!     // run.closed.book(register), run.closed.journal(shard), run.logs[0].lines, run.logs[1].broken
+//!
+//! Begin with `trace`: an element becomes an item, an item a step, and a step an entry of a journal or a question.
+//! `specs/Steps.antt` says which steps a trace has, `specs/Doings.antt` what is done for them and noted, and
+//! `specs/Run.antt` what a run leaves. `laws` says what these words come to.
+#![tactic(auto)]
+
+mod fault;
+mod fed;
+mod halves;
+pub mod laws;
+mod log;
+mod progress;
+mod run;
+mod trace;
+
+pub use fault::RunFault;
+pub use log::{BreakCode, Broken, Code, Line, Log, What};
+pub use run::{Run, run_traces};
+
+#[cfg(test)]
+mod tests;
