@@ -1,0 +1,125 @@
+-- What is found of the registers, by number.
+use Rattle.std.proofs.Common.{◌≡◌, ◌∙◌, ◌≤◌, ◌<◌, ℕ, zero, suc, ◌+◌, Bool, true, false, List, [], ◌∷◌, ◌++◌, length, Option, Some, None, refl, sym, ap, subst, arith}
+use Rattle.std.proofs.lemmas.Bool.{true≢false, false≢true}
+use Rattle.std.proofs.lemmas.Option.{none-some, same_Some, slice_get_past}
+use Rattle.std.specs.Prelude.{IsSomeAnd, IsSome, option_map, is_some, is_none, not}
+use Rattle.std.specs.Option.{option_map_or}
+use Rattle.std.specs.List.{slice_get}
+use Rattle.intervals.specs.Terms.{Claimed}
+use Rattle.intervals.specs.Kind.{Holds}
+use Rattle.tower_file.specs.Contents.{Contents, Register}
+use Rattle.shards.specs.Closing.{Ended, book_of}
+use Rattle.report.specs.declared.finding.Finding.{Finding}
+use Rattle.report.specs.Finding.{AreFindings, IsFindingOf, IsOfTower, fails_in, holds_in}
+use Rattle.report.specs.Culprit.{Keeps, Fails}
+
+no_book : (book : Option Claimed) → option_map (λ held. held.claim) book ≡ None → book ≡ None
+no_book None is = refl
+no_book (Some held) is = absurd (none-some held.claim (sym is))
+
+-- past the registers there is no book
+past_all : (tower : Contents) (closed : List Ended) (number : ℕ) → IsOfTower tower closed → length tower.registers ≤ number → book_of closed number ≡ None
+past_all tower closed number of_tower past =
+    no_book (book_of closed number) (of_tower number ∙ ap (λ (found : Option Register). option_map (λ (register : Register). register.claim) found) (slice_get_past tower.registers number past))
+
+some_claim : (registers : List Register) (number : ℕ) → number < length registers → is_some (option_map (λ (register : Register). register.claim) (slice_get registers number)) ≡ true
+some_claim [] number within = absurd (omega arith)
+some_claim (register ∷ registers) zero within = refl
+some_claim (register ∷ registers) (suc number) within = some_claim registers number (omega arith)
+
+some_book : (book : Option Claimed) → is_some (option_map (λ (held : Claimed). held.claim) book) ≡ true → IsSome book
+some_book None is = is
+some_book (Some held) is = refl
+
+-- a register of the tower has a book
+pub has_book : (tower : Contents) (closed : List Ended) (number : ℕ) → IsOfTower tower closed → number < length tower.registers → IsSome (book_of closed number)
+has_book tower closed number of_tower within = some_book (book_of closed number) (ap is_some (of_tower number) ∙ some_claim tower.registers number within)
+
+finding_at : (closed : List Ended) (first : ℕ) (findings : List Finding) (k number : ℕ) (finding : Finding) → number ≡ first + k → AreFindings closed first findings → slice_get findings k ≡ Some finding → IsFindingOf (book_of closed number) finding
+finding_at closed first [] k number finding at found is = absurd (none-some finding is)
+finding_at closed first (head ∷ findings) zero number finding at found is =
+    let here : number ≡ first = omega arith in
+    subst (λ (x : Finding). IsFindingOf (book_of closed number) x) (same_Some head finding is) (subst (λ (n : ℕ). IsFindingOf (book_of closed n) head) (sym here) found.0)
+finding_at closed first (head ∷ findings) (suc k) number finding at found is = finding_at closed (first + 1) findings k number finding (omega arith) found.1 is
+
+-- one more finding
+pub found_more : (closed : List Ended) (first : ℕ) (findings : List Finding) (number : ℕ) (finding : Finding) → number ≡ first + length findings → AreFindings closed first findings → IsFindingOf (book_of closed number) finding → AreFindings closed first (findings ++ finding ∷ [])
+found_more closed first [] number finding at found is =
+    let here : number ≡ first = omega arith in
+    (subst (λ (n : ℕ). IsFindingOf (book_of closed n) finding) here is, tt)
+found_more closed first (head ∷ findings) number finding at found is = (found.0, found_more closed (first + 1) findings number finding (omega arith) found.1 is)
+
+-- what a finding says of its book
+
+not_false : (b : Bool) → (b ≡ false → ⊥) → b ≡ true
+not_false true never = refl
+not_false false never = absurd (never refl)
+
+not_is : (b : Bool) → not b ≡ true → b ≡ false
+not_is true is = sym is
+not_is false is = refl
+
+fails_from : (book : Option Claimed) (finding : Finding) → IsFindingOf book finding → is_some finding.witness ≡ true → IsSomeAnd book (λ held. ¬ Holds held.claim held.ops)
+fails_from None finding is some = is
+fails_from (Some held) finding is some = λ holds. true≢false (sym some ∙ is.none.1 holds)
+
+fails_to : (book : Option Claimed) (finding : Finding) → IsFindingOf book finding → IsSomeAnd book (λ held. ¬ Holds held.claim held.ops) → is_some finding.witness ≡ true
+fails_to None finding is fails = absurd is
+fails_to (Some held) finding is fails = not_false (is_some finding.witness) (λ none. fails (is.none.0 none))
+
+holds_from : (book : Option Claimed) (finding : Finding) → IsFindingOf book finding → is_none finding.witness ≡ true → IsSomeAnd book (λ held. Holds held.claim held.ops)
+holds_from None finding is none = is
+holds_from (Some held) finding is none = is.none.0 (not_is (is_some finding.witness) none)
+
+holds_to : (book : Option Claimed) (finding : Finding) → IsFindingOf book finding → IsSomeAnd book (λ held. Holds held.claim held.ops) → is_none finding.witness ≡ true
+holds_to None finding is holds = absurd is
+holds_to (Some held) finding is holds = ap not (is.none.1 holds)
+
+-- a book that is there has a finding, where there is one for each register
+
+nothing_past : (findings : List Finding) (number : ℕ) → slice_get findings number ≡ None → length findings ≤ number
+nothing_past [] number is = omega arith
+nothing_past (finding ∷ findings) zero is = absurd (none-some finding (sym is))
+nothing_past (finding ∷ findings) (suc number) is =
+    let past : length findings ≤ number = nothing_past findings number is in
+    omega arith
+
+pub fails_by : (closed : List Ended) (findings : List Finding) (number : ℕ) → AreFindings closed 0 findings → fails_in findings number ≡ true → Fails closed number
+fails_by closed findings number found is =
+    let by : (found_there : Option Finding) → slice_get findings number ≡ found_there → option_map_or (λ (finding : Finding). is_some finding.witness) found_there false ≡ true → Fails closed number =
+    λ found_there. elim found_there as (λ (o : Option Finding). slice_get findings number ≡ o → option_map_or (λ (finding : Finding). is_some finding.witness) o false ≡ true → Fails closed number) [
+      | None ↦ λ at some. absurd (false≢true some)
+      | Some finding ↦ λ at some. fails_from (book_of closed number) finding (finding_at closed 0 findings number number finding (omega arith) found at) some
+    ] in
+    by (slice_get findings number) refl is
+
+pub holds_by : (closed : List Ended) (findings : List Finding) (number : ℕ) → AreFindings closed 0 findings → holds_in findings number ≡ true → Keeps closed number
+holds_by closed findings number found is =
+    let by : (found_there : Option Finding) → slice_get findings number ≡ found_there → option_map_or (λ (finding : Finding). is_none finding.witness) found_there false ≡ true → Keeps closed number =
+    λ found_there. elim found_there as (λ (o : Option Finding). slice_get findings number ≡ o → option_map_or (λ (finding : Finding). is_none finding.witness) o false ≡ true → Keeps closed number) [
+      | None ↦ λ at some. absurd (false≢true some)
+      | Some finding ↦ λ at some. holds_from (book_of closed number) finding (finding_at closed 0 findings number number finding (omega arith) found at) some
+    ] in
+    by (slice_get findings number) refl is
+
+pub by_fails : (tower : Contents) (closed : List Ended) (findings : List Finding) (number : ℕ) → IsOfTower tower closed → length findings ≡ length tower.registers → AreFindings closed 0 findings → Fails closed number → fails_in findings number ≡ true
+by_fails tower closed findings number of_tower many found fails =
+    let by : (found_there : Option Finding) → slice_get findings number ≡ found_there → option_map_or (λ (finding : Finding). is_some finding.witness) found_there false ≡ true =
+    λ found_there. elim found_there as (λ (o : Option Finding). slice_get findings number ≡ o → option_map_or (λ (finding : Finding). is_some finding.witness) o false ≡ true) [
+      | None ↦ λ at.
+          let past : length findings ≤ number = nothing_past findings number at in
+          absurd (subst (λ (book : Option Claimed). IsSomeAnd book (λ held. ¬ Holds held.claim held.ops)) (past_all tower closed number of_tower (omega arith)) fails)
+      | Some finding ↦ λ at. fails_to (book_of closed number) finding (finding_at closed 0 findings number number finding (omega arith) found at) fails
+    ] in
+    by (slice_get findings number) refl
+
+pub by_holds : (tower : Contents) (closed : List Ended) (findings : List Finding) (number : ℕ) → IsOfTower tower closed → length findings ≡ length tower.registers → AreFindings closed 0 findings → Keeps closed number → holds_in findings number ≡ true
+by_holds tower closed findings number of_tower many found keeps =
+    let by : (found_there : Option Finding) → slice_get findings number ≡ found_there → option_map_or (λ (finding : Finding). is_none finding.witness) found_there false ≡ true =
+    λ found_there. elim found_there as (λ (o : Option Finding). slice_get findings number ≡ o → option_map_or (λ (finding : Finding). is_none finding.witness) o false ≡ true) [
+      | None ↦ λ at.
+          let past : length findings ≤ number = nothing_past findings number at in
+          absurd (subst (λ (book : Option Claimed). IsSomeAnd book (λ held. Holds held.claim held.ops)) (past_all tower closed number of_tower (omega arith)) keeps)
+      | Some finding ↦ λ at. holds_to (book_of closed number) finding (finding_at closed 0 findings number number finding (omega arith) found at) keeps
+    ] in
+    by (slice_get findings number) refl

@@ -1,0 +1,6 @@
+-- what the answers stand on
+pub mod Listings
+pub mod Found
+pub mod Blamed
+pub mod Orders
+pub mod Sections

@@ -1,0 +1,5 @@
+use Rattle.report.proofs.Orders.{order_is}
+use Rattle.report.proofs.order.order_in.Goals as goal
+
+pub returns : goal.returns
+returns c = order_is c.args.book.now c.order.result c.order.ensures.order c.order.ensures.none

@@ -1,0 +1,46 @@
+-- Which registers are to blame.
+use Rattle.std.specs.Prelude.{◌≡◌, ◌<◌, ◌+◌, ◌&&◌, ℕ, Bool, List, [], ◌∷◌, Some, All, AllPairs, Contains, IsSomeAnd, if◌then◌else◌}
+use Rattle.std.specs.List.{list_all, slice_get}
+use Rattle.intervals.specs.declared.operation.RegId.{RegId}
+use Rattle.intervals.specs.Kind.{Holds}
+use Rattle.tower_file.specs.Contents.{Contents, Register}
+use Rattle.shards.specs.Closing.{Ended, book_of}
+use Rattle.report.specs.declared.finding.Finding.{Finding}
+use Rattle.report.specs.Finding.{fails_in, holds_in}
+
+-- the register of this number holds, for what stands when its auditor is closed
+abbrev pub Keeps : List Ended → ℕ → Type 0
+Keeps closed number = IsSomeAnd (book_of closed number) (λ held. Holds held.claim held.ops)
+
+-- it fails
+abbrev pub Fails : List Ended → ℕ → Type 0
+Fails closed number = IsSomeAnd (book_of closed number) (λ held. ¬ Holds held.claim held.ops)
+
+-- a culprit: a register that fails while all its parts hold
+pub record IsCulprit (tower : Contents) (closed : List Ended) (number : ℕ) : Type 0 where
+  pub register : Register
+  pub is : slice_get tower.registers number ≡ Some register
+  pub fails : Fails closed number
+  pub parts : All (λ part. Keeps closed part.0) register.parts
+
+-- all culprits, by number
+pub record AreCulprits (tower : Contents) (closed : List Ended) (culprits : List RegId) : Type 0 where
+  pub rise : AllPairs (λ a b. a.0 < b.0) culprits
+  pub each : All (λ culprit. IsCulprit tower closed culprit.0) culprits
+  pub all : (number : ℕ) → IsCulprit tower closed number → Contains culprits (record { 0 = number })
+
+-- the same as a test, by what is found of all registers
+abbrev pub is_culprit : List Finding → ℕ → Register → Bool
+is_culprit findings number register = fails_in findings number && list_all (λ part. holds_in findings part.0) register.parts
+
+-- the culprits among registers, of which the first has this number
+abbrev pub culprits_from : List Finding → ℕ → List Register → List RegId
+culprits_from findings number [] = []
+culprits_from findings number (register ∷ registers) =
+    if is_culprit findings number register
+    then record { 0 = number } ∷ culprits_from findings (number + 1) registers
+    else culprits_from findings (number + 1) registers
+
+-- the culprits of a tower
+abbrev pub culprits_of : Contents → List Finding → List RegId
+culprits_of tower findings = culprits_from findings 0 tower.registers

@@ -1,0 +1,9 @@
+-- what the public clauses speak of
+pub mod Names
+pub mod Listing
+pub mod Finding
+pub mod Culprit
+pub mod Section
+pub mod Notes
+pub mod Order
+pub mod Report

@@ -1,0 +1,79 @@
+-- What is printed of a register: its verdict, and the operations that show it where it fails.
+use Rattle.std.specs.Prelude.{ℕ, Bool, false, List, [], ◌∷◌, ◌++◌, flat_map, Option, Some, None, is_none, codes, if◌then◌else◌}
+use Rattle.std.specs.Option.{option_map_or}
+use Rattle.std.specs.Borrow.{Bor}
+use Rattle.std.specs.Fmt.{decimal}
+use Rattle.intervals.specs.declared.claim.Holder.{Holder}
+use Rattle.intervals.specs.declared.claim.Holder.TheVariants as holders
+use Rattle.intervals.specs.declared.claim.Kind.{Kind}
+use Rattle.intervals.specs.declared.operation.Op.{Op}
+use Rattle.intervals.specs.Operation.{same_id}
+use Rattle.tower_file.specs.Contents.{Register}
+use Rattle.register_book.specs.declared.fault.Fault.{Fault}
+use Rattle.register_book.specs.declared.fault.Fault.TheVariants as faults
+use Rattle.register_book.specs.declared.fault.Side.{Side}
+use Rattle.register_book.specs.declared.fault.Side.TheVariants as sides
+use Rattle.register_book.specs.declared.fault.Witness.{Witness}
+use Rattle.register_book.specs.declared.fault.Witness.TheVariants.{Wrong, Unwritten, Early, Crossing}
+use Rattle.register_book.specs.Fault.{ids_of, ops_at}
+use Rattle.report.specs.declared.finding.Finding.{Finding}
+use Rattle.report.specs.Names.{printed, kind_word, verdict_word, id_text}
+
+-- the line of a register
+abbrev pub register_line : List ℕ → Kind → Bool → ℕ → List ℕ
+register_line name kind holds operations =
+    codes "register " ++ printed name ++ codes " " ++ kind_word kind ++ codes " " ++ verdict_word holds ++ codes " " ++ decimal operations ++ 10 ∷ []
+
+-- an operation by its id, or the register at first
+abbrev pub holder_text : Holder → List ℕ
+holder_text (holders.Op id) = id_text id
+holder_text holders.Initial = codes "initial"
+
+-- the line of a fault
+abbrev pub fault_line : Fault → List ℕ
+fault_line (faults.Wrong read) = codes "  wrong " ++ id_text read ++ 10 ∷ []
+fault_line (faults.Unwritten read) = codes "  unwritten " ++ id_text read ++ 10 ∷ []
+fault_line (faults.Early read write) = codes "  early " ++ id_text read ++ codes " before " ++ id_text write ++ 10 ∷ []
+fault_line (faults.Crossing a b c d) =
+    codes "  conflict " ++ holder_text a ++ codes " " ++ holder_text b ++ codes " " ++ holder_text c ++ codes " " ++ holder_text d ++ 10 ∷ []
+
+-- the line of a lent text
+abbrev pub part_line : List ℕ → List ℕ
+part_line text = codes "  | " ++ printed text ++ 10 ∷ []
+
+-- the same, where it is there
+abbrev pub part_line_of : Option (Bor (List ℕ)) → List ℕ
+part_line_of None = []
+part_line_of (Some text) = part_line text.now
+
+-- the lines of an operation: its invocation, its answer and its last amendment
+abbrev pub part_lines : Op → List ℕ
+part_lines op = part_line op.parts.invocation.now ++ part_line_of op.parts.answer ++ part_line_of op.parts.amendment
+
+-- two sides are one operation
+abbrev pub is_one : Side → Side → Bool
+is_one (sides.Op a) (sides.Op b) = same_id a.id b.id
+is_one (sides.Op a) sides.Initial = false
+is_one sides.Initial b = false
+
+-- the operations whose lines are printed: of a conflict's second and third, where they are one, it stands once
+abbrev pub shown_of : Witness → List Op
+shown_of (Wrong read) = read ∷ []
+shown_of (Unwritten read) = read ∷ []
+shown_of (Early read write) = read ∷ write ∷ []
+shown_of (Crossing a b c d) = ops_at a ++ ops_at b ++ (if is_one b c then [] else ops_at c) ++ ops_at d
+
+-- the lines of a witness
+abbrev pub witness_text : Witness → List ℕ
+witness_text witness = fault_line (ids_of witness) ++ flat_map part_lines (shown_of witness)
+
+-- the lines of a register
+abbrev pub section_text : Register → Finding → List ℕ
+section_text register finding =
+    register_line register.name register.claim.kind (is_none finding.witness) finding.operations ++ option_map_or witness_text finding.witness []
+
+-- the lines of registers, by number
+abbrev pub sections_text : List Register → List Finding → List ℕ
+sections_text [] findings = []
+sections_text (register ∷ registers) [] = []
+sections_text (register ∷ registers) (finding ∷ findings) = section_text register finding ++ sections_text registers findings

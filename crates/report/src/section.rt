@@ -1,0 +1,227 @@
+//! What is printed of a register.
+
+ghost use Rattle.std.specs.Prelude.{◌≡◌, ◌++◌, ◌∷◌, [], OnOk, string_bytes, is_none, length, flat_map, codes, if◌then◌else◌};
+ghost use Rattle.std.specs.List.{slice_get};
+ghost use Rattle.std.specs.Option.{option_map_or};
+ghost use Rattle.intervals.specs.Operation.{same_id};
+ghost use Rattle.register_book.specs.Fault.{ops_at};
+ghost use Rattle.report.specs.Names.{id_text};
+ghost use Rattle.report.specs.Section.{fault_line, holder_text, is_one as is_one_operation, part_line, part_line_of, part_lines, register_line, section_text, sections_text, shown_of, witness_text};
+
+use crate::finding::Finding;
+use crate::names::{kind_word, name_of, push_id, push_printed, verdict_word};
+use intervals::{Holder, Kind, Op, OpId, RegId};
+use register_book::{Fault, Side, Witness};
+use std::alloc::AllocError;
+use tower_file::Tower;
+
+/// The lines of all registers, by number.
+pub fn push_sections(
+    text: &mut String,
+    tower: &Tower,
+    findings: &[Finding],
+) -> Result<(), AllocError>
+    requires many { length findings.now ≡ length tower.now.registers }
+    ensures { OnOk result (string_bytes text.new ≡ string_bytes text.old ++ sections_text tower.now.registers findings.now) }
+{
+    for number in 0..tower.len() {
+        push_section(text, tower, RegId(number as u32), &findings[number])?;
+    }
+    Ok(())
+}
+
+/// The lines of a register; nothing where there is none of that number.
+fn push_section(
+    text: &mut String,
+    tower: &Tower,
+    id: RegId,
+    finding: &Finding,
+) -> Result<(), AllocError>
+    ensures { OnOk result (string_bytes text.new ≡ string_bytes text.old ++ option_map_or (λ register. section_text register finding.now) (slice_get tower.now.registers id.0) []) }
+{
+    let Some(claim) = tower.claim(id) else {
+        return Ok(());
+    };
+    push_register(
+        text,
+        name_of(tower, id),
+        claim.kind,
+        finding.witness.is_none(),
+        finding.operations,
+    )?;
+    match &finding.witness {
+        Some(witness) => push_witness(text, witness),
+        None => Ok(()),
+    }
+}
+
+/// The line of a register.
+pub fn push_register(
+    text: &mut String,
+    name: &[u8],
+    kind: Kind,
+    holds: bool,
+    operations: u64,
+) -> Result<(), AllocError>
+    ensures { OnOk result (string_bytes text.new ≡ string_bytes text.old ++ register_line name.now kind holds operations) }
+{
+    text.push_str("register ")?;
+    push_printed(text, name)?;
+    text.push_str(" ")?;
+    text.push_str(kind_word(kind))?;
+    text.push_str(" ")?;
+    text.push_str(verdict_word(holds))?;
+    write!(text, " {operations}\n")
+}
+
+fn push_witness(text: &mut String, witness: &Witness) -> Result<(), AllocError>
+    ensures { OnOk result (string_bytes text.new ≡ string_bytes text.old ++ witness_text witness.now) }
+{
+    push_fault(text, witness.ids())?;
+    match witness {
+        Witness::Wrong(read) | Witness::Unwritten(read) => push_parts(text, read),
+        Witness::Early { read, write } => {
+            push_parts(text, read)?;
+            push_parts(text, write)
+        }
+        Witness::Crossing { a, b, c, d } => push_crossing(text, a, b, c, d),
+    }
+}
+
+/// The lines of the operations of a conflict: of its second and third, where they are one, once.
+fn push_crossing(
+    text: &mut String,
+    a: &Side,
+    b: &Side,
+    c: &Side,
+    d: &Side,
+) -> Result<(), AllocError>
+    ensures { OnOk result (string_bytes text.new ≡ string_bytes text.old ++ flat_map part_lines (shown_of (Witness.Crossing a.now b.now c.now d.now))) }
+{
+    push_side(text, a)?;
+    push_side(text, b)?;
+    push_other(text, b, c)?;
+    push_side(text, d)
+}
+
+/// The lines of a side, where it is another operation than the one before it.
+fn push_other(text: &mut String, before: &Side, side: &Side) -> Result<(), AllocError>
+    ensures { OnOk result (string_bytes text.new ≡ string_bytes text.old ++ flat_map part_lines (if is_one_operation before.now side.now then [] else ops_at side.now)) }
+{
+    if is_one(before, side) {
+        return Ok(());
+    }
+    push_side(text, side)
+}
+
+fn is_one(a: &Side, b: &Side) -> bool
+    ensures { result ≡ is_one_operation a.now b.now }
+{
+    match (a, b) {
+        (Side::Op(a), Side::Op(b)) => is_same_id(a.id, b.id),
+        _ => false,
+    }
+}
+
+fn is_same_id(a: OpId, b: OpId) -> bool
+    ensures { result ≡ same_id a b }
+{
+    a.feeder == b.feeder && a.event == b.event
+}
+
+fn push_side(text: &mut String, side: &Side) -> Result<(), AllocError>
+    ensures { OnOk result (string_bytes text.new ≡ string_bytes text.old ++ flat_map part_lines (ops_at side.now)) }
+{
+    match side {
+        Side::Op(op) => push_parts(text, op),
+        Side::Initial => Ok(()),
+    }
+}
+
+fn push_fault(text: &mut String, fault: Fault) -> Result<(), AllocError>
+    ensures { OnOk result (string_bytes text.new ≡ string_bytes text.old ++ fault_line fault) }
+{
+    match fault {
+        Fault::Wrong(read) => push_read(text, "  wrong ", read),
+        Fault::Unwritten(read) => push_read(text, "  unwritten ", read),
+        Fault::Early { read, write } => push_early(text, read, write),
+        Fault::Crossing { a, b, c, d } => push_conflict(text, a, b, c, d),
+    }
+}
+
+fn push_read(text: &mut String, word: &str, read: OpId) -> Result<(), AllocError>
+    ensures { OnOk result (string_bytes text.new ≡ string_bytes text.old ++ word.now ++ id_text read ++ 10 ∷ []) }
+{
+    text.push_str(word)?;
+    push_id(text, read)?;
+    text.push_str("\n")
+}
+
+fn push_early(text: &mut String, read: OpId, write: OpId) -> Result<(), AllocError>
+    ensures { OnOk result (string_bytes text.new ≡ string_bytes text.old ++ fault_line (Fault.Early read write)) }
+{
+    text.push_str("  early ")?;
+    push_id(text, read)?;
+    text.push_str(" before ")?;
+    push_id(text, write)?;
+    text.push_str("\n")
+}
+
+fn push_conflict(
+    text: &mut String,
+    a: Holder,
+    b: Holder,
+    c: Holder,
+    d: Holder,
+) -> Result<(), AllocError>
+    ensures { OnOk result (string_bytes text.new ≡ string_bytes text.old ++ fault_line (Fault.Crossing a b c d)) }
+{
+    text.push_str("  conflict ")?;
+    push_pair(text, a, b)?;
+    text.push_str(" ")?;
+    push_pair(text, c, d)?;
+    text.push_str("\n")
+}
+
+fn push_pair(text: &mut String, a: Holder, b: Holder) -> Result<(), AllocError>
+    ensures { OnOk result (string_bytes text.new ≡ string_bytes text.old ++ holder_text a ++ codes " " ++ holder_text b) }
+{
+    push_holder(text, a)?;
+    text.push_str(" ")?;
+    push_holder(text, b)
+}
+
+fn push_holder(text: &mut String, holder: Holder) -> Result<(), AllocError>
+    ensures { OnOk result (string_bytes text.new ≡ string_bytes text.old ++ holder_text holder) }
+{
+    match holder {
+        Holder::Op(id) => push_id(text, id),
+        Holder::Initial => text.push_str("initial"),
+    }
+}
+
+/// The texts that an operation lends: its invocation, its answer and its last amendment.
+fn push_parts(text: &mut String, op: &Op) -> Result<(), AllocError>
+    ensures { OnOk result (string_bytes text.new ≡ string_bytes text.old ++ part_lines op.now) }
+{
+    push_part(text, op.parts.invocation)?;
+    push_part_of(text, op.parts.answer)?;
+    push_part_of(text, op.parts.amendment)
+}
+
+fn push_part_of(text: &mut String, part: Option<&[u8]>) -> Result<(), AllocError>
+    ensures { OnOk result (string_bytes text.new ≡ string_bytes text.old ++ part_line_of part.entry) }
+{
+    match part {
+        Some(part) => push_part(text, part),
+        None => Ok(()),
+    }
+}
+
+fn push_part(text: &mut String, part: &[u8]) -> Result<(), AllocError>
+    ensures { OnOk result (string_bytes text.new ≡ string_bytes text.old ++ part_line part.now) }
+{
+    text.push_str("  | ")?;
+    push_printed(text, part)?;
+    text.push_str("\n")
+}
