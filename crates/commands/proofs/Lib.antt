@@ -1,2 +1,6 @@
+pub mod Readings
 pub mod Endings
-pub mod Listings
+mod AloneReplies
+mod AloneRefusals
+mod AloneJournal
+mod Alone

@@ -1,5 +1,7 @@
 pub mod Input
-pub mod Listing
-pub mod Verdict
 pub mod Complaint
+pub mod Status
+pub mod Verdict
+pub mod Audit
+pub mod Checked
 pub mod Run

@@ -1,31 +1,60 @@
 -- What the command `safe` prints of a trace, and its status.
-use Rattle.std.specs.Prelude.{◌≡◌, ℕ, Bool, List, [], ◌∷◌, ◌++◌, Option, Some, None, Result, codes, if◌then◌else◌}
-use Rattle.std.specs.Fmt.{decimal}
+use Rattle.std.specs.Prelude.{◌≡◌, ◌↔◌, ◌==◌, ℕ, Bool, not, List, [], ◌∷◌, ◌++◌, length, filter_map, Option, Some, None, Result, Ok, Err, IsSome, IsTrue, is_some, codes, if◌then◌else◌}
 use Rattle.std.specs.Io.KnownBytes.{Appends}
-use Rattle.edn_reader.specs.declared.fault.EdnFault.{EdnFault}
+use Rattle.intervals.specs.declared.claim.Kind.TheVariants.{Safe}
+use Rattle.intervals.specs.declared.edit.Edit.{Edit}
+use Rattle.intervals.specs.declared.operation.Op.{Op}
+use Rattle.intervals.specs.Kind.{Holds}
+use Rattle.intervals.specs.Refusal.{reply_to, standing}
 use Rattle.jepsen_form.specs.declared.fault.FormFault.{FormFault}
 use Rattle.jepsen_form.specs.declared.item.Item.{Item}
 use Rattle.jepsen_form.specs.declared.item.MomentField.TheVariants.{Index}
-use Rattle.replay.specs.Steps.{AreItems}
-use Rattle.tower_file.specs.Alone.{alone_tower}
-use Rattle.replay.specs.Audit.{IsVerdict}
+use Rattle.pairing.specs.declared.step.Step.TheVariants as steps
+use Rattle.tower_file.specs.Alone.{alone_claim, alone_tower}
+use Rattle.feeders.specs.declared.log.Broken.{Broken}
+use Rattle.feeders.specs.Steps.{AreItems, Taken, steps_of}
+use Rattle.report.specs.Section.{register_line}
+use Rattle.commands.specs.Status.{status_of}
 
--- the word of a verdict
-abbrev pub verdict_word : Bool → List ℕ
-verdict_word holds = if holds then codes "holds" else codes "fails"
+-- the edit of a step, where it goes to the register of this number
+abbrev pub edit_to : ℕ → Taken → Option Edit
+edit_to number (Err code) = None
+edit_to number (Ok None) = None
+edit_to number (Ok (Some (steps.Edit register edit))) = if register.0 == number then Some edit else None
+edit_to number (Ok (Some (steps.Ask register))) = None
+
+-- the operations that stand of the register after steps
+abbrev pub standing_after : List Taken → List Op
+standing_after taken = standing alone_claim [] (filter_map (edit_to 0) taken)
+
+-- a step behind these is refused: by its element's form, by the pairing, or by the register as it stands
+abbrev pub IsRefused : List Taken → Taken → Type 0
+IsRefused before (Err code) = Unit {0}
+IsRefused before (Ok None) = ⊥
+IsRefused before (Ok (Some (steps.Edit register edit))) = IsSome (reply_to alone_claim (standing_after before) edit)
+IsRefused before (Ok (Some (steps.Ask register))) = ⊥
+
+-- one of the steps is refused
+pub record HasRefused (taken : List Taken) : Type 0 where
+  pub before : List Taken
+  pub step : Taken
+  pub rest : List Taken
+  pub parts : taken ≡ before ++ step ∷ rest
+  pub refused : IsRefused before step
+
+-- the verdict on what stands after these elements, how much stands, and whether one of them was refused
+pub record IsVerdict (items : List (Result Item FormFault)) (holds refused : Bool) (operations : ℕ) : Type 0 where
+  pub verdict : IsTrue holds ↔ Holds alone_claim (standing_after (steps_of 0 items))
+  pub count : operations ≡ length (standing_after (steps_of 0 items))
+  pub refusals : IsTrue refused ↔ HasRefused (steps_of 0 items)
 
 -- the line of the register, with its line end
 abbrev pub verdict_line : Bool → ℕ → List ℕ
-verdict_line holds operations = codes "register r safe " ++ verdict_word holds ++ codes " " ++ decimal operations ++ 10 ∷ []
-
--- 2 where the trace broke, else 1 where the register fails, else 3 where an element was refused, else 0
-abbrev pub status_of : Option EdnFault → Bool → Bool → ℕ
-status_of (Some fault) holds refused = 2
-status_of None holds refused = if holds then (if refused then 3 else 0) else 1
+verdict_line holds operations = register_line (codes "r") Safe holds operations
 
 -- an input was audited up to its end or its first fault: the line was written, and the status says what it says
 pub record IsAudited (input : List ℕ) (status : ℕ) (old new : Option (List ℕ)) : Type 0 where
-  pub broken : Option EdnFault
+  pub broken : Option Broken
   pub items : List (Result Item FormFault)
   pub are : AreItems alone_tower Index input broken items
   pub holds : Bool
@@ -33,4 +62,4 @@ pub record IsAudited (input : List ℕ) (status : ℕ) (old new : Option (List �
   pub operations : ℕ
   pub verdict : IsVerdict items holds refused operations
   pub written : Appends old new (verdict_line holds operations)
-  pub status_is : status ≡ status_of broken holds refused
+  pub status_is : status ≡ status_of (is_some broken) (not holds) refused

@@ -2,10 +2,12 @@
 
 ghost use Rattle.std.specs.Prelude.{◌≡◌, ◌≢◌, ◌∷◌, ◌++◌, [], Some, IfOk, IfSome, codes, string_bytes};
 ghost use Rattle.tower_file.specs.Tower.{code_of};
-ghost use Rattle.commands.specs.Complaint.{complaint_of};
+ghost use Rattle.commands.specs.Complaint.{complaint_of, shard_code as code_of_shard};
 
 use crate::input::InputFault;
-use crate::listing::push_printed;
+use feeders::RunFault;
+use report::{ReportFault, push_printed};
+use shards::ShardFault;
 use std::alloc::{AllocError, Global};
 use std::io::{self, Write};
 use tower_file::TowerFault;
@@ -13,58 +15,83 @@ use words::no_text;
 
 /// Why a run broke off.
 #[derive(Debug, Drop)]
-pub enum RunFault<'a> {
+pub enum CommandFault<'a> {
     /// The words ask for no command, or for help.
     Usage(clap::Error),
+    TooManyTraces,
     /// A file that cannot be opened or read, or is too long.
     Unreadable(&'a str),
     /// A tower file with a fault, by its code.
     Tower(&'static str),
+    /// The tower has no register of the name whose order is asked for.
+    NoRegister(&'a str),
+    /// A shard refused an edit, a question or the end.
+    Shard(ShardFault),
     Memory,
     Unwritable,
 }
 
-impl<'a> RunFault<'a> {
+impl<'a> CommandFault<'a> {
     /// Words that could not be read: memory was refused, or one is no text.
-    pub fn of_unread(alloc: Global, error: io::Error) -> RunFault<'a> {
+    pub fn of_unread(alloc: Global, error: io::Error) -> CommandFault<'a> {
         if error.kind() == io::ErrorKind::OutOfMemory {
-            RunFault::Memory
+            CommandFault::Memory
         } else {
-            RunFault::of_words(no_text(alloc))
+            CommandFault::of_words(no_text(alloc))
         }
     }
 
     /// Want of memory while the words were read is want of memory.
-    pub fn of_words(error: clap::Error) -> RunFault<'a> {
+    pub fn of_words(error: clap::Error) -> CommandFault<'a> {
         if error.kind() == clap::error::ErrorKind::OutOfMemory {
-            RunFault::Memory
+            CommandFault::Memory
         } else {
-            RunFault::Usage(error)
+            CommandFault::Usage(error)
         }
     }
 
-    pub fn of_input(fault: InputFault, name: &'a str) -> RunFault<'a> {
+    pub fn of_input(fault: InputFault, name: &'a str) -> CommandFault<'a>
+        ensures { result ≢ CommandFault.Unwritable }
+    {
         match fault {
-            InputFault::Memory => RunFault::Memory,
+            InputFault::Memory => CommandFault::Memory,
             InputFault::Failed | InputFault::TooLong | InputFault::TooManyCalls => {
-                RunFault::Unreadable(name)
+                CommandFault::Unreadable(name)
             }
         }
     }
 
-    pub fn of_tower(fault: TowerFault) -> RunFault<'a>
+    pub fn of_tower(fault: TowerFault) -> CommandFault<'a>
         ensures code { fault ≢ TowerFault.Memory → complaint_of result ≡ Some (codes "regaudit: tower " ++ code_of fault ++ 10 ∷ []) }
-        ensures memory { fault ≡ TowerFault.Memory → result ≡ RunFault.Memory }
+        ensures memory { fault ≡ TowerFault.Memory → result ≡ CommandFault.Memory }
     {
         match fault {
-            TowerFault::Memory => RunFault::Memory,
-            _ => RunFault::Tower(fault.code()),
+            TowerFault::Memory => CommandFault::Memory,
+            _ => CommandFault::Tower(fault.code()),
+        }
+    }
+
+    pub fn of_run(fault: RunFault) -> CommandFault<'a>
+        ensures { result ≢ CommandFault.Unwritable }
+    {
+        match fault {
+            RunFault::Memory => CommandFault::Memory,
+            RunFault::Shard(fault) => CommandFault::Shard(fault),
+        }
+    }
+
+    pub fn of_report(fault: ReportFault) -> CommandFault<'a>
+        ensures { result ≢ CommandFault.Unwritable → fault ≡ ReportFault.Memory }
+    {
+        match fault {
+            ReportFault::Memory => CommandFault::Memory,
+            ReportFault::Write => CommandFault::Unwritable,
         }
     }
 }
 
 /// Says why a run broke off, in one write. Where there is no memory for it, that is said.
-pub fn say<E: Write>(alloc: Global, fault: RunFault<'_>, err: &mut E) {
+pub fn say<E: Write>(alloc: Global, fault: CommandFault<'_>, err: &mut E) {
     let _ = match complaint(alloc, &fault) {
         Ok(text) => err.write_all(text.as_bytes()),
         Err(_) => err.write_all(b"regaudit: out of memory\n"),
@@ -72,24 +99,48 @@ pub fn say<E: Write>(alloc: Global, fault: RunFault<'_>, err: &mut E) {
 }
 
 /// What is said on standard error.
-fn complaint(alloc: Global, fault: &RunFault<'_>) -> Result<String, AllocError>
+fn complaint(alloc: Global, fault: &CommandFault<'_>) -> Result<String, AllocError>
     ensures { IfOk result (λ text. IfSome (complaint_of fault.now) (λ said. string_bytes text ≡ said)) }
 {
     let mut text = String::new(alloc);
     match fault {
-        RunFault::Usage(error) => write!(text, "{error}")?,
-        RunFault::Unreadable(name) => {
+        CommandFault::Usage(error) => write!(text, "{error}")?,
+        CommandFault::TooManyTraces => text.push_str("regaudit: too many traces\n")?,
+        CommandFault::Unreadable(name) => {
             text.push_str("regaudit: cannot read ")?;
             push_printed(&mut text, name.as_bytes())?;
             text.push_str("\n")?;
         }
-        RunFault::Tower(code) => {
+        CommandFault::Tower(code) => {
             text.push_str("regaudit: tower ")?;
             text.push_str(code)?;
             text.push_str("\n")?;
         }
-        RunFault::Memory => text.push_str("regaudit: out of memory\n")?,
-        RunFault::Unwritable => text.push_str("regaudit: cannot write\n")?,
+        CommandFault::NoRegister(name) => {
+            text.push_str("regaudit: no register ")?;
+            push_printed(&mut text, name.as_bytes())?;
+            text.push_str("\n")?;
+        }
+        CommandFault::Shard(fault) => {
+            text.push_str("regaudit: ")?;
+            text.push_str(shard_code(*fault))?;
+            text.push_str("\n")?;
+        }
+        CommandFault::Memory => text.push_str("regaudit: out of memory\n")?,
+        CommandFault::Unwritable => text.push_str("regaudit: cannot write\n")?,
     }
     Ok(text)
+}
+
+fn shard_code(fault: ShardFault) -> &'static str
+    ensures { result.now ≡ code_of_shard fault }
+{
+    match fault {
+        ShardFault::UnknownRegister => "S1",
+        ShardFault::Memory => "S2",
+        ShardFault::JournalBehind { .. } => "S3",
+        ShardFault::PassMissing(_) => "S4",
+        ShardFault::Stranger { .. } => "S5",
+        ShardFault::ForeignPass => "S6",
+    }
 }

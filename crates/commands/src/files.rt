@@ -1,7 +1,11 @@
 //! Files by their names.
 
-ghost use Rattle.std.specs.Prelude.{◌≡◌, ℕ, List, Option, Some, None, IfOk, IfSome};
+ghost use Rattle.std.specs.Prelude.{◌≡◌, ◌≢◌, ℕ, List, Option, Some, None, IfOk, IfErr, IfSome, map, length, vec_len};
+ghost use Rattle.commands.specs.Run.{AreHeld};
 
+use crate::fault::CommandFault;
+use crate::input::read_whole;
+use std::alloc::Global;
 use std::io::Read;
 use std::{fs, rt};
 
@@ -17,7 +21,8 @@ pub trait Files {
     ghost held: { Self → List ℕ → Option (List ℕ) } = { λ _ _. None };
 
     fn open(&mut self, name: &str) -> Result<Self::Reader, Missing>
-        ensures { IfOk result (λ reader. IfSome (held self.old name.now) (λ bytes. Self.Reader.remaining reader ≡ Some bytes)) };
+        ensures reader { IfOk result (λ reader. IfSome (held self.old name.now) (λ bytes. Self.Reader.remaining reader ≡ Some bytes)) }
+        ensures stays { held self.new ≡ held self.old };
 }
 
 /// The files of the machine that the program runs on.
@@ -41,4 +46,42 @@ impl<R: rt::Files> Files for HostFiles<'_, R> {
             Err(_) => Err(Missing),
         }
     }
+}
+
+/// All the bytes of a file.
+pub fn read_file<'a, F: Files>(
+    alloc: Global,
+    files: &mut F,
+    name: &'a str,
+) -> Result<Vec<u8>, CommandFault<'a>>
+    ensures held { IfOk result (λ bytes. IfSome (F.held files.old name.entry.now) (λ known. bytes.items ≡ known)) }
+    ensures stays { F.held files.new ≡ F.held files.old }
+    ensures quiet { IfErr result (λ fault. fault ≢ CommandFault.Unwritable) }
+{
+    let Ok(mut file) = files.open(name) else {
+        return Err(CommandFault::Unreadable(name));
+    };
+    match read_whole(alloc, &mut file) {
+        Ok(bytes) => Ok(bytes),
+        Err(fault) => Err(CommandFault::of_input(fault, name)),
+    }
+}
+
+/// All the bytes of each file, in order.
+pub fn read_files<'a, F: Files>(
+    alloc: Global,
+    files: &mut F,
+    names: &[&'a str],
+) -> Result<Vec<Vec<u8>>, CommandFault<'a>>
+    ensures held { IfOk result (λ texts. (known : List (List ℕ)) → AreHeld (F.held files.old) (map (λ name. name.now) names.entry.now) known → map (λ text. text.items) texts.items ≡ known) }
+    ensures many { IfOk result (λ texts. vec_len texts ≡ length names.entry.now) }
+    ensures quiet { IfErr result (λ fault. fault ≢ CommandFault.Unwritable) }
+{
+    let Ok(mut texts) = Vec::with_capacity(alloc, names.len()) else {
+        return Err(CommandFault::Memory);
+    };
+    for name in names {
+        texts.push_reserved(read_file(alloc, files, name)?);
+    }
+    Ok(texts)
 }

@@ -10,15 +10,19 @@
 //! broke off. `specs/Run.antt` says what a run did, `specs/Verdict.antt` what it printed.
 #![tactic(auto)]
 
+mod check;
 mod commands;
 mod fault;
 mod files;
 mod input;
-mod listing;
+mod safe;
+mod status;
+mod write;
 
-pub use commands::{BROKEN, conclude, run, run_safe, run_words, words_of};
-pub use fault::RunFault;
+pub use commands::{conclude, run, run_safe, run_words, words_of};
+pub use fault::CommandFault;
 pub use files::{Files, HostFiles, Missing};
+pub use status::BROKEN;
 
 #[cfg(test)]
 mod tests;

@@ -1,13 +1,15 @@
 //! What no row of data shows: readings and writings that fail or are cut, limits, and want of memory.
 
 use crate::commands::{conclude, run, run_safe, run_words};
-use crate::fault::RunFault;
+use crate::fault::CommandFault;
 use crate::files::{Files, Missing};
 use crate::input::{read_whole, read_within};
 use std::alloc::{AllocError, Global};
 use std::io::{self, Error, ErrorKind, Read, Write};
 use std::process::Abort;
+use std::sync::Wait;
 use std::test::Fail;
+use std::thread::Threads;
 
 const TRACE: &[u8] = b"{:process 0 :type :invoke :f :write :value 1 :index 0}
 {:process 0 :type :ok :f :write :value 1 :index 1}
@@ -58,7 +60,11 @@ impl Read for Source<'_> {
 }
 
 /// What the command `safe` writes to its outputs, and its status.
-fn told(alloc: Global, rt: &impl AllocGlobal, mut input: Source<'_>) -> Result<String, Fail> {
+fn told<A: AllocGlobal + Threads + Wait + Sync>(
+    alloc: Global,
+    rt: &A,
+    mut input: Source<'_>,
+) -> Result<String, Fail> {
     let mut out = Vec::new(alloc);
     let mut err = Vec::new(alloc);
     let status = run_safe(rt, &mut input, &mut out, &mut err);
@@ -89,6 +95,69 @@ fn a_reading_that_fails_is_told(rt: HostRuntime) -> Result<(), Fail> {
     failing.fails_at = 3;
     let found = told(rt.alloc(), &rt, failing)?;
     assert!(rt; found.as_str() == "regaudit: cannot read -\n2");
+    Ok(())
+}
+
+/// A tower file, then traces, whatever their names. One of them fails at one read call.
+#[derive(Drop)]
+struct InTurn {
+    opened: u32,
+    fails_in: u32,
+    fails_at: u32,
+}
+
+impl Files for InTurn {
+    type Reader = Source<'static>;
+
+    fn open(&mut self, _name: &str) -> Result<Source<'static>, Missing> {
+        self.opened = self.opened.saturating_add(1);
+        let mut file = Source::new(if self.opened == 1 { TOWER } else { TRACE });
+        file.piece = 90;
+        if self.opened == self.fails_in {
+            file.fails_at = self.fails_at;
+        }
+        Ok(file)
+    }
+}
+
+/// What `check` says on standard error, and its status, where that file fails at that call.
+fn said_of_a_failing_file<A: AllocGlobal + Threads + Wait + Sync>(
+    rt: &A,
+    fails_in: u32,
+    fails_at: u32,
+) -> Result<String, Fail> {
+    let files = &mut InTurn {
+        opened: 0,
+        fails_in,
+        fails_at,
+    };
+    let mut out = Vec::new(rt.alloc());
+    let mut err = Vec::new(rt.alloc());
+    let words = ["regaudit", "check", "--tower", "tower", "first", "second"];
+    let outcome = run_words(rt, &words, files, &mut Source::new(b""), &mut out);
+    let status = conclude(rt, outcome, &mut err);
+    let mut text = String::from_utf8(err)?;
+    write!(text, "{status} {}", out.len())?;
+    Ok(text)
+}
+
+/// The file of a place among those that are opened takes so many calls, the one that finds its end
+/// among them. Where one of them fails nothing is written.
+#[test]
+fn a_file_that_fails_at_any_call_is_told(rt: HostRuntime) -> Result<(), Fail> {
+    for (place, calls, wanted) in [
+        (1, 2, "regaudit: cannot read tower\n2 0"),
+        (2, 4, "regaudit: cannot read first\n2 0"),
+        (3, 4, "regaudit: cannot read second\n2 0"),
+    ] {
+        for call in 1..=calls + 1 {
+            let found = said_of_a_failing_file(&rt, place, call)?;
+            assert!(rt;
+                (found.as_str() == wanted) == (call <= calls),
+                "{place} {call} {found}"
+            );
+        }
+    }
     Ok(())
 }
 
@@ -151,9 +220,15 @@ impl<'t> Files for OneFile<'t> {
     }
 }
 
+const SAFE: &[&str] = &["regaudit", "safe", "file"];
+
+const LIST: &[&str] = &["regaudit", "tower", "file"];
+
+const CHECK: &[&str] = &["regaudit", "check", "--tower", "file", "file"];
+
 /// What a command says on standard error, and its status, where its output takes one write.
-fn said_of_one_write(
-    rt: &impl AllocGlobal,
+fn said_of_one_write<A: AllocGlobal + Threads + Wait + Sync>(
+    rt: &A,
     words: &[&str],
     flushes: bool,
 ) -> Result<Vec<u8>, AllocError> {
@@ -172,24 +247,21 @@ fn said_of_one_write(
 
 #[test]
 fn a_flush_that_fails_is_told(rt: HostRuntime) -> Result<(), Fail> {
-    for words in [["regaudit", "safe", "file"], ["regaudit", "tower", "file"]] {
-        let said = said_of_one_write(&rt, &words, false)?;
+    for words in [SAFE, LIST, CHECK] {
+        let said = said_of_one_write(&rt, words, false)?;
         assert!(rt; said.as_slice() == b"regaudit: cannot write\n\x02".as_slice());
     }
     Ok(())
 }
 
 #[test]
-fn a_line_leaves_in_one_write(rt: HostRuntime) -> Result<(), Fail> {
-    for (words, status) in [
-        (["regaudit", "safe", "file"], 3),
-        (["regaudit", "tower", "file"], 0),
-    ] {
-        let said = said_of_one_write(&rt, &words, true)?;
+fn a_text_leaves_in_one_write(rt: HostRuntime) -> Result<(), Fail> {
+    for (words, status) in [(SAFE, 3), (LIST, 0), (CHECK, 3)] {
+        let said = said_of_one_write(&rt, words, true)?;
         assert!(rt; said.as_slice() == [status].as_slice());
     }
     let mut err = Once::new(true);
-    let status = conclude(&rt, Err(RunFault::Unreadable("a name")), &mut err);
+    let status = conclude(&rt, Err(CommandFault::Unreadable("a name")), &mut err);
     assert!(rt; status == 2 && err.writes == 1);
     Ok(())
 }
@@ -239,26 +311,29 @@ fn the_65_537th_register_is_too_many(rt: HostRuntime) -> Result<(), Fail> {
 /// same run again gives what it would have given.
 #[test]
 fn refused_memory_is_told(rt: HostRuntime) -> Result<(), Fail> {
-    for (words, line, status) in [
-        (
-            ["regaudit", "safe", "trace"],
-            b"register r safe holds 0\n".as_slice(),
-            3,
-        ),
-        (["regaudit", "tower", "tower"], b"0 top x atomic\n", 0),
+    for (words, text, status) in [
+        (SAFE, "register r safe holds 0\n", 3),
+        (LIST, "0 top x atomic\n", 0),
+        (CHECK, "register x atomic holds 0\nrefused 0:0 F2\n", 3),
     ] {
-        let first = is_carried_out(&rt, &words, line, status);
+        let first = is_carried_out(&rt, words, text.as_bytes(), status);
         assert!(rt;
             first == Some(true)
-                || first == Some(false) && is_carried_out(&rt, &words, line, status) == Some(true)
+                || first == Some(false)
+                    && is_carried_out(&rt, words, text.as_bytes(), status) == Some(true)
         );
     }
     Ok(())
 }
 
-/// Whether the run found the memory that it wanted and wrote its line, or said that memory was
+/// Whether the run found the memory that it wanted and wrote its text, or said that memory was
 /// refused and wrote nothing. Its outputs take none.
-fn is_carried_out(rt: &impl AllocGlobal, words: &[&str], line: &[u8], status: u8) -> Option<bool> {
+fn is_carried_out<A: AllocGlobal + Threads + Wait + Sync>(
+    rt: &A,
+    words: &[&str],
+    text: &[u8],
+    status: u8,
+) -> Option<bool> {
     let mut printed = [0u8; 64];
     let mut said = [0u8; 64];
     let mut out = printed.as_mut_slice();
@@ -274,7 +349,7 @@ fn is_carried_out(rt: &impl AllocGlobal, words: &[&str], line: &[u8], status: u8
     let (unwritten, unsaid) = (out.len(), err.len());
     let out = printed.get(..64usize.saturating_sub(unwritten))?;
     let err = said.get(..64usize.saturating_sub(unsaid))?;
-    if answer == status && out == line && err.is_empty() {
+    if answer == status && out == text && err.is_empty() {
         return Some(true);
     }
     if answer == 2 && out.is_empty() && err == b"regaudit: out of memory\n".as_slice() {

@@ -1,4 +1,4 @@
-//! Judges a trace of one safe register, and lists the registers of a tower.
+//! Audits the registers of a tower by traces, judges a trace of one safe register, and lists the registers of a tower.
 #![tactic(auto)]
 
 use commands::{HostFiles, run, words_of};

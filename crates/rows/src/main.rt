@@ -34,6 +34,8 @@ use commands::{run, words_of};
 use std::io::Write;
 use std::process::ExitCode;
 use std::rt::{Env, Files};
+use std::sync::Wait;
+use std::thread::Threads;
 use std::{fs, io};
 
 fn main(rt: HostRuntime) -> ExitCode {
@@ -48,7 +50,7 @@ fn main(rt: HostRuntime) -> ExitCode {
 }
 
 /// Prints the words that were handed over, and goes over the rows of each subject.
-fn is_all_as_said<R: Env + Files + Print + AllocGlobal, E: Write>(
+fn is_all_as_said<R: Env + Files + Print + AllocGlobal + Threads + Wait + Sync, E: Write>(
     rt: &R,
     err: &mut E,
 ) -> io::Result<bool> {
@@ -63,7 +65,7 @@ fn is_all_as_said<R: Env + Files + Print + AllocGlobal, E: Write>(
 }
 
 /// What stands before the first row of a file is for its readers.
-fn is_subject_as_said<R: Files + Print + AllocGlobal, E: Write>(
+fn is_subject_as_said<R: Files + Print + AllocGlobal + Threads + Wait + Sync, E: Write>(
     rt: &R,
     subject: &str,
     err: &mut E,
@@ -82,7 +84,7 @@ fn is_subject_as_said<R: Files + Print + AllocGlobal, E: Write>(
     Ok(same)
 }
 
-fn is_row_as_said<R: Files + Print + AllocGlobal, E: Write>(
+fn is_row_as_said<R: Files + Print + AllocGlobal + Threads + Wait + Sync, E: Write>(
     rt: &R,
     row: &Row,
     err: &mut E,
@@ -96,7 +98,7 @@ fn is_row_as_said<R: Files + Print + AllocGlobal, E: Write>(
     Ok(true)
 }
 
-fn is_run_as_said<R: Files + AllocGlobal, E: Write>(
+fn is_run_as_said<R: Files + AllocGlobal + Threads + Wait + Sync, E: Write>(
     rt: &R,
     row: &Row,
     mut input: &[u8],

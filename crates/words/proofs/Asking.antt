@@ -1,9 +1,10 @@
--- What clap finds in words that are no options.
-use Rattle.std.proofs.Common.{◌≡◌, ◌==◌, ◌||◌, ℕ, Bool, true, false, not, [], ◌∷◌, length, Some, None, refl, sym, subst, arith, codes}
+-- What words ask for: words that are written out, and names that are no options.
+use Rattle.std.proofs.Common.{◌≡◌, ◌==◌, ◌||◌, ℕ, Bool, true, false, not, [], ◌∷◌, ◌++◌, length, Some, None, refl, sym, subst, arith, codes}
 use Rattle.std.proofs.lemmas.Bool.{eqb-true}
 use Rattle.clap.proofs.OnLiterals.{clap_on_literals}
 use Rattle.clap.specs.Words.{Text, takes}
-use Rattle.words.specs.Words.{Safe, Tower, asked, command_line, is_plain}
+use Rattle.words.specs.declared.check.Moments.TheVariants.{Index, Time}
+use Rattle.words.specs.Words.{Check, Safe, Tower, asked, command_line, is_plain}
 
 pub input : (program : Text) → asked (program ∷ codes "safe" ∷ []) ≡ Some (Safe None)
 unfolding clap_on_literals
@@ -21,7 +22,7 @@ pub any_tower : (program name : Text) → asked (program ∷ codes "tower" ∷ c
 unfolding clap_on_literals
 any_tower program name = refl
 
-pub other : (program : Text) → asked (program ∷ codes "check" ∷ []) ≡ None
+pub other : (program : Text) → asked (program ∷ codes "list" ∷ []) ≡ None
 unfolding clap_on_literals
 other program = refl
 
@@ -42,10 +43,66 @@ pub refused : (takes command_line (codes "regaudit" ∷ codes "safe" ∷ codes "
 unfolding clap_on_literals
 refused = (refl, refl, refl, refl, refl)
 
-pub taken : (takes command_line (codes "regaudit" ∷ codes "safe" ∷ []) ≡ true) × (takes command_line (codes "regaudit" ∷ codes "safe" ∷ codes "a" ∷ []) ≡ true)
-    × (takes command_line (codes "regaudit" ∷ codes "tower" ∷ codes "a" ∷ []) ≡ true) × (takes command_line (codes "regaudit" ∷ codes "tower" ∷ codes "--" ∷ codes "-x" ∷ []) ≡ true)
+pub taken : (takes command_line (codes "regaudit" ∷ codes "safe" ∷ []) ≡ true)
+    × (takes command_line (codes "regaudit" ∷ codes "safe" ∷ codes "a" ∷ []) ≡ true)
+    × (takes command_line (codes "regaudit" ∷ codes "tower" ∷ codes "a" ∷ []) ≡ true)
+    × (takes command_line (codes "regaudit" ∷ codes "tower" ∷ codes "--" ∷ codes "-x" ∷ []) ≡ true)
+    × (takes command_line (codes "regaudit" ∷ codes "check" ∷ codes "--tower=t" ∷ codes "--shards=64" ∷ codes "a" ∷ codes "b" ∷ []) ≡ true)
 unfolding clap_on_literals
-taken = (refl, refl, refl, refl)
+taken = (refl, refl, refl, refl, refl)
+
+pub plain_check : (program : Text) → asked (program ∷ codes "check" ∷ codes "--tower" ∷ codes "t" ∷ codes "a" ∷ [])
+    ≡ Some (Check (record { tower = codes "t"; shards = 1; moments = Index; order = None; traces = codes "a" ∷ [] }))
+unfolding clap_on_literals
+plain_check program = refl
+
+pub whole_check : (program : Text) → asked (program ∷ codes "check" ∷ codes "--tower" ∷ codes "t" ∷ codes "--shards" ∷ codes "64" ∷ codes "--moment" ∷ codes "time" ∷ codes "--order" ∷ codes "x" ∷ codes "a" ∷ [])
+    ≡ Some (Check (record { tower = codes "t"; shards = 64; moments = Time; order = Some (codes "x"); traces = codes "a" ∷ [] }))
+unfolding clap_on_literals
+whole_check program = refl
+
+pub two_traces : (program : Text) → asked (program ∷ codes "check" ∷ codes "--tower" ∷ codes "t" ∷ codes "a" ∷ codes "b" ∷ [])
+    ≡ Some (Check (record { tower = codes "t"; shards = 1; moments = Index; order = None; traces = codes "a" ∷ codes "b" ∷ [] }))
+unfolding clap_on_literals
+two_traces program = refl
+
+pub between_traces : (program : Text) → asked (program ∷ codes "check" ∷ codes "a" ∷ codes "--shards=+2" ∷ codes "b" ∷ codes "--tower=t" ∷ codes "--moment=index" ∷ codes "a" ∷ [])
+    ≡ Some (Check (record { tower = codes "t"; shards = 2; moments = Index; order = None; traces = codes "a" ∷ codes "b" ∷ codes "a" ∷ [] }))
+unfolding clap_on_literals
+between_traces program = refl
+
+pub any_names : (program tower order trace : Text) → asked (program ∷ codes "check" ∷ (codes "--tower=" ++ tower) ∷ (codes "--order=" ++ order) ∷ codes "--" ∷ trace ∷ [])
+    ≡ Some (Check (record { tower = tower; shards = 1; moments = Index; order = Some order; traces = trace ∷ [] }))
+unfolding clap_on_literals
+any_names program tower order trace = refl
+
+pub no_check : (program : Text) → asked (program ∷ codes "check" ∷ []) ≡ None
+unfolding clap_on_literals
+no_check program = refl
+
+pub no_tower : (program : Text) → asked (program ∷ codes "check" ∷ codes "a" ∷ []) ≡ None
+unfolding clap_on_literals
+no_tower program = refl
+
+pub no_trace : (program : Text) → asked (program ∷ codes "check" ∷ codes "--tower" ∷ codes "t" ∷ []) ≡ None
+unfolding clap_on_literals
+no_trace program = refl
+
+pub no_moment : (program : Text) → asked (program ∷ codes "check" ∷ codes "--tower" ∷ codes "t" ∷ codes "--moment" ∷ codes "now" ∷ codes "a" ∷ []) ≡ None
+unfolding clap_on_literals
+no_moment program = refl
+
+pub refused_checks : (takes command_line (codes "regaudit" ∷ codes "check" ∷ []) ≡ false)
+    × (takes command_line (codes "regaudit" ∷ codes "check" ∷ codes "a" ∷ []) ≡ false)
+    × (takes command_line (codes "regaudit" ∷ codes "check" ∷ codes "--tower" ∷ codes "t" ∷ []) ≡ false)
+unfolding clap_on_literals
+refused_checks = (refl, refl, refl)
+
+pub refused_shards : (takes command_line (codes "regaudit" ∷ codes "check" ∷ codes "--tower=t" ∷ codes "--shards=0" ∷ codes "a" ∷ []) ≡ false)
+    × (takes command_line (codes "regaudit" ∷ codes "check" ∷ codes "--tower=t" ∷ codes "--shards=65" ∷ codes "a" ∷ []) ≡ false)
+    × (takes command_line (codes "regaudit" ∷ codes "check" ∷ codes "--tower=t" ∷ codes "--shards=x" ∷ codes "a" ∷ []) ≡ false)
+unfolding clap_on_literals
+refused_shards = (refl, refl, refl)
 
 abbrev AsksSafe : Text → Text → Type 0
 AsksSafe program name = asked (program ∷ codes "safe" ∷ name ∷ []) ≡ Some (Safe (Some name))

@@ -1,2 +1,4 @@
+pub mod Arguments
 pub mod Commands
+pub mod Lines
 pub mod Asking

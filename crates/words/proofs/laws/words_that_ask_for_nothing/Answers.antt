@@ -1,4 +1,4 @@
-use Rattle.words.proofs.Asking.{alone, other, help, no_file, nothing, refused, taken}
+use Rattle.words.proofs.Asking.{alone, other, help, no_file, no_check, no_tower, no_trace, no_moment, nothing, refused, refused_checks, refused_shards, taken}
 use Rattle.words.proofs.laws.words_that_ask_for_nothing.Goals as goal
 
 pub returns-clause-alone : goal.returns-clause-alone
@@ -13,11 +13,29 @@ returns-clause-help c = help
 pub returns-clause-no_file : goal.returns-clause-no_file
 returns-clause-no_file c = no_file
 
+pub returns-clause-no_check : goal.returns-clause-no_check
+returns-clause-no_check c = no_check
+
+pub returns-clause-no_tower : goal.returns-clause-no_tower
+returns-clause-no_tower c = no_tower
+
+pub returns-clause-no_trace : goal.returns-clause-no_trace
+returns-clause-no_trace c = no_trace
+
+pub returns-clause-no_moment : goal.returns-clause-no_moment
+returns-clause-no_moment c = no_moment
+
 pub returns-clause-none : goal.returns-clause-none
 returns-clause-none c = nothing
 
 pub returns-clause-refused : goal.returns-clause-refused
 returns-clause-refused c = refused
+
+pub returns-clause-refused_checks : goal.returns-clause-refused_checks
+returns-clause-refused_checks c = refused_checks
+
+pub returns-clause-refused_shards : goal.returns-clause-refused_shards
+returns-clause-refused_shards c = refused_shards
 
 pub returns-clause-taken : goal.returns-clause-taken
 returns-clause-taken c = taken

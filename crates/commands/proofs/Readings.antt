@@ -1,0 +1,42 @@
+-- What was read of files whose bytes are known.
+use Rattle.std.proofs.Common.{◌≡◌, ◌∙◌, ◌<◌, ℕ, zero, suc, ◌+◌, List, [], ◌∷◌, ◌++◌, map, length, get_or, take, Option, Some, None, sym, ap, subst, rules, arith}
+use Rattle.std.proofs.lemmas.List.{length-map, take_all, take_more}
+use Rattle.std.specs.Prelude.{IfSome}
+use Rattle.std.specs.Borrow.{Bor}
+use Rattle.tower_file.specs.Contents.{Contents}
+use Rattle.tower_file.specs.Tower.{IsTowerOf}
+use Rattle.commands.specs.Run.{AreHeld}
+
+-- the tower that the bytes say is that of the file
+pub said : (held : Option (List ℕ)) (bytes input : List ℕ) (tower : Contents) → IfSome held (λ known. bytes ≡ known) → input ≡ bytes → IsTowerOf input tower → IfSome held (λ file. IsTowerOf file tower)
+said None bytes input tower read same says = search rules
+said (Some known) bytes input tower read same says = subst (λ (b : List ℕ). IsTowerOf b tower) (same ∙ read) says
+
+abbrev tail : List (Option (List ℕ)) → List (Option (List ℕ))
+tail [] = []
+tail (_ ∷ rest) = rest
+
+held_at : (files : List ℕ → Option (List ℕ)) (names : List (Bor (List ℕ))) (known : List (List ℕ)) (i : ℕ) (d : Bor (List ℕ)) → i < length names → AreHeld files (map (λ name. name.now) names) known → files (get_or names i d).now ≡ Some (get_or known i [])
+held_at files [] known i d within held = absurd (omega arith)
+held_at files (name ∷ names) [] i d within held = search rules
+held_at files (name ∷ names) (text ∷ known) zero d within held = ap (λ (found : List (Option (List ℕ))). get_or found 0 None) held
+held_at files (name ∷ names) (text ∷ known) (suc i) d within held = held_at files names known i d (omega arith) (ap tail held)
+
+as_many : (files : List ℕ → Option (List ℕ)) (names : List (Bor (List ℕ))) (known : List (List ℕ)) → AreHeld files (map (λ name. name.now) names) known → length known ≡ length names
+as_many files names known held =
+    sym (length-map known (λ text. Some text)) ∙ sym (ap length held) ∙ length-map (map (λ name. name.now) names) files ∙ length-map names (λ name. name.now)
+
+is_known : (found : Option (List ℕ)) (text known : List ℕ) → found ≡ Some known → IfSome found (λ bytes. text ≡ bytes) → text ≡ known
+is_known found text known is read = let P : Option (List ℕ) → Type 0 = λ o. IfSome o (λ bytes. text ≡ bytes) in subst P is read
+
+-- one more file, behind those so far
+pub read_more : (files later : List ℕ → Option (List ℕ)) (names : List (Bor (List ℕ))) (texts known : List (List ℕ)) (text : List ℕ) (i : ℕ) (d : Bor (List ℕ)) → i < length names → later ≡ files → IfSome (later (get_or names i d).now) (λ bytes. text ≡ bytes) → (AreHeld files (map (λ name. name.now) names) known → texts ≡ take i known) → AreHeld files (map (λ name. name.now) names) known → texts ++ text ∷ [] ≡ take (i + 1) known
+read_more files later names texts known text i d within stays read so_far held =
+    let many = as_many files names known held in
+    let inside : i < length known = omega (arith, many, within) in
+    let at : later (get_or names i d).now ≡ Some (get_or known i []) = ap (λ (f : List ℕ → Option (List ℕ)). f (get_or names i d).now) stays ∙ held_at files names known i d within held in
+    rw (so_far held, is_known _ text _ at read) (sym (take_more known i [] inside))
+
+-- the same files hold the same
+pub held_later : (files later : List ℕ → Option (List ℕ)) (names others : List (Bor (List ℕ))) (known : List (List ℕ)) → later ≡ files → others ≡ names → AreHeld files (map (λ name. name.now) names) known → AreHeld later (map (λ name. name.now) others) known
+held_later files later names others known stays same held = rw (stays, same) held

@@ -1,0 +1,35 @@
+-- The status of a run.
+use Rattle.std.specs.Prelude.{◌<◌, ℕ, Bool, true, false, List, is_some, if◌then◌else◌, length}
+use Rattle.std.specs.List.{list_any}
+use Rattle.tower_file.specs.Contents.{Contents}
+use Rattle.shards.specs.Closing.{Ended}
+use Rattle.feeders.specs.declared.log.Line.{Line}
+use Rattle.feeders.specs.declared.log.Log.{Log}
+use Rattle.feeders.specs.declared.log.What.{What}
+use Rattle.feeders.specs.declared.log.What.TheVariants.{Refused, Answered}
+use Rattle.report.specs.Culprit.{Fails}
+
+-- 2 where a trace broke, else 1 where a register fails, else 3 where an element was refused, else 0
+abbrev pub status_of : Bool → Bool → Bool → ℕ
+status_of broken fails refused = if broken then 2 else if fails then 1 else if refused then 3 else 0
+
+-- a register of the tower fails
+abbrev pub HasFailing : Contents → List Ended → Type 0
+HasFailing tower closed = (number : ℕ) × (number < length tower.registers) × Fails closed number
+
+-- the trace broke
+abbrev pub is_broken : Log → Bool
+is_broken log = is_some log.broken
+
+-- it is noted that an element was refused
+abbrev pub is_refusal : What → Bool
+is_refusal (Refused code) = true
+is_refusal (Answered register answer) = false
+
+-- the same of a line
+abbrev pub is_refused_line : Line → Bool
+is_refused_line line = is_refusal line.what
+
+-- an element of the trace was refused
+abbrev pub has_refused : Log → Bool
+has_refused log = list_any is_refused_line log.lines.items

@@ -1,0 +1,133 @@
+//! The command `check`.
+
+ghost use Rattle.std.specs.Prelude.{◌≡◌, ◌≢◌, ◌≤◌, ◌<◌, ◌∷◌, [], ℕ, List, IfOk, IfErr, IfSome, length, map, option_map};
+ghost use Rattle.tower_file.specs.Tower.{IsTowerOf};
+ghost use Rattle.words.specs.Words.{asked_check};
+ghost use Rattle.commands.specs.Checked.{IsChecked, IsNamed, IsStatus, field_of as field_of_moments};
+ghost use Rattle.commands.specs.Run.{AreHeld};
+
+use crate::fault::CommandFault;
+use crate::files::{Files, read_file, read_files};
+use crate::status::{any_broken, any_fails, any_refused, status};
+use feeders::{Run, run_traces};
+use intervals::RegId;
+use jepsen_form::MomentField;
+use report::laws::a_run_is_of_its_tower;
+use report::report;
+use shards::NoGate;
+use std::alloc::{AllocError, Global};
+use std::io::Write;
+use std::sync::Wait;
+use std::thread::Threads;
+use tower_file::Tower;
+use words::{Check, Moments};
+
+/// The most traces that a run may have.
+const TRACE_LIMIT: usize = 256;
+
+/// Audits the registers of a tower by traces, and writes the report. The faults come in this order: too many
+/// traces, the tower file, the register whose order is asked for, the traces in turn, the run, the writing.
+pub fn check<'a, A: AllocGlobal + Threads + Wait + Sync, F: Files, W: Write>(
+    rt: &A,
+    asked: &Check<'a>,
+    files: &mut F,
+    out: &mut W,
+) -> Result<u8, CommandFault<'a>>
+    requires shards { (1 ≤ asked.now.shards) × (asked.now.shards ≤ 64) }
+    requires traces { 0 < length asked.now.traces.items }
+    ensures checked { IfOk result (λ status. IfSome (F.held files.old asked.entry.now.tower.now) (λ file. (traces : List (List ℕ))
+        → AreHeld (F.held files.old) (map (λ name. name.now) asked.entry.now.traces.items) traces
+        → IsChecked (asked_check asked.entry.now) file traces status (W.contents out.old) (W.contents out.new))) }
+    ensures quiet { IfErr result (λ fault. fault ≢ CommandFault.Unwritable → out.new ≡ out.old) }
+{
+    if asked.traces.len() > TRACE_LIMIT {
+        return Err(CommandFault::TooManyTraces);
+    }
+    let alloc = rt.alloc();
+    let tower = read_tower(alloc, files, asked.tower)?;
+    let order = named(&tower, asked.order)?;
+    let texts = read_files(alloc, files, &asked.traces)?;
+    let Ok(traces) = lent(alloc, &texts) else {
+        return Err(CommandFault::Memory);
+    };
+    a_run_is_of_its_tower();
+    let ran = run_traces(
+        rt,
+        alloc,
+        &tower,
+        &traces,
+        field_of(asked.moments),
+        asked.shards,
+        &NoGate,
+    );
+    let run = match ran {
+        Ok(run) => run,
+        Err(fault) => return Err(CommandFault::of_run(fault)),
+    };
+    match report(alloc, &tower, &run, order, out) {
+        Ok(()) => Ok(status_after(&tower, &run)),
+        Err(fault) => Err(CommandFault::of_report(fault)),
+    }
+}
+
+/// The tower of a file.
+pub fn read_tower<'a, F: Files>(
+    alloc: Global,
+    files: &mut F,
+    name: &'a str,
+) -> Result<Tower, CommandFault<'a>>
+    ensures tower { IfOk result (λ tower. IfSome (F.held files.old name.entry.now) (λ file. IsTowerOf file tower)) }
+    ensures stays { F.held files.new ≡ F.held files.old }
+    ensures quiet { IfErr result (λ fault. fault ≢ CommandFault.Unwritable) }
+{
+    let bytes = read_file(alloc, files, name)?;
+    match Tower::read(alloc, &bytes) {
+        Ok(tower) => Ok(tower),
+        Err(fault) => Err(CommandFault::of_tower(fault)),
+    }
+}
+
+/// The register of that name, where one is asked for.
+fn named<'a>(tower: &Tower, name: Option<&'a str>) -> Result<Option<RegId>, CommandFault<'a>>
+    ensures named { IfOk result (IsNamed tower.now (option_map (λ name. name.now) name.entry)) }
+    ensures within { IfOk result (λ found. IfSome found (λ id. id.0 < length tower.now.registers)) }
+    ensures quiet { IfErr result (λ fault. fault ≢ CommandFault.Unwritable) }
+{
+    let Some(name) = name else {
+        return Ok(None);
+    };
+    match tower.find(name.as_bytes()) {
+        Some(id) => Ok(Some(id)),
+        None => Err(CommandFault::NoRegister(name)),
+    }
+}
+
+/// The texts, lent.
+fn lent<'t>(alloc: Global, texts: &'t [Vec<u8>]) -> Result<Vec<&'t [u8]>, AllocError>
+    ensures { IfOk result (λ traces. map (λ trace. trace.now) traces.items ≡ map (λ text. text.items) texts.entry.now) }
+{
+    let mut traces = Vec::with_capacity(alloc, texts.len())?;
+    for text in texts {
+        traces.push_reserved(text.as_slice());
+    }
+    Ok(traces)
+}
+
+fn field_of(moments: Moments) -> MomentField
+    ensures { result ≡ field_of_moments moments }
+{
+    match moments {
+        Moments::Index => MomentField::Index,
+        Moments::Time => MomentField::Time,
+    }
+}
+
+fn status_after(tower: &Tower, run: &Run) -> u8
+    ensures { IsStatus tower.now run.now.closed run.now.logs.items result }
+{
+    status(
+        any_broken(&run.logs),
+        any_fails(tower, &run.closed),
+        any_refused(&run.logs),
+    )
+}

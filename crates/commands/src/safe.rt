@@ -1,0 +1,128 @@
+//! The command `safe`.
+
+ghost use Rattle.std.specs.Prelude.{◌≡◌, ◌≢◌, ◌↔◌, ◌∷◌, [], IfOk, IfErr, IfSome, IsSome, Some, IsTrue, length, string_bytes};
+ghost use Rattle.intervals.specs.Kind.{Holds};
+ghost use Rattle.intervals.specs.Terms.{Claimed};
+ghost use Rattle.tower_file.specs.Alone.{alone_tower};
+ghost use Rattle.shards.specs.Closing.{book_of};
+ghost use Rattle.feeders.specs.declared.log.Log.{Log as ALog};
+ghost use Rattle.commands.specs.Audit.{IsAudit};
+ghost use Rattle.commands.specs.Status.{has_refused};
+ghost use Rattle.commands.specs.Verdict.{IsAudited, verdict_line};
+
+use crate::fault::CommandFault;
+use crate::status::{is_refused, status};
+use crate::write::write_text;
+use feeders::{Broken, Run, run_traces};
+use intervals::laws::texts_decide_nothing;
+use intervals::{Kind, RegId};
+use jepsen_form::MomentField;
+use report::push_register;
+use shards::NoGate;
+use shards::laws::what_stands_is_after_all_edits;
+use std::alloc::{AllocError, Global};
+use std::io::Write;
+use std::sync::Wait;
+use std::thread::Threads;
+use std::unreachable;
+use tower_file::laws::text_of_one_register;
+use tower_file::{Tower, one_register};
+
+/// What is said of the trace of one register: whether it keeps its kind, how many operations stand, whether an
+/// element was refused, and where the trace broke.
+#[derive(Clone, Copy, Debug)]
+pub struct Audit {
+    pub holds: bool,
+    pub operations: u64,
+    pub refused: bool,
+    pub broken: Option<Broken>,
+}
+
+/// Judges a trace and writes the line of its register.
+pub fn judge<'a, A: AllocGlobal + Threads + Wait + Sync, W: Write>(
+    rt: &A,
+    trace: &[u8],
+    out: &mut W,
+) -> Result<u8, CommandFault<'a>>
+    ensures audited { IfOk result (λ status. IsAudited trace.now status (W.contents out.old) (W.contents out.new)) }
+    ensures quiet { IfErr result (λ fault. fault ≢ CommandFault.Unwritable → out.new ≡ out.old) }
+{
+    let audit = audit_trace(rt, trace)?;
+    let Ok(line) = verdict_text(rt.alloc(), &audit) else {
+        return Err(CommandFault::Memory);
+    };
+    match write_text(out, line.as_str()) {
+        Ok(()) => Ok(status(audit.broken.is_some(), !audit.holds, audit.refused)),
+        Err(_) => Err(CommandFault::Unwritable),
+    }
+}
+
+/// Reads a trace up to its end or its first fault, as the only feeder of the register, in one shard, and judges
+/// what stands then.
+fn audit_trace<'a, A: AllocGlobal + Threads + Wait + Sync>(
+    rt: &A,
+    trace: &[u8],
+) -> Result<Audit, CommandFault<'a>>
+    ensures audit { IfOk result (IsAudit trace.now) }
+    ensures quiet { IfErr result (λ fault. fault ≢ CommandFault.Unwritable) }
+{
+    what_stands_is_after_all_edits();
+    texts_decide_nothing();
+    let Some(tower) = the_tower(rt.alloc()) else {
+        return Err(CommandFault::Memory);
+    };
+    let ran = run_traces(
+        rt,
+        rt.alloc(),
+        &tower,
+        &[trace],
+        MomentField::Index,
+        1,
+        &NoGate,
+    );
+    match ran {
+        Ok(run) => Ok(verdict_of(&run)),
+        Err(fault) => Err(CommandFault::of_run(fault)),
+    }
+}
+
+/// The tower of the register, read from its text; none where memory is refused.
+fn the_tower(alloc: Global) -> Option<Tower>
+    ensures { IfSome result (λ tower. tower ≡ alone_tower) }
+{
+    text_of_one_register();
+    match Tower::read(alloc, one_register()) {
+        Ok(tower) => Some(tower),
+        Err(_) => None,
+    }
+}
+
+/// What a run of one trace over one register says of it.
+fn verdict_of(run: &Run) -> Audit
+    requires one { length run.now.logs.items ≡ 1 }
+    requires there { IsSome (book_of run.now.closed 0) }
+    ensures holds { (held : Claimed) → book_of run.now.closed 0 ≡ Some held → IsTrue result.holds ↔ Holds held.claim held.ops }
+    ensures operations { (held : Claimed) → book_of run.now.closed 0 ≡ Some held → result.operations ≡ length held.ops }
+    ensures refused { (log : ALog) → run.now.logs.items ≡ log ∷ [] → result.refused ≡ has_refused log }
+    ensures broken { (log : ALog) → run.now.logs.items ≡ log ∷ [] → result.broken ≡ log.broken }
+{
+    let log = &run.logs[0];
+    let Some(book) = run.closed.book(RegId(0)) else {
+        unreachable!();
+    };
+    Audit {
+        holds: book.holds(),
+        operations: book.len() as u64,
+        refused: is_refused(log),
+        broken: log.broken,
+    }
+}
+
+/// The line of the register.
+fn verdict_text(alloc: Global, audit: &Audit) -> Result<String, AllocError>
+    ensures { IfOk result (λ text. string_bytes text ≡ verdict_line audit.now.holds audit.now.operations) }
+{
+    let mut text = String::new(alloc);
+    push_register(&mut text, b"r", Kind::Safe, audit.holds, audit.operations)?;
+    Ok(text)
+}

@@ -1,9 +1,0 @@
-use Rattle.replay.proofs.Steps.{unformed}
-use Rattle.replay.proofs.progress.Progress.take.Goals as goal
-use Rattle.replay.proofs.progress.Progress.take.Goals.{in-Err+in_ok-refuse-in-Err, in-Ok+in_ok-pair-in-Ok}
-
-pub returns-clause-taken : goal.returns-clause-taken
-returns-clause-taken c = elim c.match-item.branch [
-  | in-Err+in_ok-refuse-in-Err w ↦ rw (w.self-is, w.in-Err.is) (unformed c.args.self.now w.refuse.new.self w.in-Err.fault w.in_ok-refuse-in-Err.ensures)
-  | in-Ok+in_ok-pair-in-Ok w ↦ rw (w.self-is, w.in-Ok.is) w.in_ok-pair-in-Ok.ensures.taken
-]

@@ -1,0 +1,60 @@
+-- What the getters give of an argument, by the rows, and what a text says of shards.
+use Rattle.std.proofs.Common.{◌≡◌, ◌≤◌, ◌&&◌, ◌^◌, ℕ, Bool, true, false, List, [], ◌∷◌, length, Option, Some, None, Err, ◌∙◌, refl, sym, ap, arith, nat_lt, lt-ltb, ltb-true}
+use Rattle.std.specs.Prelude.{nat_le, option_map}
+use Rattle.std.specs.List.{list_all}
+use Rattle.std.specs.Char.{digit_value}
+use Rattle.std.specs.Str.Parse.{AllDigits, IsNumeral, ParsesUnsigned, digits_value, without_leading_plus}
+use Rattle.std.proofs.lemmas.Bool.Decides.{nat_tests}
+use Rattle.clap.specs.Words.{Text, all_of, first_of, first_value, found_of, matched_of, raw_values, rows_of}
+use Rattle.clap.specs.ValueTests.{is_numeral, is_unsigned_in}
+use Rattle.clap.specs.declared.ArgMatches.{ArgMatches}
+use Rattle.clap.proofs.WalkLemmas.{both, first_value-rows, raw_values-rows}
+use Rattle.words.specs.Words.{shards_in}
+
+-- what a value that was asked for is among the rows
+pub value_in : (found : ArgMatches) (id : Text) (value : Option Text) → value ≡ first_value (found_of found) id → first_of id (rows_of (found_of found)) ≡ value
+value_in found id value is = sym (first_value-rows (found_of found) id) ∙ sym is
+
+-- and all the values
+pub values_in : (found : ArgMatches) (id : Text) (values : Option (List Text)) → values ≡ option_map raw_values (matched_of (found_of found) id) → all_of id (rows_of (found_of found)) ≡ values
+values_in found id values is = sym (raw_values-rows (found_of found) id) ∙ sym is
+
+digits_pass : (digits : Text) → AllDigits 10 digits → list_all (λ digit. nat_lt (digit_value digit) 10) digits ≡ true
+digits_pass [] all = refl
+digits_pass (digit ∷ digits) all = rw (lt-ltb (digit_value digit) 10 all.0) (digits_pass digits all.1)
+
+digits_from : (digits : Text) → list_all (λ digit. nat_lt (digit_value digit) 10) digits ≡ true → AllDigits 10 digits
+digits_from [] passes = tt
+digits_from (digit ∷ digits) passes =
+    let parts = both _ _ passes in
+    (ltb-true _ _ parts.0, digits_from digits parts.1)
+
+numeral_passes : (digits : Text) → IsNumeral 10 digits → is_numeral digits ≡ true
+numeral_passes digits is = rw (lt-ltb 0 (length digits) is.0, digits_pass digits is.1) refl
+
+numeral_from : (digits : Text) → is_numeral digits ≡ true → IsNumeral 10 digits
+numeral_from digits passes =
+    let parts = both _ _ passes in
+    (ltb-true _ _ parts.0, digits_from digits parts.1)
+
+in_bounds : (n : ℕ) → 1 ≤ n → n ≤ 64 → (nat_lt n (2 ^ 64) && (nat_le 1 n && nat_le n 64)) ≡ true
+in_bounds n low high = grind (arith, nat_tests)
+
+from_bounds : (n : ℕ) → (nat_lt n (2 ^ 64) && (nat_le 1 n && nat_le n 64)) ≡ true → n ≤ 64
+from_bounds n passes = grind (arith, nat_tests)
+
+pub some_shards : (text : Text) (n : ℕ) → IsNumeral 10 (without_leading_plus text) → n ≡ digits_value 10 (without_leading_plus text) → 1 ≤ n → n ≤ 64 → Some n ≡ shards_in text
+some_shards text n numeral is low high =
+    let digits = without_leading_plus text in
+    let passes = in_bounds (digits_value 10 digits) (rw (← is) low) (rw (← is) high) in
+    rw (numeral_passes digits numeral, passes) (ap Some is)
+
+pub no_shards : {E : Type 0} (text : Text) (error : E) → ParsesUnsigned 32 10 text (Err error) → None ≡ shards_in text
+no_shards text error fails = go (is_unsigned_in 1 64 text) refl
+  where
+    go : (passes : Bool) → is_unsigned_in 1 64 text ≡ passes → None ≡ shards_in text
+    go false is = rw is refl
+    go true is =
+        let parts = both _ _ is in
+        let small = from_bounds (digits_value 10 (without_leading_plus text)) parts.1 in
+        absurd (fails (numeral_from (without_leading_plus text) parts.0, omega arith))

@@ -1,0 +1,119 @@
+//! What `check` asks for.
+
+ghost use Rattle.std.specs.Prelude.{◌≡◌, ◌<◌, ◌≤◌, IfOk, IfSome, codes, length, map, option_and_then};
+ghost use Rattle.std.specs.Option.{option_map};
+ghost use Rattle.clap.specs.Words.{first_of, found_of, rows_of};
+ghost use Rattle.words.specs.Words.{asked_check, check_by, moments_in, shards_in, traces_in};
+
+use clap::ArgMatches;
+use std::alloc::{AllocError, Global};
+
+/// The field that an event's moment stands under.
+#[derive(Clone, Copy, Debug, PartialEq, Eq)]
+pub enum Moments {
+    Index,
+    Time,
+}
+
+/// What `check` asks for.
+#[derive(Debug, Drop)]
+pub struct Check<'a> {
+    /// The tower file.
+    pub tower: &'a str,
+    /// From 1 to 64.
+    pub shards: u32,
+    pub moments: Moments,
+    /// The name of the register whose order is asked for.
+    pub order: Option<&'a str>,
+    /// One or more.
+    pub traces: Vec<&'a str>,
+}
+
+/// The check with the arguments that `clap` found, where they make one.
+pub(crate) fn check_of<'a>(
+    alloc: Global,
+    found: &ArgMatches<'a>,
+) -> Result<Option<Check<'a>>, AllocError>
+    ensures asks { IfOk result (λ check. option_map asked_check check ≡ check_by (rows_of (found_of found.now))) }
+    ensures shards { IfOk result (λ check. IfSome check (λ check. (1 ≤ check.shards) × (check.shards ≤ 64))) }
+    ensures traces { IfOk result (λ check. IfSome check (λ check. 0 < length check.traces.items)) }
+{
+    let Some(tower) = found.get_str("tower") else {
+        return Ok(None);
+    };
+    let Some(shards) = shards_of(found) else {
+        return Ok(None);
+    };
+    let Some(moments) = moments_of(found) else {
+        return Ok(None);
+    };
+    let traces = traces_of(alloc, found)?;
+    if traces.is_empty() {
+        return Ok(None);
+    }
+    Ok(Some(Check {
+        tower,
+        shards,
+        moments,
+        order: found.get_str("order"),
+        traces,
+    }))
+}
+
+fn shards_of(found: &ArgMatches<'_>) -> Option<u32>
+    ensures asks { result ≡ option_and_then shards_in (first_of (codes "shards") (rows_of (found_of found.now))) }
+    ensures range { IfSome result (λ shards. (1 ≤ shards) × (shards ≤ 64)) }
+{
+    shards_in(found.get_str("shards")?)
+}
+
+fn shards_in(text: &str) -> Option<u32>
+    ensures asks { result ≡ shards_in text.now }
+    ensures range { IfSome result (λ shards. (1 ≤ shards) × (shards ≤ 64)) }
+{
+    match text.parse::<u32>() {
+        Ok(shards) => {
+            if 1 <= shards && shards <= 64 {
+                Some(shards)
+            } else {
+                None
+            }
+        }
+        Err(_) => None,
+    }
+}
+
+fn moments_of(found: &ArgMatches<'_>) -> Option<Moments>
+    ensures { result ≡ option_and_then moments_in (first_of (codes "moment") (rows_of (found_of found.now))) }
+{
+    moments_in(found.get_str("moment")?)
+}
+
+fn moments_in(text: &str) -> Option<Moments>
+    ensures { result ≡ moments_in text.now }
+{
+    if text == "index" {
+        Some(Moments::Index)
+    } else if text == "time" {
+        Some(Moments::Time)
+    } else {
+        None
+    }
+}
+
+fn traces_of<'a>(alloc: Global, found: &ArgMatches<'a>) -> Result<Vec<&'a str>, AllocError>
+    ensures { IfOk result (λ traces. map (λ name. name.now) traces.items ≡ traces_in (rows_of (found_of found.now))) }
+{
+    match found.get_strs("TRACE") {
+        Some(names) => copied(alloc, names),
+        None => Ok(Vec::new(alloc)),
+    }
+}
+
+fn copied<'a>(alloc: Global, names: &[&'a str]) -> Result<Vec<&'a str>, AllocError>
+    ensures { IfOk result (λ copied. copied.items ≡ names.now) }
+{
+    let mut copied = Vec::new(alloc);
+    copied.extend_from_slice(names)?;
+    Ok(copied)
+}
