@@ -3,7 +3,7 @@
 
 Of a safe register process 0 writes, one write after the other; the other
 processes read. A read during which no write is open returns what was written
-last, or 0 before the first write; each other read returns a value by chance.
+last, or 0 before the first write; each other read returns a value by chance, of a regular one what was written last.
 
 Of an atomic register every process reads and writes. Each operation happens at
 once at some moment between its invocation and its answer, so a read returns what
@@ -19,8 +19,9 @@ READERS = 8
 EVENT = "{:process %s :type :%s :f :%s :value %s :index %s}\n"
 
 
-def trace(events, seed=1, writes=0.5):
-    """The lines of a trace of so many events; `writes` is the share of operations that write."""
+def trace(events, seed=1, writes=0.5, regular=False):
+    """The lines of a trace of so many events; `writes` is the share of operations that write. Of a `regular` register a
+    read during which a write is open returns what was written last when it is answered."""
     chance = random.Random(seed)
     value = 0          # of the last finished write
     writing = None     # the value of the open write
@@ -52,7 +53,7 @@ def trace(events, seed=1, writes=0.5):
             yield EVENT % (process, "invoke", "read", "nil", index)
         else:
             overlapped = reading.pop(process)
-            answer = chance.randint(0, 999) if overlapped else value
+            answer = chance.randint(0, 999) if overlapped and not regular else value
             yield EVENT % (process, "ok", "read", answer, index)
 
 
@@ -93,6 +94,42 @@ def atomic_trace(events, seed=1, processes=10, reads=0.5):
 
 
 ATOMIC_TOWER = "{:levels [{:name top :registers [{:name x :kind :atomic :writers :any}]}]}\n"
+REGULAR_TOWER = "{:levels [{:name top :registers [{:name x :kind :regular :writers [0] :initial 0}]}]}\n"
+
+
+def kind_of(register):
+    return ["safe", "regular", "atomic"][register % 3]
+
+
+def flat_tower(registers):
+    """The pieces of a tower file of so many registers of each kind in turn, on one level."""
+    yield "{:levels [{:name all :registers [\n"
+    for register in range(registers):
+        yield "{:name %s :kind :%s :writers [%s] :initial 0}\n" % (register, kind_of(register), register % 4)
+    yield "]}]}\n"
+
+
+def flat_trace(events, registers, first=0, step=1):
+    """The lines of a trace of so many events, a multiple of four, over these registers of a flat tower in turn: a
+    write by the writer of the register, and a read by another process which returns its value."""
+    numbers = range(first, registers, step)
+    for turn in range(events // 4):
+        register = numbers[turn % len(numbers)]
+        number = turn * step + first
+        value, moment = number + 1, number * 4
+        for offset, (process, stage, act, said) in enumerate(
+            [(register % 4, "invoke", "write", value), (register % 4, "ok", "write", value), (register % 4 + 4, "invoke", "read", "nil"), (register % 4 + 4, "ok", "read", value)]
+        ):
+            yield EVENT % (process, stage, act, "[%s %s]" % (register, said), moment + offset)
+
+
+def flat_lines(events, registers):
+    """What `regaudit check` prints of one such trace, or of four that share its registers."""
+    turns = events // 4
+    for register in range(registers):
+        count = turns // registers + (register < turns % registers)
+        yield "register %s %s holds %s\n" % (register, kind_of(register), 2 * count)
+
 LEVELS = ["bits", "safe", "regular", "atomic"]
 KINDS = ["safe", "safe", "regular", "atomic"]
 
