@@ -4,12 +4,18 @@ use crate::commands::{conclude, run, run_safe, run_words};
 use crate::fault::CommandFault;
 use crate::files::{Files, Missing};
 use crate::input::{read_whole, read_within};
+use feeders::run_traces;
+use jepsen_form::MomentField;
+use report::culprits;
+use report::laws::a_run_is_of_its_tower;
+use shards::NoGate;
 use std::alloc::{AllocError, Global};
 use std::io::{self, Error, ErrorKind, Read, Write};
 use std::process::Abort;
 use std::sync::Wait;
 use std::test::Fail;
 use std::thread::Threads;
+use tower_file::Tower;
 
 const TRACE: &[u8] = b"{:process 0 :type :invoke :f :write :value 1 :index 0}
 {:process 0 :type :ok :f :write :value 1 :index 1}
@@ -356,4 +362,16 @@ fn is_carried_out<A: AllocGlobal + Threads + Wait + Sync>(
         return Some(false);
     }
     None
+}
+
+/// The register that fails is to blame, and there is memory to say so.
+#[test]
+fn a_failing_register_is_a_culprit(rt: HostRuntime) -> Result<(), Fail> {
+    let alloc = rt.alloc();
+    let tower = Tower::read(alloc, TOWER)?;
+    a_run_is_of_its_tower();
+    let run = run_traces(&rt, alloc, &tower, &[TRACE], MomentField::Index, 1, &NoGate)?;
+    let found = culprits(alloc, &tower, &run.closed)?;
+    assert!(rt; found.len() == 1);
+    Ok(())
 }
