@@ -8,9 +8,9 @@ use Rattle.edn_reader.specs.declared.element.ElementKind.{ElementKind}
 use Rattle.edn_reader.specs.declared.element.ElementKind.TheVariants.{Atom, Char, Text}
 use Rattle.edn_reader.specs.declared.token.Found.{Found}
 use Rattle.edn_reader.specs.declared.token.Token.{Token}
-use Rattle.edn_reader.specs.declared.token.Token.TheVariants.{Leaf, Opens as Opening, Unfinished}
+use Rattle.edn_reader.specs.declared.token.Token.TheVariants.{Gap, Leaf, Opens as Opening, Unfinished}
 use Rattle.edn_reader.specs.declared.token.Opener.TheVariants as openers
-use Rattle.edn_reader.specs.Bytes.{class_of, is_run, is_in_comment, Ends, stretch}
+use Rattle.edn_reader.specs.Bytes.{class_of, is_run, is_plain, is_plain_class, is_white, is_white_class, is_in_comment, Ends, stretch}
 use Rattle.edn_reader.specs.Grammar.{ended, IsTag, IsToken, white, comment, run, hashed, character, text, hash_text, opening, set, discard, tag, close}
 use Rattle.edn_reader.specs.Token.{quoted_length, text_token, quoted, tag_token, hash_token, after_hash, after_backslash, class_token, lexed, found_at}
 use Rattle.edn_reader.proofs.Stretches.{drop_here, stretch_here, stretch_place, stretch_rest, stretch_within, quoted_is, quoted_here, quoted_within, ending}
@@ -356,6 +356,35 @@ finishing (b ∷ bytes) some e = finishing_class b bytes (class_of b) refl e
 
 pub found_is : (at after : ℕ) (x : Token × ℕ) (t : Token) (n : ℕ) → x ≡ (t, n) → after ≡ at + n → ◌≡◌ {A = Found} (record { token = t; end = after }) (found_at at x)
 found_is at after x t n e place = ap (λ (m : ℕ). record { token = t; end = m }) place ∙ ap (found_at at) (sym e)
+
+lexed_here : (xs : List ℕ) (i : ℕ) (k : ByteClass) → i < length xs → class_of (get_or xs i 0) ≡ k → lexed (drop i xs) ≡ class_token k (drop (i + 1) xs)
+lexed_here xs i k lt e = ap lexed (drop_here xs i lt) ∙ lexed_by (get_or xs i 0) (drop (i + 1) xs) k e
+
+plain_class : (k : ByteClass) → is_plain_class k ≡ true → k ≡ Plain
+plain_class Plain e = refl
+plain_class Hash e = absurd cc
+plain_class Backslash e = absurd cc
+plain_class White e = absurd cc
+plain_class Semicolon e = absurd cc
+plain_class Quote e = absurd cc
+plain_class (Opens bracket) e = absurd cc
+plain_class (Closes bracket) e = absurd cc
+
+white_class : (k : ByteClass) → is_white_class k ≡ true → k ≡ White
+white_class White e = refl
+white_class Plain e = absurd cc
+white_class Hash e = absurd cc
+white_class Backslash e = absurd cc
+white_class Semicolon e = absurd cc
+white_class Quote e = absurd cc
+white_class (Opens bracket) e = absurd cc
+white_class (Closes bracket) e = absurd cc
+
+pub plain_here : (xs : List ℕ) (i : ℕ) → i < length xs → is_plain (get_or xs i 0) ≡ true → lexed (drop i xs) ≡ (Leaf Atom, 1 + stretch is_run (drop (i + 1) xs))
+plain_here xs i lt e = lexed_here xs i Plain lt (plain_class (class_of (get_or xs i 0)) e)
+
+pub white_here : (xs : List ℕ) (i : ℕ) → i < length xs → is_white (get_or xs i 0) ≡ true → lexed (drop i xs) ≡ (Gap, 1)
+white_here xs i lt e = lexed_here xs i White lt (white_class (class_of (get_or xs i 0)) e)
 
 pub backslash_here : (xs : List ℕ) (i : ℕ) → i < length xs → after_backslash (drop i xs) ≡ (Leaf Char, 2 + stretch is_run (drop (i + 1) xs))
 backslash_here xs i lt = ap after_backslash (drop_here xs i lt) ∙ backslash_by (get_or xs i 0) (drop (i + 1) xs)

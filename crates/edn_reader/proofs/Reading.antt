@@ -1,7 +1,8 @@
 -- What each token says of the input, and so what reading an element says.
-use Rattle.std.proofs.Common.{◌≡◌, ◌≢◌, ◌⊎◌, inl, inr, ℕ, zero, suc, ◌+◌, ◌<◌, ◌≤◌, Bool, true, false, cond, eqb, ◌&&◌, List, [], ◌∷◌, ◌++◌, length, drop, length-drop, Option, Some, None, Ok, Err, refl, sym, ap, subst, ◌∙◌, arith, length-append}
+use Rattle.std.proofs.Common.{◌≡◌, ◌⊎◌, inl, inr, ℕ, zero, suc, ◌+◌, ◌<◌, ◌≤◌, Bool, true, false, cond, eqb, ◌&&◌, List, [], ◌∷◌, ◌++◌, length, drop, length-drop, Option, Some, None, Ok, Err, refl, sym, ap, subst, ◌∙◌, arith, length-append}
 use Rattle.std.proofs.lemmas.Bool.Decides.{nat_tests}
 use Rattle.std.proofs.Math.ListN.{drop_of_length-le}
+use Rattle.std.specs.Bool.{◌==◌}
 use Rattle.edn_reader.specs.declared.bytes.ByteClass.TheVariants.{Plain, Hash, Quote, Opens, Closes}
 use Rattle.edn_reader.specs.declared.bytes.Bracket.{Bracket}
 use Rattle.edn_reader.specs.declared.bytes.Bracket.TheVariants.{Curly}
@@ -275,15 +276,15 @@ memory_there input from at found (faults.TagWithoutElement place) opens lt s e r
 nothing_left : (at : ℕ) (input : List ℕ) → length input ≤ at → drop at input ≡ []
 nothing_left at input le = drop_of_length-le input le
 
-pub reads_end : (input : List ℕ) (from at : ℕ) (opens : List Open) → length input ≤ at → StandsFrom input from opens at → length opens ≡ 0 → Reads input from (Ok None) opens
+pub reads_end : (input : List ℕ) (from at : ℕ) (opens : List Open) → length input ≤ at → StandsFrom input from opens at → (length opens == 0) ≡ true → Reads input from (Ok None) opens
 reads_end input from at [] le s e = (refl, λ pieces front. stands_text (subst (λ (r : List ℕ). StandsOpen input pieces [] at r) (nothing_left at input le) (s pieces front)))
-reads_end input from at (item ∷ opens) le s e = absurd (omega arith)
+reads_end input from at (item ∷ opens) le s e = let none : suc (length opens) ≡ 0 = grind (arith, nat_tests) in absurd (omega arith)
 
 fails_open : {p : ℕ} {input : List ℕ} {pieces : List Piece} {item : Open} {opens : List Open} → StandsOpen input pieces (item ∷ opens) p [] → Fails input pieces (faults.Truncated p)
 fails_open {p} {item = item} {opens = opens} s = record { met = fault_open_end s; place = p; bytes = []; opens = item ∷ opens; ending = ending_end s }
 
-pub reads_open_end : (input : List ℕ) (from at : ℕ) (opens : List Open) → length input ≤ at → StandsFrom input from opens at → length opens ≢ 0 → Reads input from (Err (faults.Truncated at)) opens
-reads_open_end input from at [] le s h = absurd (h refl)
+pub reads_open_end : (input : List ℕ) (from at : ℕ) (opens : List Open) → length input ≤ at → StandsFrom input from opens at → (length opens == 0) ≡ false → Reads input from (Err (faults.Truncated at)) opens
+reads_open_end input from at [] le s h = absurd cc
 reads_open_end input from at (item ∷ opens) le s h =
     inr (λ pieces front. before_fault input from pieces (faults.Truncated at) front (fails_open (subst (λ (r : List ℕ). StandsOpen input pieces (item ∷ opens) at r) (nothing_left at input le) (s pieces front))))
 

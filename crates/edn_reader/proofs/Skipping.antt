@@ -359,6 +359,18 @@ tag_is (Opens openers.Discard) e = absurd cc
 tag_is (Closes bracket) e = absurd cc
 tag_is Unfinished e = absurd cc
 
+-- A token that is a whole element has no tag before it.
+pub leaf_core : (bytes : List ℕ) (front : Front) (kind : ElementKind) → Stands bytes front → front.found.token ≡ Leaf kind → SkipsTags bytes front.at front.at
+leaf_core bytes front kind s is =
+    skips_tags bytes front.at front.at (λ room start after k core rest h. (room, start, k, refl, h))
+    (λ e. let both : Leaf kind ≡ Opens openers.Tag = sym is ∙ sym (stands_token bytes front front.at s refl) ∙ e in absurd cc)
+
+-- And it ends where the token does.
+pub leaf_end : (bytes : List ℕ) (front : Front) (kind : ElementKind) → Stands bytes front → front.found.token ≡ Leaf kind → SkipsElement bytes front.at front.found.end
+leaf_end bytes front kind s is =
+    skips_element bytes front.at front.found.end (counts_of 0 0)
+    (scanned_first bytes front (counts_of 0 0) s (sym (ap (λ (t : Token). counted t (counts_of 0 1)) is))) (λ lt. refl)
+
 -- One tag further.
 pub tags_on : (bytes : List ℕ) (from end : ℕ) (front : Front) → TagsLeft bytes from front.at → Stands bytes front → is_tag_token front.found.token ≡ true
     → SkipsGap bytes front.found.end end → front.found.end ≤ end → TagsLeft bytes from end

@@ -33,6 +33,15 @@ pub stretch_past : (test : ℕ → Bool) (xs : List ℕ) (i : ℕ) → length xs
 unfolding stretch
 stretch_past test xs i le = rw (drop_of_length-le xs le) refl
 
+-- The same, where the stretch goes on from another place.
+pub same_goes : (test : ℕ → Bool) (xs : List ℕ) (end further total : ℕ) → further ≡ end + 1 → end < length xs → test (get_or xs end 0) ≡ true → end + stretch test (drop end xs) ≡ total
+    → further + stretch test (drop further xs) ≡ total
+same_goes test xs end further total one lt e same =
+    subst (λ (n : ℕ). n + stretch test (drop n xs) ≡ total) (sym one) (omega (arith, stretch_goes test xs end lt e, same))
+
+pub same_stops : (test : ℕ → Bool) (xs : List ℕ) (end total : ℕ) → end < length xs → test (get_or xs end 0) ≡ false → end + stretch test (drop end xs) ≡ total → end ≡ total
+same_stops test xs end total lt e same = omega (arith, stretch_stops test xs end lt e, same)
+
 -- ---- a stretch at the front
 
 pub stretch_more : (test : ℕ → Bool) (b : ℕ) (bytes : List ℕ) → test b ≡ true → stretch test (b ∷ bytes) ≡ suc (stretch test bytes)

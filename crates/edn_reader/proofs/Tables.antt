@@ -1,5 +1,5 @@
 -- A table is held against a definition at each of the 256 bytes, by computing.
-use Rattle.std.proofs.Common.{◌≡◌, ℕ, zero, suc, ◌<◌, Bool, true, false, ◌&&◌, nat_eq, get_or, List, refl, arith, inl, inr}
+use Rattle.std.proofs.Common.{◌≡◌, ℕ, zero, suc, ◌<◌, Bool, true, false, ◌&&◌, nat_eq, nat_le, get_or, List, refl, arith, inl, inr}
 use Rattle.std.specs.Bool.{beq}
 use Rattle.std.proofs.lemmas.Bool.{cases_eq}
 
@@ -25,3 +25,8 @@ pub from_table : (table : List ℕ) (mark : ℕ) (test : ℕ → Bool) (b : ℕ)
     → agree_below (λ k. nat_eq (get_or table k 0) mark) test 256 ≡ true
     → nat_eq (get_or table b 0) mark ≡ test b
 from_table table mark test b lt h = agree_at _ _ 256 h b lt
+
+pub below_table : (table : List ℕ) (mark : ℕ) (test : ℕ → Bool) (b : ℕ) → b < 256
+    → agree_below (λ k. nat_le (get_or table k 0) mark) test 256 ≡ true
+    → nat_le (get_or table b 0) mark ≡ test b
+below_table table mark test b lt h = agree_at _ _ 256 h b lt

@@ -13,6 +13,7 @@ use Rattle.edn_reader.specs.declared.element.Core.{Core}
 use Rattle.edn_reader.specs.declared.element.Element.{Element}
 use Rattle.edn_reader.specs.declared.field.Field.{Field}
 use Rattle.edn_reader.specs.declared.parts.Parts.{Parts}
+use Rattle.edn_reader.specs.declared.skip.Front.{Front}
 use Rattle.edn_reader.specs.declared.token.Token.{Token}
 use Rattle.edn_reader.specs.declared.token.Token.TheVariants.{Leaf, Opens, Closes}
 use Rattle.edn_reader.specs.declared.token.Opener.{Opener}
@@ -22,13 +23,13 @@ use Rattle.edn_reader.specs.Bytes.{class_of}
 use Rattle.edn_reader.specs.Grammar.{Piece, untagged, IsToken, white, comment, run, hashed, character, text, hash_text, opening, set, discard, tag, close, opener_of, kind_of, fits, is_paired, is_odd, IsGap, nothing, IsElementAt, leaf, bracketed, tagged, IsElements, none, next, IsElement}
 use Rattle.edn_reader.specs.Text.{IsFront}
 use Rattle.edn_reader.specs.Token.{lexed}
-use Rattle.edn_reader.specs.Skipping.{kind_token, NoGap, SkipsElement, SkipsGap, SkipsTags, IsInside}
+use Rattle.edn_reader.specs.Skipping.{kind_token, NoGap, Stands, SkipsElement, SkipsGap, SkipsTags, IsInside}
 use Rattle.edn_reader.specs.Pairs.{PartsFrom, HasParts, in_turn, HasPairs, is_word, values_of}
 use Rattle.edn_reader.specs.Lent.{piece_of, PartsLeft, NextPart, PairsLeft, NextPair}
 use Rattle.edn_reader.specs.Given.{given, seen as seen_of}
 use Rattle.edn_reader.proofs.Lexing.{lexed_token}
 use Rattle.edn_reader.proofs.Places.{moved_element, cancel_end, wider_element}
-use Rattle.edn_reader.proofs.Skipping.{core_at, element_no_gap, element_kind, beyond_gap, beyond_element}
+use Rattle.edn_reader.proofs.Skipping.{core_at, element_no_gap, element_kind, beyond_gap, beyond_element, stands_token, leaf_core, leaf_end}
 use Rattle.edn_reader.proofs.Unique.{same_first, no_first}
 
 -- ---- elements on their own
@@ -426,6 +427,16 @@ found_part opener old after start middle end kind inner skips tags ends low high
       same,
       record { ends = h.ends; beyond = h.beyond; begins = h.begins; behind = h.behind; after = h.after; bracket = h.bracket; elements = others; gap = h.gap; close = h.close; closes = h.closes },
     )
+
+-- The same of an element that is one token.
+pub leaf_part : (opener : Opener) (old after : Parts) (front : Front) (kind : ElementKind) → SkipsGap old.left.now 0 front.at → Stands old.left.now front → front.found.token ≡ Leaf kind
+    → after.at ≡ old.at + front.found.end → after.left.now ≡ drop front.found.end old.left.now → (pieces : List Piece) → PartsLeft opener old pieces
+    → FoundPart opener (found_piece old front.at front.at front.found.end kind kind) after pieces
+leaf_part opener old after front kind skips stands is at left =
+    let bytes = old.left.now in
+    let begins : Some kind ≡ kind_token (lexed (drop front.at bytes)).0 = sym (ap kind_token (stands_token bytes front front.at stands refl ∙ is)) in
+    found_part opener old after front.at front.at front.found.end kind kind skips (leaf_core bytes front kind stands is) (leaf_end bytes front kind stands is)
+    (omega arith) (omega (arith, stands.forward)) begins begins at left
 
 pub next_part : (opener : Opener) (after : Parts) (element : Element) (found : Piece) → piece_of element ≡ found → (pieces : List Piece) → FoundPart opener found after pieces → NextPart opener (Some element) after pieces
 next_part opener after element found same [] h = absurd h

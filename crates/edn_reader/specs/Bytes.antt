@@ -31,9 +31,39 @@ is_run_class Quote = false
 is_run_class (Opens bracket) = false
 is_run_class (Closes bracket) = false
 
+-- Plain alone.
+abbrev pub is_plain_class : ByteClass → Bool
+is_plain_class Plain = true
+is_plain_class Hash = false
+is_plain_class Backslash = false
+is_plain_class White = false
+is_plain_class Semicolon = false
+is_plain_class Quote = false
+is_plain_class (Opens bracket) = false
+is_plain_class (Closes bracket) = false
+
+-- White alone.
+abbrev pub is_white_class : ByteClass → Bool
+is_white_class White = true
+is_white_class Plain = false
+is_white_class Hash = false
+is_white_class Backslash = false
+is_white_class Semicolon = false
+is_white_class Quote = false
+is_white_class (Opens bracket) = false
+is_white_class (Closes bracket) = false
+
 -- A run byte is every byte that is no delimiter.
 abbrev pub is_run : ℕ → Bool
 is_run b = is_run_class (class_of b)
+
+-- A plain byte begins a word or a number.
+abbrev pub is_plain : ℕ → Bool
+is_plain b = is_plain_class (class_of b)
+
+-- A white byte.
+abbrev pub is_white : ℕ → Bool
+is_white b = is_white_class (class_of b)
 
 -- A comment goes on up to a line end.
 abbrev pub is_in_comment : ℕ → Bool

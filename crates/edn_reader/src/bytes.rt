@@ -1,7 +1,7 @@
 //! The classes of bytes, and the stretches that they make.
 
 ghost use Rattle.std.specs.Prelude.{◌≡◌, ◌+◌, ◌≤◌, length, drop};
-ghost use Rattle.edn_reader.specs.Bytes.{class_of, is_run, is_in_comment, stretch};
+ghost use Rattle.edn_reader.specs.Bytes.{class_of, is_run, is_plain, is_white, is_in_comment, stretch};
 
 use memchr::memchr;
 
@@ -45,11 +45,12 @@ pub fn classify(byte: u8) -> ByteClass
     }
 }
 
-/// A plus for each run byte, by the byte's number.
-static RUN_BYTES: [u8; 256] = *b"\
-    +++++++++-----++++++++++++++++++\
-    -+-+++++--++-++++++++++++++-++++\
-    +++++++++++++++++++++++++++-+-++\
+/// By the byte's number: a plus for a plain byte, an asterisk for the other run bytes, a dot for a white one, and
+/// a minus for the other delimiters.
+static MARKS: [u8; 256] = *b"\
+    +++++++++.....++++++++++++++++++\
+    .+-*++++--++.++++++++++++++-++++\
+    +++++++++++++++++++++++++++-*-++\
     +++++++++++++++++++++++++++-+-++\
     ++++++++++++++++++++++++++++++++\
     ++++++++++++++++++++++++++++++++\
@@ -60,10 +61,25 @@ static RUN_BYTES: [u8; 256] = *b"\
 fn is_run_byte(byte: u8) -> bool
     ensures { result ≡ is_run byte }
 {
-    RUN_BYTES[byte as usize] == b'+'
+    MARKS[byte as usize] <= b'+'
 }
 
-/// Where the run ends that goes on at a place.
+#[inline(always)]
+pub fn is_plain(byte: u8) -> bool
+    ensures { result ≡ is_plain byte }
+{
+    MARKS[byte as usize] == b'+'
+}
+
+#[inline(always)]
+pub fn is_white(byte: u8) -> bool
+    ensures { result ≡ is_white byte }
+{
+    MARKS[byte as usize] == b'.'
+}
+
+/// Where the run ends that goes on at a place. Four bytes are looked at for each look at the length.
+#[inline(always)]
 #[tactic(auto, using(crate::proofs::Stretches::stretch_goes, crate::proofs::Stretches::stretch_stops, crate::proofs::Stretches::stretch_past))]
 pub fn run_end(input: &[u8], at: usize) -> usize
     requires { at ≤ length input.now }
@@ -71,6 +87,21 @@ pub fn run_end(input: &[u8], at: usize) -> usize
     ensures within { result ≤ length input.now }
 {
     let mut end = at;
+    while input.len() - end >= 4 {
+        if !is_run_byte(input[end]) {
+            return end;
+        }
+        if !is_run_byte(input[end + 1]) {
+            return end + 1;
+        }
+        if !is_run_byte(input[end + 2]) {
+            return end + 2;
+        }
+        if !is_run_byte(input[end + 3]) {
+            return end + 3;
+        }
+        end += 4;
+    }
     while end < input.len() && is_run_byte(input[end]) {
         end += 1;
     }

@@ -1,6 +1,6 @@
 //! What stands open: brackets, tags and discards, the innermost first.
 
-ghost use Rattle.std.specs.Prelude.{◌≡◌, ◌≤◌, [], ◌∷◌, length, OnOk, OnErr, MatchOption};
+ghost use Rattle.std.specs.Prelude.{◌≡◌, ◌==◌, ◌≤◌, [], ◌∷◌, length, OnOk, OnErr, MatchOption};
 ghost use Rattle.edn_reader.specs.Taking.{EndsOne};
 
 use crate::token::Opener;
@@ -16,21 +16,23 @@ pub struct Open {
     pub odd: bool,
 }
 
-/// Up to 16 are kept in place and more on the heap.
+/// The innermost is kept apart, as each element looks at it. Up to 16 are kept in place and more on the heap.
 #[derive(Drop)]
 pub struct Nesting {
-    opens: SmallVec<Open, 16>,
+    last: Option<Open>,
+    around: SmallVec<Open, 15>,
 }
 
 impl Model for Nesting {
-    ghost use Rattle.std.specs.Prelude.{◌≤◌, List, reverse};
+    ghost use Rattle.std.specs.Prelude.{◌≡◌, ◌≤◌, ◌++◌, List, [], None, reverse};
+    ghost use Rattle.std.specs.Option.{option_to_list};
     ghost use Rattle.edn_reader.specs.declared.nesting.Open.{Open};
 
     ghost Value = { List Open };
 
-    ghost view = { λ a. reverse a.opens.items };
+    ghost view = { λ a. option_to_list a.last ++ reverse a.around.items };
 
-    ghost invariant = { λ a. 16 ≤ a.opens.capacity };
+    ghost invariant = { λ a. (15 ≤ a.around.capacity) × (a.last ≡ None → a.around.items ≡ []) };
 }
 
 impl Nesting {
@@ -40,14 +42,19 @@ impl Nesting {
         ensures { result ≡ [] }
     {
         Nesting {
-            opens: SmallVec::new(alloc),
+            last: None,
+            around: SmallVec::new(alloc),
         }
     }
 
-    pub fn len(&self) -> usize
-        ensures { result ≡ length self.now }
+    /// Whether so many stand open.
+    pub fn has(&self, count: usize) -> bool
+        ensures { result ≡ (length self.now == count) }
     {
-        self.opens.len()
+        match self.last {
+            Some(_) => count > 0 && self.around.len() == count - 1,
+            None => count == 0,
+        }
     }
 
     pub fn push(&mut self, item: Open) -> Result<(), AllocError>
@@ -55,35 +62,34 @@ impl Nesting {
         ensures err { OnErr result (self.new ≡ self.old) }
         ensures grew { OnErr result (16 ≤ length self.old) }
     {
-        match self.opens.push(item) {
-            Ok(()) => Ok(()),
-            Err(_) => Err(AllocError),
+        if let Some(last) = self.last {
+            match self.around.push(last) {
+                Ok(()) => {}
+                Err(_) => return Err(AllocError),
+            }
         }
+        self.last = Some(item);
+        Ok(())
     }
 
     pub fn pop(&mut self) -> Option<Open>
         ensures { MatchOption result ((self.old ≡ []) × (self.new ≡ [])) (λ item. self.old ≡ item ∷ self.new) }
     {
-        self.opens.pop()
+        let last = self.last?;
+        self.last = self.around.pop();
+        Some(last)
     }
 
     /// Takes what is innermost; a bracket stays, with one more element in it.
+    #[inline(always)]
     pub fn end_one(&mut self) -> Option<Open>
         ensures { EndsOne result self.old self.new }
     {
-        let count = self.opens.len();
-        if count == 0 {
-            return None;
-        }
-        let last = self.opens[count - 1];
+        let last = self.last?;
         if last.opener.waits() {
-            let _ = self.opens.pop();
-        } else {
-            self.opens[count - 1] = Open {
-                place: last.place,
-                opener: last.opener,
-                odd: !last.odd,
-            };
+            self.last = self.around.pop();
+        } else if let Some(open) = &mut self.last {
+            open.odd = !last.odd;
         }
         Some(last)
     }
@@ -92,12 +98,16 @@ impl Nesting {
     pub fn innermost(&self) -> Option<Open>
         ensures { result ≡ innermost self.now }
     {
-        let opens = self.opens.as_slice();
-        let mut left = opens.len();
+        let last = self.last?;
+        if !last.opener.waits() {
+            return Some(last);
+        }
+        let around = self.around.as_slice();
+        let mut left = around.len();
         while left > 0 {
             left -= 1;
-            if !opens[left].opener.waits() {
-                return Some(opens[left]);
+            if !around[left].opener.waits() {
+                return Some(around[left]);
             }
         }
         None

@@ -3,7 +3,8 @@
 ghost use Rattle.std.specs.Prelude.{◌≡◌, ◌+◌, ◌≤◌, ◌<◌, ◌^◌, List, [], ◌∷◌, length, drop, MatchOption, IfSome, Some, None};
 
 use crate::element::{Core, Element, ElementKind};
-use crate::skip::{behind_gap, behind_tags, end_behind, kind_of};
+use crate::skip::{Front, behind_gap, behind_tags, end_behind, kind_of};
+use crate::token::Token;
 
 #[derive(Clone, Copy)]
 pub struct Parts<'t> {
@@ -16,6 +17,7 @@ impl<'t> Parts<'t> {
     ghost use Rattle.edn_reader.specs.Grammar.{Piece};
     ghost use Rattle.edn_reader.specs.declared.token.Opener.{Opener};
     ghost use Rattle.edn_reader.specs.Lent.{PartsLeft, HoldsParts, NextPart, part_bytes};
+    ghost use Rattle.edn_reader.specs.Skipping.{SkipsGap, Stands};
 
     pub fn new(left: &'t [u8], at: usize) -> Parts<'t>
         requires { at + length left.now < 2 ^ 64 }
@@ -26,6 +28,7 @@ impl<'t> Parts<'t> {
     }
 
     /// The next element.
+    #[inline(always)]
     pub fn next(&mut self) -> Option<Element<'t>>
         requires { ∥ HoldsParts self.old ∥₁ }
         ensures part { (opener : Opener) (parts : List Piece) → PartsLeft opener self.old parts → NextPart opener result self.new parts }
@@ -34,6 +37,42 @@ impl<'t> Parts<'t> {
     {
         let Parts { left, at } = *self;
         let first = behind_gap(left, 0)?;
+        let Token::Leaf(kind) = first.found.token else {
+            return self.next_at(first);
+        };
+        let start = at + first.at;
+        let end = first.found.end;
+        *self = Parts::new(&left[end..], at + end);
+        Some(Element::new(&left[first.at..end], start, kind, Core { kind, start }))
+    }
+
+    /// The next element, whose first token is this one. What goes over brackets and tags keeps its places in
+    /// memory, which costs the caller nothing until then.
+    #[inline(always)]
+    fn next_at(&mut self, first: Front) -> Option<Element<'t>>
+        requires holds { ∥ HoldsParts self.old ∥₁ }
+        requires gap { SkipsGap self.old.left.now 0 first.at }
+        requires stands { Stands self.old.left.now first }
+        ensures part { (opener : Opener) (parts : List Piece) → PartsLeft opener self.old parts → NextPart opener result self.new parts }
+        ensures shrinks { MatchOption result (self.new ≡ self.old) (λ element. part_bytes self.new < part_bytes self.old) }
+        ensures forward { self.old.at ≤ self.new.at }
+    {
+        let mut ahead = *self;
+        let element = ahead.next_behind(first);
+        *self = ahead;
+        element
+    }
+
+    #[inline(never)]
+    fn next_behind(&mut self, first: Front) -> Option<Element<'t>>
+        requires holds { ∥ HoldsParts self.old ∥₁ }
+        requires gap { SkipsGap self.old.left.now 0 first.at }
+        requires stands { Stands self.old.left.now first }
+        ensures part { (opener : Opener) (parts : List Piece) → PartsLeft opener self.old parts → NextPart opener result self.new parts }
+        ensures shrinks { MatchOption result (self.new ≡ self.old) (λ element. part_bytes self.new < part_bytes self.old) }
+        ensures forward { self.old.at ≤ self.new.at }
+    {
+        let Parts { left, at } = *self;
         let inner = behind_tags(left, first)?;
         let kind = kind_of(first.found.token)?;
         let core_kind = kind_of(inner.found.token)?;

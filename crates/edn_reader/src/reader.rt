@@ -52,7 +52,7 @@ fn read_element(input: &[u8], from: usize, nesting: &mut Nesting) -> Result<Opti
             Err(fault) => return Err(fault),
         }
     }
-    if nesting.len() == 0 {
+    if nesting.has(0) {
         Ok(None)
     } else {
         Err(EdnFault::Truncated(at))

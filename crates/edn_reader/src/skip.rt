@@ -68,6 +68,7 @@ fn counts_after(token: Token, counts: Counts) -> Counts
     }
 }
 
+#[inline(always)]
 fn front_at(bytes: &[u8], at: usize) -> Front
     requires { at < length bytes.now }
     ensures stands { Stands bytes.now result }
@@ -103,6 +104,7 @@ pub fn end_behind(bytes: &[u8], front: Front) -> usize
 }
 
 /// Where the element ends that the bytes from a place on hold behind a gap.
+#[inline(never)]
 fn element_end(bytes: &[u8], from: usize) -> usize
     requires { from ≤ length bytes.now }
     ensures end { SkipsElement bytes.now from result }
@@ -116,6 +118,7 @@ fn element_end(bytes: &[u8], from: usize) -> usize
 }
 
 /// The token that the gap ends at which begins at a place, where the bytes do not end with the gap.
+#[inline(always)]
 pub fn behind_gap(bytes: &[u8], from: usize) -> Option<Front>
     requires { from ≤ length bytes.now }
     ensures end { MatchOption result (SkipsGap bytes.now from (length bytes.now)) (λ front. SkipsGap bytes.now from front.at) }

@@ -37,6 +37,7 @@ fn plain_span(kind: ElementKind, start: usize, end: usize) -> Span
 }
 
 /// Ends an element, and with it the tags before it: the span of the whole where it is an outermost one.
+#[inline(always)]
 fn complete(element: Span, nesting: &mut Nesting) -> Option<Span>
     ensures { Gives (Ok result) nesting.new (completed element nesting.old) }
 {
@@ -61,7 +62,7 @@ fn open(place: usize, opener: Opener, nesting: &mut Nesting) -> Result<Option<Sp
     ensures gives { Gives result nesting.new (opened place opener nesting.old) }
     ensures memory { IfErr result (λ fault. GrowthRefused (Opens opener) place nesting.old fault) }
 {
-    if nesting.len() == ROOM {
+    if nesting.has(ROOM) {
         return Err(EdnFault::TooDeep(place));
     }
     let open = Open {
@@ -118,6 +119,7 @@ fn close(
 }
 
 /// Takes the token that was found at a place.
+#[inline(always)]
 #[tactic(auto, unfolding(crate::specs::Taking::taken))]
 pub fn take(place: usize, found: Found, nesting: &mut Nesting) -> Result<Option<Span>, EdnFault>
     ensures gives { Gives result nesting.new (taken found.token place found.end nesting.old) }

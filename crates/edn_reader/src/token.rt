@@ -4,7 +4,7 @@ ghost use Rattle.std.specs.Prelude.{◌≡◌, ◌+◌, ◌-◌, ◌≤◌, ◌<
 ghost use Rattle.edn_reader.specs.Grammar.{opener_of, waits, is_paired, fits, kind_of};
 ghost use Rattle.edn_reader.specs.Token.{found_at, lexed, after_hash, after_backslash, quoted, quoted_length};
 
-use crate::bytes::{Bracket, ByteClass, classify, comment_end, run_end};
+use crate::bytes::{Bracket, ByteClass, classify, comment_end, is_plain, is_white, run_end};
 use crate::element::ElementKind;
 use memchr::memchr2;
 
@@ -106,6 +106,7 @@ fn text_end(input: &[u8], from: usize) -> Option<usize>
 }
 
 /// A text whose opening quote ends at a place.
+#[inline(never)]
 #[tactic(auto, unfolding(crate::specs::Token::quoted))]
 fn read_text(input: &[u8], at: usize, from: usize) -> Found
     requires after { at ≤ from }
@@ -127,6 +128,7 @@ fn read_text(input: &[u8], at: usize, from: usize) -> Found
 }
 
 /// What begins with `#`.
+#[inline(never)]
 #[tactic(auto, unfolding(crate::specs::Token::after_hash))]
 fn read_hash(input: &[u8], at: usize) -> Found
     requires { at < length input.now }
@@ -199,8 +201,34 @@ fn opener_of(bracket: Bracket) -> Opener
 }
 
 /// The token at a place. Each of its bytes is looked at a bounded number of times.
-#[tactic(auto, unfolding(crate::specs::Token::lexed))]
+#[inline(always)]
+#[tactic(auto, using(crate::proofs::Lexing::plain_here, crate::proofs::Lexing::white_here))]
 pub fn read_token(input: &[u8], at: usize) -> Found
+    requires { at < length input.now }
+    ensures found { result ≡ found_at at (lexed (drop at input.now)) }
+    ensures within { result.end ≤ length input.now }
+    ensures forward { at < result.end }
+{
+    let byte = input[at];
+    if is_plain(byte) {
+        return Found {
+            token: Token::Leaf(ElementKind::Atom),
+            end: run_end(input, at + 1),
+        };
+    }
+    if is_white(byte) {
+        return Found {
+            token: Token::Gap,
+            end: at + 1,
+        };
+    }
+    read_sign(input, at)
+}
+
+/// The same; most of what begins with a sign of its own is left to other functions.
+#[inline(always)]
+#[tactic(auto, unfolding(crate::specs::Token::lexed))]
+fn read_sign(input: &[u8], at: usize) -> Found
     requires { at < length input.now }
     ensures found { result ≡ found_at at (lexed (drop at input.now)) }
     ensures within { result.end ≤ length input.now }

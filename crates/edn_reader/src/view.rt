@@ -38,6 +38,7 @@ impl<'t> MapView<'t> {
     }
 
     /// The next key and its value.
+    #[inline(always)]
     pub fn next_pair(&mut self) -> Option<(Element<'t>, Element<'t>)>
         ensures left { (pairs : List (Piece × Piece)) × PairsLeft self.old pairs }
         ensures pair { (pairs : List (Piece × Piece)) → PairsLeft self.old pairs → NextPair result self.new pairs }

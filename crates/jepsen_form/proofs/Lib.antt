@@ -1,3 +1,4 @@
+pub mod Keys
 pub mod Loops
 pub mod UnderValues
 pub mod Items

@@ -1,10 +1,12 @@
 -- Words for private clauses alone: what the program has found in a map so far. No caller needs them.
-use Rattle.std.specs.Prelude.{ℕ, Bool, true, false, List, Option, Some, None, codes}
+use Rattle.std.specs.Prelude.{ℕ, Bool, true, false, ◌==◌, List, length, Option, Some, None, codes, if◌then◌else◌}
 use Rattle.std.specs.Str.{bytes_eq}
 use Rattle.edn_reader.specs.Grammar.{Piece}
 use Rattle.edn_reader.specs.Lent.{piece_of}
 use Rattle.edn_reader.specs.Given.{Given, Missing, one_more, seen}
 use Rattle.jepsen_form.specs.declared.item.MomentField.{MomentField}
+use Rattle.jepsen_form.specs.declared.fault.FormField.{FormField}
+use Rattle.jepsen_form.specs.declared.fault.FormField.TheVariants as fields
 use Rattle.jepsen_form.specs.declared.form.Form.{Form}
 use Rattle.jepsen_form.specs.declared.said.Said.{Said}
 use Rattle.jepsen_form.specs.declared.said.Said.TheVariants as variants
@@ -64,6 +66,40 @@ noted chosen found key value = record {
   end = more_if (is_key (codes ":end") key) found.end value;
   ask = more_if (is_key (codes ":ask") key) found.ask value;
 }
+
+-- A field, where it is meant.
+abbrev only_if : Bool → FormField → Option FormField
+only_if is field = if is then Some field else None
+
+-- One of two fields, or none.
+abbrev first_if : Bool → FormField → Option FormField → Option FormField
+first_if is field other = if is then Some field else other
+
+-- The field that a keyword names; its length leaves few that it can be.
+abbrev pub field_of : MomentField → List ℕ → Option FormField
+field_of chosen word =
+    if bytes_eq word (moment_key chosen) then Some fields.Moment
+    else if length word == 2 then only_if (bytes_eq word (codes ":f")) fields.Action
+    else if length word == 3 then only_if (bytes_eq word (codes ":of")) fields.Of
+    else if length word == 4 then first_if (bytes_eq word (codes ":end")) fields.End (only_if (bytes_eq word (codes ":ask")) fields.Ask)
+    else if length word == 5 then first_if (bytes_eq word (codes ":type")) fields.Stage (only_if (bytes_eq word (codes ":edit")) fields.Edit)
+    else if length word == 6 then first_if (bytes_eq word (codes ":value")) fields.Value (only_if (bytes_eq word (codes ":begin")) fields.Begin)
+    else if length word == 8 then only_if (bytes_eq word (codes ":process")) fields.Process
+    else None
+
+-- The fields with one value more under one of them, if any.
+abbrev pub with_more : Option FormField → Fields → Piece → Fields
+with_more None found value = found
+with_more (Some fields.Process) found value = record found { process = one_more found.process value }
+with_more (Some fields.Stage) found value = record found { stage = one_more found.stage value }
+with_more (Some fields.Action) found value = record found { action = one_more found.action value }
+with_more (Some fields.Value) found value = record found { value = one_more found.value value }
+with_more (Some fields.Moment) found value = record found { moment = one_more found.moment value }
+with_more (Some fields.Edit) found value = record found { edit = one_more found.edit value }
+with_more (Some fields.Of) found value = record found { of = one_more found.of value }
+with_more (Some fields.Begin) found value = record found { begin = one_more found.begin value }
+with_more (Some fields.End) found value = record found { end = one_more found.end value }
+with_more (Some fields.Ask) found value = record found { ask = one_more found.ask value }
 
 -- What the program found under :value.
 abbrev pub under_value : Said → UnderValue

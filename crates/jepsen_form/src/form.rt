@@ -1,14 +1,15 @@
 //! What a map has under the keys that are read, found in one pass.
 
-ghost use Rattle.std.specs.Prelude.{◌≡◌, List};
-ghost use Rattle.std.specs.Option.{option_map};
+ghost use Rattle.std.specs.Prelude.{◌≡◌, List, Some};
+ghost use Rattle.std.specs.Str.{bytes_eq};
 ghost use Rattle.edn_reader.specs.Grammar.{Piece};
 ghost use Rattle.edn_reader.specs.Given.{seen};
 ghost use Rattle.edn_reader.specs.Pairs.{keyword_of};
 ghost use Rattle.edn_reader.specs.Lent.{piece_of, PairsLeft};
 ghost use Rattle.jepsen_form.specs.Fields.{fields_of, moment_key};
-ghost use Rattle.jepsen_form.specs.Form.{seen_all, nothing, noted, more_if, is_key as is_that_key};
+ghost use Rattle.jepsen_form.specs.Form.{seen_all, nothing, noted, field_of, with_more};
 
+use crate::fault::FormField;
 use crate::item::MomentField;
 use edn_reader::{Element, Field, MapView};
 
@@ -27,19 +28,19 @@ pub struct Form<'t> {
     pub ask: Field<'t>,
 }
 
-/// Goes over the pairs once.
-pub fn form_of<'t>(map: &MapView<'t>, chosen: MomentField) -> Form<'t>
-    ensures { (pairs : List (Piece × Piece)) → PairsLeft map.now pairs → seen_all result ≡ fields_of chosen pairs }
+/// Goes over the pairs once, and puts each field where the form lies.
+pub fn fill<'t>(form: &mut Form<'t>, map: &MapView<'t>, chosen: MomentField)
+    requires { seen_all form.old ≡ nothing }
+    ensures { (pairs : List (Piece × Piece)) → PairsLeft map.now pairs → seen_all form.new ≡ fields_of chosen pairs }
 {
     let mut left = *map;
-    let mut form = no_fields();
     while let Some((key, value)) = left.next_pair() {
-        note(&mut form, &key, value, chosen);
+        note(form, &key, value, chosen);
     }
-    form
 }
 
-fn no_fields<'t>() -> Form<'t>
+#[inline(always)]
+pub fn no_fields<'t>() -> Form<'t>
     ensures { seen_all result ≡ nothing }
 {
     Form {
@@ -60,17 +61,59 @@ fn no_fields<'t>() -> Form<'t>
 fn note<'t>(form: &mut Form<'t>, key: &Element<'t>, value: Element<'t>, chosen: MomentField)
     ensures { seen_all form.new ≡ noted chosen (seen_all form.old) (keyword_of (piece_of key.now)) (piece_of value.entry) }
 {
-    let word = key.as_keyword();
-    note_under(&mut form.process, is_key(word, b":process"), value);
-    note_under(&mut form.stage, is_key(word, b":type"), value);
-    note_under(&mut form.action, is_key(word, b":f"), value);
-    note_under(&mut form.value, is_key(word, b":value"), value);
-    note_under(&mut form.moment, is_key(word, moment_key(chosen)), value);
-    note_under(&mut form.edit, is_key(word, b":edit"), value);
-    note_under(&mut form.of, is_key(word, b":of"), value);
-    note_under(&mut form.begin, is_key(word, b":begin"), value);
-    note_under(&mut form.end, is_key(word, b":end"), value);
-    note_under(&mut form.ask, is_key(word, b":ask"), value);
+    let Some(word) = key.as_keyword() else {
+        return;
+    };
+    match field_of(word, chosen) {
+        Some(field) => put(form, field, value),
+        None => {}
+    }
+}
+
+/// One value more under a field. Within the loop over the pairs it would take the form to pieces.
+#[inline(never)]
+fn put<'t>(form: &mut Form<'t>, field: FormField, value: Element<'t>)
+    ensures { seen_all form.new ≡ with_more (Some field) (seen_all form.old) (piece_of value.entry) }
+{
+    match field {
+        FormField::Process => form.process = form.process.one_more(value),
+        FormField::Stage => form.stage = form.stage.one_more(value),
+        FormField::Action => form.action = form.action.one_more(value),
+        FormField::Value => form.value = form.value.one_more(value),
+        FormField::Moment => form.moment = form.moment.one_more(value),
+        FormField::Edit => form.edit = form.edit.one_more(value),
+        FormField::Of => form.of = form.of.one_more(value),
+        FormField::Begin => form.begin = form.begin.one_more(value),
+        FormField::End => form.end = form.end.one_more(value),
+        FormField::Ask => form.ask = form.ask.one_more(value),
+    }
+}
+
+/// The field that a keyword names. The length of a keyword leaves few that it can be.
+fn field_of(word: &[u8], chosen: MomentField) -> Option<FormField>
+    ensures { result ≡ field_of chosen word.now }
+{
+    if word == moment_key(chosen) {
+        return Some(FormField::Moment);
+    }
+    match word.len() {
+        2 => is(word, b":f").then_some(FormField::Action),
+        3 => is(word, b":of").then_some(FormField::Of),
+        4 if is(word, b":end") => Some(FormField::End),
+        4 => is(word, b":ask").then_some(FormField::Ask),
+        5 if is(word, b":type") => Some(FormField::Stage),
+        5 => is(word, b":edit").then_some(FormField::Edit),
+        6 if is(word, b":value") => Some(FormField::Value),
+        6 => is(word, b":begin").then_some(FormField::Begin),
+        8 => is(word, b":process").then_some(FormField::Process),
+        _ => None,
+    }
+}
+
+fn is(word: &[u8], key: &[u8]) -> bool
+    ensures { result ≡ bytes_eq word.now key.now }
+{
+    word == key
 }
 
 fn moment_key(chosen: MomentField) -> &'static [u8]
@@ -79,22 +122,5 @@ fn moment_key(chosen: MomentField) -> &'static [u8]
     match chosen {
         MomentField::Index => b":index",
         MomentField::Time => b":time",
-    }
-}
-
-fn is_key(word: Option<&[u8]>, key: &[u8]) -> bool
-    ensures { result ≡ is_that_key key.now (option_map (λ bytes. bytes.now) word.entry) }
-{
-    match word {
-        Some(text) => text == key,
-        None => false,
-    }
-}
-
-fn note_under<'t>(field: &mut Field<'t>, is_its: bool, value: Element<'t>)
-    ensures { seen field.new ≡ more_if is_its (seen field.old) (piece_of value.entry) }
-{
-    if is_its {
-        *field = field.one_more(value);
     }
 }

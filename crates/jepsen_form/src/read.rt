@@ -12,7 +12,7 @@ use crate::edit::read_edit;
 use crate::element::{is_given, needed};
 use crate::event::read_event;
 use crate::fault::{FormFault, FormField};
-use crate::form::{Form, form_of};
+use crate::form::{Form, fill, no_fields};
 use crate::item::{Item, MomentField};
 use crate::said::find_register;
 use edn_reader::Element;
@@ -31,7 +31,11 @@ pub fn read_item<'t>(
     pairs_of_map();
     members_of_vector();
     match element.as_map() {
-        Some(map) => item_in(&form_of(&map, field), element.text(), tower),
+        Some(map) => {
+            let mut form = no_fields();
+            fill(&mut form, &map, field);
+            item_in(&form, element.text(), tower)
+        }
         None => Err(FormFault::NotAMap),
     }
 }

@@ -10,3 +10,12 @@ invariant-loop-end l = record {
 
 abbrev pub decreases-loop-end : goal.decreases-loop-end
 decreases-loop-end l = length l.input - l.end
+
+abbrev pub invariant-loop-end-2 : goal.invariant-loop-end-2
+invariant-loop-end-2 l = record {
+  within : l.end ≤ length l.input;
+  same : l.end + stretch is_run (drop l.end l.input) ≡ l.at + stretch is_run (drop l.at l.input);
+}
+
+abbrev pub decreases-loop-end-2 : goal.decreases-loop-end-2
+decreases-loop-end-2 l = length l.input - l.end

@@ -1,4 +1,4 @@
-use Rattle.std.proofs.Common.{arith}
+use Rattle.std.proofs.Common.{sym, ◌∙◌, arith}
 use Rattle.edn_reader.proofs.Reading.{reads_element, reads_fault, reads_end, reads_open_end, memory_there}
 use Rattle.edn_reader.proofs.reader.read_element.Goals as goal
 
@@ -14,8 +14,8 @@ returns-in-Err-clause-reads c = reads_fault c.args.input.now c.args.from c.loop-
 pub returns-in-Err-clause-memory : goal.returns-in-Err-clause-memory
 returns-in-Err-clause-memory c = memory_there c.args.input.now c.args.from c.loop-at.at c.read_token-found.result c.in-Err.fault c.loop-at.nesting c.loop-at-test.true c.loop-at.invariant.0 c.read_token-found.ensures.found c.in-Err.ensures.memory
 
-pub returns-then-len-eq0-clause-reads : goal.returns-then-len-eq0-clause-reads
-returns-then-len-eq0-clause-reads c = reads_end c.args.input.now c.args.from c.loop-at.at c.loop-at.nesting c.loop-at-test.false c.loop-at.invariant.0 (omega (arith, c.len.ensures, c.if-len-eq0.true))
+pub returns-then-has-clause-reads : goal.returns-then-has-clause-reads
+returns-then-has-clause-reads c = reads_end c.args.input.now c.args.from c.loop-at.at c.loop-at.nesting c.loop-at-test.false c.loop-at.invariant.0 (sym c.has.ensures ∙ c.if-has.true)
 
-pub returns-else-len-eq0-clause-reads : goal.returns-else-len-eq0-clause-reads
-returns-else-len-eq0-clause-reads c = reads_open_end c.args.input.now c.args.from c.loop-at.at c.loop-at.nesting c.loop-at-test.false c.loop-at.invariant.0 (omega (arith, c.len.ensures, c.if-len-eq0.false))
+pub returns-else-has-clause-reads : goal.returns-else-has-clause-reads
+returns-else-has-clause-reads c = reads_open_end c.args.input.now c.args.from c.loop-at.at c.loop-at.nesting c.loop-at-test.false c.loop-at.invariant.0 (sym c.has.ensures ∙ c.if-has.false)

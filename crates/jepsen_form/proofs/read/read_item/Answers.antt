@@ -12,7 +12,7 @@ returns-in-Some-clause-item c =
     let piece = piece_of c.args.element in
     let found = c.in-Some.ensures.some in
     let said = under_value_of_pairs c.members_of_vector.ensures.some c.pairs_of_map.ensures.elements c.pairs_of_map.ensures.values piece found.0 found.1 in
-    let seen = c.form_of.ensures found.0 found.2 in
+    let seen = c.fill.ensures found.0 found.2 in
     let said_there = subst (λ (fields : Fields). IsUnderValue fields.value said.0) (sym seen) said.1 in
     let is : item_of c.args.tower.now (fields_of c.args.field found.0) said.0 c.text.result ≡ c.item_in.result =
     ap (λ (fields : Fields). item_of c.args.tower.now fields said.0 c.text.result) (sym seen) ∙ sym (c.item_in.ensures.item said.0 said_there) in

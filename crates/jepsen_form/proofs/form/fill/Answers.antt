@@ -1,8 +1,8 @@
 use Rattle.jepsen_form.proofs.Loops.{found_first, found_next, found_all}
-use Rattle.jepsen_form.proofs.form.form_of.Goals as goal
+use Rattle.jepsen_form.proofs.form.fill.Goals as goal
 
 pub loop-key-init : goal.loop-key-init
-loop-key-init c = found_first c.args.map.now c.args.chosen c.no_fields-form.result c.no_fields-form.ensures
+loop-key-init c = found_first c.args.map.now c.args.chosen c.args.form.now c.requires
 
 pub loop-key-preserved : goal.loop-key-preserved
 loop-key-preserved c =
