@@ -8,6 +8,3 @@ pub mod Refusal
 pub mod Kind
 pub mod Judging
 pub mod Histories
-pub mod Shelf
-pub mod Moments
-pub mod Table

@@ -1,6 +1,7 @@
 -- what the public clauses speak of
 pub mod Reply
 pub mod Fault
-pub mod Kept
 -- words of private clauses
 pub mod Judge
+pub mod Touch
+pub mod Verdict

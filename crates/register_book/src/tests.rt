@@ -7,6 +7,7 @@ use intervals::{
     Act, Change, Claim, Edit, Holder, Kind, Lent, Memory, Moment, Op, OpId, Parts, Refusal, Value,
     Writers, changed,
 };
+use safe_regular::SingleWriterJudge;
 use std::alloc::Global;
 use std::io::Write;
 use std::process::Abort;
@@ -212,7 +213,7 @@ fn list_after(
     Ok(after)
 }
 
-/// The fault of the whole list by a plain judge.
+/// The fault of the whole list by a judge of its own.
 fn fault_anew<R: AllocGlobal + Abort>(
     rt: &R,
     claim: &Claim,
@@ -221,7 +222,15 @@ fn fault_anew<R: AllocGlobal + Abort>(
     if claim.kind == Kind::Atomic {
         return plain::fault_of(rt.alloc(), claim.initial, ops);
     }
-    Ok(plain::wrong_read_of(claim, ops))
+    let mut judge = SingleWriterJudge::new(rt.alloc(), claim)?;
+    for op in ops {
+        if op.is_write() {
+            judge.admit_write(op)?;
+        } else if op.end.is_some() {
+            judge.admit_read(op)?;
+        }
+    }
+    Ok(judge.first_fault().map(|id| Fault::Wrong(id)))
 }
 
 /// A book, and beside it its claim and the list of what stands.

@@ -3,11 +3,5 @@ pub mod Edge
 pub mod Zone
 pub mod Conflict
 pub mod Order
-pub mod Digits
 -- words of private clauses
-pub mod Summary
-pub mod Layers
-pub mod Node
-pub mod Descent
-pub mod Stock
-pub mod Look
+pub mod Farthest
