@@ -51,7 +51,7 @@ not_same_id a b c f s = by_cases (same_id a c) refl
     by_cases false p = refl
     by_cases true p = absurd (let q = same_id-trans a c b p s in cc)
 
-other_way : (a b : OpId) → same_id a b ≡ false → same_id b a ≡ false
+pub other_way : (a b : OpId) → same_id a b ≡ false → same_id b a ≡ false
 other_way a b e = by_cases (same_id b a) refl
   where
     by_cases : (t : Bool) → same_id b a ≡ t → t ≡ false

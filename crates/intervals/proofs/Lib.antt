@@ -1,5 +1,8 @@
 pub mod Agreement
 pub mod LeastOf
+mod Spots
+mod Slots
+mod Indexed
 mod JudgedAlone
 pub mod Found
 pub mod Holders

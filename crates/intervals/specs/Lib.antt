@@ -8,3 +8,6 @@ pub mod Refusal
 pub mod Kind
 pub mod Judging
 pub mod Histories
+pub mod Shelf
+pub mod Moments
+pub mod Table

@@ -10,14 +10,18 @@
 //! book.check(&another_read)            // Err(MomentTaken(5, ..)): it ends at 5
 //! book.check(&ends_at_6)               // Ok: the amendment gives the read its end
 //! book.admit(ends_at_6)?;
-//! book.operations()                    // the write, and the read from 5 to 6
+//! book.slots()                         // the write, and the read from 5 to 6
 //! ```
 //!
 //! `laws::worked_replies` and `laws::worked_edits` are this history and more, computed from the
 //! definitions; each row of the tests of `register_book` runs these calls.
 //!
+//! An edit takes the time of a few look-ups, however many operations stand: `OpTable` finds them by their
+//! ids and by their moments, and can make room for an operation before it is admitted. `OpBook` is the
+//! same with nothing prepared. `Shelf` has ids by value and moment, with places held ahead.
+//!
 //! Begin with `specs/Operation.antt`, then `Edit.antt` and `Refusal.antt` (what stands, and the reply to
-//! an edit), then `Kind.antt` (what is promised). The calls are in `book.rt`; `laws` has what the
+//! an edit), then `Kind.antt` (what is promised). The calls are in `table.rt`; `laws` has what the
 //! definitions come to.
 #![tactic(auto)]
 
@@ -25,8 +29,11 @@ mod book;
 mod claim;
 mod edit;
 pub mod laws;
+mod moments;
 mod operation;
 mod refusal;
+mod shelf;
+mod table;
 
 pub use book::OpBook;
 pub use claim::{Claim, Holder, Kind, Writers};
@@ -35,3 +42,5 @@ pub use operation::{
     Act, Memory, Moment, Op, OpId, Parts, RegId, Value, is_same_value, overlaps, precedes,
 };
 pub use refusal::Refusal;
+pub use shelf::{Shelf, Spot};
+pub use table::OpTable;

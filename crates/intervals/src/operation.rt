@@ -38,7 +38,7 @@ pub enum Value {
 pub struct RegId(pub u32);
 
 /// An operation's name: its trace, and the place of its invocation there.
-#[derive(Clone, Copy, Debug, PartialEq, Eq)]
+#[derive(Clone, Copy, Debug, PartialEq, Eq, Hash)]
 pub struct OpId {
     pub feeder: u32,
     pub event: u64,

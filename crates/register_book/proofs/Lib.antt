@@ -5,7 +5,3 @@ pub mod Stand
 pub mod Orders
 pub mod Excluding
 pub mod OneWitness
-pub mod Split
-pub mod Bearing
-pub mod ReadEdits
-pub mod Untouched

@@ -1,21 +1,26 @@
 -- What the judge of a register holds. No public clause speaks of these words.
 use Rattle.std.specs.Prelude.{◌≡◌, ◌≢◌, List, Option, Some, None}
+use Rattle.register_book.specs.Kept.{Kept}
 use Rattle.intervals.specs.declared.operation.Op.{Op}
 use Rattle.intervals.specs.declared.operation.OpId.{OpId}
 use Rattle.intervals.specs.declared.claim.Kind.TheVariants.{Atomic}
-use Rattle.intervals.specs.Terms.{Claimed}
 use Rattle.intervals.specs.Edit.{op_of}
 use Rattle.register_book.specs.declared.judge.Judge.{Judge}
 use Rattle.register_book.specs.declared.judge.Judge.TheVariants.{One, Many}
 
--- the claim, and the operations that stand
-abbrev pub held_by : Judge → Claimed
-held_by (One register) = register
-held_by (Many clusters) = clusters
+-- the claim, the operations that stand, and the steps of the tree of zones, where there is one
+abbrev pub held_by : Judge → Kept
+held_by (One judge) = record { claim = judge.claim; ops = judge.ops; steps = 0 }
+held_by (Many clusters) = record { claim = clusters.claim; ops = clusters.ops; steps = clusters.steps }
+
+-- no operation is prepared
+abbrev pub HasNonePrepared : Judge → Type 0
+HasNonePrepared (One judge) = judge.prepared ≡ None
+HasNonePrepared (Many clusters) = clusters.prepared ≡ None
 
 -- the judge is that of the claimed kind
 abbrev pub IsOfItsKind : Judge → Type 0
-IsOfItsKind (One register) = register.claim.kind ≢ Atomic
+IsOfItsKind (One judge) = judge.claim.kind ≢ Atomic
 IsOfItsKind (Many clusters) = clusters.claim.kind ≡ Atomic
 
 -- the operation of that id, where one is given

@@ -1,7 +1,6 @@
 -- what the public clauses speak of
 pub mod Reply
 pub mod Fault
+pub mod Kept
 -- words of private clauses
 pub mod Judge
-pub mod Touch
-pub mod Verdict

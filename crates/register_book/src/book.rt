@@ -1,9 +1,10 @@
-ghost use Rattle.std.specs.Prelude.{◌≡◌, ◌↔◌, [], All, Some, None, length, IfOk, IfSome, OnOk, OnErr, IsNone, IsSome, IsTrue, option_copied};
+ghost use Rattle.std.specs.Prelude.{◌≡◌, ◌↔◌, ◌+◌, ◌≤◌, [], All, Some, None, length, IfOk, IfSome, OnOk, OnErr, IsNone, IsSome, IsTrue, option_copied};
 ghost use Rattle.intervals.specs.Terms.{terms_of};
 ghost use Rattle.intervals.specs.Edit.{op_of, edited, new_op};
 ghost use Rattle.intervals.specs.Refusal.{reply_to, after_edit};
 ghost use Rattle.intervals.specs.Kind.{Holds};
 ghost use Rattle.zones.specs.Turn.{IsOrder};
+ghost use Rattle.register_book.specs.Kept.{most_steps};
 ghost use Rattle.register_book.specs.Reply.{IsReply};
 ghost use Rattle.register_book.specs.declared.fault.Witness.{Witness as AWitness};
 ghost use Rattle.register_book.specs.Fault.{IsWitness, ids_of, operations_of};
@@ -23,22 +24,22 @@ pub struct RegisterBook<'t> {
 }
 
 impl<'t> Model for RegisterBook<'t> {
-    ghost use Rattle.intervals.specs.Terms.{Claimed};
+    ghost use Rattle.register_book.specs.Kept.{Kept};
 
-    ghost Value = { Claimed };
+    ghost Value = { Kept };
 
     ghost use Rattle.intervals.specs.Standing.{HasDistinctIds};
-    ghost use Rattle.register_book.specs.Judge.{held_by, IsOfItsKind};
+    ghost use Rattle.register_book.specs.Judge.{held_by, IsOfItsKind, HasNonePrepared};
 
     ghost view = { λ b. held_by b.judge };
 
-    ghost invariant = { λ b. IsOfItsKind b.judge × HasDistinctIds (held_by b.judge).ops };
+    ghost invariant = { λ b. IsOfItsKind b.judge × HasNonePrepared b.judge × HasDistinctIds (held_by b.judge).ops };
 }
 
 impl<'t> RegisterBook<'t> {
     /// A book of no operations. It keeps a claim of its own that says the same.
     pub fn new(alloc: Global, claim: &Claim) -> Result<Self, Memory>
-        ensures { IfOk result (λ book. book ≡ record { claim = terms_of claim.now; ops = [] }) }
+        ensures { IfOk result (λ book. book ≡ record { claim = terms_of claim.now; ops = []; steps = book.steps }) }
     {
         Ok(RegisterBook {
             judge: Judge::new(alloc, claim)?,
@@ -60,13 +61,14 @@ impl<'t> RegisterBook<'t> {
     }
 
     /// Carries an edit out and says whether the register holds since, or says why it is refused. To
-    /// withdraw an operation of an atomic register takes no memory.
+    /// withdraw an operation takes no memory.
     pub fn apply(&mut self, edit: Edit<'t>) -> Result<Reply, Memory>
         ensures reply { IfOk result (λ reply. IsReply self.old.claim self.old.ops edit.entry reply) }
-        ensures after { OnOk result (self.new ≡ record self.old { ops = after_edit self.old.claim self.old.ops edit.entry }) }
+        ensures after { OnOk result (self.new ≡ record self.old { ops = after_edit self.old.claim self.old.ops edit.entry; steps = self.new.steps }) }
         ensures err { OnErr result (self.new ≡ self.old) }
         ensures memory { OnErr result (reply_to self.old.claim self.old.ops edit.entry ≡ None) }
-        ensures withdrawal { OnErr result (self.old.claim.kind ≡ Kind.Atomic → IsSome (new_op self.old.ops edit.entry)) }
+        ensures withdrawal { OnErr result (IsSome (new_op self.old.ops edit.entry)) }
+        ensures steps { self.new.steps ≤ self.old.steps + most_steps self.old.claim self.old.ops }
     {
         if let Some(refusal) = refusal_of(&self.judge, &edit) {
             return Ok(Reply::Refused(refusal));
@@ -79,12 +81,20 @@ impl<'t> RegisterBook<'t> {
 
     fn carry_out(&mut self, edit: Edit<'t>) -> Result<(), Memory>
         requires { reply_to self.old.claim self.old.ops edit ≡ None }
-        ensures ok { OnOk result (self.new ≡ record self.old { ops = edited self.old.ops edit.entry }) }
+        ensures ok { OnOk result (self.new ≡ record self.old { ops = edited self.old.ops edit.entry; steps = self.new.steps }) }
         ensures err { OnErr result (self.new ≡ self.old) }
-        ensures memory { OnErr result (self.old.claim.kind ≡ Kind.Atomic → IsSome (new_op self.old.ops edit.entry)) }
+        ensures memory { OnErr result (IsSome (new_op self.old.ops edit.entry)) }
+        ensures steps { self.new.steps ≤ self.old.steps + most_steps self.old.claim self.old.ops }
     {
         self.judge.admit(edit)?;
         Ok(())
+    }
+
+    /// How many levels the tree of zones has gone down for edits so far; 0 where there is no tree.
+    pub fn steps(&self) -> u64
+        ensures { result ≡ self.now.steps }
+    {
+        self.judge.steps()
     }
 
     /// Whether the register keeps the sentence of its kind.

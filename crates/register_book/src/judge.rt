@@ -1,46 +1,49 @@
 //! The judge of a register's kind, asked alike whichever it is.
 
-ghost use Rattle.std.specs.Prelude.{◌≡◌, ◌↔◌, [], None, IfOk, IfSome, OnOk, OnErr, IsNone, IsSome, IsTrue};
+ghost use Rattle.std.specs.Prelude.{◌≡◌, ◌↔◌, ◌+◌, ◌≤◌, [], None, IfOk, IfSome, OnOk, OnErr, IsNone, IsSome, IsTrue};
 ghost use Rattle.intervals.specs.Terms.{terms_of};
 ghost use Rattle.intervals.specs.Edit.{edited, new_op};
 ghost use Rattle.intervals.specs.Refusal.{reply_to, write_refusal, ok_unless};
 ghost use Rattle.intervals.specs.Standing.{HasDistinctIds};
 ghost use Rattle.intervals.specs.Kind.{Holds};
 ghost use Rattle.zones.specs.Turn.{IsOrder};
-ghost use Rattle.register_book.specs.Judge.{held_by, IsOfItsKind};
+ghost use Rattle.register_book.specs.Judge.{held_by, IsOfItsKind, HasNonePrepared};
+ghost use Rattle.register_book.specs.Kept.{most_steps};
 ghost use Rattle.register_book.specs.Fault.{IsWitness};
 
 use crate::Witness;
 use crate::many_writers::witness_of;
-use crate::one_writer::OneWriter;
-use intervals::{Claim, Edit, Kind, Memory, Op, OpBook, OpId, Refusal};
+use crate::one_writer::wrong_read_of;
+use intervals::{Claim, Edit, Kind, Memory, Op, OpTable, OpId, Refusal};
+use safe_regular::SingleWriterJudge;
 use std::alloc::Global;
 use zones::Clusters;
 
 /// The operations of a register: one writer's where it claims to be safe or regular, else many writers'.
 #[derive(Drop)]
 pub enum Judge<'t> {
-    One(OneWriter<'t>),
+    One(SingleWriterJudge<'t>),
     Many(Clusters<'t>),
 }
 
 impl<'t> Judge<'t> {
     pub fn new(alloc: Global, claim: &Claim) -> Result<Self, Memory>
-        ensures held { IfOk result (λ judge. held_by judge ≡ record { claim = terms_of claim.now; ops = [] }) }
+        ensures held { IfOk result (λ judge. held_by judge ≡ record { claim = terms_of claim.now; ops = []; steps = (held_by judge).steps }) }
         ensures kind { IfOk result IsOfItsKind }
+        ensures none_prepared { IfOk result HasNonePrepared }
     {
         if claim.kind == Kind::Atomic {
             Ok(Judge::Many(Clusters::new(alloc, claim)?))
         } else {
-            Ok(Judge::One(OneWriter::new(alloc, claim)?))
+            Ok(Judge::One(SingleWriterJudge::new(alloc, claim)?))
         }
     }
 
-    pub fn operations(&self) -> &OpBook<'t>
-        ensures { result.now ≡ (held_by self.now).ops }
+    pub fn operations(&self) -> &OpTable<'t>
+        ensures { result.now.ops ≡ (held_by self.now).ops }
     {
         match self {
-            Judge::One(register) => register.operations(),
+            Judge::One(judge) => judge.operations(),
             Judge::Many(clusters) => clusters.operations(),
         }
     }
@@ -50,22 +53,35 @@ impl<'t> Judge<'t> {
         ensures { result ≡ ok_unless (write_refusal (held_by self.now).claim (held_by self.now).ops op.now) }
     {
         match self {
-            Judge::One(register) => register.check_write(op),
+            Judge::One(judge) => judge.check_write(op),
             Judge::Many(clusters) => clusters.check_write(op),
         }
     }
 
-    /// Carries out an edit that nothing refuses.
+    /// Carries out an edit that nothing refuses: what it needs is made room for first, and then nothing
+    /// is refused.
     pub fn admit(&mut self, edit: Edit<'t>) -> Result<(), Memory>
-        requires { reply_to (held_by self.old).claim (held_by self.old).ops edit ≡ None }
-        ensures ok { OnOk result (held_by self.new ≡ record (held_by self.old) { ops = edited (held_by self.old).ops edit.entry }) }
+        requires accepted { reply_to (held_by self.old).claim (held_by self.old).ops edit ≡ None }
+        requires none_prepared { HasNonePrepared self.old }
+        ensures ok { OnOk result (held_by self.new ≡ record (held_by self.old) { ops = edited (held_by self.old).ops edit.entry; steps = (held_by self.new).steps }) }
         ensures err { OnErr result (self.new ≡ self.old) }
-        ensures memory { OnErr result (IsOfItsKind self.old → (held_by self.old).claim.kind ≡ Kind.Atomic → IsSome (new_op (held_by self.old).ops edit.entry)) }
+        ensures memory { OnErr result (IsSome (new_op (held_by self.old).ops edit.entry)) }
         ensures kind { IsOfItsKind self.old → IsOfItsKind self.new }
+        ensures left { HasNonePrepared self.new }
+        ensures steps { (held_by self.new).steps ≤ (held_by self.old).steps + most_steps (held_by self.old).claim (held_by self.old).ops }
     {
         match self {
-            Judge::One(register) => register.admit(edit),
+            Judge::One(judge) => judge.admit(edit),
             Judge::Many(clusters) => clusters.admit(edit),
+        }
+    }
+
+    pub fn steps(&self) -> u64
+        ensures { result ≡ (held_by self.now).steps }
+    {
+        match self {
+            Judge::One(_) => 0,
+            Judge::Many(clusters) => clusters.steps(),
         }
     }
 
@@ -74,7 +90,7 @@ impl<'t> Judge<'t> {
         ensures { IsTrue result ↔ Holds (held_by self.now).claim (held_by self.now).ops }
     {
         match self {
-            Judge::One(register) => register.holds(),
+            Judge::One(judge) => judge.holds(),
             Judge::Many(clusters) => clusters.holds(),
         }
     }
@@ -86,7 +102,7 @@ impl<'t> Judge<'t> {
         ensures none { IsNone result ↔ Holds (held_by self.now).claim (held_by self.now).ops }
     {
         match self {
-            Judge::One(register) => register.witness(),
+            Judge::One(judge) => wrong_read_of(judge),
             Judge::Many(clusters) => witness_of(clusters),
         }
     }

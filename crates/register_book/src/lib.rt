@@ -18,11 +18,10 @@
 //! show that a register fails. Their words are those of `intervals` and `zones`. Then come the calls, in
 //! `book.rt`, and what the words come to, in `laws.rt`.
 //!
-//! The rest is the book's own affair. `judge.rt` asks the judge of the claimed kind. That of an atomic
-//! register is `zones::Clusters`, and `many_writers.rt` finds the operations of its fault. That of the
-//! other two is in `one_writer.rt`: only the reads that an edit touches are judged again (`touch.rt`,
-//! `verdict.rt`, and the words of `specs/Touch.antt` and `specs/Verdict.antt`), and the judge of the
-//! writes is built anew by an edit of a write alone (`writes.rt`).
+//! The rest is the book's own affair. `judge.rt` asks the judge of the claimed kind: `zones::Clusters`
+//! of an atomic register, `safe_regular::SingleWriterJudge` of the other two. Both keep the operations,
+//! make room for an edit first and change in place then. `many_writers.rt` and `one_writer.rt` find
+//! the operations of a fault.
 #![tactic(auto)]
 
 mod book;
@@ -33,9 +32,6 @@ mod many_writers;
 mod one_writer;
 mod refused;
 mod reply;
-mod touch;
-mod verdict;
-mod writes;
 
 pub use book::RegisterBook;
 pub use fault::{Fault, Side, Witness};

@@ -8,7 +8,7 @@ ghost use Rattle.register_book.specs.Fault.{IsWitness, op_at};
 ghost use Rattle.register_book.specs.Judge.{found_by, pair_by};
 
 use crate::{Side, Witness};
-use intervals::{Kind, Op, OpBook, OpId};
+use intervals::{Kind, Op, OpTable, OpId};
 use zones::Clusters;
 use zones::laws::{
     faultless_where_no_fault_is_first, first_early_ended_first, first_unwritten_ended_first,
@@ -69,15 +69,15 @@ fn first_early<'t>(clusters: &Clusters<'t>) -> Option<(Op<'t>, Op<'t>)>
 }
 
 /// The operation of that id, where one is given.
-fn op_by<'t>(ops: &OpBook<'t>, id: Option<OpId>) -> Option<Op<'t>>
-    ensures { result ≡ found_by ops.now id }
+fn op_by<'t>(ops: &OpTable<'t>, id: Option<OpId>) -> Option<Op<'t>>
+    ensures { result ≡ found_by ops.now.ops id }
 {
     ops.get(id?).copied()
 }
 
 /// The operations of two ids, where they are given.
-fn ops_by<'t>(ops: &OpBook<'t>, ids: Option<(OpId, OpId)>) -> Option<(Op<'t>, Op<'t>)>
-    ensures { result ≡ pair_by ops.now ids }
+fn ops_by<'t>(ops: &OpTable<'t>, ids: Option<(OpId, OpId)>) -> Option<(Op<'t>, Op<'t>)>
+    ensures { result ≡ pair_by ops.now.ops ids }
 {
     let (read, write) = ids?;
     let read = ops.get(read)?;

@@ -6,7 +6,7 @@ ghost use Rattle.intervals.specs.Refusal.{reply_to, first_refusal, new_write_ref
 ghost use Rattle.register_book.specs.Judge.{held_by};
 
 use crate::judge::Judge;
-use intervals::{Edit, Op, OpBook, Refusal};
+use intervals::{Edit, Op, OpTable, Refusal};
 
 /// The first refusal that holds of the edit.
 pub fn refusal_of<'t>(judge: &Judge<'t>, edit: &Edit<'t>) -> Option<Refusal>
@@ -21,8 +21,8 @@ pub fn refusal_of<'t>(judge: &Judge<'t>, edit: &Edit<'t>) -> Option<Refusal>
 
 /// The first refusal that the list alone decides.
 #[tactic(auto, using(crate::proofs::Refusals::err_ok_unless))]
-fn list_refusal<'t>(ops: &OpBook<'t>, edit: &Edit<'t>) -> Option<Refusal>
-    ensures { result ≡ first_refusal ops.now edit.now }
+fn list_refusal<'t>(ops: &OpTable<'t>, edit: &Edit<'t>) -> Option<Refusal>
+    ensures { result ≡ first_refusal ops.now.ops edit.now }
 {
     ops.check(edit).err()
 }

@@ -7,7 +7,6 @@ use intervals::{
     Act, Change, Claim, Edit, Holder, Kind, Lent, Memory, Moment, Op, OpId, Parts, Refusal, Value,
     Writers, changed,
 };
-use safe_regular::SingleWriterJudge;
 use std::alloc::Global;
 use std::io::Write;
 use std::process::Abort;
@@ -213,7 +212,7 @@ fn list_after(
     Ok(after)
 }
 
-/// The fault of the whole list by a judge of its own.
+/// The fault of the whole list by a plain judge.
 fn fault_anew<R: AllocGlobal + Abort>(
     rt: &R,
     claim: &Claim,
@@ -222,15 +221,7 @@ fn fault_anew<R: AllocGlobal + Abort>(
     if claim.kind == Kind::Atomic {
         return plain::fault_of(rt.alloc(), claim.initial, ops);
     }
-    let mut judge = SingleWriterJudge::new(rt.alloc(), claim)?;
-    for op in ops {
-        if op.is_write() {
-            judge.admit_write(op)?;
-        } else if op.end.is_some() {
-            judge.admit_read(op)?;
-        }
-    }
-    Ok(judge.first_fault().map(|id| Fault::Wrong(id)))
+    Ok(plain::wrong_read_of(claim, ops))
 }
 
 /// A book, and beside it its claim and the list of what stands.

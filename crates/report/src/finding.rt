@@ -1,6 +1,7 @@
 //! What is found of the registers when their auditor is closed.
 
 ghost use Rattle.std.specs.Prelude.{◌≡◌, IfOk, IsSome, vec_len, length};
+ghost use Rattle.register_book.specs.Kept.{claimed_of};
 ghost use Rattle.shards.specs.Closing.{book_of};
 ghost use Rattle.report.specs.Finding.{AreFindings, IsFinding, IsFindingOf, IsOfTower, fails_in, holds_in};
 
@@ -47,8 +48,8 @@ fn finding_of<'t>(closed: &Closed<'t>, id: RegId) -> Finding<'t>
 }
 
 /// What is found of a register.
-pub fn found_in<'t>(book: &RegisterBook<'t>) -> Finding<'t>
-    ensures { IsFinding book.now result }
+fn found_in<'t>(book: &RegisterBook<'t>) -> Finding<'t>
+    ensures { IsFinding (claimed_of book.now) result }
 {
     Finding {
         operations: book.len() as u64,

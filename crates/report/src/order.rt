@@ -1,6 +1,7 @@
 //! What is printed of the order of a register.
 
 ghost use Rattle.std.specs.Prelude.{◌≡◌, ◌++◌, IfOk, IsSome, OnOk, Some, None, string_bytes, option_map};
+ghost use Rattle.register_book.specs.Kept.{claimed_of};
 ghost use Rattle.shards.specs.Closing.{book_of};
 ghost use Rattle.report.specs.Order.{IsOrderOf, ids_text, order_line};
 
@@ -24,7 +25,7 @@ pub fn order_of(alloc: Global, closed: &Closed, id: RegId) -> Result<Option<Vec<
 }
 
 fn order_in(alloc: Global, book: &RegisterBook) -> Result<Option<Vec<OpId>>, Memory>
-    ensures { IfOk result (λ found. IsOrderOf (Some book.now) (option_map (λ ids. ids.items) found)) }
+    ensures { IfOk result (λ found. IsOrderOf (Some (claimed_of book.now)) (option_map (λ ids. ids.items) found)) }
 {
     book.order(alloc)
 }

@@ -1,1 +1,9 @@
 pub mod Judge
+pub mod Seen
+pub mod Apart
+pub mod LookUp
+pub mod Window
+pub mod First
+pub mod Index
+pub mod Writes
+pub mod Held

@@ -1,49 +1,62 @@
-ghost use Rattle.std.specs.Prelude.{◌&&◌, not, ◌≡◌, ◌≢◌, ◌↔◌, ◌++◌, ◌∷◌, [], IfOk, OnOk, OnErr, IsNone, option_map};
-ghost use Rattle.intervals.specs.Operation.{IsWrite, IsJudgedRead, is_write as writes, same_id};
+//! The calls of the judge of one writer's register.
+
+ghost use Rattle.std.specs.Prelude.{◌≡◌, ◌≢◌, ◌↔◌, ◌++◌, ◌∷◌, [], None, Some, IfOk, IfSome, OnOk, OnErr, IsNone, IsSome, IsSomeAnd, IsOk, IsTrue, not, option_map};
+ghost use Rattle.intervals.specs.Edit.{new_op, edited, op_of as op_in};
+ghost use Rattle.intervals.specs.Operation.{IsWrite, IsJudgedRead, is_write as writes};
+ghost use Rattle.intervals.specs.Table.{prepared_after};
 ghost use Rattle.intervals.specs.Terms.{terms_of};
-ghost use Rattle.intervals.specs.Kind.{IsSafe, IsRegular};
-ghost use Rattle.intervals.specs.Refusal.{write_refusal, ok_unless};
-ghost use Rattle.intervals.specs.Judging.{first_wrong as first_wrong_of, is_wrong_read as wrong_read, end_number};
-ghost use Rattle.intervals.specs.Least.{least_by};
+ghost use Rattle.intervals.specs.Kind.{IsSafe, IsRegular, Holds};
+ghost use Rattle.intervals.specs.Refusal.{write_refusal, reply_to, ok_unless};
+ghost use Rattle.intervals.specs.Judging.{first_wrong as first_wrong_of};
 ghost use Rattle.safe_regular.specs.Judge.{without_write, without_read};
 
-use crate::reads::{first_wrong_among, is_wrong_read};
-use crate::writes::check_write;
+use crate::marks::{Beside, judge_over, judged_read, op_of, put_mark, take_mark, window_of};
+use crate::writes::{Writes, check_write};
 use intervals::laws::{regular_without_wrong_reads, safe_without_wrong_reads};
-use intervals::{Claim, Kind, Memory, Op, OpId, Refusal};
+use intervals::{Claim, Edit, Kind, Memory, Op, OpId, OpTable, Refusal};
+use read_tree::ReadTree;
 use std::alloc::Global;
 use std::marker::Model;
 
-/// The writes and the ended reads of one register that claims to be safe or regular.
+/// The operations of one register that claims to be safe or regular.
 #[derive(Drop)]
 pub struct SingleWriterJudge<'t> {
     claim: Claim,
-    ops: Vec<Op<'t>>,
+    table: OpTable<'t>,
+    writes: Writes,
+    reads: ReadTree,
 }
 
 impl<'t> Model for SingleWriterJudge<'t> {
-    ghost use Rattle.std.specs.Prelude.{◌≢◌};
     ghost use Rattle.intervals.specs.Terms.{terms_of};
-    ghost use Rattle.intervals.specs.declared.claim.Kind.TheVariants.{Atomic};
-    ghost use Rattle.intervals.specs.Terms.{Claimed};
+    ghost use Rattle.safe_regular.specs.Held.{Judged, HoldTogether};
 
-    ghost Value = { Claimed };
+    ghost Value = { Judged };
 
-    ghost view = { λ j. record { claim = terms_of j.claim; ops = j.ops.items } };
+    ghost view = { λ j. record { claim = terms_of j.claim; ops = j.table.ops; prepared = j.table.prepared } };
 
-    ghost invariant = { λ j. j.claim.kind ≢ Atomic };
+    ghost invariant = { λ j. HoldTogether (terms_of j.claim) j.table j.writes j.reads };
 }
 
 impl<'t> SingleWriterJudge<'t> {
     /// A judge of no operations.
     pub fn new(alloc: Global, claim: &Claim) -> Result<Self, Memory>
         requires { claim.now.kind ≢ Kind.Atomic }
-        ensures { IfOk result (λ judge. judge ≡ record { claim = terms_of claim.now; ops = [] }) }
+        ensures { IfOk result (λ judge. judge ≡ record { claim = terms_of claim.now; ops = []; prepared = None }) }
     {
         Ok(SingleWriterJudge {
             claim: claim.try_clone(alloc)?,
-            ops: Vec::new(alloc),
+            table: OpTable::new(alloc),
+            writes: Writes::new(alloc),
+            reads: ReadTree::new(alloc),
         })
+    }
+
+    /// The operations that stand, unfinished reads among them.
+    pub fn operations(&self) -> &OpTable<'t>
+        ensures { result.now.ops ≡ self.now.ops }
+    {
+        &self.table
     }
 
     /// The first of `NotAWriter`, `WritesOverlap` and `OutOfDomain` that holds of the write. An
@@ -51,52 +64,130 @@ impl<'t> SingleWriterJudge<'t> {
     pub fn check_write(&self, op: &Op) -> Result<(), Refusal>
         ensures { result ≡ ok_unless (write_refusal self.now.claim self.now.ops op.now) }
     {
-        check_write(&self.claim, self.ops.as_slice(), op)
+        check_write(&self.claim, &self.writes, &self.table, op)
     }
 
+    /// The operation that there is room for.
+    pub fn prepared(&self) -> Option<Op<'t>>
+        ensures { result ≡ self.now.prepared }
+    {
+        self.table.prepared()
+    }
+
+    /// Makes room for an operation: to drop any operations and then to admit this one takes no memory.
+    pub fn prepare(&mut self, op: &Op<'t>) -> Result<(), Memory>
+        requires { self.old.prepared ≡ None }
+        ensures ok { OnOk result (self.new ≡ record self.old { prepared = Some op.now }) }
+        ensures err { OnErr result (self.new ≡ self.old) }
+    {
+        self.reads.reserve(1)?;
+        self.writes.hold(op)?;
+        if let Err(refused) = self.table.prepare(op) {
+            self.writes.release(op);
+            return Err(refused);
+        }
+        Ok(())
+    }
+
+    /// Lets the room for the prepared operation go.
+    pub fn release(&mut self, op: &Op<'t>)
+        requires { self.old.prepared ≡ Some op.now }
+        ensures { self.new ≡ record self.old { prepared = None } }
+    {
+        self.writes.release(op);
+        self.table.release();
+    }
+
+    /// Carries out an edit that nothing refuses. It takes no memory where its new operation is prepared
+    /// or it has none.
+    pub fn admit(&mut self, edit: Edit<'t>) -> Result<(), Memory>
+        requires accepted { reply_to self.old.claim self.old.ops edit ≡ None }
+        requires prepared { IfSome self.old.prepared (λ op. IfSome (new_op self.old.ops edit) (λ new. new ≡ op)) }
+        ensures ok { OnOk result (self.new ≡ record self.old { ops = edited self.old.ops edit.entry; prepared = prepared_after (new_op self.old.ops edit.entry) self.old.prepared }) }
+        ensures err { OnErr result (self.new ≡ self.old) }
+        ensures memory { OnErr result (IsSome (new_op self.old.ops edit.entry) × (self.old.prepared ≡ None)) }
+    {
+        let new = self.table.new_op(&edit);
+        if let Some(op) = new {
+            if self.table.prepared().is_none() {
+                self.prepare(&op)?;
+            }
+        }
+        self.settle(edit, new);
+        Ok(())
+    }
+
+    /// Carries out an edit whose new operation is prepared: the mark of the old operation goes, the reads
+    /// in the windows of its writes are judged anew, and the mark of the new one comes.
+    fn settle(&mut self, edit: Edit<'t>, new: Option<Op<'t>>)
+        requires accepted { reply_to self.old.claim self.old.ops edit ≡ None }
+        requires new { new ≡ new_op self.old.ops edit }
+        requires prepared { IfSome new (λ op. self.old.prepared ≡ Some op) }
+        ensures { self.new ≡ record self.old { ops = edited self.old.ops edit.entry; prepared = prepared_after new.entry self.old.prepared } }
+    {
+        let old = op_of(&self.table, edit.id());
+        let left = window_of(&self.writes, &self.table, old);
+        self.writes.change(old, new, self.table.prepared());
+        self.table.admit(edit);
+        let come = window_of(&self.writes, &self.table, new);
+        take_mark(&mut self.reads, judged_read(old));
+        let beside = Beside {
+            claim: &self.claim,
+            writes: &self.writes,
+            table: &self.table,
+        };
+        judge_over(&mut self.reads, &beside, left);
+        judge_over(&mut self.reads, &beside, come);
+        put_mark(&mut self.reads, &beside, judged_read(new));
+    }
+
+    /// Admits a write that passed its check.
     pub fn admit_write(&mut self, write: &Op<'t>) -> Result<(), Memory>
-        requires { IsWrite write.now }
-        ensures ok { OnOk result (self.new ≡ record self.old { ops = self.old.ops ++ write.now ∷ [] }) }
+        requires write { IsWrite write.now }
+        requires accepted { reply_to self.old.claim self.old.ops (Edit.Append write.now) ≡ None }
+        requires prepared { IfSome self.old.prepared (λ op. write.now ≡ op) }
+        ensures succeeds { IsSome self.old.prepared → IsOk result }
+        ensures ok { OnOk result (self.new ≡ record self.old { ops = self.old.ops ++ write.now ∷ []; prepared = None }) }
         ensures err { OnErr result (self.new ≡ self.old) }
     {
-        self.ops.push(*write)?;
-        Ok(())
+        self.admit(Edit::Append(*write))
     }
 
+    /// Admits a read that has an end.
     pub fn admit_read(&mut self, read: &Op<'t>) -> Result<(), Memory>
-        requires { IsJudgedRead read.now }
-        ensures ok { OnOk result (self.new ≡ record self.old { ops = self.old.ops ++ read.now ∷ [] }) }
+        requires read { IsJudgedRead read.now }
+        requires accepted { reply_to self.old.claim self.old.ops (Edit.Append read.now) ≡ None }
+        requires prepared { IfSome self.old.prepared (λ op. read.now ≡ op) }
+        ensures succeeds { IsSome self.old.prepared → IsOk result }
+        ensures ok { OnOk result (self.new ≡ record self.old { ops = self.old.ops ++ read.now ∷ []; prepared = None }) }
         ensures err { OnErr result (self.new ≡ self.old) }
     {
-        self.ops.push(*read)?;
-        Ok(())
+        self.admit(Edit::Append(*read))
     }
 
+    /// Without the write of that id. What is not there, or no write, is left alone.
     pub fn drop_write(&mut self, id: OpId)
         ensures { self.new ≡ record self.old { ops = without_write self.old.ops id } }
     {
-        drop_write(&mut self.ops, id);
+        if is_write_in(&self.table, id) {
+            self.withdraw(id);
+        }
     }
 
+    /// Without the read of that id. What is not there, or no read, is left alone.
     pub fn drop_read(&mut self, id: OpId)
         ensures { self.new ≡ record self.old { ops = without_read self.old.ops id } }
     {
-        drop_read(&mut self.ops, id);
+        if is_read_in(&self.table, id) {
+            self.withdraw(id);
+        }
     }
 
-    /// Whether it is a read with an end that breaks the sentence of the claimed kind beside the
-    /// operations that were admitted. It need not be one of them.
-    pub fn is_wrong(&self, read: &Op) -> bool
-        ensures { result ≡ wrong_read self.now.claim self.now.ops read.now }
+    fn withdraw(&mut self, id: OpId)
+        requires { IsSome (op_in self.old.ops id) }
+        ensures { self.new ≡ record self.old { ops = edited self.old.ops (Edit.Withdraw id) } }
     {
-        is_wrong_read(&self.claim, self.ops.as_slice(), read)
-    }
-
-    /// Of those operations the wrong read that ended first. None of them need have been admitted.
-    pub fn first_wrong_among<'r>(&self, reads: &[Op<'r>]) -> Option<Op<'r>>
-        ensures { result ≡ least_by end_number (wrong_read self.now.claim self.now.ops) reads.now }
-    {
-        first_wrong_among(&self.claim, self.ops.as_slice(), reads)
+        self.settle(Edit::Withdraw(id), None);
     }
 
     /// Of the reads that break the sentence of the claimed kind the one that ended first.
@@ -107,30 +198,41 @@ impl<'t> SingleWriterJudge<'t> {
     {
         safe_without_wrong_reads();
         regular_without_wrong_reads();
-        self.first_wrong_among(self.ops.as_slice()).map(|op| op.id)
+        self.first_wrong().map(|op| op.id)
+    }
+
+    /// The same read as it stands.
+    pub fn first_wrong(&self) -> Option<Op<'t>>
+        ensures { result ≡ first_wrong_of self.now.claim self.now.ops }
+    {
+        let mark = self.reads.first_wrong()?;
+        op_of(&self.table, mark.id)
+    }
+
+    /// Whether no read is wrong.
+    pub fn holds(&self) -> bool
+        ensures { IsTrue result ↔ Holds self.now.claim self.now.ops }
+    {
+        safe_without_wrong_reads();
+        regular_without_wrong_reads();
+        !self.reads.has_wrong()
     }
 }
 
-fn drop_write(ops: &mut Vec<Op>, id: OpId)
-    ensures { ops.new.items ≡ without_write ops.old.items id }
+fn is_write_in(table: &OpTable, id: OpId) -> bool
+    ensures { IsTrue result ↔ IsSomeAnd (op_in table.now.ops id) IsWrite }
 {
-    ops.retain(|op| !is_write_of(op, id));
+    match table.get(id) {
+        Some(op) => op.is_write(),
+        None => false,
+    }
 }
 
-fn drop_read(ops: &mut Vec<Op>, id: OpId)
-    ensures { ops.new.items ≡ without_read ops.old.items id }
+fn is_read_in(table: &OpTable, id: OpId) -> bool
+    ensures { IsTrue result ↔ IsSomeAnd (op_in table.now.ops id) (λ op. IsTrue (not (writes op))) }
 {
-    ops.retain(|op| !is_read_of(op, id));
-}
-
-fn is_write_of(op: &Op, id: OpId) -> bool
-    ensures { result ≡ (writes op.now && same_id op.now.id id) }
-{
-    op.is_write() && op.has_id(id)
-}
-
-fn is_read_of(op: &Op, id: OpId) -> bool
-    ensures { result ≡ (not (writes op.now) && same_id op.now.id id) }
-{
-    !op.is_write() && op.has_id(id)
+    match table.get(id) {
+        Some(op) => !op.is_write(),
+        None => false,
+    }
 }

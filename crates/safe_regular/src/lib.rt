@@ -12,14 +12,20 @@
 //! ```
 //!
 //! `intervals::laws::worked_faults` and `worked_writes` are such histories, computed from the
-//! definitions; the tests of `register_book` run these calls, to judge each list anew beside the book.
+//! definitions; the rows of `tests.rt` run these calls.
 //!
 //! Begin with `judge.rt`: its clauses are the whole promise, in the words of `intervals`. Which reads
-//! are right is in `reads.rt`, which writes are allowed in `writes.rt`.
+//! are right is in `reads.rt`, which writes are allowed in `writes.rt`; each is found by a few look-ups
+//! among the writes. What was judged of the reads is kept in `marks.rt`: an edit has those of a window
+//! judged anew, and no others.
 #![tactic(auto)]
 
 mod judge;
+mod marks;
 mod reads;
 mod writes;
 
 pub use judge::SingleWriterJudge;
+
+#[cfg(test)]
+mod tests;

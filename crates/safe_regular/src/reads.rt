@@ -3,37 +3,56 @@
 ghost use Rattle.std.specs.Prelude.{◌≡◌, ◌&&◌, not};
 ghost use Rattle.std.specs.List.{list_any};
 ghost use Rattle.intervals.specs.Terms.{terms_of};
-ghost use Rattle.intervals.specs.Least.{less_of, least_by};
-ghost use Rattle.intervals.specs.Judging.{is_write_before as write_before, later_of as later_one, last_before as last_one_before, is_returned_at as returned_at, returns_last as returns_the_last, is_write_over as write_over, overlaps_write as overlaps_some, is_allowed as allowed, is_safe_read as safe_read, is_returned_over as returned_over, is_regular_read as regular_read, is_right_read as right_read, is_wrong_read as wrong_read, end_number};
+ghost use Rattle.intervals.specs.Judging.{is_write_before as write_before, later_of as later_one, last_before as last_one_before, is_returned_at as returned_at, returns_last as returns_the_last, is_write_over as write_over, overlaps_write as overlaps_some, is_allowed as allowed, is_safe_read as safe_read, is_returned_over as returned_over, is_regular_read as regular_read, is_right_read as right_read, is_wrong_read as wrong_read};
+ghost use Rattle.intervals.specs.Standing.{HasDistinctIds};
+ghost use Rattle.safe_regular.specs.Apart.{AreApart};
+ghost use Rattle.safe_regular.specs.LookUp.{found_of};
+ghost use Rattle.safe_regular.specs.Writes.{AreWrites};
 
-use intervals::{Claim, Kind, Moment, Op, Value, is_same_value, overlaps, precedes};
+use crate::writes::{
+    Writes, first_from, last_before as last_write_before, last_before_it, last_of_value,
+};
+use intervals::{Claim, Kind, Moment, Op, OpTable, Value, is_same_value, overlaps, precedes};
 
-/// Of those reads the wrong one that ended first, beside the operations.
-pub fn first_wrong_among<'r>(claim: &Claim, ops: &[Op], reads: &[Op<'r>]) -> Option<Op<'r>>
-    ensures { result ≡ least_by end_number (wrong_read (terms_of claim.now) ops.now) reads.now }
+/// Whether it is a read with an end that breaks the sentence of the claimed kind beside the writes that
+/// stand. It need not stand itself.
+pub fn is_wrong(claim: &Claim, writes: &Writes, table: &OpTable, read: &Op) -> bool
+    ensures { AreWrites table.now.ops writes.now → AreApart table.now.ops → HasDistinctIds table.now.ops
+        → result ≡ wrong_read (terms_of claim.now) table.now.ops read.now }
 {
-    let mut found = None;
-    for op in reads {
-        found = first_of(claim, ops, found, op);
-    }
-    found
+    let latest = last_write_before(writes, table, read.begin);
+    let earlier = last_before_it(writes, table, latest);
+    let next = first_from(writes, table, read.begin);
+    let same = last_of_value(writes, table, read.value(), Moment(read.end_number()));
+    is_wrong_beside(claim, latest, earlier, next, same, read)
 }
 
-fn first_of<'r>(claim: &Claim, ops: &[Op], found: Option<Op<'r>>, op: &Op<'r>) -> Option<Op<'r>>
-    ensures { result ≡ less_of end_number (wrong_read (terms_of claim.now) ops.now) found.entry op.now }
+/// Whether it is wrong beside those of the four writes that are there.
+fn is_wrong_beside<'t>(
+    claim: &Claim,
+    latest: Option<Op<'t>>,
+    earlier: Option<Op<'t>>,
+    next: Option<Op<'t>>,
+    same: Option<Op<'t>>,
+    read: &Op,
+) -> bool
+    ensures { result ≡ wrong_read (terms_of claim.now) (found_of latest.entry earlier.entry next.entry same.entry) read.now }
 {
-    let is_first = match found {
-        Some(earlier) => op.end_number() < earlier.end_number(),
-        None => true,
-    };
-    if is_wrong_read(claim, ops, op) && is_first {
-        Some(*op)
-    } else {
-        found
+    match latest.or(earlier).or(next).or(same) {
+        Some(any) => {
+            let few = [
+                latest.unwrap_or(any),
+                earlier.unwrap_or(any),
+                next.unwrap_or(any),
+                same.unwrap_or(any),
+            ];
+            is_wrong_read(claim, &few, read)
+        }
+        None => is_wrong_read(claim, &[], read),
     }
 }
 
-pub fn is_wrong_read(claim: &Claim, ops: &[Op], read: &Op) -> bool
+fn is_wrong_read(claim: &Claim, ops: &[Op], read: &Op) -> bool
     ensures { result ≡ wrong_read (terms_of claim.now) ops.now read.now }
 {
     read.is_judged_read() && !is_right_read(claim, ops, read)

@@ -8,6 +8,7 @@ use Rattle.std.proofs.lemmas.Nat.{div-add-mod', mod_below}
 use Rattle.std.proofs.lemmas.Option.{slice_get-map, slice_get_cases}
 use Rattle.shards.specs.declared.fault.ShardFault.{ShardFault}
 use Rattle.shards.specs.declared.shard.Shard.{Shard}
+use Rattle.register_book.specs.Kept.{claimed_of}
 use Rattle.shards.specs.Plan.{Plan}
 use Rattle.shards.specs.Journal.{IsLegalJournal}
 use Rattle.shards.specs.Pass.{Passed}
@@ -33,12 +34,12 @@ ended_at shards place shard e = slice_get-map ended_of shards place ∙ ap (opti
 journal_at : (shards : List Shard) (place : ℕ) (shard : Shard) → slice_get shards place ≡ Some shard → journal_of (map ended_of shards) place ≡ shard.journal.items
 journal_at shards place shard e = ap (λ (found : Option Ended). unwrap_or (option_map (λ one. one.journal) found) []) (ended_at shards place shard e)
 
-books_at : (shards : List Shard) (place : ℕ) (shard : Shard) → slice_get shards place ≡ Some shard → books_of (map ended_of shards) place ≡ shard.books.items
+books_at : (shards : List Shard) (place : ℕ) (shard : Shard) → slice_get shards place ≡ Some shard → books_of (map ended_of shards) place ≡ map claimed_of shard.books.items
 books_at shards place shard e = ap (λ (found : Option Ended). unwrap_or (option_map (λ one. one.books) found) []) (ended_at shards place shard e)
 
 -- a register stands in one slot of one shard
 book_at : (plan : Plan) (shard : Shard) (register : ℕ) → IsKept plan shard → shard.at ≡ register % plan.shards
-    → slice_get shard.books.items (register / plan.shards) ≡ option_map (left_by shard.journal.items register) (slice_get plan.claims register)
+    → slice_get (map claimed_of shard.books.items) (register / plan.shards) ≡ option_map (left_by shard.journal.items register) (slice_get plan.claims register)
 book_at plan shard register kept here =
     let number : (register / plan.shards) * plan.shards + shard.at ≡ register =
     ap (λ (at : ℕ). (register / plan.shards) * plan.shards + at) here ∙ div-add-mod' register plan.shards in

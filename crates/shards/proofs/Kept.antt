@@ -1,15 +1,16 @@
 -- A shard one entry later.
-use Rattle.std.proofs.Common.{◌≡◌, ℕ, ◌+◌, ◌*◌, ◌/◌, ◌%◌, ◌<◌, List, [], ◌∷◌, ◌++◌, set, length, get_or, Option, Some, None, refl, sym, ap, subst, ◌∙◌, inl, inr, arith}
-use Rattle.std.specs.Prelude.{◌↔◌, option_map, All, IfSome, IsNone, IsTrue}
+use Rattle.std.proofs.Common.{◌≡◌, ℕ, zero, suc, ◌+◌, ◌*◌, ◌/◌, ◌%◌, ◌<◌, List, [], ◌∷◌, ◌++◌, set, length, get_or, Option, Some, None, refl, sym, ap, subst, ◌∙◌, inl, inr, arith}
+use Rattle.std.specs.Prelude.{map, ◌↔◌, option_map, All, IfSome, IsNone, IsTrue}
 use Rattle.std.specs.List.{slice_get}
 use Rattle.std.proofs.lemmas.Bool.{cases_eq}
 use Rattle.std.proofs.lemmas.Option.{slice_get_within, get_or_from_slice_get}
-use Rattle.std.proofs.lemmas.List.{length-set}
+use Rattle.std.proofs.lemmas.List.{length-set, length-map, get_or-map}
 use Rattle.std.proofs.lemmas.List.Elements.{All-push}
 use Rattle.intervals.specs.declared.operation.Op.{Op}
 use Rattle.intervals.specs.Terms.{Terms, Claimed}
 use Rattle.intervals.specs.Refusal.{after_edit}
 use Rattle.intervals.specs.Kind.{Holds}
+use Rattle.register_book.specs.Kept.{Kept, claimed_of}
 use Rattle.register_book.specs.Reply.{IsReply}
 use Rattle.register_book.specs.Fault.{IsWitness, ids_of}
 use Rattle.shards.specs.declared.entry.Answer.{Answer}
@@ -35,7 +36,7 @@ book_is plan at journal books register claim are here known =
 pub record HasBook (plan : Plan) (shard : Shard) (register : ℕ) : Type 0 where
   pub claim : Terms
   pub known : slice_get plan.claims register ≡ Some claim
-  pub book : slice_get shard.books.items (register / shard.shards) ≡ Some (left_by shard.journal.items register claim)
+  pub book : slice_get (map claimed_of shard.books.items) (register / shard.shards) ≡ Some (left_by shard.journal.items register claim)
 
 has_book : (plan : Plan) (shard : Shard) (register : ℕ) → IsKept plan shard → register % plan.shards ≡ shard.at → register < length plan.claims → HasBook plan shard register
 has_book plan shard register kept here known =
@@ -43,16 +44,24 @@ has_book plan shard register kept here known =
     record {
       claim = found.0;
       known = found.1;
-      book = ap (λ (many : ℕ). slice_get shard.books.items (register / many)) kept.shards ∙ book_is plan shard.at shard.journal.items shard.books.items register found.0 kept.books here found.1;
+      book = ap (λ (many : ℕ). slice_get (map claimed_of shard.books.items) (register / many)) kept.shards ∙ book_is plan shard.at shard.journal.items (map claimed_of shard.books.items) register found.0 kept.books here found.1;
     }
 
 pub slot_within : (plan : Plan) (shard : Shard) (register : ℕ) → IsKept plan shard → register % plan.shards ≡ shard.at → register < length plan.claims → register / shard.shards < length shard.books.items
 slot_within plan shard register kept here known =
     let has : HasBook plan shard register = has_book plan shard register kept here known in
-    slice_get_within shard.books.items (register / shard.shards) (left_by shard.journal.items register has.claim) has.book
+    omega (arith, length-map shard.books.items claimed_of, slice_get_within (map claimed_of shard.books.items) (register / shard.shards) (left_by shard.journal.items register has.claim) has.book)
 
-same_book : (plan : Plan) (shard : Shard) (register : ℕ) (book : Claimed) (has : HasBook plan shard register) → book ≡ get_or shard.books.items (register / shard.shards) book → book ≡ left_by shard.journal.items register has.claim
-same_book plan shard register book has is = is ∙ get_or_from_slice_get shard.books.items (register / shard.shards) (left_by shard.journal.items register has.claim) book has.book
+same_book : (plan : Plan) (shard : Shard) (register : ℕ) (book : Kept) (has : HasBook plan shard register) → book ≡ get_or shard.books.items (register / shard.shards) book → claimed_of book ≡ left_by shard.journal.items register has.claim
+same_book plan shard register book has is =
+    ap claimed_of is
+    ∙ sym (get_or-map claimed_of shard.books.items (register / shard.shards) book (claimed_of book) (omega (arith, length-map shard.books.items claimed_of, slice_get_within (map claimed_of shard.books.items) (register / shard.shards) (left_by shard.journal.items register has.claim) has.book)))
+    ∙ get_or_from_slice_get (map claimed_of shard.books.items) (register / shard.shards) (left_by shard.journal.items register has.claim) (claimed_of book) has.book
+
+mapped_set : {X Y : Type 0} (f : X → Y) (xs : List X) (i : ℕ) (x : X) → map f (set xs i x) ≡ set (map f xs) i (f x)
+mapped_set f [] i x = refl
+mapped_set f (y ∷ ys) zero x = refl
+mapped_set f (y ∷ ys) (suc i) x = ap (λ zs. f y ∷ zs) (mapped_set f ys i x)
 
 left_same : (journal longer : List Entry) (register : ℕ) (claim : Option Terms) → standing_of register longer ≡ standing_of register journal → option_map (left_by journal register) claim ≡ option_map (left_by longer register) claim
 left_same journal longer register None same = refl
@@ -98,7 +107,7 @@ counts_push plan journal counts entry count are feeder is = (
 )
 
 -- the reply of a book is that of what stands after the journal
-pub answered_by : (plan : Plan) (shard : Shard) (entry : Entry) (book : Claimed) → IsKept plan shard → entry.register.0 % plan.shards ≡ shard.at → entry.register.0 < length plan.claims
+pub answered_by : (plan : Plan) (shard : Shard) (entry : Entry) (book : Kept) → IsKept plan shard → entry.register.0 % plan.shards ≡ shard.at → entry.register.0 < length plan.claims
     → book ≡ get_or shard.books.items (entry.register.0 / shard.shards) book → IsReply book.claim book.ops entry.edit entry.reply
     → IsAnswered plan shard.at shard.journal.items entry
 answered_by plan shard entry book kept here known is reply =
@@ -114,28 +123,29 @@ pub count_of_feeder : (plan : Plan) (shard : Shard) (feeder count : ℕ) → IsK
 count_of_feeder plan shard feeder count kept below is = is ∙ get_or_from_slice_get shard.counts.items feeder (count_by feeder shard.journal.items) count (kept.counts.1 feeder below)
 
 -- the shard with the entry
-pub kept_push : (plan : Plan) (old new : Shard) (entry : Entry) (book : Claimed) (count : ℕ) → IsKept plan old → entry.register.0 % plan.shards ≡ old.at → entry.register.0 < length plan.claims → entry.feeder < plan.feeders
+pub kept_push : (plan : Plan) (old new : Shard) (entry : Entry) (book edited : Kept) (count : ℕ) → IsKept plan old → entry.register.0 % plan.shards ≡ old.at → entry.register.0 < length plan.claims → entry.feeder < plan.feeders
     → book ≡ get_or old.books.items (entry.register.0 / old.shards) book → IsReply book.claim book.ops entry.edit entry.reply → count ≡ get_or old.counts.items entry.feeder count
     → new.at ≡ old.at → new.shards ≡ old.shards → new.journal.items ≡ old.journal.items ++ entry ∷ []
-    → new.books.items ≡ set old.books.items (entry.register.0 / old.shards) (record { claim = book.claim; ops = after_edit book.claim book.ops entry.edit })
+    → claimed_of edited ≡ record { claim = book.claim; ops = after_edit book.claim book.ops entry.edit } → new.books.items ≡ set old.books.items (entry.register.0 / old.shards) edited
     → new.counts.items ≡ set old.counts.items entry.feeder (count + 1)
     → IsKept plan new
-kept_push plan old new entry book count kept here known feeder is reply count_is at_is shards_is journal_is books_are counts_are =
+kept_push plan old new entry book edited count kept here known feeder is reply count_is at_is shards_is journal_is edited_to books_are counts_are =
     let has : HasBook plan old entry.register.0 = has_book plan old entry.register.0 kept here known in
-    let held : book ≡ left_by old.journal.items entry.register.0 has.claim = same_book plan old entry.register.0 book has is in
+    let held : claimed_of book ≡ left_by old.journal.items entry.register.0 has.claim = same_book plan old entry.register.0 book has is in
     let answered : IsAnswered plan old.at old.journal.items entry = answered_by plan old entry book kept here known is reply in
-    let edited_book : Claimed = record { claim = book.claim; ops = after_edit book.claim book.ops entry.edit } in
-    let edited_is : edited_book ≡ record { claim = has.claim; ops = after_edit has.claim (standing_of entry.register.0 old.journal.items) entry.edit } =
-    ap (λ (b : Claimed). record { claim = b.claim; ops = after_edit b.claim b.ops entry.edit }) held in
+    let edited_is : claimed_of edited ≡ record { claim = has.claim; ops = after_edit has.claim (standing_of entry.register.0 old.journal.items) entry.edit } =
+    edited_to ∙ ap (λ (b : Claimed). record { claim = b.claim; ops = after_edit b.claim b.ops entry.edit }) held in
+    let books_set : map claimed_of new.books.items ≡ set (map claimed_of old.books.items) (entry.register.0 / plan.shards) (claimed_of edited) =
+    ap (map claimed_of) (books_are ∙ ap (λ (many : ℕ). set old.books.items (entry.register.0 / many) edited) kept.shards) ∙ mapped_set claimed_of old.books.items (entry.register.0 / plan.shards) edited in
     let longer : List Entry = old.journal.items ++ entry ∷ [] in
     record {
       shards = shards_is ∙ kept.shards;
       here = subst (λ (at : ℕ). at < plan.shards) (sym at_is) kept.here;
       legal = subst (λ (at : ℕ). IsLegalJournal plan at new.journal.items) (sym at_is) (subst (IsLegalJournal plan old.at) (sym journal_is) (each_after_push (IsAnswered plan old.at) [] old.journal.items entry kept.legal answered));
-      books = subst (λ (at : ℕ). AreBooks plan at new.journal.items new.books.items) (sym at_is)
-          (subst (λ (journal : List Entry). AreBooks plan old.at journal new.books.items) (sym journal_is)
-          (subst (AreBooks plan old.at longer) (sym (books_are ∙ ap (λ (many : ℕ). set old.books.items (entry.register.0 / many) edited_book) kept.shards))
-          (books_push plan old.at old.journal.items old.books.items entry has.claim edited_book kept.books kept.here here has.known
+      books = subst (λ (at : ℕ). AreBooks plan at new.journal.items (map claimed_of new.books.items)) (sym at_is)
+          (subst (λ (journal : List Entry). AreBooks plan old.at journal (map claimed_of new.books.items)) (sym journal_is)
+          (subst (AreBooks plan old.at longer) (sym books_set)
+          (books_push plan old.at old.journal.items (map claimed_of old.books.items) entry has.claim (claimed_of edited) kept.books kept.here here has.known
           (subst (λ (b : Claimed). IsReply b.claim b.ops entry.edit entry.reply) held reply) edited_is)));
       counts = subst (λ (journal : List Entry). AreCounts plan journal new.counts.items) (sym journal_is)
           (subst (AreCounts plan longer) (sym counts_are) (counts_push plan old.journal.items old.counts.items entry (count + 1) kept.counts feeder (ap (λ (n : ℕ). n + 1) (count_of_feeder plan old entry.feeder count kept feeder count_is))));
@@ -143,14 +153,14 @@ kept_push plan old new entry book count kept here known feeder is reply count_is
     }
 
 -- what a book answers is what stands after the journal
-pub answer_by : (plan : Plan) (shard : Shard) (register : ℕ) (book : Claimed) (answer : Answer) → IsKept plan shard → register % plan.shards ≡ shard.at → register < length plan.claims
+pub answer_by : (plan : Plan) (shard : Shard) (register : ℕ) (book : Kept) (answer : Answer) → IsKept plan shard → register % plan.shards ≡ shard.at → register < length plan.claims
     → book ≡ get_or shard.books.items (register / shard.shards) book
     → IsTrue answer.holds ↔ Holds book.claim book.ops → answer.operations ≡ length book.ops → IfSome answer.witness (IsWitness book.claim book.ops) → IsNone answer.witness ↔ Holds book.claim book.ops
     → answer.fault ≡ option_map ids_of answer.witness → answer.number ≡ length shard.journal.items
     → IsStanding plan register shard.journal.items answer
 answer_by plan shard register book answer kept here known is verdict operations witness none fault number =
     let has : HasBook plan shard register = has_book plan shard register kept here known in
-    let held : book ≡ left_by shard.journal.items register has.claim = same_book plan shard register book has is in
+    let held : claimed_of book ≡ left_by shard.journal.items register has.claim = same_book plan shard register book has is in
     record {
       claim = has.claim;
       known = has.known;

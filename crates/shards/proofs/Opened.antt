@@ -1,6 +1,6 @@
 -- The books of a shard before any edit.
 use Rattle.std.proofs.Common.{◌≡◌, ℕ, zero, suc, ◌+◌, ◌*◌, ◌<◌, ◌≤◌, List, [], ◌∷◌, ◌++◌, length, replicate, Option, Some, None, refl, sym, ap, subst, ◌∙◌, inl, inr, arith}
-use Rattle.std.specs.Prelude.{All, option_map, option_to_list}
+use Rattle.std.specs.Prelude.{map, All, option_map, option_to_list}
 use Rattle.std.specs.List.{slice_get}
 use Rattle.std.proofs.lemmas.Bool.{cases_lt}
 use Rattle.std.proofs.lemmas.List.{length_push, length-replicate, get_or-replicate}
@@ -8,6 +8,7 @@ use Rattle.std.proofs.lemmas.List.Elements.{All-nil}
 use Rattle.std.proofs.lemmas.Nat.{mul-le}
 use Rattle.std.proofs.lemmas.Option.{none-some, slice_get_past, slice_get-get_or}
 use Rattle.intervals.specs.Terms.{Terms, Claimed}
+use Rattle.register_book.specs.Kept.{claimed_of}
 use Rattle.shards.specs.declared.entry.Entry.{Entry}
 use Rattle.shards.specs.declared.shard.Shard.{Shard}
 use Rattle.shards.specs.Plan.{Plan}
@@ -64,12 +65,12 @@ get_replicate : (n i x : ℕ) → i < n → slice_get (replicate n x) i ≡ Some
 get_replicate n i x below = slice_get-get_or (replicate n x) i x (omega (arith, below, length-replicate n x)) ∙ ap Some (get_or-replicate n i x x below)
 
 -- a shard with such books, with no entries and no counts
-pub opened : (plan : Plan) (shard : Shard) → shard.shards ≡ plan.shards → shard.at < plan.shards → shard.journal.items ≡ [] → AreBooks plan shard.at [] shard.books.items → shard.counts.items ≡ replicate plan.feeders 0 → IsKept plan shard
+pub opened : (plan : Plan) (shard : Shard) → shard.shards ≡ plan.shards → shard.at < plan.shards → shard.journal.items ≡ [] → AreBooks plan shard.at [] (map claimed_of shard.books.items) → shard.counts.items ≡ replicate plan.feeders 0 → IsKept plan shard
 opened plan shard shards here empty books counts = record {
   shards = shards;
   here = here;
   legal = subst (IsLegalJournal plan shard.at) (sym empty) tt;
-  books = subst (λ (journal : List Entry). AreBooks plan shard.at journal shard.books.items) (sym empty) books;
+  books = subst (λ (journal : List Entry). AreBooks plan shard.at journal (map claimed_of shard.books.items)) (sym empty) books;
   counts = subst (λ (journal : List Entry). AreCounts plan journal shard.counts.items) (sym empty)
       (subst (AreCounts plan []) (sym counts) (length-replicate plan.feeders 0, λ feeder below. get_replicate plan.feeders feeder 0 below));
   feeders = subst (All (λ (entry : Entry). entry.feeder < plan.feeders)) (sym empty) (All-nil (λ (entry : Entry). entry.feeder < plan.feeders));

@@ -1,7 +1,8 @@
 -- For private clauses alone: what the fields of a shard are beside its journal.
-use Rattle.std.specs.Prelude.{◌≡◌, ◌<◌, ◌+◌, ◌*◌, ℕ, List, [], ◌∷◌, length, Some, option_map, All, Any}
+use Rattle.std.specs.Prelude.{◌≡◌, ◌<◌, ◌+◌, ◌*◌, ℕ, List, [], ◌∷◌, length, Some, option_map, map, All, Any}
 use Rattle.std.specs.List.{AllByRecursion, slice_get}
 use Rattle.intervals.specs.Terms.{Terms, Claimed}
+use Rattle.register_book.specs.Kept.{claimed_of}
 use Rattle.shards.specs.declared.entry.Entry.{Entry}
 use Rattle.shards.specs.declared.entry.Numbered.{Numbered}
 use Rattle.shards.specs.declared.shard.Shard.{Shard}
@@ -30,7 +31,7 @@ pub record IsKept (plan : Plan) (shard : Shard) : Type 0 where
   pub shards : shard.shards ≡ plan.shards
   pub here : shard.at < plan.shards
   pub legal : IsLegalJournal plan shard.at shard.journal.items
-  pub books : AreBooks plan shard.at shard.journal.items shard.books.items
+  pub books : AreBooks plan shard.at shard.journal.items (map claimed_of shard.books.items)
   pub counts : AreCounts plan shard.journal.items shard.counts.items
   pub feeders : All (λ entry. entry.feeder < plan.feeders) shard.journal.items
 
@@ -38,7 +39,7 @@ abbrev pub held_of : Shard → Held
 held_of shard = record { at = shard.at; journal = shard.journal.items }
 
 abbrev pub ended_of : Shard → Ended
-ended_of shard = record { journal = shard.journal.items; books = shard.books.items }
+ended_of shard = record { journal = shard.journal.items; books = map claimed_of shard.books.items }
 
 -- the numbers rise
 abbrev pub Rises : List Numbered → Type 0

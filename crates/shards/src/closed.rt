@@ -1,6 +1,7 @@
 //! What an auditor leaves.
 
-ghost use Rattle.std.specs.Prelude.{◌≡◌, [], map, option_copied};
+ghost use Rattle.std.specs.Prelude.{◌≡◌, [], map, option_map};
+ghost use Rattle.register_book.specs.Kept.{claimed_of};
 ghost use Rattle.shards.specs.Closing.{book_of, journal_of};
 ghost use Rattle.shards.specs.Shard.{ended_of};
 
@@ -35,7 +36,7 @@ impl<'t> Closed<'t> {
 
     /// The book of a register, as its journal leaves it.
     pub fn book(&self, register: RegId) -> Option<&RegisterBook<'t>>
-        ensures { option_copied result ≡ book_of self.now register.0 }
+        ensures { option_map (λ book. claimed_of book.now) result ≡ book_of self.now register.0 }
     {
         let many = self.shards.len();
         if many == 0 {

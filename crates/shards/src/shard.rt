@@ -1,9 +1,10 @@
 //! The registers of one shard, with the journal of what was answered.
 
-ghost use Rattle.std.specs.Prelude.{◌≡◌, ◌<◌, ◌%◌, ◌/◌, ◌++◌, ◌∷◌, [], ℕ, IfOk, IfErr, OnOk, OnErr, length, replicate, option_map, option_to_list};
+ghost use Rattle.std.specs.Prelude.{◌≡◌, ◌<◌, ◌%◌, ◌/◌, ◌++◌, ◌∷◌, [], ℕ, IfOk, IfErr, OnOk, OnErr, length, replicate, map, option_map, option_to_list};
 ghost use Rattle.std.specs.List.{slice_get};
 ghost use Rattle.shards.specs.declared.fault.ShardFault.TheVariants.{Memory};
 ghost use Rattle.register_book.specs.Fault.{ids_of};
+ghost use Rattle.register_book.specs.Kept.{claimed_of};
 ghost use Rattle.shards.specs.Plan.{plan_of, claims_of};
 ghost use Rattle.shards.specs.Journal.{IsAnswered, count_by};
 ghost use Rattle.shards.specs.Shard.{AreBooks, IsKept, held_of, unedited};
@@ -146,7 +147,7 @@ fn open_books<'t>(
     shards: u32,
 ) -> Result<Vec<RegisterBook<'t>>, ShardFault>
     requires { at < shards }
-    ensures books { IfOk result (λ books. (name feeders : ℕ) → AreBooks (plan_of name tower.now shards feeders) at [] books.items) }
+    ensures books { IfOk result (λ books. (name feeders : ℕ) → AreBooks (plan_of name tower.now shards feeders) at [] (map claimed_of books.items)) }
     ensures memory { IfErr result (λ fault. fault ≡ Memory) }
 {
     let mut books = Vec::new(alloc);
@@ -165,7 +166,7 @@ fn open_book<'t>(
     id: RegId,
     books: &mut Vec<RegisterBook<'t>>,
 ) -> Result<(), ShardFault>
-    ensures books { OnOk result (books.new.items ≡ books.old.items ++ option_to_list (option_map unedited (slice_get (claims_of tower.now) id.0))) }
+    ensures books { OnOk result (map claimed_of books.new.items ≡ map claimed_of books.old.items ++ option_to_list (option_map unedited (slice_get (claims_of tower.now) id.0))) }
     ensures memory { IfErr result (λ fault. fault ≡ Memory) }
 {
     if let Some(claim) = tower.claim(id) {

@@ -1,9 +1,7 @@
 -- The farthest forward zone of those before decides whether a zone conflicts with one of them.
-use Rattle.std.proofs.Common.{◌≡◌, ◌↔◌, ◌⊎◌, inl, inr, ℕ, suc, ◌+◌, ◌<◌, Bool, true, false, List, [], ◌∷◌, ◌++◌, length, get_or, take, drop, Option, Some, None, refl, sym, ap, subst, ◌∙◌, arith}
-use Rattle.std.specs.Prelude.{All, Contains, IsSomeAnd, if◌then◌else◌, slice_index_or}
+use Rattle.std.proofs.Common.{◌≡◌, ◌↔◌, ◌⊎◌, inl, inr, Bool, true, false, List, [], ◌∷◌, ◌++◌, Option, Some, None, sym, ap, subst, arith}
+use Rattle.std.specs.Prelude.{All, Contains, IsSomeAnd, ◌&&◌, if◌then◌else◌, slice_index_or}
 use Rattle.std.proofs.lemmas.Bool.{cases_Bool, and_parts, and_from, both_ways}
-use Rattle.std.proofs.Math.Seq.{split_at}
-use Rattle.std.proofs.lemmas.List.{take-append-drop, take_more}
 use Rattle.std.proofs.lemmas.List.Elements.{All-head, All-push, All-weaker, All-contains, Contains-push, Contains-append_left}
 use Rattle.std.proofs.lemmas.List.Quantifiers.{all_pairs_push}
 use Rattle.zone_tree.specs.declared.edge.Edge.{Edge}
@@ -11,11 +9,19 @@ use Rattle.zone_tree.specs.declared.zone.Zone.{Zone}
 use Rattle.zone_tree.specs.Edge.{ComesBefore, comes_before}
 use Rattle.zone_tree.specs.Zone.{IsForward, HasOrderedEdges, Conflicts}
 use Rattle.zone_tree.specs.Conflict.{IsClean, KeepsClearOfForward, IsFarthestForward, IsFirstConflict}
-use Rattle.zone_tree.specs.Farthest.{is_farther, farther_of}
 use Rattle.zone_tree.specs.Order.{IsByLeft, StandInOrder}
 use Rattle.zone_tree.proofs.EdgeOrder.{before_irreflexive, before_transitive}
 use Rattle.zone_tree.proofs.Pairs.{pairs_front, pairs_across, All-front, All-back}
 use Rattle.zone_tree.proofs.TwoZones.{earlier_is_forward, conflict_farther}
+
+-- the zone is forward, and no forward zone was found yet or one of a lesser right edge
+abbrev pub is_farther : Option Zone → Zone → Bool
+is_farther None zone = zone.forward
+is_farther (Some found) zone = zone.forward && comes_before found.right zone.right
+
+-- the farthest forward zone after one more zone
+abbrev pub farther_of : Option Zone → Zone → Option Zone
+farther_of found zone = if is_farther found zone then Some zone else found
 
 -- what is found is the farthest forward zone of the list, or nothing where none is forward
 abbrev pub IsFarthest : Option Zone → List Zone → Type 0
@@ -105,36 +111,8 @@ clean_where_clear zones order = (
 pub order_front : (xs ys : List Zone) → StandInOrder (xs ++ ys) → StandInOrder xs
 order_front xs ys order = record { by_left = pairs_front Left xs ys order.by_left; edges = All-front HasOrderedEdges xs ys order.edges }
 
-pub order_take : (n : ℕ) (zones : List Zone) → StandInOrder zones → StandInOrder (take n zones)
-order_take n zones order = order_front (take n zones) (drop n zones) (subst StandInOrder (sym (take-append-drop n zones)) order)
-
 -- a first conflict is a conflict
 pub first_is_conflict : (zones : List Zone) (a b : Zone) → IsFirstConflict zones a b → ¬ IsClean zones
 first_is_conflict zones a b first clean =
     let across = pairs_across (λ x y. ¬ Conflicts x y) first.earlier (b ∷ first.later) (subst IsClean first.parts clean) in
     All-head (λ y. ¬ Conflicts a y) b first.later (All-contains (λ x. All (λ y. ¬ Conflicts x y) (b ∷ first.later)) first.earlier a across first.farthest.stands) first.conflict
-
--- the zones, cut around one of them
-pub parts_at : (zones : List Zone) (i : ℕ) (d z : Zone) → i < length zones → get_or zones i d ≡ z → zones ≡ take i zones ++ z ∷ drop (suc i) zones
-parts_at zones i d z within e = split_at zones i d within ∙ ap (λ (x : Zone). take i zones ++ x ∷ drop (suc i) zones) e
-
-pub first_at : (zones : List Zone) (found : Option Zone) (first : Zone) (i : ℕ) (d : Zone) → i < length zones → KeepsClearOfForward (take i zones) → IsFarthest found (take i zones) → found ≡ Some first → Conflicts first (get_or zones i d) → IsFirstConflict zones first (get_or zones i d)
-first_at zones found first i d within clear is e c = record {
-  earlier = take i zones;
-  later = drop (suc i) zones;
-  parts = parts_at zones i d (get_or zones i d) within refl;
-  clear = clear;
-  farthest = subst (λ (o : Option Zone). IsFarthest o (take i zones)) e is;
-  conflict = c;
-}
-
--- one more zone that does not conflict with the farthest forward one
-pub clear_more : (zones : List Zone) (found : Option Zone) (i : ℕ) (d : Zone) → i < length zones → StandInOrder zones → KeepsClearOfForward (take i zones) → IsFarthest found (take i zones) → ¬ Meets found (get_or zones i d) → KeepsClearOfForward (take (i + 1) zones)
-clear_more zones found i d within order clear is n =
-    rw (take_more zones i d within)
-    (clear_push found (take i zones) (get_or zones i d)
-    (subst StandInOrder (take_more zones i d within) (order_take (i + 1) zones order))
-    is n clear)
-
-pub farthest_more : (zones : List Zone) (found : Option Zone) (i : ℕ) (d : Zone) → i < length zones → IsFarthest found (take i zones) → IsFarthest (farther_of found (get_or zones i d)) (take (i + 1) zones)
-farthest_more zones found i d within is = rw (take_more zones i d within) (farthest_push found (take i zones) (get_or zones i d) is)

@@ -8,10 +8,9 @@ use Rattle.zone_tree.specs.declared.zone.Zone.{Zone}
 use Rattle.zone_tree.specs.Edge.{comes_before}
 use Rattle.zone_tree.specs.Zone.{IsForward, least_end, greatest_begin, Conflicts}
 use Rattle.zone_tree.specs.Conflict.{IsClean, KeepsClearOfForward, IsFirstConflict}
-use Rattle.zone_tree.specs.Farthest.{farther_of}
 use Rattle.zone_tree.specs.Order.{StandInOrder}
 use Rattle.zone_tree.proofs.Pairs.{pairs_nil}
-use Rattle.zone_tree.proofs.Farthest.{IsFarthest, Meets, farthest_push, clear_push, clean_where_clear, order_front}
+use Rattle.zone_tree.proofs.Farthest.{farther_of, IsFarthest, Meets, farthest_push, clear_push, clean_where_clear, order_front}
 
 abbrev conflict : Zone → Zone → Bool
 conflict a b = comes_before (least_end a) (greatest_begin b) && comes_before (least_end b) (greatest_begin a)
@@ -20,7 +19,7 @@ meets_by : (found z : Zone) → (conflict found z ≡ true) ⊎ (conflict found 
 meets_by found z (inl e) = inl (and_parts (comes_before (least_end found) (greatest_begin z)) (comes_before (least_end z) (greatest_begin found)) e)
 meets_by found z (inr e) = inr (λ c. both_ways (conflict found z) e (and_from (comes_before (least_end found) (greatest_begin z)) (comes_before (least_end z) (greatest_begin found)) c.0 c.1))
 
-meets : (found : Option Zone) (z : Zone) → Meets found z ⊎ (¬ Meets found z)
+pub meets : (found : Option Zone) (z : Zone) → Meets found z ⊎ (¬ Meets found z)
 meets None z = inr (λ c. absurd c)
 meets (Some found) z = meets_by found z (cases_Bool (conflict found z))
 

@@ -6,3 +6,13 @@ mod OneFirst
 mod FirstFound
 pub mod Places
 mod OneOrder
+mod Low
+mod Sides
+mod Summaries
+mod Looks
+mod Meetings
+mod Tops
+mod Items
+mod Seams
+mod FirstConflicts
+mod Counts

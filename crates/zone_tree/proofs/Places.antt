@@ -1,11 +1,11 @@
 -- A zone's place among zones by left edge.
-use Rattle.std.proofs.Common.{◌≡◌, ◌≢◌, ◌↔◌, ◌⊎◌, inl, inr, ℕ, suc, ◌+◌, ◌<◌, ◌≤◌, Bool, true, false, not, cond, ltb, List, [], ◌∷◌, ◌++◌, length, get_or, take, drop, Some, None, refl, sym, ap, subst, ◌∙◌, arith}
+use Rattle.std.proofs.Common.{◌≡◌, ◌≢◌, ◌↔◌, ◌⊎◌, inl, inr, ℕ, suc, ◌<◌, Bool, true, false, not, cond, ltb, List, [], ◌∷◌, ◌++◌, length, get_or, take, drop, Some, None, refl, sym, ap, subst, ◌∙◌, arith}
 use Rattle.std.specs.Prelude.{All, filter, slice_index_or}
-use Rattle.std.specs.List.{AllWithin, find, position, position_or_len, insert, remove}
-use Rattle.std.specs.List.Sorted.{IsPartitionedBy, IsPermutation}
+use Rattle.std.specs.List.{find, position, position_or_len, remove}
+use Rattle.std.specs.List.Sorted.{IsPermutation}
 use Rattle.std.proofs.Math.Seq.{split_at}
-use Rattle.std.proofs.lemmas.Bool.{cases_Bool, cases_eq, both_ways, not_from_true, not_from_false, not-true, false_from_ne_true, ltb-false, lt-ltb, cond-true}
-use Rattle.std.proofs.lemmas.List.{append-nil, take-append-drop, take_at, drop_at, length-append, length-take, length-drop, get_or-take, get_or-drop, get_or_default}
+use Rattle.std.proofs.lemmas.Bool.{cases_Bool, both_ways, not_from_true, not_from_false, not-true, false_from_ne_true, ltb-false, lt-ltb, cond-true}
+use Rattle.std.proofs.lemmas.List.{append-nil, length-take, get_or-take, get_or_default}
 use Rattle.std.proofs.lemmas.List.Elements.{All-nil, All-cons, All-head, All-tail, All-append, All-weaker, All-filter, filter-append, filter_passes}
 use Rattle.std.proofs.lemmas.List.Folds.{find_at}
 use Rattle.std.proofs.lemmas.List.Quantifiers.{position-Some}
@@ -89,27 +89,6 @@ order_between z xs ys order edges less more = record {
   edges = All-append HasOrderedEdges xs (z ∷ ys) (All-front HasOrderedEdges xs ys order.edges) (All-cons HasOrderedEdges z ys edges (All-back HasOrderedEdges xs ys order.edges));
 }
 
--- what passes up to a place and fails from there is kept up to that place
-pub filter_parted : {X : Type 0} (p : X → Bool) (xs : List X) (i : ℕ) → i ≤ length xs → AllWithin (λ x. p x ≡ true) xs 0 i → AllWithin (λ x. p x ≡ false) xs i (length xs) → filter p xs ≡ take i xs
-filter_parted p xs i within front back =
-    let passes : All (λ x. p x ≡ true) (take i xs) = λ k d lt.
-    let below : k < i = omega (arith, length-take i xs) in rw (get_or-take i xs k d below) (front k d (omega arith) below) in
-    let fails : All (λ x. p x ≡ false) (drop i xs) = λ k d lt.
-    rw (get_or-drop i xs k d) (back (i + k) d (omega arith) (omega (arith, length-drop i xs))) in
-    ap (filter p) (sym (take-append-drop i xs))
-    ∙ filter-append p (take i xs) (drop i xs)
-    ∙ ap (λ ys. ys ++ filter p (drop i xs)) (filter_all p (take i xs) passes)
-    ∙ ap (λ ys. take i xs ++ ys) (filter_none p (drop i xs) fails)
-    ∙ append-nil (take i xs)
-
--- zones by left edge are cut in two by any edge
-pub parted_by_left : (left : Edge) (zones : List Zone) → IsByLeft zones → IsPartitionedBy (λ z. comes_before z.left left) zones
-parted_by_left left zones by i j d le within passes =
-    elim (cases_eq i j) as (λ _. comes_before (slice_index_or zones i d).left left ≡ true) [
-      | inl e ↦ subst (λ k. comes_before (slice_index_or zones k d).left left ≡ true) (sym e) passes
-      | inr n ↦ before_transitive (slice_index_or zones i d).left (slice_index_or zones j d).left left (by i j d (omega arith) within) passes
-    ]
-
 parts_by : (left : Edge) (z : Zone) (zones : List Zone) → IsByLeft (z ∷ zones) → HasNoZoneAt left (z ∷ zones) → zones ≡ below left zones ++ above left zones → (comes_before z.left left ≡ true) ⊎ (comes_before z.left left ≡ false) → z ∷ zones ≡ below left (z ∷ zones) ++ above left (z ∷ zones)
 parts_by left z zones by new later (inl e) =
     let kept = ap (λ (b : Bool). cond b (z ∷ below left zones) (below left zones)) e in
@@ -128,26 +107,13 @@ parts left [] by new = refl
 parts left (z ∷ zones) by new =
     parts_by left z zones by new (parts left zones (pairs_tail Left z zones by) (All-tail (λ x. x.left ≢ left) z zones new)) (cases_Bool (comes_before z.left left))
 
-pub place_within : (left : Edge) (zones : List Zone) → IsByLeft zones → HasNoZoneAt left zones → length (below left zones) ≤ length zones
-place_within left zones by new =
-    omega (arith, ap length (parts left zones by new), length-append (below left zones) (above left zones))
-
-pub insert_at_place : (zone : Zone) (zones : List Zone) (i : ℕ) → i ≡ length (below zone.left zones) → IsByLeft zones → HasNoZoneAt zone.left zones → insert zones i zone ≡ with_zone zone zones
-insert_at_place zone zones i e by new =
-    let less = below zone.left zones in
-    let more = above zone.left zones in
-    let all = parts zone.left zones by new in
-    ap (λ zs. insert zs i zone) all
-    ∙ ap (λ zs. zs ++ zone ∷ drop i (less ++ more)) (take_at less more i (sym e))
-    ∙ ap (λ zs. less ++ zone ∷ zs) (drop_at less more i (sym e))
-
 pub order_with : (zone : Zone) (zones : List Zone) → StandInOrder zones → HasNoZoneAt zone.left zones → HasOrderedEdges zone → StandInOrder (with_zone zone zones)
 order_with zone zones order new edges =
     order_between zone (below zone.left zones) (above zone.left zones) (subst StandInOrder (parts zone.left zones order.by_left new) order) edges
     (filter_passes (λ z. comes_before z.left zone.left) zones) (filter_passes (λ z. comes_before zone.left z.left) zones)
 
 -- the zone of an edge, and the zones without it
-other_edge : (left : Edge) (z : Zone) → z.left ≢ left → same_edge z.left left ≡ false
+pub other_edge : (left : Edge) (z : Zone) → z.left ≢ left → same_edge z.left left ≡ false
 other_edge left z n = false_from_ne_true (same_edge z.left left) (λ e. n ((Decides-same_edge z.left left).0 e))
 
 later_edges : (z : Zone) (zones : List Zone) (left : Edge) → IsByLeft (z ∷ zones) → z.left ≡ left → All (λ x. same_edge x.left left ≡ false) zones
@@ -156,12 +122,12 @@ later_edges z zones left by e =
     (λ x h. other_edge left x (λ same. before_irreflexive z.left (subst (λ (edge : Edge). ComesBefore z.left edge) (same ∙ sym e) h)))
     zones (pairs_head Left z zones by)
 
-keep_all : (left : Edge) (zones : List Zone) → All (λ z. same_edge z.left left ≡ false) zones → without_zone_at left zones ≡ zones
+pub keep_all : (left : Edge) (zones : List Zone) → All (λ z. same_edge z.left left ≡ false) zones → without_zone_at left zones ≡ zones
 keep_all left zones h =
     filter_all (λ z. not (same_edge z.left left)) zones
     (All-weaker (λ z. same_edge z.left left ≡ false) (λ z. not (same_edge z.left left) ≡ true) (λ z e. not_from_false (same_edge z.left left) e) zones h)
 
-without_middle : (left : Edge) (xs : List Zone) (z : Zone) (ys : List Zone) → All (λ x. same_edge x.left left ≡ false) xs → same_edge z.left left ≡ true → All (λ x. same_edge x.left left ≡ false) ys → without_zone_at left (xs ++ z ∷ ys) ≡ xs ++ ys
+pub without_middle : (left : Edge) (xs : List Zone) (z : Zone) (ys : List Zone) → All (λ x. same_edge x.left left ≡ false) xs → same_edge z.left left ≡ true → All (λ x. same_edge x.left left ≡ false) ys → without_zone_at left (xs ++ z ∷ ys) ≡ xs ++ ys
 without_middle left xs z ys front e back =
     filter-append (λ x. not (same_edge x.left left)) xs (z ∷ ys)
     ∙ ap (λ zs. zs ++ without_zone_at left (z ∷ ys)) (keep_all left xs front)

@@ -3,5 +3,11 @@ pub mod Edge
 pub mod Zone
 pub mod Conflict
 pub mod Order
+pub mod Digits
 -- words of private clauses
-pub mod Farthest
+pub mod Summary
+pub mod Layers
+pub mod Node
+pub mod Descent
+pub mod Stock
+pub mod Look

@@ -1,15 +1,17 @@
 -- Zones by their left edges.
-use Rattle.std.specs.Prelude.{ℕ, ◌≢◌, not, All, List, ◌∷◌, ◌++◌, Option, filter}
+use Rattle.std.specs.Prelude.{ℕ, ◌≡◌, ◌≢◌, not, All, List, ◌∷◌, ◌++◌, Option, filter, length}
 use Rattle.std.specs.List.{AllPairs, find}
 use Rattle.zone_tree.specs.declared.edge.Edge.{Edge}
 use Rattle.zone_tree.specs.declared.zone.Zone.{Zone}
 use Rattle.zone_tree.specs.Edge.{ComesBefore, comes_before, same_edge}
 use Rattle.zone_tree.specs.Zone.{HasOrderedEdges}
 
--- what a tree holds: its zones by left edge, and how many more it has room for
+-- what a tree holds: its zones by left edge, how many more it has room for, and how many steps its
+-- insertions and removals took
 pub record Contents : Type 0 where
   pub zones : List Zone
   pub free : ℕ
+  pub steps : ℕ
 
 -- each left edge comes before those of all later zones
 abbrev pub IsByLeft : List Zone → Type 0
@@ -43,3 +45,8 @@ zone_at left zones = find (λ z. same_edge z.left left) zones
 -- the zones of another left edge
 abbrev pub without_zone_at : Edge → List Zone → List Zone
 without_zone_at left zones = filter (λ z. not (same_edge z.left left)) zones
+
+-- the zones of a tree stand in order, and as many places are taken
+pub record IsKept (zones : List Zone) (taken : ℕ) : Type 0 where
+  pub order : StandInOrder zones
+  pub count : taken ≡ length zones

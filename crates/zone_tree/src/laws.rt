@@ -1,12 +1,13 @@
 //! Laws of the definitions. Each is the contract of a function that does nothing.
 
-ghost use Rattle.std.specs.Prelude.{◌≡◌, ◌↔◌, ◌⊎◌, ◌∷◌, Contains, List, Some, None};
+ghost use Rattle.std.specs.Prelude.{◌≡◌, ℕ, ◌-◌, ◌^◌, ◌<◌, ◌≤◌, ◌↔◌, ◌⊎◌, ◌∷◌, Contains, List, Some, None};
 ghost use Rattle.zone_tree.specs.declared.edge.Edge.{Edge};
 ghost use Rattle.zone_tree.specs.declared.zone.Zone.{Zone};
 ghost use Rattle.zone_tree.specs.Edge.{ComesBefore};
 ghost use Rattle.zone_tree.specs.Zone.{IsForward, HasOrderedEdges, Conflicts, Overlaps, LiesInside, least_end, greatest_begin};
 ghost use Rattle.zone_tree.specs.Conflict.{IsClean, KeepsClearOfForward, IsFirstConflict};
 ghost use Rattle.zone_tree.specs.Order.{IsByLeft, StandInOrder, HasNoZoneAt, with_zone, without_zone_at, zone_at};
+ghost use Rattle.zone_tree.specs.Digits.{digits};
 ghost use Rattle.std.specs.List.Sorted.{IsPermutation};
 
 /// Edges are in one strict order: none comes before itself, and of two different ones exactly one
@@ -86,4 +87,13 @@ pub fn a_removed_zone_leaves_the_others()
 pub fn nothing_is_removed_where_no_zone_is()
     ensures none { (left : Edge) (zones : List Zone) → (zone_at left zones ≡ None) ↔ HasNoZoneAt left zones }
     ensures kept { (left : Edge) (zones : List Zone) → HasNoZoneAt left zones → without_zone_at left zones ≡ zones }
+{}
+
+/// A number is below two to its binary digits and, where it is not zero, not below two to one less.
+pub fn digits_are_the_least_that_hold_a_number()
+    ensures above { (n : ℕ) → n < 2 ^ digits n }
+    ensures least { (n : ℕ) → 1 ≤ n → 2 ^ (digits n - 1) ≤ n }
+    ensures zero { digits 0 ≡ 1 }
+    ensures seven { digits 7 ≡ 3 }
+    ensures eight { digits 8 ≡ 4 }
 {}

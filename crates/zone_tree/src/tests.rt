@@ -1,7 +1,7 @@
 //! Rows of zones, as calls of a tree.
 
 use super::*;
-use crate::laws::a_removed_zone_leaves_the_others;
+use crate::laws::{a_removed_zone_leaves_the_others, nothing_is_removed_where_no_zone_is};
 use intervals::{Memory, Moment, Value};
 use std::alloc::{AllocError, Global};
 use std::fmt::Write;
@@ -113,6 +113,204 @@ fn rows_are_told(rt: HostRuntime) -> Result<(), Fail> {
         let (words, want) = row.split_once(" => ").ok_or("a row")?;
         let tree = tree_of(rt.alloc(), words)?;
         assert!(rt; told(rt.alloc(), &tree).as_str() == want, "{row}");
+    }
+    Ok(())
+}
+
+/// The zone of an edge, the first one that reaches it, and the first one that falls short of it.
+fn looked(alloc: Global, tree: &ZoneTree, edge: Edge) -> String {
+    let mut told = String::new(alloc);
+    tell_found(&mut told, tree.get(edge));
+    tell_found(&mut told, tree.first_reaching(edge));
+    tell_found(&mut told, tree.first_short_of(edge));
+    told
+}
+
+fn tell_found(told: &mut String, zone: Option<Zone>) {
+    match zone {
+        Some(zone) => tell(told, &zone),
+        None => {
+            let _ = write!(told, "none ");
+        }
+    }
+}
+
+const LOOKS: &str = "1>3 4<5 6>9 10>12 ? 4 => 4<5 6>9 1>3 |
+1>3 4<5 6>9 10>12 ? 3 => none 1>3 none |
+1>3 4<5 6>9 10>12 ? 12 => none 10>12 1>3 |
+1>3 4<5 6>9 10>12 ? 6 => 6>9 6>9 1>3 |
+1>3 4<5 6>9 10>12 ? + => none none 1>3 |
+1>3 4<5 6>9 10>12 ? - => none 1>3 none |
+5>9 2>6 1<1 ? 7 => none 5>9 2>6 |
+0<1 2<3 4<5 ? 2 => 2<3 none none |
+0<1 2<3 4<5 ? - => none none none |
+->4 ? - => ->4 ->4 none |
+3<3 ? 9 => none none none |";
+
+#[test]
+fn looks_are_told(rt: HostRuntime) -> Result<(), Fail> {
+    for row in LOOKS.lines() {
+        let (words, want) = row.split_once(" => ").ok_or("a row")?;
+        let (zones, at) = words.split_once(" ? ").ok_or("an edge")?;
+        let tree = tree_of(rt.alloc(), zones)?;
+        let found = looked(rt.alloc(), &tree, edge(at));
+        assert!(rt; found.as_str() == want.trim_end_matches('|'), "{row}");
+    }
+    Ok(())
+}
+
+/// How many steps an edit takes at most: two for each binary digit of the number of zones, and one.
+fn most_steps(zones: u64) -> u64 {
+    let digits = u64::from(zones.max(1).leading_zeros());
+    (64u64).wrapping_sub(digits).wrapping_mul(2).wrapping_add(1)
+}
+
+/// Puts a zone in where none has its left edge.
+fn put_new(tree: &mut ZoneTree, zone: Zone) -> Result<(), Memory> {
+    nothing_is_removed_where_no_zone_is();
+    tree.reserve(1)?;
+    if tree.get(zone.left).is_none() && zone.has_ordered_edges() {
+        tree.insert(zone);
+    }
+    Ok(())
+}
+
+fn size(tree: &ZoneTree) -> u64 {
+    let mut size: u64 = 0;
+    for _ in tree.iter() {
+        size = size.wrapping_add(1);
+    }
+    size
+}
+
+/// The words as in `tree_of`; behind each edit how many steps it may take, or that it took more.
+fn steps_told(alloc: Global, words: &str) -> Result<String, Memory> {
+    let mut told = String::new(alloc);
+    let mut tree = ZoneTree::new(alloc);
+    for word in words.split(' ') {
+        let (count, before) = (size(&tree), tree.steps());
+        match word.strip_prefix('!') {
+            Some(left) => {
+                let _ = tree.remove(edge(left));
+            }
+            None => put_new(&mut tree, zone(word))?,
+        }
+        tell_steps(
+            &mut told,
+            tree.steps().wrapping_sub(before),
+            most_steps(count),
+        );
+    }
+    Ok(told)
+}
+
+fn tell_steps(told: &mut String, steps: u64, most: u64) {
+    let _ = match steps <= most {
+        true => write!(told, "{most} "),
+        false => write!(told, "{steps}, not {most} "),
+    };
+}
+
+const STEPS: &str = "0<1 2<3 4<5 6<7 8<9 10<11 12<13 14<15 !0 => 3 3 5 5 7 7 7 7 9 |
+14<15 12<13 10<11 8<9 6<7 4<5 2<3 0<1 !14 !9 => 3 3 5 5 7 7 7 7 9 7 |";
+
+#[test]
+fn steps_are_bounded(rt: HostRuntime) -> Result<(), Fail> {
+    for row in STEPS.lines() {
+        let (words, want) = row.split_once(" => ").ok_or("a row")?;
+        let found = steps_told(rt.alloc(), words)?;
+        assert!(rt; found.as_str() == want.trim_end_matches('|'), "{row}");
+    }
+    Ok(())
+}
+
+/// The left edge of a turn of 300, in the order of that name.
+fn left_at(order: &str, turn: u64) -> u64 {
+    match order {
+        "rising" => turn,
+        "falling" => 300u64.wrapping_sub(turn),
+        "alternating" if turn % 2 == 0 => 300u64.wrapping_sub(turn),
+        "again" => turn.wrapping_mul(7) % 20,
+        "random" => turn.wrapping_mul(2654435761) % 4294967296 / 8388608,
+        _ => turn,
+    }
+}
+
+/// Takes the left edge out where it is there, and else puts it to its place.
+fn turn_plain(plain: &mut Vec<u64>, left: u64) -> Result<(), Memory> {
+    if plain.contains(&left) {
+        plain.retain(|other| *other != left);
+    } else {
+        plain.push(left)?;
+        plain.sort()?;
+    }
+    Ok(())
+}
+
+/// The same of a tree of backward zones.
+fn turn_tree(tree: &mut ZoneTree, left: u64) -> Result<(), Memory> {
+    if tree.get(Edge::At(Moment(left))).is_some() {
+        let _ = tree.remove(Edge::At(Moment(left)));
+        return Ok(());
+    }
+    let zone = Zone {
+        left: Edge::At(Moment(left)),
+        right: Edge::At(Moment(left)),
+        forward: false,
+        value: Value::Nil,
+    };
+    put_new(tree, zone)
+}
+
+fn has_lefts(tree: &ZoneTree, plain: &[u64]) -> bool {
+    let mut at = 0;
+    for zone in tree.iter() {
+        if at >= plain.len() || zone.left != Edge::At(Moment(plain[at])) {
+            return false;
+        }
+        at += 1;
+    }
+    at == plain.len()
+}
+
+/// Each turn of an order, twice over: how many zones stand after each half, or what went wrong.
+fn turns_told(alloc: Global, order: &str) -> Result<String, Memory> {
+    let mut told = String::new(alloc);
+    let mut tree = ZoneTree::new(alloc);
+    let mut plain = Vec::new(alloc);
+    for turn in 0u64..600 {
+        let left = left_at(order, turn % 300);
+        let (count, before) = (plain.len() as u64, tree.steps());
+        turn_tree(&mut tree, left)?;
+        turn_plain(&mut plain, left)?;
+        if tree.steps().wrapping_sub(before) > most_steps(count) {
+            let _ = write!(told, "too many steps at {turn} ");
+        }
+        if turn % 100 == 99 && !has_lefts(&tree, plain.as_slice()) {
+            let _ = write!(told, "other zones at {turn} ");
+        }
+        if turn % 300 == 299 {
+            let _ = write!(told, "{count} ");
+        }
+    }
+    Ok(told)
+}
+
+const ORDERS: &str = "rising => 299 1 |
+falling => 299 1 |
+alternating => 299 1 |
+again => 19 1 |
+random => 293 1 |";
+
+#[test]
+fn turns_keep_the_zones(rt: HostRuntime) -> Result<(), Fail> {
+    for row in ORDERS.lines() {
+        let (order, want) = row.split_once(" => ").ok_or("a row")?;
+        let found = turns_told(rt.alloc(), order)?;
+        assert!(rt;
+            found.as_str() == want.trim_end_matches('|'),
+            "{row}: {found}"
+        );
     }
     Ok(())
 }

@@ -1,10 +1,14 @@
-ghost use Rattle.std.specs.Prelude.{◌≡◌, ◌+◌, ◌<◌, ◌≤◌, ◌↔◌, [], is_some, if◌then◌else◌, OnOk, OnErr, IsNone, IsTrue, IfSome};
+ghost use Rattle.std.specs.Prelude.{◌≡◌, ◌+◌, ◌*◌, ◌<◌, ◌≤◌, ◌↔◌, ◌&&◌, not, [], length, is_some, if◌then◌else◌, OnOk, OnErr, IsNone, IsTrue, IfSome};
+ghost use Rattle.std.specs.List.{find};
+ghost use Rattle.zone_tree.specs.Edge.{comes_before};
 ghost use Rattle.zone_tree.specs.Zone.{HasOrderedEdges};
 ghost use Rattle.zone_tree.specs.Conflict.{IsClean, IsFirstConflict};
 ghost use Rattle.zone_tree.specs.Order.{StandInOrder, HasNoZoneAt, with_zone, without_zone_at, zone_at};
+ghost use Rattle.zone_tree.specs.Digits.{digits};
 
-use crate::conflict::first_conflict;
-use crate::order::{place_of, position_at};
+use crate::node::Tree;
+use crate::stock::Stock;
+use crate::summary::Summary;
 use crate::{Edge, Zone, Zones};
 use intervals::Memory;
 use std::alloc::Global;
@@ -13,18 +17,19 @@ use std::marker::Model;
 /// Zones of different left edges, and reserved places for more.
 #[derive(Drop)]
 pub struct ZoneTree {
-    zones: Vec<Zone>,
+    tree: Tree,
+    places: Stock,
+    steps: u64,
 }
 
 impl Model for ZoneTree {
-    ghost use Rattle.std.specs.Prelude.{◌-◌, vec_capacity, vec_len};
-    ghost use Rattle.zone_tree.specs.Order.{Contents, StandInOrder};
+    ghost use Rattle.zone_tree.specs.Order.{Contents, IsKept};
 
     ghost Value = { Contents };
 
-    ghost view = { λ t. record { zones = t.zones.items; free = vec_capacity t.zones - vec_len t.zones } };
+    ghost view = { λ t. record { zones = t.tree.zones; free = t.places.free; steps = t.steps } };
 
-    ghost invariant = { λ t. StandInOrder t.zones.items };
+    ghost invariant = { λ t. IsKept t.tree.zones t.places.taken };
 }
 
 impl ZoneTree {
@@ -32,9 +37,12 @@ impl ZoneTree {
     pub fn new(alloc: Global) -> Self
         ensures zones { result.zones ≡ [] }
         ensures free { result.free ≡ 0 }
+        ensures steps { result.steps ≡ 0 }
     {
         ZoneTree {
-            zones: Vec::new(alloc),
+            tree: Tree::new(),
+            places: Stock::new(alloc),
+            steps: 0,
         }
     }
 
@@ -42,19 +50,27 @@ impl ZoneTree {
     pub fn free(&self) -> usize
         ensures { result ≡ self.now.free }
     {
-        self.zones.capacity() - self.zones.len()
+        self.places.free()
+    }
+
+    /// How many times insertions and removals went from a node to one of its sides, up to the
+    /// greatest number.
+    pub fn steps(&self) -> u64
+        ensures { result ≡ self.now.steps }
+    {
+        self.steps
     }
 
     /// Makes room for that many more zones.
     pub fn reserve(&mut self, places: usize) -> Result<(), Memory>
         ensures zones { self.new.zones ≡ self.old.zones }
+        ensures steps { self.new.steps ≡ self.old.steps }
         ensures ok { OnOk result (places ≤ self.new.free) }
         ensures kept { self.old.free ≤ self.new.free }
         ensures err { OnErr result (self.new ≡ self.old) }
         ensures memory { OnErr result (self.old.free < places) }
     {
-        self.zones.reserve(places)?;
-        Ok(())
+        self.places.reserve(places)
     }
 
     /// The zones by left edge.
@@ -62,37 +78,68 @@ impl ZoneTree {
         ensures zones { result ≡ self.now.zones }
         ensures order { StandInOrder self.now.zones }
     {
-        Zones::over(self.zones.as_slice())
+        Zones::over(&self.tree)
     }
 
     /// Puts a zone of a new left edge into a reserved place.
+    #[tactic(auto, using(crate::proofs::Counts::count_with, crate::proofs::Places::order_with, crate::proofs::Counts::low_by_digits, crate::proofs::Counts::low_within))]
     pub fn insert(&mut self, zone: Zone)
         requires room { 0 < self.old.free }
         requires new_edge { HasNoZoneAt zone.left self.old.zones }
         requires edges { HasOrderedEdges zone }
         ensures zones { self.new.zones ≡ with_zone zone self.old.zones }
         ensures free { self.new.free + 1 ≡ self.old.free }
+        ensures steps { self.new.steps ≤ self.old.steps + (2 * digits (length self.old.zones) + 1) }
     {
-        let place = place_of(self.zones.as_slice(), zone.left);
-        // A place is reserved, so this takes no memory.
-        let _ = self.zones.insert(place, zone);
+        // The number of places bounds the zones, and so the height.
+        let _ = (self.tree.height(), self.places.taken());
+        let place = self.places.take(zone);
+        self.tree.insert(place, &mut self.steps);
     }
 
     /// Takes the zone of that left edge out. Its place stays reserved.
+    #[tactic(auto, using(crate::proofs::Counts::count_without, crate::proofs::Places::order_left, crate::proofs::Places::keep_without, crate::proofs::Counts::low_by_digits))]
     pub fn remove(&mut self, left: Edge) -> Option<Zone>
         ensures zone { result ≡ zone_at left self.old.zones }
         ensures zones { self.new.zones ≡ without_zone_at left self.old.zones }
         ensures free { self.new.free ≡ (if is_some result then self.old.free + 1 else self.old.free) }
+        ensures steps { self.new.steps ≤ self.old.steps + (2 * digits (length self.old.zones) + 1) }
     {
-        let place = position_at(self.zones.as_slice(), left)?;
-        Some(self.zones.remove(place))
+        let _ = self.tree.height();
+        let Some(place) = self.tree.remove(left, &mut self.steps) else {
+            return None;
+        };
+        let zone = place.zone;
+        self.places.give(place);
+        Some(zone)
+    }
+
+    /// The zone of that left edge.
+    pub fn get(&self, left: Edge) -> Option<Zone>
+        ensures { result ≡ zone_at left self.now.zones }
+    {
+        self.tree.get(left)
+    }
+
+    /// The first forward zone by left edge whose right edge is not before that one.
+    pub fn first_reaching(&self, edge: Edge) -> Option<Zone>
+        ensures { result ≡ find (λ z. z.forward && not (comes_before z.right edge)) self.now.zones }
+    {
+        self.tree.first_reaching(edge)
+    }
+
+    /// The first forward zone by left edge whose right edge comes before that one.
+    pub fn first_short_of(&self, edge: Edge) -> Option<Zone>
+        ensures { result ≡ find (λ z. z.forward && comes_before z.right edge) self.now.zones }
+    {
+        self.tree.first_short_of(edge)
     }
 
     /// Whether no two zones conflict.
     pub fn clean(&self) -> bool
         ensures { IsTrue result ↔ IsClean self.now.zones }
     {
-        self.first_conflict().is_none()
+        !self.tree.conflict()
     }
 
     /// The earlier forward zone of greatest right edge, and the first zone by left edge that conflicts
@@ -101,6 +148,12 @@ impl ZoneTree {
         ensures first { IfSome result (λ pair. IsFirstConflict self.now.zones pair.0 pair.1) }
         ensures none { IsNone result ↔ IsClean self.now.zones }
     {
-        first_conflict(self.zones.as_slice())
+        let Some(second) = self.tree.first_meeting(Summary::none()) else {
+            return None;
+        };
+        let Some(first) = self.tree.last_forward_before(second.left) else {
+            unreachable!()
+        };
+        Some((first, second))
     }
 }

@@ -1,13 +1,16 @@
 ghost use Rattle.std.specs.Prelude.{◌≡◌};
 ghost use Rattle.std.specs.Iterator.{YieldsFirst, item_count};
+ghost use Rattle.zone_tree.specs.Order.{StandInOrder};
 
-use crate::Zone;
+use crate::node::Tree;
+use crate::{Edge, Zone};
 use std::marker::Model;
 
-/// The zones of a tree that are still to come, by left edge.
+/// The zones of a tree that are still to come, by left edge: those behind the last one that came.
 #[derive(Drop)]
 pub struct Zones<'z> {
-    left: &'z [Zone],
+    tree: &'z Tree,
+    after: Option<Edge>,
 }
 
 impl<'z> Model for Zones<'z> {
@@ -16,14 +19,21 @@ impl<'z> Model for Zones<'z> {
 
     ghost Value = { List Zone };
 
-    ghost view = { λ z. z.left.now };
+    ghost use Rattle.zone_tree.specs.Order.{StandInOrder};
+    ghost use Rattle.zone_tree.specs.Look.{behind};
+
+    ghost view = { λ z. behind z.after z.tree.now.zones };
+
+    ghost invariant = { λ z. StandInOrder z.tree.now.zones };
 }
 
 impl<'z> Zones<'z> {
-    pub(crate) fn over(zones: &'z [Zone]) -> Self
-        ensures { result ≡ zones.now }
+    #[tactic(auto, using(crate::proofs::Items::all_behind))]
+    pub(crate) fn over(tree: &'z Tree) -> Self
+        requires { StandInOrder tree.now.zones }
+        ensures { result ≡ tree.now.zones }
     {
-        Zones { left: zones }
+        Zones { tree, after: None }
     }
 }
 
@@ -34,9 +44,12 @@ impl<'z> Iterator for Zones<'z> {
 
     ghost remaining = { item_count (λ s. s) };
 
+    #[tactic(auto, using(crate::proofs::Items::next_item, crate::proofs::Items::no_item))]
     fn next(&mut self) -> Option<Zone> {
-        let (first, others) = self.left.split_first()?;
-        self.left = others;
-        Some(*first)
+        let Some(first) = self.tree.first_after(self.after) else {
+            return None;
+        };
+        self.after = Some(first.left);
+        Some(first)
     }
 }

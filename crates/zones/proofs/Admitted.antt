@@ -1,36 +1,36 @@
 -- What the parts of a register's judge are to each other after an edit.
-use Rattle.std.proofs.Common.{◌≡◌, ◌⊎◌, ◌≤◌, inl, inr, List, [], ◌∷◌, Option, Some, None, refl, sym, subst}
-use Rattle.std.specs.Prelude.{Contains, IsSome, IsTrue, OnErr, Result, Ok, Err}
+use Rattle.std.proofs.Common.{◌≡◌, ◌⊎◌, ◌≤◌, inl, inr, List, [], ◌∷◌, length, Option, Some, None, Bool, true, false, cond, ◌||◌, refl, sym, subst, arith}
+use Rattle.std.specs.Prelude.{Contains, IfSome, IsSome, is_some}
+use Rattle.std.proofs.lemmas.List.Sorted.{length_permutation}
 use Rattle.intervals.specs.declared.operation.Op.{Op}
 use Rattle.intervals.specs.declared.operation.Value.{Value}
 use Rattle.intervals.specs.declared.edit.Edit.{Edit}
-use Rattle.intervals.specs.declared.edit.Edit.TheVariants.{Append, Amend, Withdraw}
-use Rattle.intervals.specs.Edit.{op_of, new_op, edited, edit_id, is_append}
+use Rattle.intervals.specs.Operation.{is_write}
+use Rattle.intervals.specs.Edit.{op_of, new_op, edited, edit_id}
 use Rattle.intervals.specs.Refusal.{reply_to}
-use Rattle.intervals.specs.Standing.{HasDistinctMoments, HasEndsAfterBeginnings}
+use Rattle.intervals.specs.declared.claim.Kind.TheVariants.{Atomic}
+use Rattle.intervals.specs.Standing.{HasDistinctIds}
+use Rattle.intervals.specs.Table.{Tabled, prepared_after}
 use Rattle.intervals.specs.Terms.{Terms}
 use Rattle.zone_tree.specs.declared.zone.Zone.{Zone}
-use Rattle.zone_tree.specs.Order.{Contents}
+use Rattle.zone_tree.specs.Order.{Contents, StandInOrder}
 use Rattle.zones.specs.declared.index.Members.{Members}
-use Rattle.zones.specs.declared.firsts.Firsts.{Firsts}
-use Rattle.zones.specs.Cluster.{zone_of}
-use Rattle.zones.specs.Index.{AreMembers}
-use Rattle.zones.specs.Firsts.{AreFirsts}
+use Rattle.zones.specs.Cluster.{zone_of, zones_of}
+use Rattle.zones.specs.Faults.{AreStretched, AreStretchesAt}
+use Rattle.zones.specs.Index.{AreMembers, HasPlaces, HasPlacesOf}
 use Rattle.zones.specs.Members.{IsChange}
-use Rattle.zones.specs.Together.{HoldTogether}
-use Rattle.zones.specs.Zoned.{AreZoned, AreZonesAt, CanMove, StandApart, judged_part, moved, other_value, value_in}
+use Rattle.zones.specs.Together.{HasRoomFor, HoldTogether}
+use Rattle.zones.specs.Zoned.{AreExchanged, AreZoned, AreZonesAt, CanExchange, NeedsNoRoom, StandApart, judged_part, other_value, value_in}
 use Rattle.zones.proofs.Members.{here, in_none, contains_cases}
 use Rattle.zones.proofs.Cluster.{value_is}
-use Rattle.zones.proofs.Edited.{apart_kept, change_of_edit, change_undone}
-use Rattle.zones.proofs.Moved.{can_move, moved_zoned}
+use Rattle.zones.proofs.Edited.{apart_kept, apart_none, change_of_edit}
+use Rattle.zones.proofs.InTree.{zones_each_once}
+use Rattle.zones.proofs.Moved.{can_move, keeps_room, moved_zoned}
+use Rattle.zones.proofs.Stretches.{moved_stretched, stretched_none, stretches_can_move, stretches_keep_room}
 use Rattle.zones.proofs.Written.{IsWritten}
 
-pub on_err : {T E : Type 0} (r : Result T E) (P : Type 0) → P → OnErr r P
-on_err (Ok x) P p = tt
-on_err (Err e) P p = p
-
 -- of no operations a tree has the zone of the initial value alone
-pub zoned_at_first : (initial : Value) (zone : Zone) → zone ≡ zone_of initial [] initial → AreZoned initial [] (zone ∷ [])
+zoned_at_first : (initial : Value) (zone : Zone) → zone ≡ zone_of initial [] initial → AreZoned initial [] (zone ∷ [])
 zoned_at_first initial zone is = record {
   each = λ v h. by_value v (contains_cases initial [] v h);
   only = λ z h. by_zone z (contains_cases zone [] z h);
@@ -47,75 +47,134 @@ zoned_at_first initial zone is = record {
     by_zone z (inl e) = subst (λ (x : Zone). IsWritten initial [] x.value × (x ≡ zone_of initial [] x.value)) e (subst (λ (x : Zone). IsWritten initial [] x.value × (x ≡ zone_of initial [] x.value)) (sym is) at_first)
     by_zone z (inr h) = absurd (in_none z h)
 
--- an edit that wants memory brings an operation
-pub wants_memory : (ops : List Op) (edit : Edit) (new : Option Op) → new ≡ judged_part (new_op ops edit) → IsTrue (is_append edit) ⊎ IsSome new → IsSome (new_op ops edit)
-wants_memory ops edit new is h = by_cases (new_op ops edit) refl is h
-  where
-    by_edit : (e : Edit) → IsTrue (is_append e) → new_op ops e ≡ None → ⊥
-    by_edit (Append op) t n = absurd (cc)
-    by_edit (Amend id change) t n = absurd (cc)
-    by_edit (Withdraw id) t n = absurd (cc)
+-- a tree of a register has as many zones as the register
+pub as_many_zones : (claim : Terms) (ops : List Op) (tree : List Zone) → StandApart claim ops → StandInOrder tree → AreZoned claim.initial ops tree → length tree ≡ length (zones_of claim.initial ops)
+as_many_zones claim ops tree apart order zoned =
+    length_permutation (zones_of claim.initial ops) tree (zones_each_once claim.initial ops tree apart.moments apart.values order zoned)
 
-    by_cases : (o : Option Op) → new_op ops edit ≡ o → new ≡ judged_part o → IsTrue (is_append edit) ⊎ IsSome new → IsSome o
-    by_cases (Some op) e is h = refl
-    by_cases None e is (inl t) = absurd (by_edit edit t e)
-    by_cases None e is (inr s) = absurd (let none : IsSome {T = Op} None = subst (λ (o : Option Op). IsSome o) is s in cc)
+pub room_of_none : (members : Members) (zones stretches : Contents) (prepared : Option Op) → prepared ≡ None → IfSome prepared (HasRoomFor members zones stretches)
+room_of_none members zones stretches prepared e = subst (λ (p : Option Op). IfSome p (HasRoomFor members zones stretches)) (sym e) tt
+
+pub room_of_one : (members : Members) (zones stretches : Contents) (prepared : Option Op) (op : Op) → prepared ≡ Some op → HasPlaces op members → 2 ≤ zones.free → 2 ≤ stretches.free → IfSome prepared (HasRoomFor members zones stretches)
+room_of_one members zones stretches prepared op e places more most =
+    subst (λ (p : Option Op). IfSome p (HasRoomFor members zones stretches)) (sym e) (record { places = places; zones_free = more; stretches_free = most })
+
+-- of no operations
+pub together_at_first : (claim : Terms) → claim.kind ≡ Atomic → (table : Tabled) (members : Members) (zones stretches : Contents) (zone : Zone) → table ≡ record { ops = []; prepared = None } → AreMembers [] members
+    → (AreMembers table.ops members → HasDistinctIds table.ops → zone ≡ zone_of claim.initial table.ops claim.initial) → zones.zones ≡ zone ∷ [] → stretches.zones ≡ [] → HoldTogether claim table members zones stretches
+together_at_first claim atomic table members zones stretches zone e are is zones_are none =
+    subst (λ (t : Tabled). (AreMembers t.ops members → HasDistinctIds t.ops → zone ≡ zone_of claim.initial t.ops claim.initial) → HoldTogether claim t members zones stretches) (sym e)
+    (λ first. record {
+      apart = apart_none claim atomic;
+      members_of = are;
+      zoned = subst (AreZoned claim.initial []) (sym zones_are) (zoned_at_first claim.initial zone (first are tt));
+      stretched = subst (AreStretched claim.initial []) (sym none) (stretched_none claim.initial);
+      room = tt;
+    }) is
+
+-- of the same operations
+pub together_kept : (claim : Terms) (table other : Tabled) (members changed : Members) (zones others stretches rest : Contents) → HoldTogether claim table members zones stretches
+    → other.ops ≡ table.ops → AreMembers table.ops changed → others.zones ≡ zones.zones → rest.zones ≡ stretches.zones → IfSome other.prepared (HasRoomFor changed others rest) → HoldTogether claim other changed others rest
+together_kept claim table other members changed zones others stretches rest together same are zones_same rest_same room = record {
+  apart = subst (StandApart claim) (sym same) together.apart;
+  members_of = subst (λ (l : List Op). AreMembers l changed) (sym same) are;
+  zoned = subst (λ (l : List Op). AreZoned claim.initial l others.zones) (sym same) (subst (AreZoned claim.initial table.ops) (sym zones_same) together.zoned);
+  stretched = subst (λ (l : List Op). AreStretched claim.initial l rest.zones) (sym same) (subst (AreStretched claim.initial table.ops) (sym rest_same) together.stretched);
+  room = room;
+}
+
+-- the judged part of what is prepared
+pub judged_prepared : (new prepared : Option Op) → IfSome new (λ op. prepared ≡ Some op) → IfSome (judged_part new) (λ op. prepared ≡ Some op)
+judged_prepared None prepared h = tt
+judged_prepared (Some op) prepared h = by_cases (is_write op || is_some op.end)
+  where
+    by_cases : (t : Bool) → IfSome (cond t (Some op) None) (λ op. prepared ≡ Some op)
+    by_cases true = h
+    by_cases false = tt
+
+some_part : (new : Option Op) → IsSome (judged_part new) → (op : Op) × (new ≡ Some op)
+some_part None some = absurd (cc)
+some_part (Some op) some = (op, refl)
+
+-- the room of the prepared operation
+module _ (members : Members) (zones stretches : Contents) (prepared : Option Op) (room : IfSome prepared (HasRoomFor members zones stretches)) where
+  pub enough_for : (new : Option Op) → IfSome new (λ op. prepared ≡ Some op) → IsSome (judged_part new) → (2 ≤ zones.free) × (2 ≤ stretches.free)
+  enough_for new is some =
+      let (op, e) = some_part new some in
+      let at : prepared ≡ Some op = subst (λ (n : Option Op). IfSome n (λ op. prepared ≡ Some op)) e is in
+      let h : HasRoomFor members zones stretches op = subst (λ (p : Option Op). IfSome p (HasRoomFor members zones stretches)) at room in
+      (h.zones_free, h.stretches_free)
+
+  -- it stays where there is no new operation
+  module _ (after : Members) (zones_after stretches_after : Contents) (new : Option Op) (places : HasPlacesOf prepared after)
+      (zones_kept : judged_part new ≡ None → zones.free ≤ zones_after.free) (stretches_kept : judged_part new ≡ None → stretches.free ≤ stretches_after.free) where
+    pub room_after : IfSome (prepared_after new prepared) (HasRoomFor after zones_after stretches_after)
+    room_after = by_cases new prepared room places zones_kept stretches_kept
+      where
+        by_cases : (n p : Option Op) → IfSome p (HasRoomFor members zones stretches) → HasPlacesOf p after → (judged_part n ≡ None → zones.free ≤ zones_after.free) → (judged_part n ≡ None → stretches.free ≤ stretches_after.free)
+            → IfSome (prepared_after n p) (HasRoomFor after zones_after stretches_after)
+        by_cases (Some op) p h places more most = tt
+        by_cases None None h places more most = tt
+        by_cases None (Some op) h places more most = record {
+          places = places;
+          zones_free = (let a = h.zones_free in let b = more refl in omega arith);
+          stretches_free = (let a = h.stretches_free in let b = most refl in omega arith);
+        }
 
 module _ (claim : Terms) (ops : List Op) (edit : Edit) (apart : StandApart claim ops) (accepted : reply_to claim ops edit ≡ None)
-    (old new : Option Op) (old_is : old ≡ judged_part (op_of ops (edit_id edit))) (new_is : new ≡ judged_part (new_op ops edit)) where
-  pub change_is : IsChange ops old new (edited ops edit)
-  change_is =
-      subst (λ (o : Option Op). IsChange ops o new (edited ops edit)) (sym old_is)
-      (subst (λ (n : Option Op). IsChange ops (judged_part (op_of ops (edit_id edit))) n (edited ops edit)) (sym new_is) (change_of_edit claim ops edit apart accepted))
+    (old new : Option Op) (old_is : old ≡ judged_part (op_of ops (edit_id edit))) (new_is : new ≡ judged_part (new_op ops edit))
+    (after : List Op) (after_is : after ≡ edited ops edit) where
+  pub apart_after : StandApart claim after
+  apart_after = subst (StandApart claim) (sym after_is) (apart_kept claim ops edit apart accepted)
 
-  pub undone_is : IsTrue (is_append edit) → IsChange (edited ops edit) new None ops
-  undone_is t = subst (λ (n : Option Op). IsChange (edited ops edit) n None ops) (sym new_is) (by_edit edit t accepted)
-    where
-      by_edit : (e : Edit) → IsTrue (is_append e) → reply_to claim ops e ≡ None → IsChange (edited ops e) (judged_part (new_op ops e)) None ops
-      by_edit (Append op) t accepted = change_undone claim ops op apart accepted
-      by_edit (Amend id change) t accepted = absurd (cc)
-      by_edit (Withdraw id) t accepted = absurd (cc)
+  pub change_is : IsChange ops old new after
+  change_is =
+      subst (λ (o : Option Op). IsChange ops o new after) (sym old_is)
+      (subst (λ (n : Option Op). IsChange ops (judged_part (op_of ops (edit_id edit))) n after) (sym new_is)
+      (subst (λ (l : List Op). IsChange ops (judged_part (op_of ops (edit_id edit))) (judged_part (new_op ops edit)) l) (sym after_is) (change_of_edit claim ops edit apart accepted)))
 
   module _ (first second : Option Value) (first_is : first ≡ value_in old) (second_is : second ≡ other_value first (value_in new))
-      (zones : List Zone) (zoned : AreZoned claim.initial ops zones) (tree : Contents) (tree_is : tree.zones ≡ zones)
-      (gone come : Option Zone × Option Zone) (gone_is : AreZonesAt claim.initial ops first second gone) (come_is : AreZonesAt claim.initial (edited ops edit) first second come) where
-    at_values : (list : List Op) (found : Option Zone × Option Zone) → AreZonesAt claim.initial list first second found → AreZonesAt claim.initial list (value_in old) (other_value (value_in old) (value_in new)) found
-    at_values list found is =
-        subst (λ (u : Option Value). AreZonesAt claim.initial list u (other_value u (value_in new)) found) first_is
-        (subst (λ (u : Option Value). AreZonesAt claim.initial list first u found) second_is is)
+      (earlier later : Option Zone × Option Zone) (tree : Contents) where
+    module _ (zoned : AreZoned claim.initial ops tree.zones) (earlier_is : AreZonesAt claim.initial ops first second earlier) (later_is : AreZonesAt claim.initial after first second later) where
+      at_values : (list : List Op) (found : Option Zone × Option Zone) → AreZonesAt claim.initial list first second found → AreZonesAt claim.initial list (value_in old) (other_value (value_in old) (value_in new)) found
+      at_values list found is =
+          subst (λ (u : Option Value). AreZonesAt claim.initial list u (other_value u (value_in new)) found) first_is
+          (subst (λ (u : Option Value). AreZonesAt claim.initial list first u found) second_is is)
 
-    zoned_tree : AreZoned claim.initial ops tree.zones
-    zoned_tree = subst (AreZoned claim.initial ops) (sym tree_is) zoned
+      pub can_exchange_zones : (IsSome new → 2 ≤ tree.free) → CanExchange tree earlier later
+      can_exchange_zones enough gone come changes =
+          can_move claim.initial ops old new after change_is apart.moments apart_after.moments tree.zones zoned earlier later gone come changes
+          (at_values ops earlier earlier_is) (at_values after later later_is) tree.free tree.steps enough
 
-    pub can_move_zones : (IsSome new → 2 ≤ tree.free) → CanMove tree gone come
-    can_move_zones =
-        can_move claim.initial ops old new (edited ops edit) change_is apart.moments (apart_kept claim ops edit apart accepted).moments tree.zones zoned_tree gone come
-        (at_values ops gone gone_is) (at_values (edited ops edit) come come_is) tree.free
+      pub zones_need_no_room : new ≡ None → NeedsNoRoom tree.zones earlier later
+      zones_need_no_room none gone come changes =
+          keeps_room claim.initial ops old new after change_is apart.moments apart_after.moments tree.zones zoned earlier later gone come changes
+          (at_values ops earlier earlier_is) (at_values after later later_is) none
 
-    pub zoned_after : AreZoned claim.initial (edited ops edit) (moved gone come tree.zones)
-    zoned_after =
-        moved_zoned claim.initial ops old new (edited ops edit) change_is apart.moments (apart_kept claim ops edit apart accepted).moments tree.zones zoned_tree gone come
-        (at_values ops gone gone_is) (at_values (edited ops edit) come come_is)
+      pub zoned_after : (result : List Zone) → AreExchanged earlier later tree.zones result → AreZoned claim.initial after result
+      zoned_after result is =
+          subst (AreZoned claim.initial after) (sym is.moves)
+          (moved_zoned claim.initial ops old new after change_is apart.moments apart_after.moments tree.zones zoned earlier later is.gone is.come is.changes
+          (at_values ops earlier earlier_is) (at_values after later later_is))
 
--- nothing changed but the maps, which are those of the same list
-pub still_together : (claim : Terms) (ops other : List Op) (members changed : Members) (zones others : List Zone) (firsts : Firsts) → HoldTogether claim ops members zones firsts
-    → other ≡ ops → others ≡ zones → AreMembers ops changed → HoldTogether claim other changed others firsts
-still_together claim ops other members changed zones others firsts together same same_zones are =
-    subst (λ (l : List Op). HoldTogether claim l changed others firsts) (sym same)
-    (subst (λ (zs : List Zone). HoldTogether claim ops changed zs firsts) (sym same_zones)
-    (record { apart = together.apart; members_of = are; zoned = together.zoned; firsts_of = together.firsts_of }))
+    module _ (stretched : AreStretched claim.initial ops tree.zones) (earlier_is : AreStretchesAt claim.initial ops first second earlier) (later_is : AreStretchesAt claim.initial after first second later) where
+      stretches_at : (list : List Op) (found : Option Zone × Option Zone) → AreStretchesAt claim.initial list first second found → AreStretchesAt claim.initial list (value_in old) (other_value (value_in old) (value_in new)) found
+      stretches_at list found is =
+          subst (λ (u : Option Value). AreStretchesAt claim.initial list u (other_value u (value_in new)) found) first_is
+          (subst (λ (u : Option Value). AreStretchesAt claim.initial list first u found) second_is is)
 
-pub together_after : (claim : Terms) (after ops : List Op) (members : Members) (zones others : List Zone) (firsts : Firsts)
-    → ops ≡ after → zones ≡ others → HoldTogether claim after members others firsts → HoldTogether claim ops members zones firsts
-together_after claim after ops members zones others firsts same same_zones together =
-    subst (λ (l : List Op). HoldTogether claim l members zones firsts) (sym same) (subst (λ (zs : List Zone). HoldTogether claim after members zs firsts) (sym same_zones) together)
+      pub can_exchange_stretches : (IsSome new → 2 ≤ tree.free) → CanExchange tree earlier later
+      can_exchange_stretches enough gone come changes =
+          stretches_can_move claim.initial ops old new after change_is apart.moments apart_after.moments tree.zones stretched earlier later gone come changes
+          (stretches_at ops earlier earlier_is) (stretches_at after later later_is) tree.free tree.steps enough
 
--- the first faults of a list that is what stands after the edit
-pub firsts_moved : (initial : Value) (ops after listed : List Op) (members : Members) (earlier firsts : Firsts) (old new : Option Op) → listed ≡ after
-    → (AreMembers listed members → AreFirsts initial ops earlier → IsChange ops old new listed → HasDistinctMoments listed → HasEndsAfterBeginnings listed → AreFirsts initial listed firsts)
-    → AreMembers after members → AreFirsts initial ops earlier → IsChange ops old new after → HasDistinctMoments after → HasEndsAfterBeginnings after → AreFirsts initial after firsts
-firsts_moved initial ops after listed members earlier firsts old new same =
-    subst
-    (λ (l : List Op). (AreMembers listed members → AreFirsts initial ops earlier → IsChange ops old new listed → HasDistinctMoments listed → HasEndsAfterBeginnings listed → AreFirsts initial listed firsts)
-    → AreMembers l members → AreFirsts initial ops earlier → IsChange ops old new l → HasDistinctMoments l → HasEndsAfterBeginnings l → AreFirsts initial l firsts)
-    same (λ f. f)
+      pub stretches_need_no_room : new ≡ None → NeedsNoRoom tree.zones earlier later
+      stretches_need_no_room none gone come changes =
+          stretches_keep_room claim.initial ops old new after change_is apart.moments apart_after.moments tree.zones stretched earlier later gone come changes
+          (stretches_at ops earlier earlier_is) (stretches_at after later later_is) none
+
+      pub stretched_after : (result : List Zone) → AreExchanged earlier later tree.zones result → AreStretched claim.initial after result
+      stretched_after result is =
+          subst (AreStretched claim.initial after) (sym is.moves)
+          (moved_stretched claim.initial ops old new after change_is apart.moments apart_after.moments tree.zones stretched earlier later is.gone is.come is.changes
+          (stretches_at ops earlier earlier_is) (stretches_at after later later_is))

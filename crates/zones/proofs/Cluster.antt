@@ -22,7 +22,7 @@ use Rattle.zones.proofs.Judged.{is_judged, judged_write}
 use Rattle.zones.proofs.Members.{Decides-same_value, value_cases, here, there, in_none, contains_cases, kept, kept_stands, all_from, mapped, pair_of, pairs_mapped}
 
 -- of spans
-least-bound : (spans : List Span) (s : Span) → Contains spans s → AtMost (least_end_in spans) s.end
+pub least-bound : (spans : List Span) (s : Span) → Contains spans s → AtMost (least_end_in spans) s.end
 least-bound [] s h = absurd (in_none s h)
 least-bound (a ∷ spans) s h = by_cases (contains_cases a spans s h) (least-bound spans s)
   where
@@ -38,7 +38,7 @@ greatest-bound (a ∷ spans) s h = by_cases (contains_cases a spans s h) (greate
     by_cases (inl e) rest = subst (λ (x : Span). AtMost x.begin (later_of a.begin (greatest_begin_in spans))) e (later-left a.begin (greatest_begin_in spans))
     by_cases (inr h) rest = at_most_transitive s.begin (greatest_begin_in spans) (later_of a.begin (greatest_begin_in spans)) (rest h) (later-right a.begin (greatest_begin_in spans))
 
-least-held : (spans : List Span) → (least_end_in spans ≡ Never) ⊎ ((s : Span) × Contains spans s × (s.end ≡ least_end_in spans))
+pub least-held : (spans : List Span) → (least_end_in spans ≡ Never) ⊎ ((s : Span) × Contains spans s × (s.end ≡ least_end_in spans))
 least-held [] = inl refl
 least-held (a ∷ spans) = by_cases (earlier-cases a.end (least_end_in spans)) (least-held spans)
   where

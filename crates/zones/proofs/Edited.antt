@@ -202,29 +202,3 @@ module _ (claim : Terms) (ops : List Op) (edit : Edit) (apart : StandApart claim
       by_cases : (x : Op) → (new ≡ Some x) ⊎ (Contains (judged ops) x × (same_id x.id (edit_id edit) ≡ false)) → (new ≡ Some x) ⊎ (Contains (judged ops) x × (old ≢ Some x))
       by_cases x (inl e) = inl e
       by_cases x (inr (k, s)) = inr (k, λ e. both_ways (same_id x.id (edit_id edit)) s (old_id x e))
-
--- an append undone
-module _ (claim : Terms) (ops : List Op) (op : Op) (apart : StandApart claim ops) (accepted : reply_to claim ops (Append op) ≡ None) where
-  other_id : (x : Op) → Contains (judged ops) x → same_id x.id op.id ≡ false
-  other_id x h =
-      All-contains (λ o. same_id o.id op.id ≡ false) ops x
-      (none_of ops op.id (not_taken (op_of ops op.id) (moments_refusal ops op) (edit_accepted claim ops (Append op) accepted))) (kept_stands is_judged ops x h).0
-
-  pub change_undone : IsChange (edited ops (Append op)) (judged_part (Some op)) None ops
-  change_undone =
-      let change = change_of_edit claim ops (Append op) apart accepted in
-      record {
-        goes = change.comes;
-        comes = tt;
-        stay = λ x h. by_cases x (from_judged claim ops (Append op) apart accepted x h);
-        stood = λ x h. inr (still_judged claim ops (Append op) apart accepted x h (other_id x h), λ e. not_new x h (part_is (Some op) x e).0);
-        apart_before = change.apart_after;
-        apart_after = change.apart_before;
-      }
-    where
-      by_cases : (x : Op) → (judged_part (Some op) ≡ Some x) ⊎ (Contains (judged ops) x × (same_id x.id op.id ≡ false)) → (judged_part (Some op) ≡ Some x) ⊎ Contains (judged ops) x
-      by_cases x (inl e) = inl e
-      by_cases x (inr (k, s)) = inr k
-
-      not_new : (x : Op) → Contains (judged ops) x → Some op ≢ Some x
-      not_new x h e = let same : op ≡ x = cc in both_ways (same_id x.id op.id) (other_id x h) (subst (λ (o : Op). same_id x.id o.id ≡ true) (sym same) (same_id-refl x.id))

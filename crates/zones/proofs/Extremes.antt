@@ -1,5 +1,5 @@
 -- What the first to end and the last to begin of a cluster say of its zone, and a write of its value.
-use Rattle.std.proofs.Common.{◌≡◌, ◌≢◌, ◌↔◌, ◌⊎◌, inl, inr, false, List, [], Option, Some, None, refl, sym, subst}
+use Rattle.std.proofs.Common.{◌≡◌, ◌≢◌, ◌↔◌, ◌⊎◌, inl, inr, false, List, Option, Some, None, refl, sym, subst}
 use Rattle.std.specs.Prelude.{All, Contains, IsSomeAnd, IsTrue, MatchOption, is_some}
 use Rattle.std.proofs.lemmas.Bool.{both_ways}
 use Rattle.std.proofs.lemmas.List.Elements.{All-contains}
@@ -12,28 +12,19 @@ use Rattle.zone_tree.specs.Edge.{ComesBefore}
 use Rattle.zone_tree.specs.declared.zone.Zone.{Zone}
 use Rattle.zone_tree.specs.Zone.{Conflicts}
 use Rattle.zones.specs.declared.crossing.Crossing.{Crossing}
-use Rattle.zones.specs.Cluster.{edge_of_end, cluster_of, least_end_of, greatest_begin_of, written_values, zone_of}
-use Rattle.zones.specs.Crossing.{AreExtremes, HasFirstConflict, HasGreatestBegin, HasLeastEnd, IsFirstCrossing}
+use Rattle.zones.specs.Cluster.{cluster_of, greatest_begin_of, written_values, zone_of}
+use Rattle.zones.specs.Crossing.{AreExtremes, HasFirstConflict, HasGreatestBegin, IsFirstCrossing}
 use Rattle.zones.proofs.FirstCrossing.{of_values}
-use Rattle.zones.specs.Members.{IsFirstToEnd, IsLastToBegin, IsTheWriteAt}
-use Rattle.zones.proofs.Members.{Decides-same_value, in_none}
+use Rattle.zones.specs.Members.{IsLastToBegin, IsTheWriteAt}
+use Rattle.zones.proofs.Members.{Decides-same_value}
 use Rattle.zones.proofs.EdgeOrder.{AtMost, at_most_both, before_all}
-use Rattle.zones.proofs.Cluster.{member_of, least_at_most, least_of_one, greatest_at_least, greatest_of_one}
-use Rattle.zones.proofs.Written.{never_last, written_by, written_cases}
+use Rattle.zones.proofs.Cluster.{member_of, greatest_at_least, greatest_of_one}
+use Rattle.zones.proofs.Written.{written_by, written_cases}
 
 pub not_initial : (initial v : Value) → same_value initial v ≡ false → v ≢ initial
 not_initial initial v other e = both_ways (same_value initial v) other ((Decides-same_value initial v).1 (sym e))
 
 module _ (initial : Value) (ops : List Op) (v : Value) (op : Op) where
-  pub first_has_least : v ≢ initial → IsFirstToEnd ops v op → edge_of_end op.end ≡ least_end_of initial ops v
-  first_has_least apart is =
-      at_most_both (edge_of_end op.end) (least_end_of initial ops v) (by_cases (least_of_one initial ops v apart))
-      (least_at_most initial ops v op (member_of initial ops v op is.member))
-    where
-      by_cases : (least_end_of initial ops v ≡ Never) ⊎ ((o : Op) × Contains (cluster_of ops v) o × (edge_of_end o.end ≡ least_end_of initial ops v)) → AtMost (edge_of_end op.end) (least_end_of initial ops v)
-      by_cases (inl e) = subst (λ (x : Edge). AtMost (edge_of_end op.end) x) (sym e) (never_last (edge_of_end op.end))
-      by_cases (inr (o, h, e)) = subst (λ (x : Edge). AtMost (edge_of_end op.end) x) e (All-contains (λ other. ¬ ComesBefore (edge_of_end other.end) (edge_of_end op.end)) (cluster_of ops v) o is.first h)
-
   pub last_has_greatest : IsLastToBegin ops v op → At op.begin ≡ greatest_begin_of initial ops v
   last_has_greatest is =
       at_most_both (At op.begin) (greatest_begin_of initial ops v)
@@ -53,16 +44,6 @@ written_found initial ops v None apart none = ((λ t. absurd (cc)), λ h. absurd
     by_cases (inl e) = both_ways (same_value initial v) apart ((Decides-same_value initial v).1 e)
     by_cases (inr (w, is)) = All-contains (λ w. IsWrite w → value_of w.act ≢ v) ops w none is.stands is.write is.same
 written_found initial ops v (Some w) apart is = ((λ t. written_by initial ops v w is), λ h. refl)
-
--- the first to end has the least end, where one ends
-pub least_found : (initial : Value) (ops : List Op) (v : Value) (found : Option Op) → same_value initial v ≡ false
-    → MatchOption found (cluster_of ops v ≡ []) (IsFirstToEnd ops v) → least_end_of initial ops v ≢ Never → HasLeastEnd initial ops v found
-least_found initial ops v None other none ends = absurd (by_cases (least_of_one initial ops v (not_initial initial v other)))
-  where
-    by_cases : (least_end_of initial ops v ≡ Never) ⊎ ((o : Op) × Contains (cluster_of ops v) o × (edge_of_end o.end ≡ least_end_of initial ops v)) → ⊥
-    by_cases (inl e) = ends e
-    by_cases (inr (o, h, e)) = in_none o (subst (λ (l : List Op). Contains l o) none h)
-least_found initial ops v (Some op) other is ends = (is.member, first_has_least initial ops v op (not_initial initial v other) is)
 
 pub greatest_found : (initial : Value) (ops : List Op) (v : Value) (op : Op) → IsLastToBegin ops v op → HasGreatestBegin initial ops v op
 greatest_found initial ops v op is = (is.member, last_has_greatest initial ops v op is)

@@ -35,13 +35,13 @@ Decides-write_of r w = Decides-and (is_write w) (same_value (value_of w.act) (va
 pub none_of : (P : Op → Type 0) (ops : List Op) → ¬ Any P ops → All (λ op. ¬ P op) ops
 none_of P ops none = all_from (λ op. ¬ P op) ops (λ op h p. none (h.0, op, h.1, h.2, p))
 
-pub not_some : (P : Op → Type 0) (ops : List Op) → All (λ op. ¬ P op) ops → ¬ Any P ops
+not_some : (P : Op → Type 0) (ops : List Op) → All (λ op. ¬ P op) ops → ¬ Any P ops
 not_some P ops none some = All-contains (λ op. ¬ P op) ops some.1 none (some.0, some.2, some.3) some.4
 
 pub some_stands : (P : Op → Type 0) (ops : List Op) → Any P ops → (w : Op) × Contains ops w × P w
 some_stands P ops some = (some.1, (some.0, some.2, some.3), some.4)
 
-pub Decides-unwritten : (initial : Value) (ops : List Op) (r : Op) → Decides (is_unwritten initial ops r) (IsUnwritten initial ops r)
+Decides-unwritten : (initial : Value) (ops : List Op) (r : Op) → Decides (is_unwritten initial ops r) (IsUnwritten initial ops r)
 Decides-unwritten initial ops r =
     Decides-like (is_unwritten initial ops r)
     (λ h. record {
@@ -61,10 +61,10 @@ Decides-unwritten initial ops r =
     (Decides-not (list_any (is_write_of r) ops) (Decides-list_any (is_write_of r) (IsWriteFor r) (Decides-write_of r) ops))))
 
 -- w is a write of the value of r and begins after its end
-abbrev pub IsLate : Op → Op → Type 0
+abbrev IsLate : Op → Op → Type 0
 IsLate r w = IsWriteFor r w × Precedes r w
 
-pub Decides-late : (r w : Op) → Decides (is_late_for r w) (IsLate r w)
+Decides-late : (r w : Op) → Decides (is_late_for r w) (IsLate r w)
 Decides-late r w = Decides-and (is_write_of r w) (precedes r w) (Decides-write_of r w) (Decides-precedes r w)
 
 early_of : (r w : Op) → IsJudgedRead r → IsLate r w → IsEarly r w
@@ -73,7 +73,7 @@ early_of r w j late = record { read = j; write = late.0.0; one_value = late.0.1;
 late_of : (r w : Op) → IsEarly r w → IsLate r w
 late_of r w e = ((e.write, e.one_value), e.ends_before)
 
-pub Decides-early : (ops : List Op) (r : Op) → Decides (is_early ops r) (HasLateWrite ops r)
+Decides-early : (ops : List Op) (r : Op) → Decides (is_early ops r) (HasLateWrite ops r)
 Decides-early ops r =
     Decides-like (is_early ops r)
     (λ h. let (k, w, lt, e, late) = h.1 in (k, w, lt, e, early_of r w h.0 late))
@@ -93,14 +93,14 @@ has_end true s e = absurd (cc)
 has_end false s e = e
 
 -- of two judged reads that ended at one moment there is one
-pub one_end : (ops : List Op) → HasDistinctMoments ops → (x y : Op) → Contains ops x → Contains ops y → IsJudgedRead x → IsJudgedRead y → end_number x ≡ end_number y → x ≡ y
+one_end : (ops : List Op) → HasDistinctMoments ops → (x y : Op) → Contains ops x → Contains ops y → IsJudgedRead x → IsJudgedRead y → end_number x ≡ end_number y → x ≡ y
 one_end ops moments x y h k p q e =
     let (m, f, a) = ended_at x (has_end (is_write x) (is_some x.end) p) in
     let (o, g, b) = ended_at y (has_end (is_write y) (is_some y.end) q) in
     one_holder ops moments x y h k m (inr f) (inr (g ∙ ap Some (sym (same_moment m o (a ∙ (e ∙ sym b))))))
 
 module _ (test : Op → Bool) (Property : Op → Type 0) (decides : (r : Op) → Decides (test r) (Property r)) (read : (r : Op) → Property r → IsJudgedRead r) (ops : List Op) where
-  pub least_first : (r : Op) → least_by end_number test ops ≡ Some r → IsFirstOf Property ops r
+  least_first : (r : Op) → least_by end_number test ops ≡ Some r → IsFirstOf Property ops r
   least_first r e =
       let is = least_by-IsLeast end_number test ops r e in
       record {
@@ -109,13 +109,13 @@ module _ (test : Op → Bool) (Property : Op → Type 0) (decides : (r : Op) →
         first = All-weaker (λ other. IsTrue (test other) → end_number r ≤ end_number other) (λ other. Property other → end_number r ≤ end_number other) (λ other h p. h ((decides other).1 p)) ops is.least;
       }
 
-  pub least_none : least_by end_number test ops ≡ None → All (λ r. ¬ Property r) ops
+  least_none : least_by end_number test ops ≡ None → All (λ r. ¬ Property r) ops
   least_none e = All-weaker (λ r. ¬ IsTrue (test r)) (λ r. ¬ Property r) (λ r h p. h ((decides r).1 p)) ops (least_from-None end_number test None ops e).1
 
-  pub none_least : All (λ r. ¬ Property r) ops → least_by end_number test ops ≡ None
+  none_least : All (λ r. ¬ Property r) ops → least_by end_number test ops ≡ None
   none_least none = least_from-none end_number test None ops (All-weaker (λ r. ¬ Property r) (λ r. ¬ IsTrue (test r)) (λ r h t. h ((decides r).0 t)) ops none)
 
-  pub first_least : HasDistinctMoments ops → (r : Op) → IsFirstOf Property ops r → least_by end_number test ops ≡ Some r
+  first_least : HasDistinctMoments ops → (r : Op) → IsFirstOf Property ops r → least_by end_number test ops ≡ Some r
   first_least moments r is = by_cases (least_by end_number test ops) refl
     where
       by_cases : (found : Option Op) → least_by end_number test ops ≡ found → least_by end_number test ops ≡ Some r
@@ -166,7 +166,7 @@ module _ (ops : List Op) where
   earliest_first : (r : Op) → earliest ≡ Some r → IsFirstOf (HasLateWrite ops) ops r
   earliest_first = least_first (is_early ops) (HasLateWrite ops) (Decides-early ops) (early_read ops) ops
 
-  pub late_write : (r : Op) → HasLateWrite ops r → (w : Op) × (find (is_late_for r) ops ≡ Some w) × Contains ops w × IsEarly r w
+  late_write : (r : Op) → HasLateWrite ops r → (w : Op) × (find (is_late_for r) ops ≡ Some w) × Contains ops w × IsEarly r w
   late_write r h = by_found (find (is_late_for r) ops) refl
     where
       by_found : (found : Option Op) → find (is_late_for r) ops ≡ found → (w : Op) × (find (is_late_for r) ops ≡ Some w) × Contains ops w × IsEarly r w

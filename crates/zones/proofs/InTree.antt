@@ -19,7 +19,7 @@ use Rattle.zones.specs.Zoned.{AreZoned}
 use Rattle.zones.proofs.Members.{here, there, in_none, contains_cases, kept, kept_stands, mapped, pairs_head, pairs_tail}
 use Rattle.zones.proofs.Edited.{from_map}
 use Rattle.zones.proofs.Excluded.{zones_apart}
-use Rattle.zones.proofs.Moved.{found_standing}
+use Rattle.zones.proofs.PerValue.{found_standing}
 
 abbrev Apart : Zone → Zone → Type 0
 Apart a b = a.left ≢ b.left

@@ -10,11 +10,14 @@ use Rattle.std.proofs.lemmas.Bool.{cases_lt, lt-ltb, cases_Bool}
 use Rattle.std.proofs.lemmas.Bool.Decides.{not_from_Decides}
 use Rattle.std.proofs.lemmas.List.Elements.{All-contains, All-map, recursion_from_All}
 use Rattle.std.proofs.lemmas.List.Sorted.{IsPermutation-map, All-permutation, ranks_by, sorted_far}
+use Rattle.std.proofs.lemmas.Cmp.{nat_cmp_total, tied_itself}
 use Rattle.intervals.specs.declared.operation.Op.{Op}
 use Rattle.intervals.specs.declared.operation.Value.{Value}
 use Rattle.intervals.specs.Operation.{IsWrite, is_write, value_of, judged}
 use Rattle.intervals.proofs.Agreement.{Decides-list_any}
 use Rattle.zone_tree.specs.declared.edge.Edge.{Edge}
+use Rattle.zone_tree.specs.declared.edge.Edge.TheVariants.{Before, At, Never}
+use Rattle.zone_tree.specs.contracts.edge.EdgeOrd.TheImpl as edge_ord
 use Rattle.zone_tree.specs.Edge.{ComesBefore}
 use Rattle.zones.specs.declared.order.Turn.{Turn}
 use Rattle.zones.specs.declared.order.Placed.{Placed}
@@ -24,11 +27,29 @@ use Rattle.zones.specs.Cluster.{zone_of, written_values}
 use Rattle.zones.specs.Fault.{IsUnwritten, IsFaultless, is_write_of}
 use Rattle.zones.specs.Turn.{left_of, StandInTurn, IsInTurn}
 use Rattle.zones.specs.Order.{turn_of, placed_of}
-use Rattle.zones.proofs.Spots.{edge_cmp, edge_itself, edge_less}
 use Rattle.zones.proofs.Judged.{is_judged, is_judged_by_end}
 use Rattle.zones.proofs.Members.{value_cases, pairs_head, pairs_tail, pairs_mapped, all_from}
 use Rattle.zones.proofs.Written.{written_initial, written_by}
 use Rattle.zones.proofs.FirstReads.{IsWriteFor, Decides-write_of, some_stands, none_of}
+
+-- the derived order of edges
+abbrev edge_cmp : Edge → Edge → Ordering
+edge_cmp = (edge_ord.ghosts).cmp
+
+edge_itself : (a : Edge) → edge_cmp a a ≡ Equal
+edge_itself Before = refl
+edge_itself (At m) = tied_itself nat_cmp_total m.0
+edge_itself Never = refl
+
+-- what comes before another edge is less in that order
+edge_less : (a b : Edge) → ComesBefore a b → edge_cmp a b ≡ Less
+edge_less Before Before h = absurd (cc)
+edge_less Before (At n) h = refl
+edge_less Before Never h = refl
+edge_less (At m) Before h = absurd (cc)
+edge_less (At m) (At n) h = rw h refl
+edge_less (At m) Never h = refl
+edge_less Never b h = absurd (cc)
 
 -- where no read is unwritten the value of each judged operation has a write
 module _ (initial : Value) (ops : List Op) where

@@ -38,7 +38,7 @@ written_by initial ops v w is =
     (subst (λ (u : Value). Contains (map (λ w. value_of w.act) (writes ops)) u) is.same
     (mapped (λ w. value_of w.act) (writes ops) w (kept is_write ops w is.stands is.write)))
 
-write_member : (initial : Value) (ops : List Op) (v : Value) (w : Op) → IsTheWriteAt ops v w → IsMember initial ops v w
+pub write_member : (initial : Value) (ops : List Op) (v : Value) (w : Op) → IsTheWriteAt ops v w → IsMember initial ops v w
 write_member initial ops v w is = (kept is_judged ops w is.stands (judged_write w is.write), is.same)
 
 -- the left edges of different values that have a write are different

@@ -1,69 +1,102 @@
--- The maps of the members: each judged operation stands at its end and at its beginning, each write at
--- its value. No public clause speaks of these words.
-use Rattle.std.specs.Prelude.{◌≡◌, Bool, false, Contains, List, Option, Some, None, IsSome, if◌then◌else◌}
-use Rattle.std.specs.declared.cmp.Ordering.{Ordering}
-use Rattle.std.specs.BTreeMap.{BTreeMap, get, is_at}
+-- The shelves of the members: each write stands at its value, each judged read at its value and end, and
+-- at its value and beginning. No public clause speaks of these words.
+use Rattle.std.specs.Prelude.{◌≡◌, ◌≤◌, Bool, true, false, Contains, List, Option, Some, None, IfSome, is_some, if◌then◌else◌}
 use Rattle.intervals.specs.declared.operation.Op.{Op}
-use Rattle.intervals.specs.Operation.{is_write, value_of, judged}
-use Rattle.zone_tree.specs.declared.edge.Edge.{Edge}
-use Rattle.zone_tree.specs.declared.edge.Edge.TheVariants.{Before, At}
-use Rattle.zones.specs.Cluster.{edge_of_end}
-use Rattle.zones.specs.declared.spot.Spot.{Spot}
-use Rattle.zones.specs.declared.spot.Index.{Index}
-use Rattle.zones.specs.declared.spot.Index.TheVariants.{Writes, Ends, Begins}
+use Rattle.intervals.specs.declared.operation.OpId.{OpId}
+use Rattle.intervals.specs.declared.operation.Moment.{Moment}
+use Rattle.intervals.specs.declared.operation.Value.{Value}
+use Rattle.intervals.specs.declared.shelf.Spot.{Spot}
+use Rattle.intervals.specs.declared.shelf.Shelf.{Shelf}
+use Rattle.intervals.specs.Operation.{is_write, value_of}
+use Rattle.intervals.specs.Shelf.{place_at, id_at, same_spot, spot_of}
+use Rattle.zones.specs.declared.index.Row.{Row}
+use Rattle.zones.specs.declared.index.Row.TheVariants.{Writes, Ends, Begins}
 use Rattle.zones.specs.declared.index.Members.{Members}
-use Rattle.zones.specs.contracts.spot.SpotOrd.TheImpl as spot_ord
 
--- the order of the spots
-abbrev pub spot_cmp : Spot → Spot → Ordering
-spot_cmp = (spot_ord.ghosts).cmp
+-- the moment at which writes stand on their shelf
+abbrev pub at_first : Moment
+at_first = record { 0 = 0 }
 
--- two spots are one
-abbrev pub is_one : Option Spot → Option Spot → Bool
-is_one None b = false
-is_one (Some a) None = false
-is_one (Some a) (Some b) = is_at (spot_cmp a) b
+-- where a read stands by its end, where it has one
+abbrev pub by_end : Value → Option Moment → Option Spot
+by_end value None = None
+by_end value (Some end) = Some (spot_of value end)
 
--- the operation's value with an edge
-abbrev pub with_edge : Op → Edge → Spot
-with_edge op edge = record { value = value_of op.act; edge = edge }
+-- where a read stands by its beginning, where it has an end
+abbrev pub by_begin : Value → Moment → Option Moment → Option Spot
+by_begin value begin None = None
+by_begin value begin (Some end) = Some (spot_of value begin)
 
--- where an operation stands; a read does not stand among the writes
-abbrev pub spot_of : Index → Op → Option Spot
-spot_of Writes op = if is_write op then Some (with_edge op Before) else None
-spot_of Ends op = Some (with_edge op (edge_of_end op.end))
-spot_of Begins op = Some (with_edge op (At op.begin))
+-- where an operation stands on a shelf
+abbrev pub spot_on : Row → Op → Option Spot
+spot_on Writes op = if is_write op then Some (spot_of (value_of op.act) at_first) else None
+spot_on Ends op = if is_write op then None else by_end (value_of op.act) op.end
+spot_on Begins op = if is_write op then None else by_begin (value_of op.act) op.begin op.end
 
--- in the map stand the operations that have a spot, each at its own, and nothing else
-pub record IsIndex (index : Index) (ops : List Op) (map : BTreeMap Spot Op) : Type 0 where
-  pub there : (op : Op) (key : Spot) → Contains ops op → spot_of index op ≡ Some key → get spot_cmp map key ≡ Some op
-  pub back : (key : Spot) (op : Op) → get spot_cmp map key ≡ Some op → Contains ops op × (spot_of index op ≡ Some key)
+-- the greatest moment that there is
+abbrev pub at_last : Moment
+at_last = record { 0 = 18446744073709551615 }
 
--- the maps are those of the judged operations of the list
-pub record AreMembers (ops : List Op) (members : Members) : Type 0 where
-  pub writes : IsIndex Writes (judged ops) members.writes
-  pub ends : IsIndex Ends (judged ops) members.ends
-  pub begins : IsIndex Begins (judged ops) members.begins
+-- the spot's moment is one that there is
+abbrev pub IsInTime : Option Spot → Type 0
+IsInTime spot = IfSome spot (λ s. s.moment.0 ≤ at_last.0)
 
--- where the operation stands, if there is one
-abbrev pub spot_in : Index → Option Op → Option Spot
-spot_in index None = None
-spot_in index (Some op) = spot_of index op
+-- on the shelf stand the ids of the operations that have a spot there, each at its own, and nothing else
+pub record IsRow (row : Row) (ops : List Op) (shelf : Shelf) : Type 0 where
+  pub there : (op : Op) (spot : Spot) → Contains ops op → spot_on row op ≡ Some spot → id_at shelf spot ≡ Some op.id
+  pub back : (spot : Spot) (id : OpId) → id_at shelf spot ≡ Some id → (op : Op) × Contains ops op × (op.id ≡ id) × (spot_on row op ≡ Some spot)
+  pub in_time : (spot : Spot) (id : OpId) → id_at shelf spot ≡ Some id → IsInTime (Some spot)
 
--- what stands at a key once the spot holds the new one, or nothing
-abbrev pub put_at : Option Spot → Option Op → Spot → Option Op → Option Op
-put_at None new key found = found
-put_at (Some spot) new key found = if is_at (spot_cmp spot) key then new else found
+-- the shelf of a row
+abbrev pub shelf_of : Members → Row → Shelf
+shelf_of members Writes = members.writes
+shelf_of members Ends = members.ends
+shelf_of members Begins = members.begins
 
--- what stands at a key once the old operation is gone and the new one has come
-abbrev pub changed_at : Index → Option Op → Option Op → Spot → Option Op → Option Op
-changed_at index old new key found = put_at (spot_in index new) new key (put_at (spot_in index old) None key found)
+-- the shelves are those of the operations
+abbrev pub AreMembers : List Op → Members → Type 0
+AreMembers ops members = (row : Row) → IsRow row ops (shelf_of members row)
 
--- the two maps have the same at each key
-abbrev pub AreSame : BTreeMap Spot Op → BTreeMap Spot Op → Type 0
-AreSame before after = (key : Spot) → get spot_cmp after key ≡ get spot_cmp before key
+-- the places at which the operation is to stand are there
+abbrev pub HasPlaces : Op → Members → Type 0
+HasPlaces op members = (row : Row) (spot : Spot) → spot_on row op ≡ Some spot → is_some (place_at (shelf_of members row) spot) ≡ true
 
--- something stands at the new operation's spot, and at each other key what stood there
-pub record HasPlace (index : Index) (new : Option Op) (before after : BTreeMap Spot Op) : Type 0 where
-  pub there : (key : Spot) → spot_in index new ≡ Some key → IsSome (get spot_cmp after key)
-  pub others : (old : Option Op) (key : Spot) → changed_at index old new key (get spot_cmp after key) ≡ changed_at index old new key (get spot_cmp before key)
+-- the same of an operation that there may be
+abbrev pub HasPlacesOf : Option Op → Members → Type 0
+HasPlacesOf op members = IfSome op (λ op. HasPlaces op members)
+
+-- at each spot of each shelf is what was there
+abbrev pub HaveSamePlaces : Members → Members → Type 0
+HaveSamePlaces before after = (row : Row) (spot : Spot) → place_at (shelf_of after row) spot ≡ place_at (shelf_of before row) spot
+
+-- where the operation stands on a shelf, if there is one
+abbrev pub spot_in : Row → Option Op → Option Spot
+spot_in row None = None
+spot_in row (Some op) = spot_on row op
+
+-- it is that spot
+abbrev pub is_spot : Option Spot → Spot → Bool
+is_spot None other = false
+is_spot (Some spot) other = same_spot spot other
+
+-- the place at the spot is there
+abbrev pub HasPlaceAt : Shelf → Option Spot → Type 0
+HasPlaceAt shelf spot = IfSome spot (λ s. is_some (place_at shelf s) ≡ true)
+
+-- the place was made at the spot that is given, and no other place changed
+pub record IsMade (before after : Shelf) (made : Option Spot) : Type 0 where
+  pub new : IfSome made (λ s. place_at before s ≡ None)
+  pub others : (other : Spot) → is_spot made other ≡ false → place_at after other ≡ place_at before other
+
+-- what is at a spot once the id at one spot is taken out; the place of the held one stays
+abbrev pub taken_at : Option Spot → Option Spot → Spot → Option (Option OpId) → Option (Option OpId)
+taken_at spot held other found = if is_spot spot other then (if is_spot held other then Some None else None) else found
+
+-- what is at a spot once an id is put at one spot
+abbrev pub put_at : Option Spot → OpId → Spot → Option (Option OpId) → Option (Option OpId)
+put_at spot id other found = if is_spot spot other then Some (Some id) else found
+
+-- what is at a spot of a row once the operation has come, if there is one
+abbrev pub come_at : Row → Option Op → Spot → Option (Option OpId) → Option (Option OpId)
+come_at row None other found = found
+come_at row (Some op) other found = put_at (spot_on row op) op.id other found

@@ -8,7 +8,7 @@ pub mod Examples
 -- words of private clauses
 pub mod Members
 pub mod Index
-pub mod Firsts
+pub mod Faults
 pub mod Zoned
 pub mod Together
 pub mod Refused

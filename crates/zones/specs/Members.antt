@@ -1,17 +1,16 @@
 -- The members of the clusters: which of them ended first, which began last, and what an edit does to
 -- them. No public clause speaks of these words.
-use Rattle.std.specs.Prelude.{◌≡◌, ◌≢◌, ◌⊎◌, All, Contains, List, Option, Some, IfSome}
+use Rattle.std.specs.Prelude.{◌≤◌, unwrap_or, ◌≡◌, ◌≢◌, ◌⊎◌, All, Contains, List, Option, Some, None, IfSome, nat_lt, if◌then◌else◌}
 use Rattle.intervals.specs.declared.operation.Op.{Op}
 use Rattle.intervals.specs.declared.operation.Value.{Value}
-use Rattle.intervals.specs.Operation.{IsWrite, value_of, judged}
-use Rattle.zone_tree.specs.declared.edge.Edge.TheVariants.{At}
-use Rattle.zone_tree.specs.Edge.{ComesBefore}
+use Rattle.intervals.specs.Operation.{IsWrite, IsJudgedRead, value_of, judged}
+use Rattle.intervals.specs.declared.operation.OpId.{OpId}
+use Rattle.intervals.specs.declared.operation.Moment.{Moment}
+use Rattle.intervals.specs.Judging.{end_number}
+use Rattle.zone_tree.specs.declared.edge.Edge.{Edge}
+use Rattle.zone_tree.specs.declared.edge.Edge.TheVariants.{Before, At, Never}
+use Rattle.zone_tree.specs.Edge.{ComesBefore, comes_before}
 use Rattle.zones.specs.Cluster.{edge_of_end, cluster_of}
-
--- of the operations of the cluster none ended before it
-pub record IsFirstToEnd (ops : List Op) (value : Value) (op : Op) : Type 0 where
-  pub member : Contains (cluster_of ops value) op
-  pub first : All (λ other. ¬ ComesBefore (edge_of_end other.end) (edge_of_end op.end)) (cluster_of ops value)
 
 -- of the operations of the cluster none began after it
 pub record IsLastToBegin (ops : List Op) (value : Value) (op : Op) : Type 0 where
@@ -39,3 +38,59 @@ pub record IsChange (before : List Op) (old new : Option Op) (after : List Op) :
   pub stood : (op : Op) → Contains (judged after) op → (new ≡ Some op) ⊎ (Contains (judged before) op × (old ≢ Some op))
   pub apart_before : HaveOwnPlaces before
   pub apart_after : HaveOwnPlaces after
+
+-- no write has the value
+abbrev pub HasNoWrite : List Op → Value → Type 0
+HasNoWrite ops value = All (λ w. IsWrite w → value_of w.act ≢ value) ops
+
+-- no judged read has the value
+abbrev pub HasNoRead : List Op → Value → Type 0
+HasNoRead ops value = All (λ r. IsJudgedRead r → value_of r.act ≢ value) ops
+
+-- a judged read of the value that ended then, none before
+pub record EndsFirstOf (ops : List Op) (value : Value) (end : Moment) (id : OpId) : Type 0 where
+  pub read : Op
+  pub stands : Contains ops read
+  pub judged : IsJudgedRead read
+  pub same : value_of read.act ≡ value
+  pub named : read.id ≡ id
+  pub ended : read.end ≡ Some end
+  pub first : All (λ r. IsJudgedRead r → value_of r.act ≡ value → end.0 ≤ end_number r) ops
+
+-- a judged read of the value that began then, none after
+pub record BeginsLastOf (ops : List Op) (value : Value) (begin : Moment) (id : OpId) : Type 0 where
+  pub read : Op
+  pub stands : Contains ops read
+  pub judged : IsJudgedRead read
+  pub same : value_of read.act ≡ value
+  pub named : read.id ≡ id
+  pub began : read.begin ≡ begin
+  pub last : All (λ r. IsJudgedRead r → value_of r.act ≡ value → r.begin.0 ≤ begin.0) ops
+
+-- the end of an operation, or the first moment where it has none
+abbrev pub end_of : Op → Moment
+end_of op = unwrap_or op.end (record { 0 = 0 })
+
+-- of the operations with the property that have the value none ended before the edge, and one ended
+-- there, where it is not Never
+pub record IsLeastEnd (Property : Op → Type 0) (ops : List Op) (value : Value) (edge : Edge) : Type 0 where
+  pub least : All (λ op. Property op → value_of op.act ≡ value → ¬ ComesBefore (edge_of_end op.end) edge) ops
+  pub held : (edge ≡ Never) ⊎ ((op : Op) × Contains ops op × Property op × (value_of op.act ≡ value) × (edge_of_end op.end ≡ edge))
+
+-- of the operations with the property that have the value none began after the edge, and one began
+-- there, where it is not Before
+pub record IsGreatestBegin (Property : Op → Type 0) (ops : List Op) (value : Value) (edge : Edge) : Type 0 where
+  pub greatest : All (λ op. Property op → value_of op.act ≡ value → ¬ ComesBefore edge (At op.begin)) ops
+  pub held : (edge ≡ Before) ⊎ ((op : Op) × Contains ops op × Property op × (value_of op.act ≡ value) × (At op.begin ≡ edge))
+
+-- of two operations that there may be the one that ended first
+abbrev pub ended_first : Option Op → Option Op → Option Op
+ended_first None b = b
+ended_first (Some a) None = Some a
+ended_first (Some a) (Some b) = if comes_before (edge_of_end b.end) (edge_of_end a.end) then Some b else Some a
+
+-- of two operations that there may be the one that began last
+abbrev pub began_last : Option Op → Option Op → Option Op
+began_last None b = b
+began_last (Some a) None = Some a
+began_last (Some a) (Some b) = if nat_lt a.begin.0 b.begin.0 then Some b else Some a

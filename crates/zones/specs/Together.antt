@@ -1,17 +1,33 @@
--- What the parts of a register's judge are to each other. No public clause speaks of it.
-use Rattle.std.specs.Prelude.{List}
+-- What the parts of a register's judge are to each other.
+use Rattle.std.specs.Prelude.{ℕ, ◌≤◌, List, Option, IfSome}
 use Rattle.intervals.specs.declared.operation.Op.{Op}
 use Rattle.intervals.specs.Terms.{Terms}
-use Rattle.zone_tree.specs.declared.zone.Zone.{Zone}
+use Rattle.intervals.specs.Table.{Tabled}
+use Rattle.zone_tree.specs.Order.{Contents}
 use Rattle.zones.specs.declared.index.Members.{Members}
-use Rattle.zones.specs.declared.firsts.Firsts.{Firsts}
-use Rattle.zones.specs.Index.{AreMembers}
-use Rattle.zones.specs.Firsts.{AreFirsts}
+use Rattle.zones.specs.Index.{AreMembers, HasPlaces}
+use Rattle.zones.specs.Faults.{AreStretched}
 use Rattle.zones.specs.Zoned.{StandApart, AreZoned}
 
--- the maps, the zones and the first faults are those of the operations
-pub record HoldTogether (claim : Terms) (ops : List Op) (members : Members) (zones : List Zone) (firsts : Firsts) : Type 0 where
-  pub apart : StandApart claim ops
-  pub members_of : AreMembers ops members
-  pub zoned : AreZoned claim.initial ops zones
-  pub firsts_of : AreFirsts claim.initial ops firsts
+-- a claim, the operations that stand under it, the one that there is room for, and how many levels the
+-- tree of zones has gone down so far
+pub record Clustered : Type 0 where
+  pub claim : Terms
+  pub ops : List Op
+  pub prepared : Option Op
+  pub steps : ℕ
+
+-- there is room for the operation on the shelves and in the trees
+pub record HasRoomFor (members : Members) (zones stretches : Contents) (op : Op) : Type 0 where
+  pub places : HasPlaces op members
+  pub zones_free : 2 ≤ zones.free
+  pub stretches_free : 2 ≤ stretches.free
+
+-- the shelves, the zones and the stretches are those of the operations, and there is room for the
+-- prepared one
+pub record HoldTogether (claim : Terms) (table : Tabled) (members : Members) (zones stretches : Contents) : Type 0 where
+  pub apart : StandApart claim table.ops
+  pub members_of : AreMembers table.ops members
+  pub zoned : AreZoned claim.initial table.ops zones.zones
+  pub stretched : AreStretched claim.initial table.ops stretches.zones
+  pub room : IfSome table.prepared (HasRoomFor members zones stretches)

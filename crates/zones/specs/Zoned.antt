@@ -78,8 +78,37 @@ pub record IsNew (zones : List Zone) (found : Option Zone) : Type 0 where
   pub edge : IfSome found (λ zone. HasNoZoneAt zone.left zones)
   pub order : IfSome found HasOrderedEdges
 
+-- nothing more comes than goes
+pub record KeepsRoom (zones : List Zone) (gone come : Option Zone × Option Zone) : Type 0 where
+  pub one : IsSome come.0 → Stands zones gone.0
+  pub other : come.1 ≡ None
+
 -- the tree has room for those that come when those that go are gone
 pub record CanMove (tree : Contents) (gone come : Option Zone × Option Zone) : Type 0 where
-  pub room : (2 ≤ tree.free) ⊎ ((come.1 ≡ None) × (IsSome come.0 → Stands tree.zones gone.0))
+  pub room : (2 ≤ tree.free) ⊎ KeepsRoom tree.zones gone come
   pub first : IsNew (without gone.1 (without gone.0 tree.zones)) come.0
   pub second : IsNew (with come.0 (without gone.1 (without gone.0 tree.zones))) come.1
+
+-- what is to go and to come of a zone before and one after: both, or nothing where they are the same
+abbrev pub IsChangeAt : Option Zone → Option Zone → Option Zone × Option Zone → Type 0
+IsChangeAt before after change = (change ≡ (before, after)) ⊎ ((before ≡ after) × (change ≡ (None, None)))
+
+-- the same of two zones before and two after
+pub record AreChanges (before after gone come : Option Zone × Option Zone) : Type 0 where
+  pub one : IsChangeAt before.0 after.0 (gone.0, come.0)
+  pub other : IsChangeAt before.1 after.1 (gone.1, come.1)
+
+-- two zones can be exchanged for two others, whichever of them stay
+abbrev pub CanExchange : Contents → Option Zone × Option Zone → Option Zone × Option Zone → Type 0
+CanExchange tree before after = (gone come : Option Zone × Option Zone) → AreChanges before after gone come → CanMove tree gone come
+
+-- nothing more comes than goes, whichever of them stay
+abbrev pub NeedsNoRoom : List Zone → Option Zone × Option Zone → Option Zone × Option Zone → Type 0
+NeedsNoRoom zones before after = (gone come : Option Zone × Option Zone) → AreChanges before after gone come → KeepsRoom zones gone come
+
+-- the zones with two for two others
+pub record AreExchanged (before after : Option Zone × Option Zone) (zones result : List Zone) : Type 0 where
+  pub gone : Option Zone × Option Zone
+  pub come : Option Zone × Option Zone
+  pub changes : AreChanges before after gone come
+  pub moves : result ≡ moved gone come zones

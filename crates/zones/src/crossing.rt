@@ -1,15 +1,20 @@
 //! Four operations that no order has room for.
 
-ghost use Rattle.std.specs.Prelude.{◌≢◌, List, IsSomeAnd};
+ghost use Rattle.std.specs.Prelude.{◌≡◌, ◌≢◌, List, [], Some, nat_lt, MatchOption, IsSomeAnd};
+ghost use Rattle.intervals.specs.Edit.{op_of};
+ghost use Rattle.zone_tree.specs.Edge.{comes_before};
+ghost use Rattle.zones.specs.Members.{IsLastToBegin, HasNoRead, EndsFirstOf, BeginsLastOf, end_of, ended_first as first_of, began_last as last_of};
 ghost use Rattle.intervals.specs.declared.operation.Op.{Op};
 ghost use Rattle.zone_tree.specs.declared.edge.Edge.TheVariants.{Never};
 ghost use Rattle.zone_tree.specs.Zone.{Conflicts};
-ghost use Rattle.zones.specs.Cluster.{least_end_of, zone_of};
+ghost use Rattle.zones.specs.Cluster.{least_end_of, zone_of, cluster_of, edge_of_end};
 ghost use Rattle.zones.specs.Crossing.{HasLeastEnd, AreExtremes};
+ghost use Rattle.intervals.specs.Standing.{HasDistinctIds};
 ghost use Rattle.zones.specs.Index.{AreMembers};
 
 use crate::index::Members;
-use intervals::{Op, Value, is_same_value};
+use crate::zone_in::edge_of_end;
+use intervals::{Op, OpTable, Value, is_same_value};
 
 /// Four operations that no order has room for: `a` and `d` are of one value, `b` and `c` of another, `a`
 /// precedes `b` and `c` precedes `d`. None is the initial write.
@@ -23,30 +28,103 @@ pub struct Crossing<'t> {
 
 /// Of two values whose zones conflict the operations that ended first and those that began last.
 pub fn extremes<'t>(
-    members: &Members<'t>,
+    members: &Members,
+    table: &OpTable<'t>,
     initial: Value,
     one: Value,
     other: Value,
 ) -> Option<Crossing<'t>>
-    ensures { (ops : List Op) → AreMembers ops members.now → Conflicts (zone_of initial ops one) (zone_of initial ops other)
-        → IsSomeAnd result (λ x. AreExtremes initial ops one other x.a x.b x.c x.d) }
+    ensures { AreMembers table.now.ops members.now → HasDistinctIds table.now.ops → Conflicts (zone_of initial table.now.ops one) (zone_of initial table.now.ops other)
+        → IsSomeAnd result (λ x. AreExtremes initial table.now.ops one other x.a x.b x.c x.d) }
 {
-    let b = members.last_to_begin(other)?;
-    let d = members.last_to_begin(one)?;
+    let b = last_to_begin(members, table, other)?;
+    let d = last_to_begin(members, table, one)?;
     Some(Crossing {
-        a: first_to_end(members, initial, one),
+        a: first_to_end(members, table, initial, one),
         b,
-        c: first_to_end(members, initial, other),
+        c: first_to_end(members, table, initial, other),
         d,
     })
 }
 
 /// No operation ended before the initial write.
-fn first_to_end<'t>(members: &Members<'t>, initial: Value, value: Value) -> Option<Op<'t>>
-    ensures { (ops : List Op) → AreMembers ops members.now → least_end_of initial ops value ≢ Never → HasLeastEnd initial ops value result }
+fn first_to_end<'t>(
+    members: &Members,
+    table: &OpTable<'t>,
+    initial: Value,
+    value: Value,
+) -> Option<Op<'t>>
+    ensures { AreMembers table.now.ops members.now → HasDistinctIds table.now.ops → least_end_of initial table.now.ops value ≢ Never → HasLeastEnd initial table.now.ops value result }
 {
     if is_same_value(initial, value) {
         return None;
     }
-    members.first_to_end(value)
+    ended_first(
+        members.write_of(table, value),
+        first_read(members, table, value),
+    )
+}
+
+/// Of the judged operations of the value the one that began last.
+fn last_to_begin<'t>(members: &Members, table: &OpTable<'t>, value: Value) -> Option<Op<'t>>
+    ensures { AreMembers table.now.ops members.now → HasDistinctIds table.now.ops
+        → MatchOption result (cluster_of table.now.ops value ≡ []) (IsLastToBegin table.now.ops value) }
+{
+    began_last(
+        members.write_of(table, value),
+        last_read(members, table, value),
+    )
+}
+
+/// Of the judged reads of the value the one that ended first.
+pub fn first_read<'t>(members: &Members, table: &OpTable<'t>, value: Value) -> Option<Op<'t>>
+    ensures { AreMembers table.now.ops members.now → HasDistinctIds table.now.ops
+        → MatchOption result (HasNoRead table.now.ops value) (λ read. EndsFirstOf table.now.ops value (end_of read) read.id × (op_of table.now.ops read.id ≡ Some read)) }
+{
+    let (_, id) = members.first_to_end(value)?;
+    table.get(id).copied()
+}
+
+/// Of the judged reads of the value the one that began last.
+fn last_read<'t>(members: &Members, table: &OpTable<'t>, value: Value) -> Option<Op<'t>>
+    ensures { AreMembers table.now.ops members.now → HasDistinctIds table.now.ops
+        → MatchOption result (HasNoRead table.now.ops value) (λ read. BeginsLastOf table.now.ops value read.begin read.id × (op_of table.now.ops read.id ≡ Some read)) }
+{
+    let (_, id) = members.last_to_begin(value)?;
+    table.get(id).copied()
+}
+
+/// Of two operations the one that ended first; what has no end ends last.
+fn ended_first<'t>(a: Option<Op<'t>>, b: Option<Op<'t>>) -> Option<Op<'t>>
+    ensures { result ≡ first_of a.entry b.entry }
+{
+    match (a, b) {
+        (Some(a), Some(b)) if ends_before(&b, &a) => Some(b),
+        (None, b) => b,
+        (a, _) => a,
+    }
+}
+
+/// Of two operations the one that began last.
+fn began_last<'t>(a: Option<Op<'t>>, b: Option<Op<'t>>) -> Option<Op<'t>>
+    ensures { result ≡ last_of a.entry b.entry }
+{
+    match (a, b) {
+        (Some(a), Some(b)) if begins_before(&a, &b) => Some(b),
+        (None, b) => b,
+        (a, _) => a,
+    }
+}
+
+/// Whether the first ended before the second did; what has no end ends last.
+fn ends_before(a: &Op, b: &Op) -> bool
+    ensures { result ≡ comes_before (edge_of_end a.now.end) (edge_of_end b.now.end) }
+{
+    edge_of_end(a.end).comes_before(edge_of_end(b.end))
+}
+
+fn begins_before(a: &Op, b: &Op) -> bool
+    ensures { result ≡ nat_lt a.now.begin.0 b.now.begin.0 }
+{
+    a.begin.0 < b.begin.0
 }

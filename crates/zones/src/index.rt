@@ -1,167 +1,209 @@
-//! The judged operations of each value, by their ends and by their beginnings, and the write of each value.
+//! The judged operations of each value: its write, and its reads by their ends and by their beginnings.
 
-ghost use Rattle.std.specs.Prelude.{Option, None, Some, ◌≡◌, ◌≢◌, [], List, MatchOption, All, IsSome, IfOk, OnOk, OnErr};
-ghost use Rattle.std.specs.BTreeMap.{get};
-ghost use Rattle.intervals.specs.declared.operation.Op.{Op};
-ghost use Rattle.intervals.specs.Operation.{IsWrite, value_of};
-ghost use Rattle.zones.specs.declared.spot.Spot.{Spot};
-ghost use Rattle.zones.specs.Cluster.{cluster_of};
-ghost use Rattle.zones.specs.Members.{IsFirstToEnd, IsLastToBegin, IsTheWriteAt, IsChange};
-ghost use Rattle.zones.specs.Index.{AreMembers, AreSame, HasPlace, spot_cmp, put_at, changed_at, spot_in as at};
+ghost use Rattle.std.specs.Prelude.{◌≡◌, ◌≢◌, ◌≤◌, ◌<◌, [], List, All, Contains, IfSome, IfOk, MatchOption, OnOk, OnErr, None, Some, is_some, true, false};
+ghost use Rattle.intervals.specs.declared.operation.Op.{Op as AnOp};
+ghost use Rattle.intervals.specs.declared.shelf.Spot.{Spot as ASpot};
+ghost use Rattle.intervals.specs.Edit.{op_of};
+ghost use Rattle.intervals.specs.Shelf.{place_at, id_at};
+ghost use Rattle.intervals.specs.Standing.{HasDistinctIds};
+ghost use Rattle.zones.specs.Members.{IsChange, IsTheWriteAt, EndsFirstOf, BeginsLastOf, HasNoRead, HasNoWrite};
+ghost use Rattle.zones.specs.Index.{AreMembers, HasPlaces, HasPlacesOf, HasPlaceAt, HaveSamePlaces, IsInTime, IsMade, is_spot, spot_on as on, spot_in as in_row, taken_at, put_at, come_at};
 
-use crate::spot::{Index, Spot, is_one, spot_at, spot_in, with_value};
-use intervals::{Memory, Op, Value};
+use intervals::{Memory, Moment, Op, OpId, OpTable, Shelf, Spot, Value};
 use std::alloc::Global;
-use std::collections::BTreeMap;
-use zone_tree::Edge;
 
-#[derive(Drop)]
-pub struct Members<'t> {
-    writes: BTreeMap<Spot, Op<'t>>,
-    ends: BTreeMap<Spot, Op<'t>>,
-    begins: BTreeMap<Spot, Op<'t>>,
+/// The shelves on which an operation may stand.
+#[derive(Clone, Copy)]
+pub enum Row {
+    Writes,
+    Ends,
+    Begins,
 }
 
-impl<'t> Members<'t> {
+/// The ids of the writes by value, and of the judged reads by value and end, and by value and beginning.
+#[derive(Drop)]
+pub struct Members {
+    writes: Shelf,
+    ends: Shelf,
+    begins: Shelf,
+}
+
+impl Members {
     pub fn new(alloc: Global) -> Self
         ensures { AreMembers [] result }
     {
         Members {
-            writes: BTreeMap::new(alloc),
-            ends: BTreeMap::new(alloc),
-            begins: BTreeMap::new(alloc),
+            writes: Shelf::new(alloc),
+            ends: Shelf::new(alloc),
+            begins: Shelf::new(alloc),
         }
     }
 
-    /// Takes an operation out and puts another one in. To take one out alone takes no memory.
-    pub fn change(&mut self, old: Option<Op<'t>>, new: Option<Op<'t>>) -> Result<(), Memory>
-        ensures ok { OnOk result ((before after : List Op) → AreMembers before self.old → IsChange before old.entry new.entry after → AreMembers after self.new) }
-        ensures err { OnErr result ((ops : List Op) → AreMembers ops self.old → AreMembers ops self.new) }
-        ensures memory { OnErr result (IsSome new.entry) }
+    /// Holds the places at which the operation is to stand, all or none.
+    pub fn hold(&mut self, op: &Op) -> Result<(), Memory>
+        ensures places { OnOk result (HasPlaces op.now self.new) }
+        ensures err { OnErr result (HaveSamePlaces self.old self.new) }
+        ensures members { (ops : List AnOp) → AreMembers ops self.old → AreMembers ops self.new }
     {
-        self.make_places(new)?;
-        replace(&mut self.writes, Index::Writes, old, new);
-        replace(&mut self.ends, Index::Ends, old, new);
-        replace(&mut self.begins, Index::Begins, old, new);
-        Ok(())
-    }
-
-    /// Makes the places of the new operation, all or none.
-    fn make_places(&mut self, new: Option<Op<'t>>) -> Result<(), Memory>
-        ensures writes { OnOk result (HasPlace Index.Writes new.entry self.old.writes self.new.writes) }
-        ensures ends { OnOk result (HasPlace Index.Ends new.entry self.old.ends self.new.ends) }
-        ensures begins { OnOk result (HasPlace Index.Begins new.entry self.old.begins self.new.begins) }
-        ensures err { OnErr result (AreSame self.old.writes self.new.writes × AreSame self.old.ends self.new.ends × AreSame self.old.begins self.new.begins) }
-        ensures memory { OnErr result (IsSome new.entry) }
-    {
-        let writes = make_place(&mut self.writes, Index::Writes, new)?;
-        let ends = match make_place(&mut self.ends, Index::Ends, new) {
+        let writes = hold(&mut self.writes, spot_on(Row::Writes, op))?;
+        let ends = match hold(&mut self.ends, spot_on(Row::Ends, op)) {
             Ok(made) => made,
             Err(memory) => {
-                take_out(&mut self.writes, writes);
+                release(&mut self.writes, writes);
                 return Err(memory);
             }
         };
-        if let Err(memory) = make_place(&mut self.begins, Index::Begins, new) {
-            take_out(&mut self.ends, ends);
-            take_out(&mut self.writes, writes);
+        if let Err(memory) = hold(&mut self.begins, spot_on(Row::Begins, op)) {
+            release(&mut self.ends, ends);
+            release(&mut self.writes, writes);
             return Err(memory);
         }
         Ok(())
     }
 
+    /// Lets the places go that were held for the operation and are empty.
+    pub fn release(&mut self, op: &Op)
+        ensures { (ops : List AnOp) → AreMembers ops self.old → AreMembers ops self.new }
+    {
+        release(&mut self.writes, spot_on(Row::Writes, op));
+        release(&mut self.ends, spot_on(Row::Ends, op));
+        release(&mut self.begins, spot_on(Row::Begins, op));
+    }
+
+    /// Takes an operation out, and puts one in whose places are held. The places of a prepared one stay.
+    pub fn change(&mut self, old: Option<Op>, new: Option<Op>, prepared: Option<Op>)
+        requires prepared { IfSome new (λ op. prepared ≡ Some op) }
+        requires places { HasPlacesOf prepared self.old }
+        ensures members { (before after : List AnOp) → AreMembers before self.old → IsChange before old.entry new.entry after → AreMembers after self.new }
+        ensures places { HasPlacesOf prepared.entry self.new }
+    {
+        change_row(&mut self.writes, Row::Writes, old, new, prepared);
+        change_row(&mut self.ends, Row::Ends, old, new, prepared);
+        change_row(&mut self.begins, Row::Begins, old, new, prepared);
+    }
+
     /// The write of the value.
-    pub fn write_of(&self, value: Value) -> Option<Op<'t>>
-        ensures { (ops : List Op) → AreMembers ops self.now → MatchOption result (All (λ w. IsWrite w → value_of w.act ≢ value) ops) (IsTheWriteAt ops value) }
+    pub fn write_of<'t>(&self, table: &OpTable<'t>, value: Value) -> Option<Op<'t>>
+        ensures { AreMembers table.now.ops self.now → HasDistinctIds table.now.ops
+            → MatchOption result (HasNoWrite table.now.ops value) (IsTheWriteAt table.now.ops value) }
     {
-        self.writes.get(&spot_at(value, Edge::Before)).copied()
+        let id = self.writes.get(Spot {
+            value,
+            moment: Moment(0),
+        })?;
+        table.get(id).copied()
     }
 
-    /// Of the judged operations of the value the one that ended first.
-    pub fn first_to_end(&self, value: Value) -> Option<Op<'t>>
-        ensures { (ops : List Op) → AreMembers ops self.now → MatchOption result (cluster_of ops value ≡ []) (IsFirstToEnd ops value) }
+    /// Of the judged reads of the value the end of the one that ended first, and its id.
+    pub fn first_to_end(&self, value: Value) -> Option<(Moment, OpId)>
+        ensures { (ops : List AnOp) → AreMembers ops self.now → MatchOption result (HasNoRead ops value) (λ found. EndsFirstOf ops value found.0 found.1) }
     {
-        let (_, op) = self.ends.range(spot_at(value, Edge::Before)..).next()?;
-        with_value(op, value)
+        self.ends.first_from(value, Moment(0))
     }
 
-    /// Of the judged operations of the value the one that began last.
-    pub fn last_to_begin(&self, value: Value) -> Option<Op<'t>>
-        ensures { (ops : List Op) → AreMembers ops self.now → MatchOption result (cluster_of ops value ≡ []) (IsLastToBegin ops value) }
+    /// Of the judged reads of the value the beginning of the one that began last, and its id.
+    pub fn last_to_begin(&self, value: Value) -> Option<(Moment, OpId)>
+        ensures { (ops : List AnOp) → AreMembers ops self.now → MatchOption result (HasNoRead ops value) (λ found. BeginsLastOf ops value found.0 found.1) }
     {
-        let (_, op) = self
-            .begins
-            .range(..=spot_at(value, Edge::Never))
-            .next_back()?;
-        with_value(op, value)
+        self.begins.last_up_to(value, Moment(u64::MAX))
     }
 }
 
-/// Makes a place for the new operation, where nothing stands at its spot, and
-/// answers the spot where it made one.
-fn make_place<'t>(
-    map: &mut BTreeMap<Spot, Op<'t>>,
-    index: Index,
-    new: Option<Op<'t>>,
-) -> Result<Option<Spot>, Memory>
-    ensures made { IfOk result (λ made. (key : Spot) → put_at made None key (get spot_cmp map.new key) ≡ get spot_cmp map.old key) }
-    ensures place { OnOk result (HasPlace index new.entry map.old map.new) }
-    ensures err { OnErr result (AreSame map.old map.new) }
-    ensures memory { OnErr result (IsSome new.entry) }
+/// Where the operation stands on a shelf.
+pub fn spot_on(row: Row, op: &Op) -> Option<Spot>
+    ensures { result ≡ on row op.now }
 {
-    let (Some(spot), Some(op)) = (spot_in(index, new), new) else {
+    match row {
+        Row::Writes if op.is_write() => Some(Spot {
+            value: op.value(),
+            moment: Moment(0),
+        }),
+        Row::Ends if !op.is_write() => {
+            let end = op.end?;
+            Some(Spot {
+                value: op.value(),
+                moment: end,
+            })
+        }
+        Row::Begins if !op.is_write() => {
+            let _ = op.end?;
+            Some(Spot {
+                value: op.value(),
+                moment: op.begin,
+            })
+        }
+        _ => None,
+    }
+}
+
+/// Holds the place at the spot, and gives the spot where the place was made.
+fn hold(shelf: &mut Shelf, spot: Option<Spot>) -> Result<Option<Spot>, Memory>
+    ensures there { OnOk result (IfSome spot (λ s. is_some (place_at shelf.new s) ≡ true)) }
+    ensures ids { (other : ASpot) → id_at shelf.new other ≡ id_at shelf.old other }
+    ensures made { IfOk result (IsMade shelf.old shelf.new) }
+    ensures err { OnErr result ((other : ASpot) → place_at shelf.new other ≡ place_at shelf.old other) }
+{
+    let Some(spot) = spot else {
         return Ok(None);
     };
-    if map.contains_key(&spot) {
-        return Ok(None);
+    if shelf.hold(spot)? {
+        Ok(Some(spot))
+    } else {
+        Ok(None)
     }
-    map.insert(spot, op)?;
-    Ok(Some(spot))
 }
 
-/// Takes out what stands at the spot.
-fn take_out(map: &mut BTreeMap<Spot, Op>, spot: Option<Spot>)
-    ensures { (key : Spot) → get spot_cmp map.new key ≡ put_at spot None key (get spot_cmp map.old key) }
+/// Lets the place at the spot go where no id stands there.
+fn release(shelf: &mut Shelf, spot: Option<Spot>)
+    ensures gone { IfSome spot (λ s. id_at shelf.old s ≡ None → place_at shelf.new s ≡ None) }
+    ensures ids { (other : ASpot) → id_at shelf.new other ≡ id_at shelf.old other }
+    ensures others { (other : ASpot) → is_spot spot other ≡ false → place_at shelf.new other ≡ place_at shelf.old other }
 {
     if let Some(spot) = spot {
-        map.remove(&spot);
+        shelf.release(spot);
     }
 }
 
-/// Puts the operation at a place that was made for it.
-fn put_in<'t>(map: &mut BTreeMap<Spot, Op<'t>>, spot: Spot, op: Op<'t>)
-    requires { IsSome (get spot_cmp map.old spot) }
-    ensures { (key : Spot) → get spot_cmp map.new key ≡ put_at (Some spot) (Some op.entry) key (get spot_cmp map.old key) }
+/// Takes the old operation out and puts the new one in, whose place is held. The place of the prepared
+/// one stays.
+fn change_row(shelf: &mut Shelf, row: Row, old: Option<Op>, new: Option<Op>, prepared: Option<Op>)
+    requires prepared { IfSome new (λ op. prepared ≡ Some op) }
+    requires place { HasPlaceAt shelf.old (in_row row prepared) }
+    ensures in_time { IsInTime (in_row row new.entry) }
+    ensures places { (other : ASpot) → place_at shelf.new other ≡ come_at row new.entry other (taken_at (in_row row old.entry) (in_row row prepared.entry) other (place_at shelf.old other)) }
 {
-    let Ok(_) = map.insert(spot, op) else {
-        unreachable!()
-    };
-}
-
-/// Takes out what stands at the first spot, unless that is the second.
-#[tactic(auto, using(crate::proofs::Indexes::one_place))]
-fn take_out_other(map: &mut BTreeMap<Spot, Op>, gone: Option<Spot>, spot: Option<Spot>)
-    ensures left { (new : Option Op) (key : Spot) → put_at spot new key (get spot_cmp map.new key) ≡ put_at spot new key (put_at gone None key (get spot_cmp map.old key)) }
-    ensures kept { (key : Spot) → spot ≡ Some key → get spot_cmp map.new key ≡ get spot_cmp map.old key }
-{
-    if !is_one(gone, spot) {
-        take_out(map, gone);
+    take_out(shelf, spot_in(row, old), spot_in(row, prepared));
+    if let Some(op) = new {
+        put_in(shelf, spot_on(row, &op), op.id);
     }
 }
 
-/// Takes the old operation out, and puts the new one at the place that was made for it.
-fn replace<'t>(
-    map: &mut BTreeMap<Spot, Op<'t>>,
-    index: Index,
-    old: Option<Op<'t>>,
-    new: Option<Op<'t>>,
-)
-    requires { (key : Spot) → at index new ≡ Some key → IsSome (get spot_cmp map.old key) }
-    ensures { (key : Spot) → get spot_cmp map.new key ≡ changed_at index old.entry new.entry key (get spot_cmp map.old key) }
+/// Where the operation stands on a shelf, if there is one.
+fn spot_in(row: Row, op: Option<Op>) -> Option<Spot>
+    ensures { result ≡ in_row row op.entry }
 {
-    let spot = spot_in(index, new);
-    take_out_other(map, spot_in(index, old), spot);
-    if let (Some(spot), Some(op)) = (spot, new) {
-        put_in(map, spot, op);
+    let op = op?;
+    spot_on(row, &op)
+}
+
+/// Takes what stands at the spot out. The place goes too, unless it is the one that is held.
+fn take_out(shelf: &mut Shelf, spot: Option<Spot>, held: Option<Spot>)
+    requires { HasPlaceAt shelf.old held }
+    ensures { (other : ASpot) → place_at shelf.new other ≡ taken_at spot held other (place_at shelf.old other) }
+{
+    match (spot, held) {
+        (Some(spot), Some(held)) if spot == held => shelf.vacate(spot),
+        (Some(spot), _) => shelf.take(spot),
+        _ => {}
+    }
+}
+
+fn put_in(shelf: &mut Shelf, spot: Option<Spot>, id: OpId)
+    requires { HasPlaceAt shelf.old spot }
+    ensures in_time { IsInTime spot }
+    ensures places { (other : ASpot) → place_at shelf.new other ≡ put_at spot id other (place_at shelf.old other) }
+{
+    if let Some(spot) = spot {
+        shelf.put(spot, id);
     }
 }

@@ -30,19 +30,21 @@
 //! unwritten read, an early read or a crossing excludes every arrangement by itself; an order in turn
 //! is an arrangement. Zones, edges and conflicts themselves are those of `zone_tree`.
 //!
-//! The calls are in `register.rt`. `index.rt` keeps the judged operations of each value by their ends and
-//! their beginnings, so that an edit looks at the first and the last of the values it touches alone
-//! (`zone_in.rt`) and moves two zones at most (`moves.rt`).
+//! The calls are in `register.rt`. `index.rt` keeps the ids of the judged operations of each value on
+//! shelves, by their ends and their beginnings, so that an edit looks at the first and the last of the two
+//! values that it may touch alone (`zone_in.rt`, `stretch.rt`). It moves their zones in one tree and their
+//! stretches, from the first read of a value to its write, in another (`moves.rt`); of each tree the root says
+//! what is asked. `prepare` makes the room for one operation ahead: to withdraw others and then to admit it
+//! takes no memory.
 #![tactic(auto)]
 
 mod crossing;
-mod firsts;
 mod index;
 pub mod laws;
 mod moves;
 mod order;
 mod register;
-mod spot;
+mod stretch;
 mod writes;
 mod zone_in;
 

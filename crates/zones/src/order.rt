@@ -3,6 +3,7 @@
 ghost use Rattle.std.specs.Prelude.{◌≡◌, ◌++◌, ◌∷◌, [], ◌↔◌, Contains, IfOk, IfSome, IsNone, OnOk, OnErr, map, is_some, ◌||◌};
 ghost use Rattle.intervals.specs.Operation.{judged, value_of, is_write as writes};
 ghost use Rattle.intervals.specs.Kind.{Arranges, IsAtomic};
+ghost use Rattle.intervals.specs.Table.{standing};
 ghost use Rattle.zones.specs.Cluster.{written_values};
 ghost use Rattle.zones.specs.Fault.{IsFaultless};
 ghost use Rattle.zones.specs.Turn.{IsInTurn, IsOrder};
@@ -50,22 +51,34 @@ impl<'t> Clusters<'t> {
         ensures arranges { IfOk result (λ placed. Arranges self.now.claim self.now.ops (map (λ p. p.op) placed.items)) }
         ensures in_turn { IfOk result (λ placed. IsInTurn self.now.claim.initial self.now.ops (map (λ p. p.op) placed.items)) }
     {
-        let mut placed = self.placed(alloc, self.operations().operations())?;
+        let mut placed = self.placed(alloc, self.operations().slots())?;
         placed.sort_unstable_by_key(|p| p.turn);
         Ok(placed)
     }
 
     /// The judged operations, each with what it stands by.
-    fn placed(&self, alloc: Global, ops: &[Op<'t>]) -> Result<Vec<Placed<'t>>, Memory>
-        requires all { ops.now ≡ self.now.ops }
+    fn placed(&self, alloc: Global, slots: &[Option<Op<'t>>]) -> Result<Vec<Placed<'t>>, Memory>
+        requires all { standing slots.now ≡ self.now.ops }
         requires faultless { IsFaultless self.now.claim.initial self.now.ops }
         ensures { IfOk result (λ placed. placed.items ≡ map (placed_of self.now.claim.initial self.now.ops) (judged self.now.ops)) }
     {
         let mut placed = Vec::new(alloc);
-        for op in ops {
-            self.place(&mut placed, op)?;
+        for slot in slots {
+            self.place_slot(&mut placed, *slot)?;
         }
         Ok(placed)
+    }
+
+    /// Adds the operation that is there, if any.
+    fn place_slot(&self, placed: &mut Vec<Placed<'t>>, slot: Option<Op<'t>>) -> Result<(), Memory>
+        requires faultless { IsFaultless self.now.claim.initial self.now.ops }
+        requires stands { IfSome slot (Contains self.now.ops) }
+        ensures { OnOk result (placed.new.items ≡ placed.old.items ++ map (placed_of self.now.claim.initial self.now.ops) (judged (standing (slot.entry ∷ [])))) }
+    {
+        match slot {
+            Some(op) => self.place(placed, &op),
+            None => Ok(()),
+        }
     }
 
     /// Adds the operation where it is judged.

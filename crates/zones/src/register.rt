@@ -1,13 +1,16 @@
 //! The calls of an atomic register's judge.
 
-ghost use Rattle.std.specs.Prelude.{◌≡◌, ◌↔◌, ◌⊎◌, ◌&&◌, not, is_some, ◌++◌, ◌∷◌, [], Contains, IfOk, IfSome, IsSome, IsNone, IsSomeAnd, IsTrue, OnOk, OnErr, None, Some, option_map};
+ghost use Rattle.std.specs.Prelude.{◌≡◌, ◌↔◌, ◌+◌, ◌*◌, ◌≤◌, All, length, IsOk, ◌++◌, ◌∷◌, [], Contains, IfOk, IfSome, IsSome, IsNone, IsSomeAnd, IsTrue, OnOk, OnErr, None, Some, option_map};
 ghost use Rattle.intervals.specs.Operation.{IsWrite};
 ghost use Rattle.intervals.specs.Edit.{op_of as op_in, new_op, edited, is_append};
 ghost use Rattle.intervals.specs.Terms.{terms_of};
 ghost use Rattle.intervals.specs.Kind.{IsAtomic};
 ghost use Rattle.intervals.specs.Refusal.{first_refusal, write_refusal, reply_to, ok_unless};
 ghost use Rattle.intervals.specs.Standing.{HasDistinctMoments, HasEndsAfterBeginnings};
+ghost use Rattle.intervals.specs.Table.{prepared_after};
 ghost use Rattle.zone_tree.specs.Conflict.{IsClean};
+ghost use Rattle.zone_tree.specs.Digits.{digits};
+ghost use Rattle.zone_tree.specs.Zone.{IsForward};
 ghost use Rattle.zone_tree.specs.Zone.{HasOrderedEdges};
 ghost use Rattle.zones.specs.Cluster.{written_values, zone_of as zone_in_list, zones_of};
 ghost use Rattle.zones.specs.Crossing.{HasFirstConflict, IsFirstCrossing};
@@ -17,62 +20,74 @@ ghost use Rattle.zones.specs.Members.{IsChange};
 ghost use Rattle.zones.specs.Zoned.{judged_part, value_in as value_of_some, other_value as other};
 
 use crate::crossing::{Crossing, extremes};
-use crate::firsts::{Firsts, firsts_after};
 use crate::index::Members;
-use crate::laws::{faultless_exactly_where_arranged, faultless_where_no_fault_is_first};
-use crate::moves::{make_room, move_zones};
+use crate::laws::faultless_exactly_where_arranged;
+use crate::moves::exchange;
+use crate::stretch::{first_early, first_unwritten, stretches_in};
 use crate::writes::check_write;
 use crate::zone_in::{zone_in, zone_of, zones_in};
-use intervals::{Claim, Edit, Kind, Memory, Op, OpBook, OpId, Refusal, Value, is_same_value};
+use intervals::{Claim, Edit, Kind, Memory, Op, OpId, OpTable, Refusal, Value, is_same_value};
 use std::alloc::Global;
 use std::marker::Model;
-use zone_tree::{Zone, ZoneTree};
+use zone_tree::{Edge, Zone, ZoneTree};
 
 /// The operations of one atomic register, by the clusters of their values.
 #[derive(Drop)]
 pub struct Clusters<'t> {
     claim: Claim,
-    ops: OpBook<'t>,
-    members: Members<'t>,
-    tree: ZoneTree,
-    firsts: Firsts<'t>,
+    table: OpTable<'t>,
+    members: Members,
+    zones: ZoneTree,
+    stretches: ZoneTree,
 }
 
 impl<'t> Model for Clusters<'t> {
-    ghost use Rattle.intervals.specs.Terms.{Claimed, terms_of};
-    ghost use Rattle.zones.specs.Together.{HoldTogether};
+    ghost use Rattle.intervals.specs.Terms.{terms_of};
+    ghost use Rattle.zones.specs.Together.{Clustered, HoldTogether};
 
-    ghost Value = { Claimed };
+    ghost Value = { Clustered };
 
-    ghost view = { λ c. record { claim = terms_of c.claim; ops = c.ops } };
+    ghost view = { λ c. record { claim = terms_of c.claim; ops = c.table.ops; prepared = c.table.prepared; steps = c.zones.steps } };
 
-    ghost invariant = { λ c. HoldTogether (terms_of c.claim) c.ops c.members c.tree.zones c.firsts };
+    ghost invariant = { λ c. HoldTogether (terms_of c.claim) c.table c.members c.zones c.stretches };
 }
 
 impl<'t> Clusters<'t> {
     /// Clusters of no operations.
     pub fn new(alloc: Global, claim: &Claim) -> Result<Self, Memory>
         requires { claim.now.kind ≡ Kind.Atomic }
-        ensures { IfOk result (λ clusters. clusters ≡ record { claim = terms_of claim.now; ops = [] }) }
+        ensures { IfOk result (λ clusters. clusters ≡ record { claim = terms_of claim.now; ops = []; prepared = None; steps = clusters.steps }) }
     {
         let claim = claim.try_clone(alloc)?;
+        let table = OpTable::new(alloc);
         let members = Members::new(alloc);
-        let tree = tree_of(alloc, zone_of(&members, claim.initial, claim.initial))?;
+        let zones = tree_of(
+            alloc,
+            zone_of(&members, &table, claim.initial, claim.initial),
+        )?;
+        let stretches = ZoneTree::new(alloc);
         Ok(Clusters {
             claim,
-            ops: OpBook::new(alloc),
+            table,
             members,
-            tree,
-            firsts: Firsts::new(),
+            zones,
+            stretches,
         })
     }
 
     /// The operations that stand, unfinished reads among them.
-    pub fn operations(&self) -> &OpBook<'t>
-        ensures operations { result.now ≡ self.now.ops }
+    pub fn operations(&self) -> &OpTable<'t>
+        ensures operations { result.now.ops ≡ self.now.ops }
         ensures apart { HasDistinctMoments self.now.ops × HasEndsAfterBeginnings self.now.ops }
     {
-        &self.ops
+        &self.table
+    }
+
+    /// How many levels the tree of zones has gone down for edits so far.
+    pub fn steps(&self) -> u64
+        ensures { result ≡ self.now.steps }
+    {
+        self.zones.steps()
     }
 
     /// The first of `NotAWriter`, `ValueTaken` and `OutOfDomain` that holds of the write. An operation
@@ -80,41 +95,92 @@ impl<'t> Clusters<'t> {
     pub fn check_write(&self, op: &Op) -> Result<(), Refusal>
         ensures { result ≡ ok_unless (write_refusal self.now.claim self.now.ops op.now) }
     {
-        check_write(&self.claim, &self.members, op)
+        check_write(&self.claim, &self.members, &self.table, op)
     }
 
-    /// Carries out an edit that nothing refuses. A withdrawal takes no memory.
-    pub fn admit(&mut self, edit: Edit<'t>) -> Result<(), Memory>
-        requires { reply_to self.old.claim self.old.ops edit ≡ None }
-        ensures ok { OnOk result (self.new ≡ record self.old { ops = edited self.old.ops edit.entry }) }
-        ensures err { OnErr result (self.new ≡ self.old) }
-        ensures memory { OnErr result (IsSome (new_op self.old.ops edit.entry)) }
+    /// The operation that there is room for.
+    pub fn prepared(&self) -> Option<Op<'t>>
+        ensures { result ≡ self.now.prepared }
     {
+        self.table.prepared()
+    }
+
+    /// Makes room for an operation: to drop any operations and then to admit this one takes no memory.
+    pub fn prepare(&mut self, op: &Op<'t>) -> Result<(), Memory>
+        requires { self.old.prepared ≡ None }
+        ensures ok { OnOk result (self.new ≡ record self.old { prepared = Some op.now }) }
+        ensures err { OnErr result (self.new ≡ self.old) }
+    {
+        self.zones.reserve(2)?;
+        self.stretches.reserve(2)?;
+        self.members.hold(op)?;
+        if let Err(refused) = self.table.prepare(op) {
+            self.members.release(op);
+            return Err(refused);
+        }
+        Ok(())
+    }
+
+    /// Lets the room for the prepared operation go.
+    pub fn release(&mut self, op: &Op<'t>)
+        requires { self.old.prepared ≡ Some op.now }
+        ensures { self.new ≡ record self.old { prepared = None } }
+    {
+        self.members.release(op);
+        self.table.release();
+    }
+
+    /// Carries out an edit that nothing refuses. It takes no memory where its new operation is prepared
+    /// or it has none.
+    pub fn admit(&mut self, edit: Edit<'t>) -> Result<(), Memory>
+        requires accepted { reply_to self.old.claim self.old.ops edit ≡ None }
+        requires prepared { IfSome self.old.prepared (λ op. IfSome (new_op self.old.ops edit) (λ new. new ≡ op)) }
+        ensures ok { OnOk result (self.new ≡ record self.old { ops = edited self.old.ops edit.entry; prepared = prepared_after (new_op self.old.ops edit.entry) self.old.prepared; steps = self.new.steps }) }
+        ensures err { OnErr result (self.new ≡ self.old) }
+        ensures memory { OnErr result (IsSome (new_op self.old.ops edit.entry) × (self.old.prepared ≡ None)) }
+        ensures steps { self.new.steps ≤ self.old.steps + 4 * (2 * digits (length (zones_of self.old.claim.initial self.old.ops) + 1) + 1) }
+    {
+        let new = self.table.new_op(&edit);
+        if let Some(op) = new {
+            if self.table.prepared().is_none() {
+                self.prepare(&op)?;
+            }
+        }
+        self.settle(edit, new);
+        Ok(())
+    }
+
+    /// Carries out an edit whose new operation is prepared.
+    fn settle(&mut self, edit: Edit<'t>, new: Option<Op<'t>>)
+        requires accepted { reply_to self.old.claim self.old.ops edit ≡ None }
+        requires new { new ≡ new_op self.old.ops edit }
+        requires prepared { IfSome new (λ op. self.old.prepared ≡ Some op) }
+        ensures edited { self.new ≡ record self.old { ops = edited self.old.ops edit.entry; prepared = prepared_after new.entry self.old.prepared; steps = self.new.steps } }
+        ensures steps { self.new.steps ≤ self.old.steps + 4 * (2 * digits (length (zones_of self.old.claim.initial self.old.ops) + 1) + 1) }
+    {
+        // That the zones stand in order is known of what is gone over.
+        let _ = self.zones.iter();
         let initial = self.claim.initial;
-        let old = judged(op_of(&self.ops, edit.id()));
-        let new = judged(self.ops.new_op(&edit));
+        let old = judged(op_of(&self.table, edit.id()));
+        let new = judged(new);
         let first = value_in(old);
         let second = other_value(first, value_in(new));
-        let gone = zones_in(&self.members, initial, first, second);
-        make_room(&mut self.tree, new)?;
-        change(&mut self.ops, &mut self.members, edit, old, new)?;
-        let come = zones_in(&self.members, initial, first, second);
-        move_zones(&mut self.tree, gone, come);
-        self.firsts = firsts_after(
-            initial,
-            &self.firsts,
-            self.ops.operations(),
-            &self.members,
-            old,
-            new,
-        );
-        Ok(())
+        let zones = zones_in(&self.members, &self.table, initial, first, second);
+        let stretches = stretches_in(&self.members, &self.table, initial, first, second);
+        self.members.change(old, new, self.table.prepared());
+        self.table.admit(edit);
+        let zones_after = zones_in(&self.members, &self.table, initial, first, second);
+        let stretches_after = stretches_in(&self.members, &self.table, initial, first, second);
+        exchange(&mut self.zones, zones, zones_after);
+        exchange(&mut self.stretches, stretches, stretches_after);
     }
 
     pub fn admit_write(&mut self, write: &Op<'t>) -> Result<(), Memory>
         requires write { IsWrite write.now }
         requires accepted { reply_to self.old.claim self.old.ops (Edit.Append write.now) ≡ None }
-        ensures ok { OnOk result (self.new ≡ record self.old { ops = self.old.ops ++ write.now ∷ [] }) }
+        requires prepared { IfSome self.old.prepared (λ op. write.now ≡ op) }
+        ensures succeeds { IsSome self.old.prepared → IsOk result }
+        ensures ok { OnOk result (self.new ≡ record self.old { ops = self.old.ops ++ write.now ∷ []; prepared = None; steps = self.new.steps }) }
         ensures err { OnErr result (self.new ≡ self.old) }
     {
         self.admit(Edit::Append(*write))
@@ -124,7 +190,9 @@ impl<'t> Clusters<'t> {
     pub fn admit_read(&mut self, read: &Op<'t>) -> Result<(), Memory>
         requires read { ¬ IsWrite read.now }
         requires accepted { reply_to self.old.claim self.old.ops (Edit.Append read.now) ≡ None }
-        ensures ok { OnOk result (self.new ≡ record self.old { ops = self.old.ops ++ read.now ∷ [] }) }
+        requires prepared { IfSome self.old.prepared (λ op. read.now ≡ op) }
+        ensures succeeds { IsSome self.old.prepared → IsOk result }
+        ensures ok { OnOk result (self.new ≡ record self.old { ops = self.old.ops ++ read.now ∷ []; prepared = None; steps = self.new.steps }) }
         ensures err { OnErr result (self.new ≡ self.old) }
     {
         self.admit(Edit::Append(*read))
@@ -132,7 +200,7 @@ impl<'t> Clusters<'t> {
 
     pub fn drop_write(&mut self, id: OpId)
         requires { IsSomeAnd (op_in self.old.ops id) IsWrite }
-        ensures { self.new ≡ record self.old { ops = edited self.old.ops (Edit.Withdraw id) } }
+        ensures { self.new ≡ record self.old { ops = edited self.old.ops (Edit.Withdraw id); steps = self.new.steps } }
     {
         // A withdrawal takes no memory.
         let _ = self.admit(Edit::Withdraw(id));
@@ -140,7 +208,7 @@ impl<'t> Clusters<'t> {
 
     pub fn drop_read(&mut self, id: OpId)
         requires { IsSomeAnd (op_in self.old.ops id) (λ op. ¬ IsWrite op) }
-        ensures { self.new ≡ record self.old { ops = edited self.old.ops (Edit.Withdraw id) } }
+        ensures { self.new ≡ record self.old { ops = edited self.old.ops (Edit.Withdraw id); steps = self.new.steps } }
     {
         // A withdrawal takes no memory.
         let _ = self.admit(Edit::Withdraw(id));
@@ -151,28 +219,36 @@ impl<'t> Clusters<'t> {
         ensures zone { IfSome result (λ zone. zone ≡ zone_in_list self.now.claim.initial self.now.ops value) }
         ensures written { IsSome result ↔ Contains (written_values self.now.claim.initial self.now.ops) value }
     {
-        zone_in(&self.members, self.claim.initial, value)
+        zone_in(&self.members, &self.table, self.claim.initial, value)
     }
 
     /// The unwritten read that ended first.
     pub fn first_unwritten(&self) -> Option<OpId>
         ensures { result ≡ option_map (λ op. op.id) (unwritten_first self.now.claim.initial self.now.ops) }
     {
-        self.firsts.unwritten.map(|op| op.id)
+        // That the stretches stand in order is known of what is gone over.
+        let _ = self.stretches.iter();
+        let read = first_unwritten(&self.stretches, &self.members, &self.table)?;
+        Some(read.id)
     }
 
     /// The early read that ended first, and the write of its value.
     pub fn first_early(&self) -> Option<(OpId, OpId)>
         ensures { result ≡ option_map (λ pair. (pair.0.id, pair.1.id)) (early_first self.now.ops) }
     {
-        self.firsts.early.map(|pair| (pair.0.id, pair.1.id))
+        // That the stretches stand in order is known of what is gone over.
+        let _ = self.stretches.iter();
+        let (read, write) = first_early(&self.stretches, &self.members, &self.table)?;
+        Some((read.id, write.id))
     }
 
     /// Whether no two zones conflict.
     pub fn clean(&self) -> bool
         ensures { IsTrue result ↔ IsClean (zones_of self.now.claim.initial self.now.ops) }
     {
-        self.first_conflict().is_none()
+        // That the zones stand in order is known of what is gone over.
+        let _ = self.zones.iter();
+        self.zones.clean()
     }
 
     /// The earlier forward zone of greatest right edge, and the first zone by left edge that conflicts
@@ -182,8 +258,8 @@ impl<'t> Clusters<'t> {
         ensures none { IsNone result ↔ IsClean (zones_of self.now.claim.initial self.now.ops) }
     {
         // That the zones stand in order is known of what is gone over.
-        let _ = self.tree.iter();
-        self.tree.first_conflict()
+        let _ = self.zones.iter();
+        self.zones.first_conflict()
     }
 
     /// The extremes of the clusters of the first conflict.
@@ -192,7 +268,13 @@ impl<'t> Clusters<'t> {
         ensures none { IsNone result ↔ IsClean (zones_of self.now.claim.initial self.now.ops) }
     {
         let (first, second) = self.first_conflict()?;
-        extremes(&self.members, self.claim.initial, first.value, second.value)
+        extremes(
+            &self.members,
+            &self.table,
+            self.claim.initial,
+            first.value,
+            second.value,
+        )
     }
 
     /// Whether some order of the judged operations keeps precedence and lets every read return the
@@ -201,9 +283,8 @@ impl<'t> Clusters<'t> {
         ensures atomic { IsTrue result ↔ IsAtomic self.now.claim self.now.ops }
         ensures faultless { IsTrue result ↔ IsFaultless self.now.claim.initial self.now.ops }
     {
-        faultless_where_no_fault_is_first();
         faultless_exactly_where_arranged();
-        has_none(&self.firsts) && self.clean()
+        is_timely(&self.stretches) && self.clean()
     }
 }
 
@@ -218,17 +299,17 @@ fn tree_of(alloc: Global, zone: Zone) -> Result<ZoneTree, Memory>
     Ok(tree)
 }
 
-/// Whether no read is unwritten and none is early.
-fn has_none(firsts: &Firsts) -> bool
-    ensures { result ≡ (not (is_some firsts.now.unwritten) && not (is_some firsts.now.early)) }
+/// Whether no read is unwritten and none is early: no stretch is forward.
+fn is_timely(stretches: &ZoneTree) -> bool
+    ensures { IsTrue result ↔ All (λ z. ¬ IsForward z) stretches.now.zones }
 {
-    firsts.unwritten.is_none() && firsts.early.is_none()
+    stretches.first_reaching(Edge::Before).is_none()
 }
 
-fn op_of<'t>(ops: &OpBook<'t>, id: OpId) -> Option<Op<'t>>
-    ensures { result ≡ op_in ops.now id }
+fn op_of<'t>(table: &OpTable<'t>, id: OpId) -> Option<Op<'t>>
+    ensures { result ≡ op_in table.now.ops id }
 {
-    ops.get(id).copied()
+    table.get(id).copied()
 }
 
 /// The operation, where it is a write or has an end.
@@ -258,29 +339,4 @@ fn other_value(first: Option<Value>, second: Option<Value>) -> Option<Value>
         (Some(first), Some(second)) if is_same_value(first, second) => None,
         (_, second) => second,
     }
-}
-
-/// Carries out the edit in the list and in the maps, or in neither.
-fn change<'t>(
-    ops: &mut OpBook<'t>,
-    members: &mut Members<'t>,
-    edit: Edit<'t>,
-    old: Option<Op<'t>>,
-    new: Option<Op<'t>>,
-) -> Result<(), Memory>
-    requires { first_refusal ops.old edit ≡ None }
-    ensures ops { OnOk result (ops.new ≡ edited ops.old edit.entry) }
-    ensures members { OnOk result (AreMembers ops.old members.old → IsChange ops.old old.entry new.entry (edited ops.old edit.entry) → AreMembers (edited ops.old edit.entry) members.new) }
-    ensures kept { OnErr result (ops.new ≡ ops.old) }
-    ensures undone { OnErr result (AreMembers ops.old members.old → IsChange ops.old old.entry new.entry (edited ops.old edit.entry)
-        → (IsTrue (is_append edit.entry) → IsChange (edited ops.old edit.entry) new.entry None ops.old) → AreMembers ops.old members.new) }
-    ensures memory { OnErr result ((IsTrue (is_append edit.entry)) ⊎ IsSome new.entry) }
-{
-    members.change(old, new)?;
-    if let Err(refused) = ops.admit(edit) {
-        // An append alone is refused memory. To take its operation out again takes none.
-        let _ = members.change(new, None);
-        return Err(refused);
-    }
-    Ok(())
 }

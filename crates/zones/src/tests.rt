@@ -102,10 +102,20 @@ fn refusal_of<'t>(clusters: &Clusters<'t>, edit: &Edit<'t>) -> Option<Refusal>
     new_refusal(clusters, edit)
 }
 
+/// Lets the room go that there is for an operation.
+fn let_go(clusters: &mut Clusters)
+    ensures { clusters.new ≡ record clusters.old { prepared = None } }
+{
+    if let Some(op) = clusters.prepared() {
+        clusters.release(&op);
+    }
+}
+
 /// Carries the edit out by the call that is named after it, where there is one.
 fn carried_out<'t>(clusters: &mut Clusters<'t>, edit: Edit<'t>) -> Result<(), Memory>
     requires { reply_to clusters.old.claim clusters.old.ops edit ≡ None }
 {
+    let_go(clusters);
     match edit {
         Edit::Append(op) if op.is_write() => clusters.admit_write(&op),
         Edit::Append(op) => clusters.admit_read(&op),
@@ -117,12 +127,26 @@ fn carried_out<'t>(clusters: &mut Clusters<'t>, edit: Edit<'t>) -> Result<(), Me
     }
 }
 
-fn withdraw(clusters: &mut Clusters, id: OpId) {
+fn withdraw(clusters: &mut Clusters, id: OpId)
+    ensures { clusters.new.prepared ≡ clusters.old.prepared }
+{
     match clusters.operations().get(id) {
         Some(op) if op.is_write() => clusters.drop_write(id),
         Some(_) => clusters.drop_read(id),
         None => {}
     }
+}
+
+/// Makes room for an operation, withdraws another, and then carries the append out or lets the room go.
+fn instead<'t>(clusters: &mut Clusters<'t>, op: Op<'t>, gone: OpId) -> Result<(), Memory> {
+    let_go(clusters);
+    clusters.prepare(&op)?;
+    withdraw(clusters, gone);
+    if refusal_of(clusters, &Edit::Append(op)).is_some() {
+        clusters.release(&op);
+        return Ok(());
+    }
+    clusters.admit(Edit::Append(op))
 }
 
 /// Tells a refusal, or carries the edit out.
@@ -138,6 +162,21 @@ fn edited<'t>(
         None => carried_out(clusters, edit)?,
     }
     Ok(())
+}
+
+/// `w1:2-3/0` is the write in the place of what began at 0, which is withdrawn first.
+fn step<'t>(
+    told: &mut String,
+    clusters: &mut Clusters<'t>,
+    word: &'static str,
+) -> Result<(), Memory> {
+    let Some((word, gone)) = word.split_once('/') else {
+        return edited(told, clusters, edit_of(word));
+    };
+    match edit_of(word) {
+        Edit::Append(op) => instead(clusters, op, id(number(gone))),
+        _ => Ok(()),
+    }
 }
 
 fn tell_edge(told: &mut String, edge: Edge) {
@@ -220,7 +259,7 @@ fn told(alloc: Global, words: &'static str) -> Result<String, Memory> {
     let mut told = String::new(alloc);
     let mut clusters = Clusters::new(alloc, &CLAIM)?;
     for word in words.split(' ') {
-        edited(&mut told, &mut clusters, edit_of(word))?;
+        step(&mut told, &mut clusters, word)?;
     }
     tell_zones(&mut told, &clusters);
     tell_firsts(&mut told, &clusters);
@@ -243,6 +282,9 @@ w1:0-1 r2:2-3 w2:4-5 !4 => -<- 0<1 . unwritten 2 fails
 r1:0-1 r2:2-3 w2:4-5 w1:6-7 => -<- 1>6 3>4 early 0 6 cross 0 4 2 6 fails
 r1:0-1 r2:2-3 w2:4-5 w1:6-7 !0 => -<- 6<7 3>4 early 2 4 fails
 r1:0-1 r2:2-3 w2:4-5 w1:6-7 !0 !2 => -<- 6<7 4<5 holds 4 6
+w1:0-1 w1:2-3/0 => -<- 2<3 . holds 2
+w1:0-1 w1:2-3/1 r1:4-5 => -<- 1>4 . holds 0 4
+w1:0-1 r1:6-7 w2:2-9 r2:4-5/6 => -<- 0<1 4<5 holds 0 2 4
 w1:0-1 w1:2-3 wnil:4-5 !0 w1:6-7 => X8 ValueTaken X8 ValueTaken -<- 6<7 . holds 6
 w1:0-5 w2:5-6 !9 r1:7-7 => X4 MomentTaken X1 UnknownOp X3 EndNotAfterBegin -<- 0<5 . holds 0";
 

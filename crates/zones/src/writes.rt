@@ -5,18 +5,24 @@ ghost use Rattle.intervals.specs.declared.operation.Op.{Op};
 ghost use Rattle.intervals.specs.declared.refusal.Refusal.{Refusal};
 ghost use Rattle.intervals.specs.Refusal.{write_refusal, value_refusal, ok_unless, is_holder};
 ghost use Rattle.intervals.specs.Terms.{Terms, terms_of};
+ghost use Rattle.intervals.specs.Standing.{HasDistinctIds};
 ghost use Rattle.zones.specs.Index.{AreMembers};
 ghost use Rattle.zones.specs.Refused.{refusal_beside};
 ghost use Rattle.zones.specs.Zoned.{StandApart};
 
 use crate::index::Members;
-use intervals::{Claim, Holder, Op, Refusal, Value, is_same_value};
+use intervals::{Claim, Holder, Op, OpTable, Refusal, Value, is_same_value};
 
-pub fn check_write(claim: &Claim, members: &Members, op: &Op) -> Result<(), Refusal>
-    ensures { (ops : List Op) → AreMembers ops members.now → StandApart (terms_of claim.now) ops
-        → result ≡ ok_unless (write_refusal (terms_of claim.now) ops op.now) }
+pub fn check_write(
+    claim: &Claim,
+    members: &Members,
+    table: &OpTable,
+    op: &Op,
+) -> Result<(), Refusal>
+    ensures { AreMembers table.now.ops members.now → HasDistinctIds table.now.ops → StandApart (terms_of claim.now) table.now.ops
+        → result ≡ ok_unless (write_refusal (terms_of claim.now) table.now.ops op.now) }
 {
-    check_beside(claim, op, holder_of(claim.initial, members, op))
+    check_beside(claim, op, holder_of(claim.initial, members, table, op))
 }
 
 fn check_beside(claim: &Claim, op: &Op, holder: Option<Holder>) -> Result<(), Refusal>
@@ -38,22 +44,22 @@ fn check_beside(claim: &Claim, op: &Op, holder: Option<Holder>) -> Result<(), Re
 }
 
 /// Who has the value of the operation already.
-fn holder_of(initial: Value, members: &Members, op: &Op) -> Option<Holder>
-    ensures { (claim : Terms) (ops : List Op) → AreMembers ops members.now → StandApart claim ops → claim.initial ≡ initial
-        → value_refusal claim ops op.now ≡ option_map Refusal.ValueTaken result }
+fn holder_of(initial: Value, members: &Members, table: &OpTable, op: &Op) -> Option<Holder>
+    ensures { (claim : Terms) → AreMembers table.now.ops members.now → HasDistinctIds table.now.ops → StandApart claim table.now.ops → claim.initial ≡ initial
+        → value_refusal claim table.now.ops op.now ≡ option_map Refusal.ValueTaken result }
 {
     if is_same_value(initial, op.value()) {
         return Some(Holder::Initial);
     }
-    let write = other_write(members, op)?;
+    let write = other_write(members, table, op)?;
     Some(Holder::Op(write.id))
 }
 
 /// The write of its value, where that is another operation.
-fn other_write<'t>(members: &Members<'t>, op: &Op) -> Option<Op<'t>>
-    ensures { (claim : Terms) (ops : List Op) → AreMembers ops members.now → StandApart claim ops → result ≡ find (is_holder op.now) ops }
+fn other_write<'t>(members: &Members, table: &OpTable<'t>, op: &Op) -> Option<Op<'t>>
+    ensures { (claim : Terms) → AreMembers table.now.ops members.now → HasDistinctIds table.now.ops → StandApart claim table.now.ops → result ≡ find (is_holder op.now) table.now.ops }
 {
-    let write = members.write_of(op.value())?;
+    let write = members.write_of(table, op.value())?;
     if write.has_id(op.id) {
         None
     } else {

@@ -1,7 +1,7 @@
-//! The fault of an atomic register by the words of its definition, over the plain list.
+//! The fault of a register by the words of its kind's definition, over the plain list.
 
 use crate::Fault;
-use intervals::{Holder, Memory, Op, OpId, Value, precedes};
+use intervals::{Claim, Holder, Kind, Memory, Op, OpId, Value, overlaps, precedes};
 use std::alloc::Global;
 
 /// The operations of one value: which of them ended first and which began last. An edge is a number,
@@ -26,6 +26,41 @@ impl Cluster {
     fn conflicts(&self, other: &Cluster) -> bool {
         self.least < other.greatest && other.least < self.greatest
     }
+}
+
+/// Of the reads that break Lamport's sentence, safe or regular, the one that ended first.
+pub fn wrong_read_of(claim: &Claim, ops: &[Op]) -> Option<Fault> {
+    let mut found: Option<&Op> = None;
+    for op in ops {
+        let is_first = found.is_none_or(|first| end_edge(op) < end_edge(first));
+        if !op.is_write() && op.end.is_some() && is_first && !is_right(claim, ops, op) {
+            found = Some(op);
+        }
+    }
+    Some(Fault::Wrong(found?.id))
+}
+
+fn is_right(claim: &Claim, ops: &[Op], read: &Op) -> bool {
+    let mut last = claim.initial;
+    let mut begin = 0;
+    let mut is_within = false;
+    let mut is_overlapped = false;
+    for op in ops {
+        if !op.is_write() {
+            continue;
+        }
+        if overlaps(op, read) {
+            is_within = true;
+            is_overlapped = is_overlapped || op.value() == read.value();
+        } else if precedes(op, read) && begin_edge(op) > begin {
+            begin = begin_edge(op);
+            last = op.value();
+        }
+    }
+    if claim.kind == Kind::Safe && is_within {
+        return claim.has_in_domain(read.value()) || read.value() == claim.initial;
+    }
+    is_overlapped || read.value() == last
 }
 
 pub fn fault_of(alloc: Global, initial: Value, ops: &[Op]) -> Result<Option<Fault>, Memory> {

@@ -1,5 +1,6 @@
+use Rattle.register_book.specs.Kept.{claimed_of}
 use Rattle.report.proofs.Orders.{order_is}
 use Rattle.report.proofs.order.order_in.Goals as goal
 
 pub returns : goal.returns
-returns c = order_is c.args.book.now c.order.result c.order.ensures.order c.order.ensures.none
+returns c = order_is (claimed_of c.args.book.now) c.order.result c.order.ensures.order c.order.ensures.none

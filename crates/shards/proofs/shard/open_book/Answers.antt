@@ -1,13 +1,23 @@
-use Rattle.std.proofs.Common.{◌++◌, Option, sym, ap, ◌∙◌}
-use Rattle.std.specs.Prelude.{option_map, option_to_list}
-use Rattle.std.proofs.lemmas.List.{append-nil}
+use Rattle.std.proofs.Common.{List, [], ◌∷◌, ◌++◌, Option, sym, ap, ◌∙◌}
+use Rattle.register_book.specs.Kept.{Kept, claimed_of}
+use Rattle.std.specs.Prelude.{map, option_map, option_to_list}
+use Rattle.std.proofs.lemmas.List.{append-nil, map-append}
 use Rattle.std.proofs.lemmas.Option.{slice_get-map}
-use Rattle.intervals.specs.Terms.{Terms}
+use Rattle.intervals.specs.Terms.{Terms, Claimed}
 use Rattle.shards.specs.Shard.{unedited}
 use Rattle.shards.proofs.shard.open_book.Goals as goal
 
 pub returns-in_default-clause-books : goal.returns-in_default-clause-books
 returns-in_default-clause-books c =
-    sym (ap (λ (claim : Option Terms). c.args.books.now.items ++ option_to_list (option_map unedited claim))
+    sym (ap (λ (claim : Option Terms). map claimed_of c.args.books.now.items ++ option_to_list (option_map unedited claim))
     (slice_get-map (λ register. register.claim) c.args.tower.now.registers c.args.id.0 ∙ sym c.in_default.ensures)
-    ∙ append-nil c.args.books.now.items)
+    ∙ append-nil (map claimed_of c.args.books.now.items))
+
+pub returns-in_ok-push-clause-books : goal.returns-in_ok-push-clause-books
+returns-in_ok-push-clause-books c =
+    ap (map claimed_of) c.in_ok-push.ensures.items
+    ∙ map-append claimed_of c.args.books.now.items (c.in_ok-new.field-0 ∷ [])
+    ∙ ap (λ (more : List Claimed). map claimed_of c.args.books.now.items ++ more)
+    (ap (λ (held : Kept). claimed_of held ∷ []) c.in_ok-new.ensures
+    ∙ sym (ap (λ (claim : Option Terms). option_to_list (option_map unedited claim))
+    (slice_get-map (λ register. register.claim) c.args.tower.now.registers c.args.id.0 ∙ sym c.in-Some.ensures)))

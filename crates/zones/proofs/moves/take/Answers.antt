@@ -2,7 +2,7 @@ use Rattle.std.proofs.Common.{◌≡◌, ◌+◌, refl, sym, subst, arith}
 use Rattle.std.specs.Prelude.{Contains, IsSome, Option}
 use Rattle.zone_tree.specs.declared.zone.Zone.{Zone}
 use Rattle.zones.specs.Zoned.{Stands}
-use Rattle.zones.proofs.Moved.{found_standing}
+use Rattle.zones.proofs.PerValue.{found_standing}
 use Rattle.zones.proofs.moves.take.Goals as goal
 
 pub returns-in-Some-clause-freed : goal.returns-in-Some-clause-freed

@@ -7,12 +7,14 @@ use Rattle.zones.proofs.WriteHolder.{refused_by}
 use Rattle.zones.proofs.writes.holder_of.Goals as goal
 
 pub returns-in_err-write : goal.returns-in_err-write
-returns-in_err-write c claim ops h apart same =
+returns-in_err-write c claim is distinct apart same =
+    let ops = c.args.table.now.ops in
     let other : same_value c.args.initial (value_of c.args.op.now.act) ≡ false = search rules in
-    refused_by claim ops c.args.op.now c.args.initial None same other (c.in_err-write.ensures claim ops h apart)
+    refused_by claim ops c.args.op.now c.args.initial None same other (c.in_err-write.ensures claim is distinct apart)
     ∙ ap (λ (o : Option Holder). option_map ValueTaken o) (sym c.from_residual.ensures)
 
 pub returns : goal.returns
-returns c claim ops h apart same =
+returns c claim is distinct apart same =
+    let ops = c.args.table.now.ops in
     let other : same_value c.args.initial (value_of c.args.op.now.act) ≡ false = search rules in
-    refused_by claim ops c.args.op.now c.args.initial (Some c.in_ok-write.write) same other (c.in_ok-write.ensures claim ops h apart)
+    refused_by claim ops c.args.op.now c.args.initial (Some c.in_ok-write.write) same other (c.in_ok-write.ensures claim is distinct apart)

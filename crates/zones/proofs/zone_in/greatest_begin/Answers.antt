@@ -1,5 +1,9 @@
-use Rattle.zones.proofs.Extremes.{last_has_greatest}
+use Rattle.std.proofs.Common.{◌∙◌}
+use Rattle.zones.proofs.Ends.{greatest_is}
 use Rattle.zones.proofs.zone_in.greatest_begin.Goals as goal
 
-pub returns-in-Some : goal.returns-in-Some
-returns-in-Some c initial ops h = last_has_greatest initial ops c.args.value c.in-Some.op (c.in-Some.ensures ops h)
+pub returns : goal.returns
+returns c initial is distinct =
+    let ops = c.args.table.now.ops in
+    c.later_of.ensures
+    ∙ greatest_is ops c.args.value initial c.write_begin.result c.read_begin.result (c.write_begin.ensures is distinct) (c.read_begin.ensures ops is)

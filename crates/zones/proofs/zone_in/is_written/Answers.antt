@@ -6,8 +6,9 @@ use Rattle.zones.proofs.Extremes.{written_found}
 use Rattle.zones.proofs.zone_in.is_written.Goals as goal
 
 pub returns-else-is_same_value : goal.returns-else-is_same_value
-returns-else-is_same_value c ops h =
+returns-else-is_same_value c is distinct =
+    let ops = c.args.table.now.ops in
     let other : same_value c.args.initial c.args.value ≡ false = search rules in
     let found : is_some c.write_of.result ≡ c.is_some.result = search rules in
     subst (λ (t : Bool). IsTrue t ↔ Contains (written_values c.args.initial ops) c.args.value) found
-    (written_found c.args.initial ops c.args.value c.write_of.result other (c.write_of.ensures ops h))
+    (written_found c.args.initial ops c.args.value c.write_of.result other (c.write_of.ensures is distinct))

@@ -1,10 +1,45 @@
-use Rattle.std.proofs.Common.{◌≡◌, ◌↔◌, subst, List, rules}
-use Rattle.std.specs.Prelude.{IsNone}
+use Rattle.std.proofs.Common.{◌≡◌, ◌∙◌, List, Option, Some, None, refl, sym, ap, subst}
 use Rattle.zone_tree.specs.declared.zone.Zone.{Zone}
-use Rattle.zone_tree.specs.Conflict.{IsClean}
+use Rattle.zone_tree.specs.declared.summary.Summary.{Summary}
+use Rattle.zone_tree.specs.Conflict.{IsClean, IsFirstConflict}
+use Rattle.zone_tree.specs.Order.{Contents}
+use Rattle.zone_tree.specs.Summary.{no_zones}
+use Rattle.zone_tree.specs.Look.{IsMetFirst}
+use Rattle.zone_tree.proofs.Summaries.{none_clear}
+use Rattle.zone_tree.proofs.Farthest.{first_is_conflict}
+use Rattle.zone_tree.proofs.FirstConflicts.{first_from, clean_met}
 use Rattle.zone_tree.proofs.tree.ZoneTree.first_conflict.Goals as goal
+
+pub first_meeting-requires : goal.first_meeting-requires
+first_meeting-requires c = ap (λ (s : Summary). s.conflict) c.none.ensures ∙ none_clear
+
+-- what is found first, behind no zones
+met : (seen : Summary) (zones : List Zone) (result found : Option Zone) → seen ≡ no_zones → result ≡ found → IsMetFirst seen zones result → IsMetFirst no_zones zones found
+met seen zones result found e f is = subst (λ (s : Summary). IsMetFirst s zones found) e (subst (IsMetFirst seen zones) f is)
+
+pub returns-in_default-clause-none : goal.returns-in_default-clause-none
+returns-in_default-clause-none c =
+    let zones = c.self.inside.tree.zones in
+    let here = ap (λ (t : Contents). t.zones) c.self.view_is in
+    let clean = clean_met zones c.self.invariant.order (met c.none.result zones c.first_meeting.result None c.none.ensures c.in_default.is c.first_meeting.ensures) in
+    ((λ _. subst IsClean here clean), (λ _. refl))
+
+pub unreachable-requires : goal.unreachable-requires
+unreachable-requires c =
+    let zones = c.self.inside.tree.zones in
+    let first = met c.none.result zones c.first_meeting.result (Some c.in-Some.second) c.none.ensures c.in-Some.is c.first_meeting.ensures in
+    first_from zones c.in-Some.second c.self.invariant.order first None (sym c.in_default-last_forward_before.is ∙ c.last_forward_before.ensures)
+
+pub returns-clause-first : goal.returns-clause-first
+returns-clause-first c =
+    let zones = c.self.inside.tree.zones in
+    let here = ap (λ (t : Contents). t.zones) c.self.view_is in
+    let first = met c.none.result zones c.first_meeting.result (Some c.in-Some.second) c.none.ensures c.in-Some.is c.first_meeting.ensures in
+    let earlier = c.in-Some-last_forward_before.first in
+    subst (λ (zs : List Zone). IsFirstConflict zs earlier c.in-Some.second) here
+    (first_from zones c.in-Some.second c.self.invariant.order first (Some earlier) (sym c.in-Some-last_forward_before.is ∙ c.last_forward_before.ensures))
 
 pub returns-clause-none : goal.returns-clause-none
 returns-clause-none c =
-    let same : c.as_slice.result.now ≡ c.args.self.now.zones = search rules in
-    subst (λ (zones : List Zone). IsNone c.first_conflict.result ↔ IsClean zones) same c.first_conflict.ensures.none
+    let first = returns-clause-first c in
+    ((λ e. absurd (cc)), (λ clean. absurd (first_is_conflict c.args.self.now.zones c.in-Some-last_forward_before.first c.in-Some.second first clean)))

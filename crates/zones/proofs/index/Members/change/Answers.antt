@@ -1,24 +1,24 @@
-use Rattle.std.proofs.Common.{◌∙◌}
-use Rattle.std.proofs.lemmas.Result.{err_from_is_err_and}
-use Rattle.intervals.specs.Operation.{judged}
-use Rattle.zones.specs.declared.spot.Index.TheVariants.{Writes, Ends, Begins}
-use Rattle.zones.proofs.Indexes.{same_index, index_after}
+use Rattle.zones.specs.declared.index.Row.TheVariants.{Writes, Ends, Begins}
+use Rattle.zones.proofs.Rows.{place_of, changed_rows, changed_places, of_rows}
+use Rattle.zones.specs.Index.{IsInTime, spot_in}
 use Rattle.zones.proofs.index.Members.change.Goals as goal
 
-pub returns-in_err-make_places-clause-err : goal.returns-in_err-make_places-clause-err
-returns-in_err-make_places-clause-err c =
-    let failed = err_from_is_err_and c.from_residual.result c.from_residual.ensures.1 in
-    let same = c.in_err-make_places.ensures.err in
-    rw failed.1 (λ ops members. record {
-      writes = same_index Writes (judged ops) c.args.self.now.writes c.make_places.new.self.writes same.0 members.writes;
-      ends = same_index Ends (judged ops) c.args.self.now.ends c.make_places.new.self.ends same.1 members.ends;
-      begins = same_index Begins (judged ops) c.args.self.now.begins c.make_places.new.self.begins same.2 members.begins;
-    })
+pub change_row-requires-clause-place : goal.change_row-requires-clause-place
+change_row-requires-clause-place c = place_of Writes c.args.prepared c.args.self.now c.requires.places
 
-pub returns-clause-ok : goal.returns-clause-ok
-returns-clause-ok c =
-    λ before after members change. record {
-      writes = index_after Writes before after c.args.old c.args.new change c.args.self.now.writes c.replace.new.map members.writes (λ key. c.replace.ensures key ∙ c.in_ok-make_places.ensures.writes.others c.args.old key);
-      ends = index_after Ends before after c.args.old c.args.new change c.args.self.now.ends c.replace-2.new.map members.ends (λ key. c.replace-2.ensures key ∙ c.in_ok-make_places.ensures.ends.others c.args.old key);
-      begins = index_after Begins before after c.args.old c.args.new change c.args.self.now.begins c.replace-3.new.map members.begins (λ key. c.replace-3.ensures key ∙ c.in_ok-make_places.ensures.begins.others c.args.old key);
-    }
+pub change_row-requires-2-clause-place : goal.change_row-requires-2-clause-place
+change_row-requires-2-clause-place c = place_of Ends c.args.prepared c.args.self.now c.requires.places
+
+pub change_row-requires-3-clause-place : goal.change_row-requires-3-clause-place
+change_row-requires-3-clause-place c = place_of Begins c.args.prepared c.args.self.now c.requires.places
+
+pub returns-clause-members : goal.returns-clause-members
+returns-clause-members c before after =
+    changed_rows c.args.old c.args.new c.args.self.now c.change_row.new.shelf c.change_row-2.new.shelf c.change_row-3.new.shelf
+    c.args.prepared c.change_row.ensures.places c.change_row-2.ensures.places c.change_row-3.ensures.places
+    (of_rows (λ row. IsInTime (spot_in row c.args.new)) c.change_row.ensures.in_time c.change_row-2.ensures.in_time c.change_row-3.ensures.in_time) before after
+
+pub returns-clause-places : goal.returns-clause-places
+returns-clause-places c =
+    changed_places c.args.old c.args.new c.args.self.now c.change_row.new.shelf c.change_row-2.new.shelf c.change_row-3.new.shelf
+    c.args.prepared c.change_row.ensures.places c.change_row-2.ensures.places c.change_row-3.ensures.places c.requires.places

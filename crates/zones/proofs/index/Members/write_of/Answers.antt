@@ -1,11 +1,19 @@
-use Rattle.std.proofs.Common.{ap, ◌∙◌}
-use Rattle.std.specs.BTreeMap.{get}
-use Rattle.zones.specs.Index.{spot_cmp}
-use Rattle.zones.proofs.Lookups.{write_found}
+use Rattle.std.proofs.Common.{◌∙◌, Option, sym, subst}
+use Rattle.std.specs.Prelude.{MatchOption}
+use Rattle.intervals.specs.declared.operation.Op.{Op}
+use Rattle.zones.specs.Members.{HasNoWrite, IsTheWriteAt}
+use Rattle.zones.specs.declared.index.Row.TheVariants.{Writes}
+use Rattle.zones.proofs.Lookups.{no_write, write_found}
 use Rattle.zones.proofs.index.Members.write_of.Goals as goal
 
+pub returns-in_err-id : goal.returns-in_err-id
+returns-in_err-id c is distinct =
+    let ops = c.args.table.now.ops in
+    subst (λ (o : Option Op). MatchOption o (HasNoWrite ops c.args.value) (IsTheWriteAt ops c.args.value)) (sym c.from_residual.ensures)
+    (no_write ops c.args.value c.args.self.now.writes (is Writes) (sym c.in_err-id.ensures))
+
 pub returns : goal.returns
-returns c =
-    λ ops members.
-    write_found ops c.args.value c.args.self.now.writes members.writes c.copied.result
-    (c.copied.ensures ∙ (c.get.ensures.value ∙ ap (get spot_cmp c.args.self.now.writes) c.spot_at.ensures))
+returns c is distinct =
+    let ops = c.args.table.now.ops in
+    subst (λ (o : Option Op). MatchOption o (HasNoWrite ops c.args.value) (IsTheWriteAt ops c.args.value)) (sym (c.copied.ensures ∙ c.get-2.ensures))
+    (write_found ops c.args.value c.args.self.now.writes (is Writes) distinct c.in_ok-id.id (sym c.in_ok-id.ensures))

@@ -1,11 +1,11 @@
 use Rattle.std.proofs.Common.{Option, sym, subst}
 use Rattle.std.specs.Prelude.{IsSomeAnd}
-use Rattle.intervals.specs.Terms.{Claimed}
 use Rattle.zone_tree.specs.declared.zone.Zone.{Zone}
 use Rattle.zone_tree.specs.Conflict.{IsClean}
 use Rattle.zones.specs.declared.crossing.Crossing.{Crossing}
 use Rattle.zones.specs.Cluster.{zones_of}
 use Rattle.zones.specs.Crossing.{HasFirstConflict, IsFirstCrossing}
+use Rattle.zones.specs.Together.{Clustered}
 use Rattle.zones.proofs.Extremes.{first_crossing}
 use Rattle.zones.proofs.Verdict.{NoneWhere, if_some_and, none_alike}
 use Rattle.zones.proofs.register.Clusters.crossing.Goals as goal
@@ -17,10 +17,10 @@ returns-in_err-first-clause-none c =
 found : (c : goal.After-extremes) → IsSomeAnd c.extremes.result (λ x. IsFirstCrossing c.args.self.now.claim.initial c.args.self.now.ops x.a x.b x.c x.d)
 found c =
     let initial = c.self.inside.claim.initial in
-    let ops = c.self.inside.ops in
-    let h = subst (λ (x : Claimed). HasFirstConflict x.claim.initial x.ops c.in_ok-first.first c.in_ok-first.second) (sym c.self.view_is) c.in_ok-first.ensures.first in
-    subst (λ (x : Claimed). IsSomeAnd c.extremes.result (λ y. IsFirstCrossing x.claim.initial x.ops y.a y.b y.c y.d)) c.self.view_is
-    (first_crossing initial ops c.in_ok-first.first c.in_ok-first.second c.extremes.result h (c.extremes.ensures ops c.self.invariant.members_of))
+    let ops = c.self.inside.table.ops in
+    let h = subst (λ (x : Clustered). HasFirstConflict x.claim.initial x.ops c.in_ok-first.first c.in_ok-first.second) (sym c.self.view_is) c.in_ok-first.ensures.first in
+    subst (λ (x : Clustered). IsSomeAnd c.extremes.result (λ y. IsFirstCrossing x.claim.initial x.ops y.a y.b y.c y.d)) c.self.view_is
+    (first_crossing initial ops c.in_ok-first.first c.in_ok-first.second c.extremes.result h (c.extremes.ensures c.self.invariant.members_of c.self.invariant.apart.ids))
 
 pub returns-clause-first : goal.returns-clause-first
 returns-clause-first c = if_some_and (λ x. IsFirstCrossing c.args.self.now.claim.initial c.args.self.now.ops x.a x.b x.c x.d) c.extremes.result (found c)

@@ -1,8 +1,8 @@
 use Rattle.std.proofs.Common.{subst}
 use Rattle.intervals.specs.Standing.{HasDistinctMoments, HasEndsAfterBeginnings}
-use Rattle.intervals.specs.Terms.{Claimed}
+use Rattle.zones.specs.Together.{Clustered}
 use Rattle.zones.proofs.register.Clusters.operations.Goals as goal
 
 pub returns-clause-apart : goal.returns-clause-apart
 returns-clause-apart c =
-    subst (λ (x : Claimed). HasDistinctMoments x.ops × HasEndsAfterBeginnings x.ops) c.self.view_is (c.self.invariant.apart.moments, c.self.invariant.apart.ends)
+    subst (λ (x : Clustered). HasDistinctMoments x.ops × HasEndsAfterBeginnings x.ops) c.self.view_is (c.self.invariant.apart.moments, c.self.invariant.apart.ends)

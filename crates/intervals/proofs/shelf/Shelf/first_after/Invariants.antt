@@ -1,0 +1,14 @@
+-- between the first moment and the one that is reached stands no id
+use Rattle.std.proofs.Common.{◌≡◌, ◌<◌, ◌≤◌, ◌-◌, ◌^◌, None}
+use Rattle.intervals.specs.declared.operation.Moment.{Moment}
+use Rattle.intervals.specs.Shelf.{id_at, spot_of}
+use Rattle.intervals.proofs.shelf.Shelf.first_after.Given as goal
+
+abbrev pub invariant-loop-moment : goal.invariant-loop-moment
+invariant-loop-moment l = record {
+  reached : l.fn.from.0 ≤ l.after.0;
+  none : (m : Moment) → l.fn.from.0 < m.0 → m.0 ≤ l.after.0 → id_at l.self (spot_of l.value m) ≡ None;
+}
+
+abbrev pub decreases-loop-moment : goal.decreases-loop-moment
+decreases-loop-moment l = 2 ^ 64 - l.after.0

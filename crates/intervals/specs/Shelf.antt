@@ -1,0 +1,36 @@
+-- Ids on a shelf, each at a spot: a value and a moment. A place may be held where no id stands.
+use Rattle.std.specs.Prelude.{Bool, ◌==◌, ◌&&◌, Option, Some, None}
+use Rattle.std.specs.declared.cmp.Ordering.{Ordering}
+use Rattle.std.specs.BTreeMap.{get}
+use Rattle.intervals.specs.declared.operation.OpId.{OpId}
+use Rattle.intervals.specs.declared.operation.Moment.{Moment}
+use Rattle.intervals.specs.declared.operation.Value.{Value}
+use Rattle.intervals.specs.declared.shelf.Spot.{Spot}
+use Rattle.intervals.specs.declared.shelf.Shelf.{Shelf}
+use Rattle.intervals.specs.contracts.shelf.SpotOrd.TheImpl as spot_ord
+use Rattle.intervals.specs.Operation.{same_value}
+
+-- the order of the spots: by the value, then by the moment
+abbrev pub spot_cmp : Spot → Spot → Ordering
+spot_cmp = (spot_ord.ghosts).cmp
+
+-- what is at the spot: no place, a place that is held, or an id
+abbrev pub place_at : Shelf → Spot → Option (Option OpId)
+place_at shelf spot = get spot_cmp shelf.places spot
+
+-- the id, where there is a place that has one
+abbrev pub joined : Option (Option OpId) → Option OpId
+joined None = None
+joined (Some id) = id
+
+-- the id at the spot
+abbrev pub id_at : Shelf → Spot → Option OpId
+id_at shelf spot = joined (place_at shelf spot)
+
+-- the spot of a value and a moment
+abbrev pub spot_of : Value → Moment → Spot
+spot_of value moment = record { value = value; moment = moment }
+
+-- two spots are one
+abbrev pub same_spot : Spot → Spot → Bool
+same_spot a b = same_value a.value b.value && (a.moment.0 == b.moment.0)

@@ -1,0 +1,199 @@
+//! Ids by value and moment, with places held ahead.
+
+ghost use Rattle.std.specs.Prelude.{◌≡◌, ◌<◌, ◌≤◌, true, false, None, Some, MatchOption, IfOk, OnOk, OnErr, is_some, not, if◌then◌else◌};
+ghost use Rattle.intervals.specs.declared.operation.Moment.{Moment as AMoment};
+ghost use Rattle.intervals.specs.Operation.{same_value};
+ghost use Rattle.intervals.specs.Shelf.{place_at, id_at, same_spot, spot_of};
+
+use crate::{Memory, Moment, OpId, Value, is_same_value};
+use std::alloc::Global;
+use std::collections::BTreeMap;
+use std::ops::Bound;
+
+/// A value and a moment. Spots are in the order of their values, and at one value of their moments.
+#[derive(Clone, Copy, Debug, PartialEq, Eq, PartialOrd, Ord)]
+pub struct Spot {
+    pub value: Value,
+    pub moment: Moment,
+}
+
+/// Ids, each at a spot. A place can be held where no id stands yet, so that to put one there later
+/// takes no memory.
+#[derive(Drop)]
+pub struct Shelf {
+    places: BTreeMap<Spot, Option<OpId>>,
+}
+
+impl Shelf {
+    ghost use Rattle.intervals.specs.declared.shelf.Spot.{Spot as ASpot};
+
+    pub fn new(alloc: Global) -> Self
+        ensures { (spot : ASpot) → place_at result spot ≡ None }
+    {
+        Shelf {
+            places: BTreeMap::new(alloc),
+        }
+    }
+
+    /// The id at the spot.
+    pub fn get(&self, spot: Spot) -> Option<OpId>
+        ensures { result ≡ id_at self.now spot }
+    {
+        let found = self.places.get(&spot)?;
+        *found
+    }
+
+    /// Holds the place at the spot, and says whether it was made: it may have been there.
+    pub fn hold(&mut self, spot: Spot) -> Result<bool, Memory>
+        ensures there { OnOk result (is_some (place_at self.new spot) ≡ true) }
+        ensures made { IfOk result (λ made. made ≡ not (is_some (place_at self.old spot))) }
+        ensures ids { (other : ASpot) → id_at self.new other ≡ id_at self.old other }
+        ensures others { (other : ASpot) → is_some (place_at self.old other) ≡ true → place_at self.new other ≡ place_at self.old other }
+        ensures new { OnOk result ((other : ASpot) → same_spot spot other ≡ false → place_at self.new other ≡ place_at self.old other) }
+        ensures err { OnErr result ((other : ASpot) → place_at self.new other ≡ place_at self.old other) }
+    {
+        if self.places.contains_key(&spot) {
+            return Ok(false);
+        }
+        self.places.insert(spot, None)?;
+        Ok(true)
+    }
+
+    /// Lets the place at the spot go where no id stands there.
+    pub fn release(&mut self, spot: Spot)
+        ensures gone { id_at self.old spot ≡ None → place_at self.new spot ≡ None }
+        ensures ids { (other : ASpot) → id_at self.new other ≡ id_at self.old other }
+        ensures others { (other : ASpot) → same_spot spot other ≡ false → place_at self.new other ≡ place_at self.old other }
+    {
+        if self.get(spot).is_none() {
+            self.places.remove(&spot);
+        }
+    }
+
+    /// Puts an id at a place that is held.
+    pub fn put(&mut self, spot: Spot, id: OpId)
+        requires { is_some (place_at self.old spot) ≡ true }
+        ensures { (other : ASpot) → place_at self.new other ≡ (if same_spot spot other then Some (Some id) else place_at self.old other) }
+    {
+        let Ok(_) = self.places.insert(spot, Some(id)) else {
+            unreachable!()
+        };
+    }
+
+    /// Takes the id at the spot out and keeps the place.
+    pub fn vacate(&mut self, spot: Spot)
+        requires { is_some (place_at self.old spot) ≡ true }
+        ensures { (other : ASpot) → place_at self.new other ≡ (if same_spot spot other then Some None else place_at self.old other) }
+    {
+        let Ok(_) = self.places.insert(spot, None) else {
+            unreachable!()
+        };
+    }
+
+    /// Takes the id at the spot out, and lets the place go.
+    pub fn take(&mut self, spot: Spot)
+        ensures { (other : ASpot) → place_at self.new other ≡ (if same_spot spot other then None else place_at self.old other) }
+    {
+        self.places.remove(&spot);
+    }
+
+    /// Of the ids of the value the one at the least moment from that one on.
+    pub fn first_from(&self, value: Value, from: Moment) -> Option<(Moment, OpId)>
+        ensures { MatchOption result
+            ((m : AMoment) → from.0 ≤ m.0 → id_at self.now (spot_of value m) ≡ None)
+            (λ found. (from.0 ≤ found.0.0) × (id_at self.now (spot_of value found.0) ≡ Some found.1)
+            × ((m : AMoment) → from.0 ≤ m.0 → m.0 < found.0.0 → id_at self.now (spot_of value m) ≡ None)) }
+    {
+        match self.get(spot_at(value, from)) {
+            Some(id) => Some((from, id)),
+            None => self.first_after(value, from),
+        }
+    }
+
+    /// Of the ids of the value the one at the greatest moment up to that one.
+    pub fn last_up_to(&self, value: Value, up_to: Moment) -> Option<(Moment, OpId)>
+        ensures { MatchOption result
+            ((m : AMoment) → m.0 ≤ up_to.0 → id_at self.now (spot_of value m) ≡ None)
+            (λ found. (found.0.0 ≤ up_to.0) × (id_at self.now (spot_of value found.0) ≡ Some found.1)
+            × ((m : AMoment) → found.0.0 < m.0 → m.0 ≤ up_to.0 → id_at self.now (spot_of value m) ≡ None)) }
+    {
+        match self.get(spot_at(value, up_to)) {
+            Some(id) => Some((up_to, id)),
+            None => self.last_before(value, up_to),
+        }
+    }
+
+    /// Of the ids of the value the one at the greatest moment before that one.
+    pub fn last_before(&self, value: Value, limit: Moment) -> Option<(Moment, OpId)>
+        ensures { MatchOption result
+            ((m : AMoment) → m.0 < limit.0 → id_at self.now (spot_of value m) ≡ None)
+            (λ found. (found.0.0 < limit.0) × (id_at self.now (spot_of value found.0) ≡ Some found.1)
+            × ((m : AMoment) → found.0.0 < m.0 → m.0 < limit.0 → id_at self.now (spot_of value m) ≡ None)) }
+    {
+        let mut before = limit;
+        while let Some((moment, id)) = self.place_before(value, before) {
+            if let Some(id) = id {
+                return Some((moment, id));
+            }
+            before = moment;
+        }
+        None
+    }
+
+    /// Of the ids of the value the one at the least moment after that one.
+    pub fn first_after(&self, value: Value, from: Moment) -> Option<(Moment, OpId)>
+        ensures { MatchOption result
+            ((m : AMoment) → from.0 < m.0 → id_at self.now (spot_of value m) ≡ None)
+            (λ found. (from.0 < found.0.0) × (id_at self.now (spot_of value found.0) ≡ Some found.1)
+            × ((m : AMoment) → from.0 < m.0 → m.0 < found.0.0 → id_at self.now (spot_of value m) ≡ None)) }
+    {
+        let mut after = from;
+        while let Some((moment, id)) = self.place_after(value, after) {
+            if let Some(id) = id {
+                return Some((moment, id));
+            }
+            after = moment;
+        }
+        None
+    }
+
+    /// Of the places of the value the nearest before the moment, and its id.
+    fn place_before(&self, value: Value, limit: Moment) -> Option<(Moment, Option<OpId>)>
+        ensures { MatchOption result
+            ((m : AMoment) → m.0 < limit.0 → place_at self.now (spot_of value m) ≡ None)
+            (λ found. (found.0.0 < limit.0) × (place_at self.now (spot_of value found.0) ≡ Some found.1)
+            × ((m : AMoment) → found.0.0 < m.0 → m.0 < limit.0 → place_at self.now (spot_of value m) ≡ None)) }
+    {
+        let (spot, id) = self.places.range(..spot_at(value, limit)).next_back()?;
+        of_value(*spot, *id, value)
+    }
+
+    /// Of the places of the value the nearest after the moment, and its id.
+    fn place_after(&self, value: Value, from: Moment) -> Option<(Moment, Option<OpId>)>
+        ensures { MatchOption result
+            ((m : AMoment) → from.0 < m.0 → place_at self.now (spot_of value m) ≡ None)
+            (λ found. (from.0 < found.0.0) × (place_at self.now (spot_of value found.0) ≡ Some found.1)
+            × ((m : AMoment) → from.0 < m.0 → m.0 < found.0.0 → place_at self.now (spot_of value m) ≡ None)) }
+    {
+        let past = (Bound::Excluded(spot_at(value, from)), Bound::Unbounded);
+        let (spot, id) = self.places.range(past).next()?;
+        of_value(*spot, *id, value)
+    }
+}
+
+fn spot_at(value: Value, moment: Moment) -> Spot
+    ensures { result ≡ spot_of value moment }
+{
+    Spot { value, moment }
+}
+
+/// The moment of the spot and the id, where the spot is of the value.
+fn of_value(spot: Spot, id: Option<OpId>, value: Value) -> Option<(Moment, Option<OpId>)>
+    ensures { result ≡ (if same_value spot.value value then Some (spot.moment, id) else None) }
+{
+    if is_same_value(spot.value, value) {
+        Some((spot.moment, id))
+    } else {
+        None
+    }
+}

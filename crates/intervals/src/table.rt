@@ -1,0 +1,265 @@
+//! The operations that stand, by their ids and by their moments, and room for one more.
+
+ghost use Rattle.std.specs.Prelude.{◌≡◌, ◌↔◌, ◌<◌, ◌≤◌, ℕ, [], List, length, None, Some, OnOk, OnErr, IfSome, IsTrue, option_copied, option_map, vec_len, vec_capacity};
+ghost use Rattle.std.specs.HashMap.{get as place_of};
+ghost use Rattle.intervals.specs.Edit.{op_of, edited, new_op as new_one};
+ghost use Rattle.intervals.specs.Moments.{HasPlaces};
+ghost use Rattle.intervals.specs.Operation.{same_id};
+ghost use Rattle.intervals.specs.Refusal.{first_refusal, moments_refusal, ok_unless, find_other_with};
+ghost use Rattle.intervals.specs.Table.{admitted, prepared_after, standing, slot_at};
+
+use crate::moments::{
+    ends_too_early, hold_moments, holder_of, is_too_large, put_moments, release_moments,
+    take_moments,
+};
+use crate::{Change, Edit, Memory, Moment, Op, OpId, Refusal, Shelf, changed};
+use std::alloc::Global;
+use std::collections::HashMap;
+use std::marker::Model;
+
+/// The operations of one register that stand, in the order of their appends, and room for one more that
+/// was prepared.
+#[derive(Drop)]
+pub struct OpTable<'t> {
+    slots: Vec<Option<Op<'t>>>,
+    places: HashMap<OpId, usize>,
+    moments: Shelf,
+    count: usize,
+    prepared: Option<Op<'t>>,
+}
+
+impl<'t> Model for OpTable<'t> {
+    ghost use Rattle.std.specs.Prelude.{◌≡◌, ◌<◌, IfSome, length, vec_capacity, vec_len};
+    ghost use Rattle.std.specs.HashMap.{get as place_of, spare};
+    ghost use Rattle.intervals.specs.Moments.{holder_at, HasPlaces};
+    ghost use Rattle.intervals.specs.Operation.{same_id};
+    ghost use Rattle.intervals.specs.Table.{Tabled, IsIndexed, standing, slot_at};
+
+    ghost Value = { Tabled };
+
+    ghost view = { λ t. record { ops = standing t.slots.items; prepared = t.prepared } };
+
+    ghost invariant = { λ t.
+        IsIndexed (slot_at t.slots.items) (place_of same_id t.places) (holder_at t.moments)
+        × (t.count ≡ length (standing t.slots.items))
+        × IfSome t.prepared (λ op. (vec_len t.slots < vec_capacity t.slots) × (0 < spare t.places) × HasPlaces t.moments op) };
+}
+
+impl<'t> OpTable<'t> {
+    pub fn new(alloc: Global) -> Self
+        ensures { result ≡ record { ops = []; prepared = None } }
+    {
+        OpTable {
+            slots: Vec::new(alloc),
+            places: HashMap::new(alloc),
+            moments: Shelf::new(alloc),
+            count: 0,
+            prepared: None,
+        }
+    }
+
+    pub fn len(&self) -> usize
+        ensures { result ≡ length self.now.ops }
+    {
+        self.count
+    }
+
+    pub fn is_empty(&self) -> bool
+        ensures { IsTrue result ↔ (self.now.ops ≡ []) }
+    {
+        self.count == 0
+    }
+
+    /// The operations in the order of their appends; a place that a withdrawn one left is empty.
+    pub fn slots(&self) -> &[Option<Op<'t>>]
+        ensures { standing result.now ≡ self.now.ops }
+    {
+        self.slots.as_slice()
+    }
+
+    pub fn get(&self, id: OpId) -> Option<&Op<'t>>
+        ensures { option_copied result ≡ op_of self.now.ops id }
+    {
+        let (_, op) = find_slot(self.slots.as_slice(), &self.places, id)?;
+        Some(op)
+    }
+
+    /// The operation that the edit adds or changes, as it is afterwards.
+    pub fn new_op(&self, edit: &Edit<'t>) -> Option<Op<'t>>
+        ensures { result ≡ new_one self.now.ops edit.now }
+    {
+        match edit {
+            Edit::Append(op) => Some(*op),
+            Edit::Amend(id, change) => {
+                let op = self.get(*id)?;
+                Some(changed(op, change))
+            }
+            Edit::Withdraw(_) => None,
+        }
+    }
+
+    /// The first refusal, from `UnknownOp` to `MomentTooLarge`, that holds of the edit. Whether a
+    /// write is one that the register's claim allows is its judge's to say.
+    pub fn check(&self, edit: &Edit<'t>) -> Result<(), Refusal>
+        ensures { result ≡ ok_unless (first_refusal self.now.ops edit.now) }
+    {
+        match edit {
+            Edit::Append(op) => match self.get(op.id) {
+                Some(_) => Err(Refusal::OpTaken),
+                None => self.check_moments(op),
+            },
+            Edit::Amend(id, change) => match self.get(*id) {
+                Some(op) => self.check_moments(&changed(op, change)),
+                None => Err(Refusal::UnknownOp),
+            },
+            Edit::Withdraw(id) => match self.get(*id) {
+                Some(_) => Ok(()),
+                None => Err(Refusal::UnknownOp),
+            },
+        }
+    }
+
+    /// The operation that there is room for.
+    pub fn prepared(&self) -> Option<Op<'t>>
+        ensures { result ≡ self.now.prepared }
+    {
+        self.prepared
+    }
+
+    /// Makes room for the operation: to admit the edit that leaves it takes no memory then, whatever
+    /// is withdrawn before.
+    pub fn prepare(&mut self, op: &Op<'t>) -> Result<(), Memory>
+        requires { self.old.prepared ≡ None }
+        ensures ok { OnOk result (self.new ≡ record self.old { prepared = Some op.now }) }
+        ensures err { OnErr result (self.new ≡ self.old) }
+    {
+        self.slots.reserve(1)?;
+        self.places.reserve(1)?;
+        hold_moments(&mut self.moments, op)?;
+        self.prepared = Some(*op);
+        Ok(())
+    }
+
+    /// Lets the room for the prepared operation go.
+    pub fn release(&mut self)
+        ensures { self.new ≡ record self.old { prepared = None } }
+    {
+        if let Some(op) = self.prepared.take() {
+            release_moments(&mut self.moments, &op);
+        }
+    }
+
+    /// Carries out an edit that `check` accepts. An operation that it adds or changes was prepared.
+    pub fn admit(&mut self, edit: Edit<'t>)
+        requires accepted { first_refusal self.old.ops edit ≡ None }
+        requires room { IfSome (new_one self.old.ops edit) (λ op. self.old.prepared ≡ Some op) }
+        ensures { self.new ≡ record { ops = edited self.old.ops edit.entry; prepared = prepared_after (new_one self.old.ops edit.entry) self.old.prepared } }
+    {
+        match edit {
+            Edit::Append(op) => self.append(op),
+            Edit::Amend(id, change) => self.amend(id, &change),
+            Edit::Withdraw(id) => self.withdraw(id),
+        }
+    }
+
+    fn append(&mut self, op: Op<'t>)
+        requires accepted { first_refusal self.old.ops (Edit.Append op) ≡ None }
+        requires room { self.old.prepared ≡ Some op }
+        ensures { self.new ≡ admitted self.old (Edit.Append op.entry) }
+    {
+        let place = self.slots.len();
+        self.slots.push_reserved(Some(op));
+        let Ok(_) = self.places.insert(op.id, place) else {
+            unreachable!()
+        };
+        put_moments(&mut self.moments, &op);
+        self.count += 1;
+        self.prepared = None;
+    }
+
+    fn amend(&mut self, id: OpId, change: &Change<'t>)
+        requires accepted { first_refusal self.old.ops (Edit.Amend id change.now) ≡ None }
+        requires room { self.old.prepared ≡ new_one self.old.ops (Edit.Amend id change.now) }
+        ensures { self.new ≡ admitted self.old (Edit.Amend id change.now) }
+    {
+        let Some((place, op)) = find_slot(self.slots.as_slice(), &self.places, id) else {
+            unreachable!()
+        };
+        let (old, new) = (*op, changed(op, change));
+        take_moments(&mut self.moments, &old, Some(new));
+        put_moments(&mut self.moments, &new);
+        self.slots[place] = Some(new);
+        self.prepared = None;
+    }
+
+    fn withdraw(&mut self, id: OpId)
+        requires { first_refusal self.old.ops (Edit.Withdraw id) ≡ None }
+        ensures { self.new ≡ admitted self.old (Edit.Withdraw id) }
+    {
+        let Some((place, op)) = find_slot(self.slots.as_slice(), &self.places, id) else {
+            unreachable!()
+        };
+        let old = *op;
+        take_moments(&mut self.moments, &old, self.prepared);
+        self.places.remove(&id);
+        self.slots[place] = None;
+        self.count -= 1;
+        drop_empty_end(&mut self.slots);
+    }
+
+    fn check_moments(&self, op: &Op<'t>) -> Result<(), Refusal>
+        ensures { result ≡ ok_unless (moments_refusal self.now.ops op.now) }
+    {
+        if ends_too_early(op) {
+            return Err(Refusal::EndNotAfterBegin);
+        }
+        if let Some(other) = self.other_with(op.id, op.begin) {
+            return Err(Refusal::MomentTaken(op.begin, other));
+        }
+        if let Some(end) = op.end {
+            if let Some(other) = self.other_with(op.id, end) {
+                return Err(Refusal::MomentTaken(end, other));
+            }
+        }
+        if is_too_large(op) {
+            return Err(Refusal::MomentTooLarge);
+        }
+        Ok(())
+    }
+
+    /// The other operation that has the moment.
+    fn other_with(&self, id: OpId, moment: Moment) -> Option<OpId>
+        ensures { result ≡ option_map (λ op. op.id) (find_other_with self.now.ops id moment) }
+    {
+        let holder = holder_of(&self.moments, moment)?;
+        if holder == id { None } else { Some(holder) }
+    }
+}
+
+/// The slot of that id, and the operation in it.
+fn find_slot<'b, 't>(
+    slots: &'b [Option<Op<'t>>],
+    places: &HashMap<OpId, usize>,
+    id: OpId,
+) -> Option<(usize, &'b Op<'t>)>
+    ensures place { IfSome result (λ found. place_of same_id places.now id ≡ Some found.0) }
+    ensures slot { IfSome result (λ found. slot_at slots.now found.0 ≡ Some found.1.now) }
+    ensures within { IfSome result (λ found. found.0 < length slots.now) }
+    ensures none { result ≡ None → (i : ℕ) → place_of same_id places.now id ≡ Some i → slot_at slots.now i ≡ None }
+{
+    let place = *places.get(&id)?;
+    let op = slots.get(place)?.as_ref()?;
+    Some((place, op))
+}
+
+/// Takes the empty slots at the end out.
+fn drop_empty_end(slots: &mut Vec<Option<Op>>)
+    ensures standing { standing slots.new.items ≡ standing slots.old.items }
+    ensures slots { (i : ℕ) → slot_at slots.new.items i ≡ slot_at slots.old.items i }
+    ensures len { vec_len slots.new ≤ vec_len slots.old }
+    ensures capacity { vec_capacity slots.new ≡ vec_capacity slots.old }
+{
+    while let Some(None) = slots.last() {
+        slots.pop();
+    }
+}

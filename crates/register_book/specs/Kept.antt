@@ -1,0 +1,22 @@
+-- What a book keeps.
+use Rattle.std.specs.Prelude.{ℕ, ◌+◌, ◌*◌, List, length}
+use Rattle.intervals.specs.declared.operation.Op.{Op}
+use Rattle.intervals.specs.Terms.{Terms, Claimed}
+use Rattle.zone_tree.specs.Digits.{digits}
+use Rattle.zones.specs.Cluster.{zones_of}
+
+-- a claim, the operations that stand under it, and how many levels the tree of zones has gone down for
+-- edits so far
+pub record Kept : Type 0 where
+  pub claim : Terms
+  pub ops : List Op
+  pub steps : ℕ
+
+-- the claim and the operations
+abbrev pub claimed_of : Kept → Claimed
+claimed_of kept = record { claim = kept.claim; ops = kept.ops }
+
+-- how many levels an edit may go down: four times as many as two for each binary digit of the number
+-- of zones and one more, and one
+abbrev pub most_steps : Terms → List Op → ℕ
+most_steps claim ops = 4 * (2 * digits (length (zones_of claim.initial ops) + 1) + 1)

@@ -1,0 +1,16 @@
+use Rattle.std.proofs.Common.{◌↔◌, not, subst}
+use Rattle.std.specs.Prelude.{IsTrue}
+use Rattle.intervals.specs.Kind.{Holds}
+use Rattle.intervals.specs.Terms.{terms_of}
+use Rattle.safe_regular.specs.Held.{Judged}
+use Rattle.safe_regular.proofs.Named.{holds_where_none}
+use Rattle.safe_regular.proofs.judge.SingleWriterJudge.holds.Goals as goal
+
+pub returns : goal.returns
+returns c =
+    let claim = terms_of c.self.inside.claim in
+    let ops = c.self.inside.table.ops in
+    let held = c.self.invariant in
+    subst (λ (x : Judged). IsTrue (not c.has_wrong.result) ↔ Holds x.claim x.ops) c.self.view_is
+    (holds_where_none claim ops held.apart c.self.inside.reads.reads held.marked
+    (c.safe_without_wrong_reads.ensures claim ops) (c.regular_without_wrong_reads.ensures claim ops) c.has_wrong.result c.has_wrong.ensures)

@@ -1,0 +1,221 @@
+//! Rows of histories, as calls of a judge.
+
+ghost use Rattle.std.specs.Prelude.{◌≡◌, ◌≢◌, None};
+ghost use Rattle.intervals.specs.Edit.{new_op as new_one};
+ghost use Rattle.intervals.specs.Refusal.{reply_to, first_refusal, new_write_refusal, write_refusal};
+
+use super::*;
+use intervals::{
+    Act, Change, Claim, Edit, Kind, Lent, Memory, Moment, Op, OpId, Parts, Refusal, Value, Writers,
+};
+use std::alloc::Global;
+use std::fmt::Write;
+use std::test::Fail;
+
+const SAFE: Claim = Claim {
+    kind: Kind::Safe,
+    writers: Writers::Any,
+    initial: Value::Int(0),
+    domain: None,
+};
+
+const REGULAR: Claim = Claim {
+    kind: Kind::Regular,
+    writers: Writers::Any,
+    initial: Value::Int(0),
+    domain: None,
+};
+
+fn number(word: &str) -> u64 {
+    word.parse::<u64>().unwrap_or(0)
+}
+
+fn value(word: &str) -> Value {
+    Value::Int(word.parse::<i64>().unwrap_or(0))
+}
+
+fn id(event: u64) -> OpId {
+    OpId { feeder: 0, event }
+}
+
+/// A write as `w1`, a read as `r1`.
+fn act(word: &str) -> Act {
+    match word.strip_prefix('w') {
+        Some(word) => Act::Write(value(word)),
+        None => Act::Read(value(word.strip_prefix('r').unwrap_or(word))),
+    }
+}
+
+fn end(word: &str) -> Option<Moment> {
+    match word {
+        "" => None,
+        _ => Some(Moment(number(word))),
+    }
+}
+
+fn appended(word: &'static str) -> Op<'static> {
+    let (what, when) = word.split_once(':').unwrap_or((word, "0-"));
+    let (begin, ended) = when.split_once('-').unwrap_or((when, ""));
+    Op {
+        id: id(number(begin)),
+        process: 0,
+        act: act(what),
+        begin: Moment(number(begin)),
+        end: end(ended),
+        parts: Parts {
+            invocation: word.as_bytes(),
+            answer: None,
+            amendment: None,
+        },
+    }
+}
+
+/// `w1:0-9` is a write of 1 from 0 to 9, `r1:0-` a read that has no end; `~0-7` lets what began at 0 end
+/// at 7, and `!0` takes it out.
+fn edit_of(word: &'static str) -> Edit<'static> {
+    if let Some(word) = word.strip_prefix('!') {
+        return Edit::Withdraw(id(number(word)));
+    }
+    if let Some(word) = word.strip_prefix('~') {
+        let (begin, ended) = word.split_once('-').unwrap_or((word, ""));
+        return Edit::Amend(
+            id(number(begin)),
+            Change {
+                value: None,
+                begin: None,
+                end: Some(end(ended)),
+                lent: Lent::Amendment(word.as_bytes()),
+            },
+        );
+    }
+    Edit::Append(appended(word))
+}
+
+#[tactic(auto, using(crate::proofs::Refusals::err_ok_unless))]
+fn list_refusal<'t>(judge: &SingleWriterJudge<'t>, edit: &Edit<'t>) -> Option<Refusal>
+    ensures { result ≡ first_refusal judge.now.ops edit.now }
+{
+    judge.operations().check(edit).err()
+}
+
+#[tactic(auto, using(crate::proofs::Refusals::err_ok_unless))]
+fn refusal_of_write(judge: &SingleWriterJudge, op: &Op) -> Option<Refusal>
+    ensures { result ≡ write_refusal judge.now.claim judge.now.ops op.now }
+{
+    judge.check_write(op).err()
+}
+
+fn new_refusal<'t>(judge: &SingleWriterJudge<'t>, edit: &Edit<'t>) -> Option<Refusal>
+    ensures { result ≡ new_write_refusal judge.now.claim judge.now.ops (new_one judge.now.ops edit.now) }
+{
+    match judge.operations().new_op(edit) {
+        Some(op) => refusal_of_write(judge, &op),
+        None => None,
+    }
+}
+
+fn refusal_of<'t>(judge: &SingleWriterJudge<'t>, edit: &Edit<'t>) -> Option<Refusal>
+    ensures { result ≡ reply_to judge.now.claim judge.now.ops edit.now }
+{
+    let refusal = list_refusal(judge, edit);
+    if refusal.is_some() {
+        return refusal;
+    }
+    new_refusal(judge, edit)
+}
+
+/// Carries the edit out by the call that is named after it, where there is one.
+fn carried_out<'t>(judge: &mut SingleWriterJudge<'t>, edit: Edit<'t>) -> Result<(), Memory>
+    requires { reply_to judge.old.claim judge.old.ops edit ≡ None }
+{
+    if let Some(op) = judge.prepared() {
+        judge.release(&op);
+    }
+    match edit {
+        Edit::Append(op) if op.is_write() => judge.admit_write(&op),
+        Edit::Append(op) if op.is_judged_read() => judge.admit_read(&op),
+        Edit::Append(op) => judge.admit(Edit::Append(op)),
+        Edit::Amend(..) => judge.admit(edit),
+        Edit::Withdraw(id) => {
+            judge.drop_write(id);
+            judge.drop_read(id);
+            Ok(())
+        }
+    }
+}
+
+/// Tells a refusal, or carries the edit out.
+fn edited<'t>(
+    told: &mut String,
+    judge: &mut SingleWriterJudge<'t>,
+    edit: Edit<'t>,
+) -> Result<(), Memory> {
+    match refusal_of(judge, &edit) {
+        Some(refusal) => {
+            let _ = write!(told, "{refusal} ");
+        }
+        None => carried_out(judge, edit)?,
+    }
+    Ok(())
+}
+
+/// The wrong read that ended first, and whether the register holds.
+fn tell_fault(told: &mut String, judge: &SingleWriterJudge) {
+    if let Some(read) = judge.first_fault() {
+        let _ = write!(told, "{} ", read.event);
+    }
+    let verdict = if judge.holds() { "holds" } else { "fails" };
+    let _ = write!(told, "{verdict}");
+}
+
+/// What is refused, and the verdict after all.
+fn told(alloc: Global, claim: &Claim, words: &'static str) -> Result<String, Memory>
+    requires { claim.now.kind ≢ Kind.Atomic }
+{
+    let mut told = String::new(alloc);
+    let mut judge = SingleWriterJudge::new(alloc, claim)?;
+    for word in words.split(' ') {
+        edited(&mut told, &mut judge, edit_of(word))?;
+    }
+    tell_fault(&mut told, &judge);
+    Ok(told)
+}
+
+/// `safe w1:0-3 => holds` begins with the kind.
+fn told_of_kind(alloc: Global, words: &'static str) -> Result<String, Memory> {
+    match words.strip_prefix("safe ") {
+        Some(words) => told(alloc, &SAFE, words),
+        None => told(
+            alloc,
+            &REGULAR,
+            words.strip_prefix("regular ").unwrap_or(words),
+        ),
+    }
+}
+
+const ROWS: &str = "safe w1:0-3 r7:1-2 => holds
+safe w1:0-3 r7:1-2 r5:9-11 => 9 fails
+safe w1:0-3 r7:1-2 r5:9-11 !9 => holds
+regular w1:0-3 r7:1-2 => 1 fails
+safe w1:0-1 w2:4-5 r1:6-7 => 6 fails
+safe w1:0-1 w2:4-5 r1:6-7 !4 => holds
+safe w1:0-1 w2:4-5 r1:6-7 ~4-9 => holds
+safe w1:0-1 r2:6-7 w2:4-5 => holds
+safe w1:0-1 r2:6-7 w2:4-5 !4 => 6 fails
+safe w1:0-1 r2:5- => holds
+safe w1:0-1 r2:5- ~5-9 => 5 fails
+safe w1:0-1 r2:5- ~5-9 ~5- => holds
+safe w1:0-1 w2:2-3 w3:4-5 r2:6-7 r9:8-9 !4 => 8 fails
+safe w1:0-1 r1:2-3 w2:4-5 w3:6-7 r1:8-9 r3:10-11 => 8 fails
+regular w1:0-9 w2:10-19 r1:11-12 r2:13-14 r1:15-16 => holds
+safe w1:0- w2:5-6 r0:7-7 !3 => X7 WritesOverlap X3 EndNotAfterBegin X1 UnknownOp holds";
+
+#[test]
+fn rows_are_told(rt: HostRuntime) -> Result<(), Fail> {
+    for row in ROWS.lines() {
+        let (words, want) = row.split_once(" => ").ok_or("a row")?;
+        let found = told_of_kind(rt.alloc(), words)?;
+        assert!(rt; found.as_str() == want, "{row}");
+    }
+    Ok(())
+}

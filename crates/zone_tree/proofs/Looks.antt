@@ -1,0 +1,186 @@
+-- What a look at one side, at the zone between and at the other side finds.
+use Rattle.std.proofs.Common.{◌≡◌, ◌∙◌, ◌⊎◌, inl, inr, Bool, true, false, not, cond, List, [], ◌∷◌, ◌++◌, Option, Some, None, refl, sym, ap, subst}
+use Rattle.std.specs.Prelude.{All, ◌||◌, ◌&&◌, if◌then◌else◌}
+use Rattle.std.specs.List.{find}
+use Rattle.std.specs.Option.{option_or}
+use Rattle.std.proofs.lemmas.Bool.{cases_Bool, both_ways}
+use Rattle.std.proofs.lemmas.List.Elements.{All-nil, All-cons, All-head, All-tail, All-weaker}
+use Rattle.std.proofs.lemmas.List.Folds.{find-append}
+use Rattle.zone_tree.specs.declared.edge.Edge.{Edge}
+use Rattle.zone_tree.specs.declared.edge.Edge.TheVariants.{Before, At, Never}
+use Rattle.zone_tree.specs.declared.zone.Zone.{Zone}
+use Rattle.zone_tree.specs.declared.summary.Summary.{Summary}
+use Rattle.zone_tree.specs.Edge.{comes_before, ComesBefore}
+use Rattle.zone_tree.specs.Zone.{HasOrderedEdges}
+use Rattle.zone_tree.specs.Order.{IsByLeft, StandInOrder}
+use Rattle.zone_tree.specs.Summary.{latest, one_zone, join, summary_of}
+use Rattle.zone_tree.specs.Look.{is_behind, reaches, falls_short, begins_before, last_that, has_forward}
+use Rattle.zone_tree.proofs.EdgeOrder.{before_transitive, before-false, not_after_before}
+use Rattle.zone_tree.proofs.Places.{find_none}
+use Rattle.zone_tree.proofs.Sides.{earlier_edges, later_edges}
+use Rattle.zone_tree.proofs.Summaries.{or_clear, one_forward, earliest_before}
+
+-- a search over the zones around one
+find_around : (p : Zone → Bool) (xs : List Zone) (z : Zone) (ys : List Zone) (o : Option Zone) → find p xs ≡ o → find p (xs ++ z ∷ ys) ≡ option_or o (find p (z ∷ ys))
+find_around p xs z ys o e = find-append p xs (z ∷ ys) ∙ ap (λ found. option_or found (find p (z ∷ ys))) e
+
+pub find_in_left : (p : Zone → Bool) (xs : List Zone) (z : Zone) (ys : List Zone) (w : Zone) → find p xs ≡ Some w → find p (xs ++ z ∷ ys) ≡ Some w
+find_in_left p xs z ys w e = find_around p xs z ys (Some w) e
+
+pub find_here : (p : Zone → Bool) (xs : List Zone) (z : Zone) (ys : List Zone) → find p xs ≡ None → p z ≡ true → find p (xs ++ z ∷ ys) ≡ Some z
+find_here p xs z ys e h = find_around p xs z ys None e ∙ ap (λ (b : Bool). cond b (Some z) (find p ys)) h
+
+pub find_in_right : (p : Zone → Bool) (xs : List Zone) (z : Zone) (ys : List Zone) → find p xs ≡ None → p z ≡ false → find p (xs ++ z ∷ ys) ≡ find p ys
+find_in_right p xs z ys e h = find_around p xs z ys None e ∙ ap (λ (b : Bool). cond b (Some z) (find p ys)) h
+
+-- the first zone behind an edge
+pub first_here : (after : Option Edge) (xs : List Zone) (z : Zone) (ys : List Zone) → is_behind after z ≡ true → find (is_behind after) (xs ++ z ∷ ys) ≡ option_or (find (is_behind after) xs) (Some z)
+first_here after xs z ys h =
+    find-append (is_behind after) xs (z ∷ ys) ∙ ap (λ (b : Bool). option_or (find (is_behind after) xs) (cond b (Some z) (find (is_behind after) ys))) h
+
+earlier_not_behind : (after : Option Edge) (xs : List Zone) (z : Zone) (ys : List Zone) → IsByLeft (xs ++ z ∷ ys) → is_behind after z ≡ false → All (λ x. is_behind after x ≡ false) xs
+earlier_not_behind None xs z ys by h = absurd (cc)
+earlier_not_behind (Some edge) xs z ys by h =
+    All-weaker (λ x. ComesBefore x.left z.left) (λ x. comes_before edge x.left ≡ false)
+    (λ x g. before-false edge x.left (λ f. both_ways (comes_before edge z.left) h (before_transitive edge x.left z.left f g)))
+    xs (earlier_edges xs z ys by)
+
+pub first_right : (after : Option Edge) (xs : List Zone) (z : Zone) (ys : List Zone) → StandInOrder (xs ++ z ∷ ys) → is_behind after z ≡ false → find (is_behind after) (xs ++ z ∷ ys) ≡ find (is_behind after) ys
+first_right after xs z ys order h =
+    find_in_right (is_behind after) xs z ys (find_none (is_behind after) xs (earlier_not_behind after xs z ys order.by_left h)) h
+
+-- where no zone is forward
+first_of_join : (z : Zone) (zones : List Zone) → has_forward (summary_of (z ∷ zones)) ≡ has_forward (one_zone z) || has_forward (summary_of zones)
+unfolding summary_of join
+first_of_join z zones = earliest_before Never (one_zone z).first_forward (summary_of zones).first_forward
+
+before_never : (a b : Edge) → ComesBefore a b → ComesBefore a Never
+before_never Before b h = refl
+before_never (At m) b h = refl
+before_never Never b h = absurd (cc)
+
+not_forward_by : (z : Zone) → HasOrderedEdges z → has_forward (one_zone z) ≡ false → (z.forward ≡ true) ⊎ (z.forward ≡ false) → z.forward ≡ false
+not_forward_by z edges none (inl f) =
+    absurd (both_ways (comes_before z.left Never) (sym (ap (λ (s : Summary). comes_before s.first_forward Never) (one_forward z f)) ∙ none) (before_never z.left z.right (edges.0 f)))
+not_forward_by z edges none (inr b) = b
+
+no_forward_all : (zones : List Zone) → All HasOrderedEdges zones → has_forward (summary_of zones) ≡ false → All (λ z. z.forward ≡ false) zones
+no_forward_all [] edges none = All-nil (λ z. z.forward ≡ false)
+no_forward_all (z ∷ zones) edges none =
+    let parts = (or_clear (has_forward (one_zone z)) (has_forward (summary_of zones))).0 (sym (first_of_join z zones) ∙ none) in
+    All-cons (λ z. z.forward ≡ false) z zones
+    (not_forward_by z (All-head HasOrderedEdges z zones edges) parts.0 (cases_Bool z.forward))
+    (no_forward_all zones (All-tail HasOrderedEdges z zones edges) parts.1)
+
+find_no_forward : (q : Zone → Bool) (zones : List Zone) → StandInOrder zones → has_forward (summary_of zones) ≡ false → find (λ z. z.forward && q z) zones ≡ None
+find_no_forward q zones order none =
+    find_none (λ z. z.forward && q z) zones
+    (All-weaker (λ z. z.forward ≡ false) (λ z. (z.forward && q z) ≡ false) (λ z b. ap (λ f. f && q z) b) zones (no_forward_all zones order.edges none))
+
+pub none_falls_short : (edge : Edge) (zones : List Zone) → StandInOrder zones → has_forward (summary_of zones) ≡ false → find (falls_short edge) zones ≡ None
+none_falls_short edge zones order none = find_no_forward (λ z. comes_before z.right edge) zones order none
+
+-- where the greatest right edge of a forward zone comes before the edge
+last_of_join : (z : Zone) (zones : List Zone) → (summary_of (z ∷ zones)).last_forward ≡ latest (one_zone z).last_forward (summary_of zones).last_forward
+unfolding summary_of join
+last_of_join z zones = refl
+
+latest_parts_by : (a b e : Edge) → ComesBefore (latest a b) e → (comes_before a b ≡ true) ⊎ (comes_before a b ≡ false) → ComesBefore a e × ComesBefore b e
+latest_parts_by a b e h (inl f) =
+    let later : ComesBefore b e = sym (ap (λ (c : Bool). comes_before (if c then b else a) e) f) ∙ h in
+    (before_transitive a b e f later, later)
+latest_parts_by a b e h (inr f) =
+    let later : ComesBefore a e = sym (ap (λ (c : Bool). comes_before (if c then b else a) e) f) ∙ h in
+    (later, not_after_before b a e (both_ways (comes_before a b) f) later)
+
+short_by : (edge : Edge) (z : Zone) → ComesBefore (one_zone z).last_forward edge → (z.forward ≡ true) ⊎ (z.forward ≡ false) → reaches edge z ≡ false
+short_by edge z h (inl f) =
+    let short : ComesBefore z.right edge = sym (ap (λ (s : Summary). comes_before s.last_forward edge) (one_forward z f)) ∙ h in
+    ap (λ b. b && not (comes_before z.right edge)) f ∙ ap not short
+short_by edge z h (inr b) = ap (λ f. f && not (comes_before z.right edge)) b
+
+all_short : (edge : Edge) (zones : List Zone) → ComesBefore (summary_of zones).last_forward edge → All (λ z. reaches edge z ≡ false) zones
+all_short edge [] h = All-nil (λ z. reaches edge z ≡ false)
+all_short edge (z ∷ zones) h =
+    let here : ComesBefore (latest (one_zone z).last_forward (summary_of zones).last_forward) edge = subst (λ (e : Edge). ComesBefore e edge) (last_of_join z zones) h in
+    let parts = latest_parts_by (one_zone z).last_forward (summary_of zones).last_forward edge here (cases_Bool (comes_before (one_zone z).last_forward (summary_of zones).last_forward)) in
+    All-cons (λ z. reaches edge z ≡ false) z zones (short_by edge z parts.0 (cases_Bool z.forward)) (all_short edge zones parts.1)
+
+pub none_reaches_far : (edge : Edge) (zones : List Zone) → ComesBefore (summary_of zones).last_forward edge → find (reaches edge) zones ≡ None
+none_reaches_far edge zones h = find_none (reaches edge) zones (all_short edge zones h)
+
+pub none_reaches : (edge : Edge) (zones : List Zone) → StandInOrder zones → has_forward (summary_of zones) ≡ false → find (reaches edge) zones ≡ None
+none_reaches edge zones order none = find_no_forward (λ z. not (comes_before z.right edge)) zones order none
+
+-- the last zone that passes
+pub last_empty : (p : Zone → Bool) → last_that p [] ≡ None
+unfolding last_that
+last_empty p = refl
+
+option_or_assoc : {X : Type 0} (a b c : Option X) → option_or (option_or a b) c ≡ option_or a (option_or b c)
+option_or_assoc None b c = refl
+option_or_assoc (Some a) b c = refl
+
+none_option_or : {X : Type 0} (o : Option X) → o ≡ option_or o None
+none_option_or None = refl
+none_option_or (Some x) = refl
+
+abbrev if_passes : (Zone → Bool) → Zone → Option Zone
+if_passes p z = if p z then Some z else None
+
+last_append : (p : Zone → Bool) (xs ys : List Zone) → last_that p (xs ++ ys) ≡ option_or (last_that p ys) (last_that p xs)
+unfolding last_that
+last_append p [] ys = none_option_or (last_that p ys)
+last_append p (x ∷ xs) ys =
+    ap (λ o. option_or o (if_passes p x)) (last_append p xs ys) ∙ option_or_assoc (last_that p ys) (last_that p xs) (if_passes p x)
+
+last_around : (p : Zone → Bool) (xs : List Zone) (z : Zone) (ys : List Zone) → last_that p (xs ++ z ∷ ys) ≡ option_or (last_that p ys) (option_or (if_passes p z) (last_that p xs))
+unfolding last_that
+last_around p xs z ys = last_append p xs (z ∷ ys) ∙ option_or_assoc (last_that p ys) (if_passes p z) (last_that p xs)
+
+pub last_in_right : (p : Zone → Bool) (xs : List Zone) (z : Zone) (ys : List Zone) (w : Zone) → last_that p ys ≡ Some w → last_that p (xs ++ z ∷ ys) ≡ Some w
+last_in_right p xs z ys w e = last_around p xs z ys ∙ ap (λ o. option_or o (option_or (if_passes p z) (last_that p xs))) e
+
+pub last_here : (p : Zone → Bool) (xs : List Zone) (z : Zone) (ys : List Zone) → last_that p ys ≡ None → p z ≡ true → last_that p (xs ++ z ∷ ys) ≡ Some z
+last_here p xs z ys e h =
+    last_around p xs z ys
+    ∙ ap (λ o. option_or o (option_or (if_passes p z) (last_that p xs))) e
+    ∙ ap (λ (b : Bool). option_or (if b then Some z else None) (last_that p xs)) h
+
+pub last_in_left : (p : Zone → Bool) (xs : List Zone) (z : Zone) (ys : List Zone) → last_that p ys ≡ None → p z ≡ false → last_that p (xs ++ z ∷ ys) ≡ last_that p xs
+last_in_left p xs z ys e h =
+    last_around p xs z ys
+    ∙ ap (λ o. option_or o (option_or (if_passes p z) (last_that p xs))) e
+    ∙ ap (λ (b : Bool). option_or (if b then Some z else None) (last_that p xs)) h
+
+last_none : (p : Zone → Bool) (zones : List Zone) → All (λ z. p z ≡ false) zones → last_that p zones ≡ None
+unfolding last_that
+last_none p [] h = refl
+last_none p (z ∷ zones) h =
+    ap (λ o. option_or o (if_passes p z)) (last_none p zones (All-tail (λ z. p z ≡ false) z zones h))
+    ∙ ap (λ (b : Bool). if b then Some z else None) (All-head (λ z. p z ≡ false) z zones h)
+
+pub none_begins : (edge : Edge) (zones : List Zone) → StandInOrder zones → has_forward (summary_of zones) ≡ false → last_that (begins_before edge) zones ≡ None
+none_begins edge zones order none =
+    last_none (begins_before edge) zones
+    (All-weaker (λ z. z.forward ≡ false) (λ z. begins_before edge z ≡ false) (λ z b. ap (λ f. f && comes_before z.left edge) b) zones (no_forward_all zones order.edges none))
+
+and_false : (b : Bool) → b && false ≡ false
+and_false true = refl
+and_false false = refl
+
+late_by : (edge : Edge) (z : Zone) → comes_before z.left edge ≡ false → begins_before edge z ≡ false
+late_by edge z h = ap (λ b. z.forward && b) h ∙ and_false z.forward
+
+-- no zone from one that does not begin before the edge
+pub none_late : (edge : Edge) (xs : List Zone) (z : Zone) (ys : List Zone) → IsByLeft (xs ++ z ∷ ys) → ¬ ComesBefore z.left edge → All (λ y. begins_before edge y ≡ false) (z ∷ ys)
+none_late edge xs z ys by n =
+    All-cons (λ y. begins_before edge y ≡ false) z ys (late_by edge z (before-false z.left edge n))
+    (All-weaker (λ y. ComesBefore z.left y.left) (λ y. begins_before edge y ≡ false)
+    (λ y g. late_by edge y (before-false y.left edge (λ h. n (before_transitive z.left y.left edge g h)))) ys (later_edges xs z ys by))
+
+pub last_front : (p : Zone → Bool) (xs ys : List Zone) → All (λ y. p y ≡ false) ys → last_that p (xs ++ ys) ≡ last_that p xs
+last_front p xs ys none = last_append p xs ys ∙ ap (λ o. option_or o (last_that p xs)) (last_none p ys none)
+
+pub last_left : (edge : Edge) (xs : List Zone) (z : Zone) (ys : List Zone) → StandInOrder (xs ++ z ∷ ys) → ¬ ComesBefore z.left edge → last_that (begins_before edge) (xs ++ z ∷ ys) ≡ last_that (begins_before edge) xs
+last_left edge xs z ys order n = last_front (begins_before edge) xs (z ∷ ys) (none_late edge xs z ys order.by_left n)

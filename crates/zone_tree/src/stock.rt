@@ -1,0 +1,141 @@
+//! Spare nodes, one for each reserved place, and room to give back those that are in the tree.
+
+ghost use Rattle.std.specs.Prelude.{◌≡◌, ◌+◌, ◌<◌, ◌≤◌, All, OnOk, OnErr, vec_len, vec_capacity};
+ghost use Rattle.zone_tree.specs.Node.{IsAlone};
+
+use crate::node::{Node, Tree};
+use crate::summary::Summary;
+use crate::{Edge, Zone};
+use intervals::{Memory, Value as Content};
+use std::alloc::Global;
+use std::marker::Model;
+
+#[derive(Drop)]
+pub struct Stock {
+    spare: Vec<Box<Node>>,
+    taken: usize,
+    alloc: Global,
+}
+
+impl Model for Stock {
+    ghost use Rattle.std.specs.Prelude.{◌+◌, ◌≤◌, All, vec_len, vec_capacity};
+    ghost use Rattle.zone_tree.specs.Stock.{Places};
+
+    ghost Value = { Places };
+
+    ghost view = { λ s. record { free = vec_len s.spare; taken = s.taken } };
+
+    ghost use Rattle.zone_tree.specs.Node.{IsAlone};
+
+    ghost invariant = { λ s. (s.taken + vec_len s.spare ≤ vec_capacity s.spare) × All (λ n. IsAlone n.value) s.spare.items };
+}
+
+impl Stock {
+    pub fn new(alloc: Global) -> Self
+        ensures free { result.free ≡ 0 }
+        ensures taken { result.taken ≡ 0 }
+    {
+        Stock {
+            spare: Vec::new(alloc),
+            taken: 0,
+            alloc,
+        }
+    }
+
+    pub fn free(&self) -> usize
+        ensures { result ≡ self.now.free }
+    {
+        self.spare.len()
+    }
+
+    pub fn taken(&self) -> usize
+        ensures { result ≡ self.now.taken }
+    {
+        self.taken
+    }
+
+    /// Makes spare nodes until there are that many.
+    pub fn reserve(&mut self, places: usize) -> Result<(), Memory>
+        ensures taken { self.new.taken ≡ self.old.taken }
+        ensures ok { OnOk result (places ≤ self.new.free) }
+        ensures kept { self.old.free ≤ self.new.free }
+        ensures err { OnErr result (self.new.free ≡ self.old.free) }
+        ensures memory { OnErr result (self.old.free < places) }
+    {
+        let free = self.spare.len();
+        if places <= free {
+            return Ok(());
+        }
+        let more = self.taken.checked_add(places - free).ok_or(Memory)?;
+        self.spare.reserve(more)?;
+        let filled = fill(self.alloc, &mut self.spare, places);
+        if filled.is_err() {
+            self.spare.truncate(free);
+        }
+        filled
+    }
+
+    /// A node by itself with this zone.
+    pub fn take(&mut self, zone: Zone) -> Box<Node>
+        requires { 0 < self.old.free }
+        ensures free { self.new.free + 1 ≡ self.old.free }
+        ensures taken { self.new.taken ≡ self.old.taken + 1 }
+        ensures alone { IsAlone result.value }
+        ensures zone { result.value.zone ≡ zone }
+    {
+        let Some(mut node) = self.spare.pop() else {
+            unreachable!()
+        };
+        self.taken += 1;
+        node.zone = zone;
+        node
+    }
+
+    /// Takes a node by itself back.
+    pub fn give(&mut self, node: Box<Node>)
+        requires alone { IsAlone node.value }
+        requires taken { 0 < self.old.taken }
+        ensures free { self.new.free ≡ self.old.free + 1 }
+        ensures taken { self.new.taken + 1 ≡ self.old.taken }
+    {
+        self.taken -= 1;
+        self.spare.push_reserved(node);
+    }
+}
+
+/// Adds nodes by themselves up to that many.
+fn fill(alloc: Global, spare: &mut Vec<Box<Node>>, places: usize) -> Result<(), Memory>
+    requires fewer { vec_len spare.old ≤ places }
+    requires room { places ≤ vec_capacity spare.old }
+    requires alone { All (λ n. IsAlone n.value) spare.old.items }
+    ensures ok { OnOk result (vec_len spare.new ≡ places) }
+    ensures kept { vec_len spare.old ≤ vec_len spare.new }
+    ensures capacity { vec_capacity spare.new ≡ vec_capacity spare.old }
+    ensures alone { All (λ n. IsAlone n.value) spare.new.items }
+{
+    for _ in spare.len()..places {
+        let Ok(node) = Box::new(alloc, empty()) else {
+            return Err(Memory);
+        };
+        spare.push_reserved(node);
+    }
+    Ok(())
+}
+
+/// A node by itself of no zone that is meant.
+fn empty() -> Node
+    ensures { IsAlone result }
+{
+    Node {
+        left: Tree::new(),
+        zone: Zone {
+            left: Edge::Before,
+            right: Edge::Before,
+            forward: false,
+            value: Content::Nil,
+        },
+        right: Tree::new(),
+        height: 0,
+        summary: Summary::none(),
+    }
+}

@@ -1,0 +1,87 @@
+//! What each node keeps of the zones below it.
+
+ghost use Rattle.std.specs.Prelude.{◌≡◌};
+ghost use Rattle.zone_tree.specs.Summary.{no_zones, one_zone, join as joined, meets as meet, latest as later_of, earliest as earlier_of};
+
+use crate::{Edge, Zone};
+
+/// The edges that decide whether zones conflict with others, and whether two of them do.
+#[derive(Clone, Copy)]
+pub struct Summary {
+    /// The greatest right edge of a forward zone.
+    pub last_forward: Edge,
+    /// The least left edge of a forward zone.
+    pub first_forward: Edge,
+    /// The least right edge of a backward zone.
+    pub first_backward: Edge,
+    /// Whether two zones conflict.
+    pub conflict: bool,
+}
+
+impl Summary {
+    #[tactic(auto, unfolding(crate::specs::Summary::no_zones))]
+    pub fn none() -> Self
+        ensures { result ≡ no_zones }
+    {
+        Summary {
+            last_forward: Edge::Before,
+            first_forward: Edge::Never,
+            first_backward: Edge::Never,
+            conflict: false,
+        }
+    }
+
+    #[tactic(auto, unfolding(crate::specs::Summary::one_zone))]
+    pub fn of_one(zone: &Zone) -> Self
+        ensures { result ≡ one_zone zone.now }
+    {
+        if zone.forward {
+            Summary {
+                last_forward: zone.right,
+                first_forward: zone.left,
+                first_backward: Edge::Never,
+                conflict: false,
+            }
+        } else {
+            Summary {
+                last_forward: Edge::Before,
+                first_forward: Edge::Never,
+                first_backward: zone.right,
+                conflict: false,
+            }
+        }
+    }
+
+    /// Of zones and of those behind them.
+    #[tactic(auto, unfolding(crate::specs::Summary::join))]
+    pub fn join(&self, later: &Summary) -> Self
+        ensures { result ≡ joined self.now later.now }
+    {
+        Summary {
+            last_forward: latest(self.last_forward, later.last_forward),
+            first_forward: earliest(self.first_forward, later.first_forward),
+            first_backward: earliest(self.first_backward, later.first_backward),
+            conflict: self.conflict || later.conflict || self.meets(later),
+        }
+    }
+
+    /// Whether an earlier forward zone conflicts with a later zone.
+    fn meets(&self, later: &Summary) -> bool
+        ensures { result ≡ meet self.now later.now }
+    {
+        later.first_forward.comes_before(self.last_forward)
+            || later.first_backward.comes_before(self.last_forward)
+    }
+}
+
+fn latest(a: Edge, b: Edge) -> Edge
+    ensures { result ≡ later_of a b }
+{
+    if a.comes_before(b) { b } else { a }
+}
+
+fn earliest(a: Edge, b: Edge) -> Edge
+    ensures { result ≡ earlier_of a b }
+{
+    if b.comes_before(a) { b } else { a }
+}

@@ -1,0 +1,263 @@
+-- A row of a shelf: what stands there, what a change makes of it, and what a look-up in it says.
+use Rattle.std.proofs.Common.{◌≡◌, ◌≢◌, ◌⊎◌, inl, inr, Bool, true, false, List, Option, Some, None, Decides, refl, sym, ap, subst, ◌∙◌}
+use Rattle.std.specs.Prelude.{Contains, IfSome, is_some, if◌then◌else◌}
+use Rattle.std.proofs.lemmas.Bool.Decides.{Decides-and, Decides-eqb}
+use Rattle.intervals.specs.declared.operation.Op.{Op}
+use Rattle.intervals.specs.declared.operation.OpId.{OpId}
+use Rattle.intervals.specs.declared.operation.Moment.{Moment}
+use Rattle.intervals.specs.declared.operation.Value.{Value}
+use Rattle.intervals.specs.declared.shelf.Spot.{Spot}
+use Rattle.intervals.specs.declared.shelf.Shelf.{Shelf}
+use Rattle.intervals.specs.Operation.{IsWrite, is_write, same_value, value_of, judged}
+use Rattle.intervals.specs.Shelf.{place_at, id_at, joined, same_spot, spot_of}
+use Rattle.zones.specs.declared.index.Row.{Row}
+use Rattle.zones.specs.declared.index.Row.TheVariants.{Writes, Ends, Begins}
+use Rattle.zones.specs.Cluster.{edge_of_end}
+use Rattle.zones.specs.Members.{HaveOwnPlaces, IsChange}
+use Rattle.zones.specs.declared.index.Members.{Members}
+use Rattle.zones.specs.Index.{AreMembers, HasPlaceAt, HasPlaces, HasPlacesOf, IsInTime, IsRow, shelf_of, at_first, by_begin, by_end, come_at, is_spot, spot_in, spot_on, taken_at}
+use Rattle.zones.proofs.Members.{Decides-same_value, kept, kept_stands}
+use Rattle.zones.proofs.Judged.{is_judged, judged_write}
+
+-- the test for one spot decides it
+pub Decides-same_spot : (a b : Spot) → (same_spot a b ≡ true → a ≡ b) × (a ≡ b → same_spot a b ≡ true)
+Decides-same_spot a b = (
+  (λ t. let (e, f) = parts.0 t in
+      ap {B = Spot} (λ v. spot_of v a.moment) e ∙ ap {B = Spot} (λ n. spot_of b.value (record { 0 = n })) f),
+  (λ e. parts.1 (ap (λ (s : Spot). s.value) e, ap (λ (s : Spot). s.moment.0) e)),
+)
+  where
+    parts : Decides (same_spot a b) ((a.value ≡ b.value) × (a.moment.0 ≡ b.moment.0))
+    parts = Decides-and (same_value a.value b.value) _ (Decides-same_value a.value b.value) (Decides-eqb a.moment.0 b.moment.0)
+
+is_spot_one : (spot : Option Spot) (other : Spot) → is_spot spot other ≡ true → spot ≡ Some other
+is_spot_one None other t = absurd (cc)
+is_spot_one (Some spot) other t = ap Some ((Decides-same_spot spot other).0 t)
+
+is_spot_itself : (spot : Spot) → is_spot (Some spot) spot ≡ true
+is_spot_itself spot = (Decides-same_spot spot spot).1 refl
+
+-- what an operation is that stands at a spot
+pub written : (op : Op) (spot : Spot) → spot_on Writes op ≡ Some spot → IsWrite op × (spot ≡ spot_of (value_of op.act) at_first)
+written op spot e = by_test (is_write op) refl
+  where
+    by_test : (t : Bool) → is_write op ≡ t → IsWrite op × (spot ≡ spot_of (value_of op.act) at_first)
+    by_test true s = (s, let f = rw s at e in cc)
+    by_test false s = absurd (let f = rw s at e in cc)
+
+by_end_is : (v : Value) (end : Option Moment) (spot : Spot) → by_end v end ≡ Some spot → (v ≡ spot.value) × (end ≡ Some spot.moment)
+by_end_is v None spot e = absurd (cc)
+by_end_is v (Some end) spot e = let f : spot_of v end ≡ spot = cc in (ap (λ (s : Spot). s.value) f, ap (λ (s : Spot). Some s.moment) f)
+
+pub ended : (op : Op) (spot : Spot) → spot_on Ends op ≡ Some spot → (is_write op ≡ false) × (value_of op.act ≡ spot.value) × (op.end ≡ Some spot.moment)
+ended op spot e = by_test (is_write op) refl
+  where
+    by_test : (t : Bool) → is_write op ≡ t → (is_write op ≡ false) × (value_of op.act ≡ spot.value) × (op.end ≡ Some spot.moment)
+    by_test true s = absurd (let f = rw s at e in cc)
+    by_test false s = let (v, m) = by_end_is (value_of op.act) op.end spot (rw s at e) in (s, v, m)
+
+by_begin_is : (v : Value) (begin : Moment) (end : Option Moment) (spot : Spot) → by_begin v begin end ≡ Some spot → (v ≡ spot.value) × (begin ≡ spot.moment) × (is_some end ≡ true)
+by_begin_is v begin None spot e = absurd (cc)
+by_begin_is v begin (Some end) spot e = let f : spot_of v begin ≡ spot = cc in (ap (λ (s : Spot). s.value) f, ap (λ (s : Spot). s.moment) f, refl)
+
+pub begun : (op : Op) (spot : Spot) → spot_on Begins op ≡ Some spot → (is_write op ≡ false) × (value_of op.act ≡ spot.value) × (op.begin ≡ spot.moment) × (is_some op.end ≡ true)
+begun op spot e = by_test (is_write op) refl
+  where
+    by_test : (t : Bool) → is_write op ≡ t → (is_write op ≡ false) × (value_of op.act ≡ spot.value) × (op.begin ≡ spot.moment) × (is_some op.end ≡ true)
+    by_test true s = absurd (let f = rw s at e in cc)
+    by_test false s = let (v, m, i) = by_begin_is (value_of op.act) op.begin op.end spot (rw s at e) in (s, v, m, i)
+
+pub judged_there : (row : Row) (op : Op) (spot : Spot) → spot_on row op ≡ Some spot → is_judged op ≡ true
+judged_there Writes op spot e = judged_write op (written op spot e).0
+judged_there Ends op spot e = let (w, v, m) = ended op spot e in rw (w, m) refl
+judged_there Begins op spot e = let (w, v, m, i) = begun op spot e in rw (w, i) refl
+
+-- no two judged operations have one spot
+own_spot : (ops : List Op) → HaveOwnPlaces ops → (row : Row) (a b : Op) (spot : Spot) → Contains (judged ops) a → Contains (judged ops) b → spot_on row a ≡ Some spot → spot_on row b ≡ Some spot → a ≡ b
+own_spot ops own Writes a b spot ha hb e f =
+    let (w, p) = written a spot e in
+    let (v, q) = written b spot f in
+    own.by_value a b ha hb (ap (λ (s : Spot). s.value) (sym p ∙ q)) w v
+own_spot ops own Ends a b spot ha hb e f =
+    let (_, p, m) = ended a spot e in
+    let (_, q, n) = ended b spot f in
+    own.by_end a b ha hb (p ∙ sym q) (ap edge_of_end (m ∙ sym n))
+own_spot ops own Begins a b spot ha hb e f =
+    let (_, p, m, _) = begun a spot e in
+    let (_, q, n, _) = begun b spot f in
+    own.by_begin a b ha hb (p ∙ sym q) (m ∙ sym n)
+
+pub same_row : (row : Row) (ops : List Op) (before after : Shelf) → ((spot : Spot) → id_at after spot ≡ id_at before spot) → IsRow row ops before → IsRow row ops after
+same_row row ops before after same is = record {
+  there = λ op spot h e. same spot ∙ is.there op spot h e;
+  back = λ spot id e. is.back spot id (sym (same spot) ∙ e);
+  in_time = λ spot id e. is.in_time spot id (sym (same spot) ∙ e);
+}
+
+-- what is at a spot once an id is taken out: none at that one, and elsewhere what was there
+abbrev IsTaken : Option Spot → Spot → Option OpId → Option OpId → Type 0
+IsTaken gone spot before after = ((gone ≡ Some spot) × (after ≡ None)) ⊎ ((gone ≢ Some spot) × (after ≡ before))
+
+taken_cases : (gone held : Option Spot) (spot : Spot) (found : Option (Option OpId)) → IsTaken gone spot (joined found) (joined (taken_at gone held spot found))
+taken_cases gone held spot found = by_test (is_spot gone spot) (is_spot held spot) refl
+  where
+    by_test : (t s : Bool) → is_spot gone spot ≡ t → IsTaken gone spot (joined found) (joined (if t then (if s then Some None else None) else found))
+    by_test true true e = inl (is_spot_one gone spot e, refl)
+    by_test true false e = inl (is_spot_one gone spot e, refl)
+    by_test false s e = inr (λ f. let g = is_spot_itself spot in let h : is_spot (Some spot) spot ≡ false = subst (λ (s : Option Spot). is_spot s spot ≡ false) f e in absurd (cc), refl)
+
+-- what is at a spot once an operation has come: its id at its own, and elsewhere what was there
+abbrev IsCome : Row → Option Op → Spot → Option OpId → Option OpId → Type 0
+IsCome row new spot before after = ((op : Op) × (new ≡ Some op) × (spot_on row op ≡ Some spot) × (after ≡ Some op.id)) ⊎ ((spot_in row new ≢ Some spot) × (after ≡ before))
+
+come_cases : (row : Row) (new : Option Op) (spot : Spot) (found : Option (Option OpId)) → IsCome row new spot (joined found) (joined (come_at row new spot found))
+come_cases row None spot found = inr (λ e. absurd (cc), refl)
+come_cases row (Some op) spot found = by_test (is_spot (spot_on row op) spot) refl
+  where
+    by_test : (t : Bool) → is_spot (spot_on row op) spot ≡ t → IsCome row (Some op) spot (joined found) (joined (if t then Some (Some op.id) else found))
+    by_test true e = inl (op, refl, is_spot_one (spot_on row op) spot e, refl)
+    by_test false e = inr (λ f. let g = is_spot_itself spot in let h : is_spot (Some spot) spot ≡ false = subst (λ (s : Option Spot). is_spot s spot ≡ false) f e in absurd (cc), refl)
+
+module _ (row : Row) where
+  -- the operation whose spot is there
+  owner : (op : Option Op) (spot : Spot) → spot_in row op ≡ Some spot → (one : Op) × (op ≡ Some one) × (spot_on row one ≡ Some spot)
+  owner None spot e = absurd (cc)
+  owner (Some op) spot e = (op, refl, e)
+
+  module _ (before after : List Op) (old new : Option Op) (change : IsChange before old new after) (from to : Shelf) (held : Option Spot) (index : IsRow row before from) (fits : IsInTime (spot_in row new))
+      (is : (spot : Spot) → place_at to spot ≡ come_at row new spot (taken_at (spot_in row old) held spot (place_at from spot))) where
+    abbrev left_at : Spot → Option (Option OpId)
+    left_at spot = taken_at (spot_in row old) held spot (place_at from spot)
+
+    comes : (one : Op) → new ≡ Some one → Contains (judged after) one
+    comes one e = subst (λ (o : Option Op). IfSome o (Contains (judged after))) e change.comes
+
+    goes : (one : Op) → old ≡ Some one → Contains (judged before) one
+    goes one e = subst (λ (o : Option Op). IfSome o (Contains (judged before))) e change.goes
+
+    -- what stays is not taken out
+    stays_there : (op : Op) (spot : Spot) → Contains (judged before) op → old ≢ Some op → spot_on row op ≡ Some spot → joined (left_at spot) ≡ Some op.id
+    stays_there op spot h other e = by_cases (taken_cases (spot_in row old) held spot (place_at from spot))
+      where
+        by_cases : IsTaken (spot_in row old) spot (id_at from spot) (joined (left_at spot)) → joined (left_at spot) ≡ Some op.id
+        by_cases (inl (s, r)) = let (one, o, f) = owner old spot s in absurd (other (o ∙ ap Some (own_spot before change.apart_before row one op spot (goes one o) h f e)))
+        by_cases (inr (s, r)) = r ∙ index.there op spot (kept_stands is_judged before op h).0 e
+
+    there_after : (op : Op) (spot : Spot) → Contains after op → spot_on row op ≡ Some spot → id_at to spot ≡ Some op.id
+    there_after op spot h e = ap joined (is spot) ∙ by_new (come_cases row new spot (left_at spot))
+      where
+        stands : Contains (judged after) op
+        stands = kept is_judged after op h (judged_there row op spot e)
+
+        by_stood : spot_in row new ≢ Some spot → (new ≡ Some op) ⊎ (Contains (judged before) op × (old ≢ Some op)) → joined (left_at spot) ≡ Some op.id
+        by_stood other (inl n) = absurd (other (ap (spot_in row) n ∙ e))
+        by_stood other (inr (b, stays)) = stays_there op spot b stays e
+
+        by_new : IsCome row new spot (joined (left_at spot)) (joined (come_at row new spot (left_at spot))) → joined (come_at row new spot (left_at spot)) ≡ Some op.id
+        by_new (inl (one, n, f, r)) = r ∙ ap (λ (o : Op). Some o.id) (own_spot after change.apart_after row one op spot (comes one n) stands f e)
+        by_new (inr (other, r)) = r ∙ by_stood other (change.stood op stands)
+
+    abbrev StandsAfter : Spot → OpId → Type 0
+    StandsAfter spot id = (op : Op) × Contains after op × (op.id ≡ id) × (spot_on row op ≡ Some spot)
+
+    back_after : (spot : Spot) (id : OpId) → id_at to spot ≡ Some id → StandsAfter spot id
+    back_after spot id e = by_new (come_cases row new spot (left_at spot))
+      where
+        by_stay : (op : Op) → op.id ≡ id → spot_on row op ≡ Some spot → spot_in row old ≢ Some spot → (old ≡ Some op) ⊎ Contains (judged after) op → StandsAfter spot id
+        by_stay op i f other (inl o) = absurd (other (ap (spot_in row) o ∙ f))
+        by_stay op i f other (inr h) = (op, (kept_stands is_judged after op h).0, i, f)
+
+        by_old : joined (left_at spot) ≡ Some id → IsTaken (spot_in row old) spot (id_at from spot) (joined (left_at spot)) → StandsAfter spot id
+        by_old l (inl (s, r)) = absurd (cc)
+        by_old l (inr (other, r)) =
+            let (op, h, i, f) = index.back spot id (sym r ∙ l) in
+            by_stay op i f other (change.stay op (kept is_judged before op h (judged_there row op spot f)))
+
+        by_new : IsCome row new spot (joined (left_at spot)) (joined (come_at row new spot (left_at spot))) → StandsAfter spot id
+        by_new (inl (one, n, f, r)) = (one, (kept_stands is_judged after one (comes one n)).0, (let g : Some one.id ≡ Some id = sym r ∙ (sym (ap joined (is spot)) ∙ e) in cc), f)
+        by_new (inr (other, r)) = by_old (sym r ∙ (sym (ap joined (is spot)) ∙ e)) (taken_cases (spot_in row old) held spot (place_at from spot))
+
+    in_time_after : (spot : Spot) (id : OpId) → id_at to spot ≡ Some id → IsInTime (Some spot)
+    in_time_after spot id e = by_new (come_cases row new spot (left_at spot))
+      where
+        by_old : joined (left_at spot) ≡ Some id → IsTaken (spot_in row old) spot (id_at from spot) (joined (left_at spot)) → IsInTime (Some spot)
+        by_old l (inl (s, r)) = absurd (cc)
+        by_old l (inr (other, r)) = index.in_time spot id (sym r ∙ l)
+
+        by_new : IsCome row new spot (joined (left_at spot)) (joined (come_at row new spot (left_at spot))) → IsInTime (Some spot)
+        by_new (inl (one, n, f, r)) = subst IsInTime (ap (spot_in row) n ∙ f) fits
+        by_new (inr (other, r)) = by_old (sym r ∙ (sym (ap joined (is spot)) ∙ e)) (taken_cases (spot_in row old) held spot (place_at from spot))
+
+    pub row_after : IsRow row after to
+    row_after = record { there = there_after; back = back_after; in_time = in_time_after }
+
+-- the held place is there after a change
+place_taken : (gone : Option Spot) (held : Spot) (found : Option (Option OpId)) → is_some found ≡ true → is_some (taken_at gone (Some held) held found) ≡ true
+place_taken gone held found e = by_test (is_spot gone held) (is_spot (Some held) held) (is_spot_itself held)
+  where
+    by_test : (t s : Bool) → s ≡ true → is_some (if t then (if s then Some None else None) else found) ≡ true
+    by_test true true f = refl
+    by_test true false f = absurd (cc)
+    by_test false s f = e
+
+place_come : (row : Row) (new : Option Op) (spot : Spot) (found : Option (Option OpId)) → is_some found ≡ true → is_some (come_at row new spot found) ≡ true
+place_come row None spot found e = e
+place_come row (Some op) spot found e = by_test (is_spot (spot_on row op) spot)
+  where
+    by_test : (t : Bool) → is_some (if t then Some (Some op.id) else found) ≡ true
+    by_test true = refl
+    by_test false = e
+
+-- a row once the old operation is gone and the new one has come
+abbrev pub IsChanged : Row → Option Op → Option Op → Option Op → Shelf → Shelf → Type 0
+IsChanged row old new prepared from to = (spot : Spot) → place_at to spot ≡ come_at row new spot (taken_at (spot_in row old) (spot_in row prepared) spot (place_at from spot))
+
+place_stays : (row : Row) (old new : Option Op) (prepared : Op) (from to : Shelf) (spot : Spot) → spot_on row prepared ≡ Some spot → IsChanged row old new (Some prepared) from to → is_some (place_at from spot) ≡ true → is_some (place_at to spot) ≡ true
+place_stays row old new prepared from to spot e is there =
+    ap is_some (is spot)
+    ∙ place_come row new spot (taken_at (spot_in row old) (spot_in row (Some prepared)) spot (place_at from spot))
+    (subst (λ (s : Option Spot). is_some (taken_at (spot_in row old) s spot (place_at from spot)) ≡ true) (sym e) (place_taken (spot_in row old) spot (place_at from spot) there))
+
+pub place_of : (row : Row) (op : Option Op) (members : Members) → HasPlacesOf op members → HasPlaceAt (shelf_of members row) (spot_in row op)
+place_of row None members h = tt
+place_of row (Some op) members h = by_spot (spot_on row op) (h row)
+  where
+    by_spot : (s : Option Spot) → ((spot : Spot) → s ≡ Some spot → is_some (place_at (shelf_of members row) spot) ≡ true) → HasPlaceAt (shelf_of members row) s
+    by_spot None each = tt
+    by_spot (Some spot) each = each spot refl
+
+module _ (old new : Option Op) (members : Members) (writes ends begins : Shelf) where
+  abbrev changed : Members
+  changed = record { writes = writes; ends = ends; begins = begins }
+
+  pub changed_rows : (prepared : Option Op) → IsChanged Writes old new prepared members.writes writes → IsChanged Ends old new prepared members.ends ends → IsChanged Begins old new prepared members.begins begins
+      → ((row : Row) → IsInTime (spot_in row new)) → (before after : List Op) → AreMembers before members → IsChange before old new after → AreMembers after changed
+  changed_rows prepared w e b fits before after is change Writes = row_after Writes before after old new change members.writes writes (spot_in Writes prepared) (is Writes) (fits Writes) w
+  changed_rows prepared w e b fits before after is change Ends = row_after Ends before after old new change members.ends ends (spot_in Ends prepared) (is Ends) (fits Ends) e
+  changed_rows prepared w e b fits before after is change Begins = row_after Begins before after old new change members.begins begins (spot_in Begins prepared) (is Begins) (fits Begins) b
+
+  pub changed_places : (prepared : Option Op) → IsChanged Writes old new prepared members.writes writes → IsChanged Ends old new prepared members.ends ends → IsChanged Begins old new prepared members.begins begins
+      → HasPlacesOf prepared members → HasPlacesOf prepared changed
+  changed_places None w e b h = tt
+  changed_places (Some op) w e b h = by_row
+    where
+      by_row : HasPlaces op changed
+      by_row Writes spot s = place_stays Writes old new op members.writes writes spot s w (h Writes spot s)
+      by_row Ends spot s = place_stays Ends old new op members.ends ends spot s e (h Ends spot s)
+      by_row Begins spot s = place_stays Begins old new op members.begins begins spot s b (h Begins spot s)
+
+-- shelves of the same ids have the same members
+pub same_rows : (ops : List Op) (before : Members) (writes ends begins : Shelf)
+    → ((spot : Spot) → id_at writes spot ≡ id_at before.writes spot)
+    → ((spot : Spot) → id_at ends spot ≡ id_at before.ends spot)
+    → ((spot : Spot) → id_at begins spot ≡ id_at before.begins spot)
+    → AreMembers ops before → AreMembers ops (record { writes = writes; ends = ends; begins = begins })
+same_rows ops before writes ends begins w e b is Writes = same_row Writes ops before.writes writes w (is Writes)
+same_rows ops before writes ends begins w e b is Ends = same_row Ends ops before.ends ends e (is Ends)
+same_rows ops before writes ends begins w e b is Begins = same_row Begins ops before.begins begins b (is Begins)
+
+-- what is so of each row
+pub of_rows : (P : Row → Type 0) → P Writes → P Ends → P Begins → (row : Row) → P row
+of_rows P w e b Writes = w
+of_rows P w e b Ends = e
+of_rows P w e b Begins = b

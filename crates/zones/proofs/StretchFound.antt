@@ -1,0 +1,48 @@
+-- The stretch of a value by what the shelves give: the end of its first read, and its one write.
+use Rattle.std.proofs.Common.{◌≡◌, Bool, List, Some, None, sym, ap, ◌∙◌, cond}
+use Rattle.std.specs.Prelude.{Contains}
+use Rattle.intervals.specs.declared.operation.Op.{Op}
+use Rattle.intervals.specs.declared.operation.Moment.{Moment}
+use Rattle.intervals.specs.declared.operation.OpId.{OpId}
+use Rattle.intervals.specs.declared.operation.Value.{Value}
+use Rattle.intervals.specs.Edit.{op_of}
+use Rattle.intervals.specs.Operation.{value_of}
+use Rattle.intervals.specs.Shelf.{id_at, spot_of}
+use Rattle.intervals.specs.Standing.{HasDistinctIds}
+use Rattle.intervals.proofs.Ids.{found_by_id}
+use Rattle.zone_tree.specs.declared.edge.Edge.{Edge}
+use Rattle.zone_tree.specs.declared.edge.Edge.TheVariants.{At}
+use Rattle.zone_tree.specs.declared.zone.Zone.{Zone}
+use Rattle.zones.specs.declared.index.Row.TheVariants.{Writes}
+use Rattle.zones.specs.declared.index.Members.{Members}
+use Rattle.zones.specs.Cluster.{zone_between}
+use Rattle.zones.specs.Faults.{IsStretchAt, begin_of, first_end_of}
+use Rattle.zones.specs.Index.{AreMembers, at_first, shelf_of}
+use Rattle.zones.specs.Members.{EndsFirstOf, IsTheWriteAt}
+use Rattle.zones.proofs.Stretches.{first_end_is}
+
+-- two operations of one id are one
+pub one_of_id : (ops : List Op) → HasDistinctIds ops → (a b : Op) → Contains ops a → Contains ops b → a.id ≡ b.id → a ≡ b
+one_of_id ops ids a b h k e = let same : Some a ≡ Some b = sym (found_by_id ops a ids h) ∙ (ap (op_of ops) e ∙ found_by_id ops b ids k) in cc
+
+-- on the shelf of the writes one id stands at each value, so of each value there is one write
+pub one_write_at : (ops : List Op) (members : Members) → AreMembers ops members → HasDistinctIds ops → (value : Value) (a b : Op) → IsTheWriteAt ops value a → IsTheWriteAt ops value b → a ≡ b
+one_write_at ops members are ids value a b p q =
+    one_of_id ops ids a b p.stands q.stands
+    (let same : Some a.id ≡ Some b.id = sym (stands_at a p) ∙ stands_at b q in cc)
+  where
+    stands_at : (w : Op) → IsTheWriteAt ops value w → id_at (shelf_of members Writes) (spot_of value at_first) ≡ Some w.id
+    stands_at w is =
+        (are Writes).there w (spot_of value at_first) is.stands
+        (ap (λ (b : Bool). cond b (Some (spot_of (value_of w.act) at_first)) None) is.write ∙ ap (λ (v : Value). Some (spot_of v at_first)) is.same)
+
+-- the zone from the end of the first read to the beginning of the write is the stretch of the value
+pub stretch_found : (initial : Value) (ops : List Op) (v : Value) (end : Moment) (id : OpId) → EndsFirstOf ops v end id → (begin : Edge) → begin ≡ begin_of initial ops v → (zone : Zone) → zone ≡ zone_between (At end) begin v → IsStretchAt initial ops v (Some zone)
+stretch_found initial ops v end id is begin at zone e = record {
+  stretch =
+      e
+      ∙ (ap (λ (m : Edge). zone_between m begin v) (sym (first_end_is ops v end id is))
+      ∙ ap (λ (m : Edge). zone_between (first_end_of ops v) m v) at);
+  none = λ n. absurd (cc);
+  some = λ n. (is.read, is.stands, is.judged, is.same);
+}

@@ -1,0 +1,25 @@
+use Rattle.std.proofs.Common.{◌≡◌, None, ap, ◌∙◌}
+use Rattle.intervals.specs.Table.{Tabled}
+use Rattle.intervals.specs.Terms.{terms_of}
+use Rattle.zones.specs.Together.{Clustered}
+use Rattle.zones.proofs.Admitted.{together_kept, room_of_none, room_of_one}
+use Rattle.zones.proofs.register.Clusters.prepare.Goals as goal
+
+pub invariant_of-self-in-Err : goal.invariant_of-self-in-Err
+invariant_of-self-in-Err c =
+    let ops = c.self.inside.table.ops in
+    let table : c.prepare.new.self ≡ c.self.inside.table = c.in-Err.ensures.err in
+    let none : c.prepare.new.self.prepared ≡ None = ap (λ (t : Tabled). t.prepared) table ∙ (ap (λ (x : Clustered). x.prepared) c.self.view_is ∙ c.requires) in
+    together_kept (terms_of c.self.inside.claim) c.self.inside.table c.prepare.new.self c.self.inside.members c.release.new.self
+    c.self.inside.zones c.reserve.new.self c.self.inside.stretches c.reserve-2.new.self c.self.invariant
+    (ap (λ (t : Tabled). t.ops) table) (c.release.ensures ops (c.hold.ensures.members ops c.self.invariant.members_of)) c.reserve.ensures.zones c.reserve-2.ensures.zones
+    (room_of_none c.release.new.self c.reserve.new.self c.reserve-2.new.self c.prepare.new.self.prepared none)
+
+pub invariant_of-self-in_default : goal.invariant_of-self-in_default
+invariant_of-self-in_default c =
+    let ops = c.self.inside.table.ops in
+    together_kept (terms_of c.self.inside.claim) c.self.inside.table c.prepare.new.self c.self.inside.members c.hold.new.self
+    c.self.inside.zones c.reserve.new.self c.self.inside.stretches c.reserve-2.new.self c.self.invariant
+    (ap (λ (t : Tabled). t.ops) c.in_default.ensures.ok) (c.hold.ensures.members ops c.self.invariant.members_of) c.reserve.ensures.zones c.reserve-2.ensures.zones
+    (room_of_one c.hold.new.self c.reserve.new.self c.reserve-2.new.self c.prepare.new.self.prepared c.args.op.now (ap (λ (t : Tabled). t.prepared) c.in_default.ensures.ok)
+    c.in_ok-hold.ensures.places c.in_ok-reserve.ensures.ok c.in_ok-reserve-2.ensures.ok)

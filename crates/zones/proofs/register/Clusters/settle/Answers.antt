@@ -1,0 +1,125 @@
+use Rattle.std.proofs.Common.{◌≡◌, ◌+◌, ◌*◌, ◌≤◌, ℕ, length, None, Some, Option, ap, sym, subst, ◌∙◌, rules}
+use Rattle.std.specs.Prelude.{IfSome, IsSome}
+use Rattle.intervals.specs.declared.operation.Op.{Op}
+use Rattle.intervals.specs.Edit.{op_of, new_op, edited, edit_id}
+use Rattle.intervals.specs.Refusal.{reply_to}
+use Rattle.intervals.specs.Table.{Tabled, prepared_after}
+use Rattle.intervals.specs.Terms.{terms_of}
+use Rattle.intervals.proofs.Accepted.{edit_accepted}
+use Rattle.zone_tree.specs.Digits.{digits}
+use Rattle.zones.specs.Cluster.{zones_of}
+use Rattle.zones.specs.Index.{AreMembers, HasPlacesOf}
+use Rattle.zones.specs.Together.{Clustered, HasRoomFor}
+use Rattle.zones.specs.Zoned.{judged_part}
+use Rattle.zones.proofs.Admitted.{apart_after, as_many_zones, can_exchange_stretches, can_exchange_zones, change_is, enough_for, judged_prepared, room_after, stretched_after, stretches_need_no_room, zoned_after, zones_need_no_room}
+use Rattle.zones.proofs.register.Clusters.settle.Goals as goal
+
+pub change-requires-clause-prepared : goal.change-requires-clause-prepared
+change-requires-clause-prepared c =
+    let same : c.prepared.result ≡ c.args.self.now.prepared = c.prepared.ensures ∙ ap (λ (x : Clustered). x.prepared) c.self.view_is in
+    let is : IfSome c.args.new (λ op. c.prepared.result ≡ Some op) = subst (λ (p : Option Op). IfSome c.args.new (λ op. p ≡ Some op)) (sym same) c.requires.prepared in
+    subst (λ (n : Option Op). IfSome n (λ op. c.prepared.result ≡ Some op)) (sym c.judged-new.ensures) (judged_prepared c.args.new c.prepared.result is)
+
+pub admit-requires-clause-accepted : goal.admit-requires-clause-accepted
+admit-requires-clause-accepted c =
+    let claim = terms_of c.self.inside.claim in
+    let ops = c.self.inside.table.ops in
+    edit_accepted claim ops c.args.edit (subst (λ (x : Clustered). reply_to x.claim x.ops c.args.edit ≡ None) (sym c.self.view_is) c.requires.accepted)
+
+pub exchange-requires : goal.exchange-requires
+exchange-requires c =
+    let claim = terms_of c.self.inside.claim in
+    let ops = c.self.inside.table.ops in
+    let prepared = c.self.inside.table.prepared in
+    let accepted : reply_to claim ops c.args.edit ≡ None = subst (λ (x : Clustered). reply_to x.claim x.ops c.args.edit ≡ None) (sym c.self.view_is) c.requires.accepted in
+    let old_is : c.judged-old.result ≡ judged_part (op_of ops (edit_id c.args.edit)) = search rules in
+    let asked : c.args.new ≡ new_op ops c.args.edit = subst (λ (x : Clustered). c.args.new ≡ new_op x.ops c.args.edit) (sym c.self.view_is) c.requires.new in
+    let new_is : c.judged-new.result ≡ judged_part (new_op ops c.args.edit) = c.judged-new.ensures ∙ ap judged_part asked in
+    let held : IfSome c.args.new (λ op. prepared ≡ Some op) = subst (λ (x : Clustered). IfSome c.args.new (λ op. x.prepared ≡ Some op)) (sym c.self.view_is) c.requires.prepared in
+    let after = c.admit.new.self.ops in
+    let after_is : after ≡ edited ops c.args.edit = ap (λ (t : Tabled). t.ops) c.admit.ensures in
+    let apart = c.self.invariant.apart in
+    let later = apart_after claim ops c.args.edit apart accepted c.judged-old.result c.judged-new.result old_is new_is after after_is in
+    let members : AreMembers after c.change.new.self = c.change.ensures.members ops after c.self.invariant.members_of (change_is claim ops c.args.edit apart accepted c.judged-old.result c.judged-new.result old_is new_is after after_is) in
+    can_exchange_zones claim ops c.args.edit apart accepted c.judged-old.result c.judged-new.result old_is new_is after after_is
+    c.value_in-first.result c.other_value-second.result (search rules) (search rules) c.zones_in-zones.result c.zones_in-zones_after.result c.self.inside.zones c.self.invariant.zoned
+    (c.zones_in-zones.ensures c.self.invariant.members_of apart.ids) (c.zones_in-zones_after.ensures members later.ids)
+    (λ some. (enough_for c.self.inside.members c.self.inside.zones c.self.inside.stretches prepared c.self.invariant.room c.args.new held (subst (λ (n : Option Op). IsSome n) c.judged-new.ensures some)).0)
+
+pub exchange-requires-2 : goal.exchange-requires-2
+exchange-requires-2 c =
+    let claim = terms_of c.self.inside.claim in
+    let ops = c.self.inside.table.ops in
+    let prepared = c.self.inside.table.prepared in
+    let accepted : reply_to claim ops c.args.edit ≡ None = subst (λ (x : Clustered). reply_to x.claim x.ops c.args.edit ≡ None) (sym c.self.view_is) c.requires.accepted in
+    let old_is : c.judged-old.result ≡ judged_part (op_of ops (edit_id c.args.edit)) = search rules in
+    let asked : c.args.new ≡ new_op ops c.args.edit = subst (λ (x : Clustered). c.args.new ≡ new_op x.ops c.args.edit) (sym c.self.view_is) c.requires.new in
+    let new_is : c.judged-new.result ≡ judged_part (new_op ops c.args.edit) = c.judged-new.ensures ∙ ap judged_part asked in
+    let held : IfSome c.args.new (λ op. prepared ≡ Some op) = subst (λ (x : Clustered). IfSome c.args.new (λ op. x.prepared ≡ Some op)) (sym c.self.view_is) c.requires.prepared in
+    let after = c.admit.new.self.ops in
+    let after_is : after ≡ edited ops c.args.edit = ap (λ (t : Tabled). t.ops) c.admit.ensures in
+    let apart = c.self.invariant.apart in
+    let later = apart_after claim ops c.args.edit apart accepted c.judged-old.result c.judged-new.result old_is new_is after after_is in
+    let members : AreMembers after c.change.new.self = c.change.ensures.members ops after c.self.invariant.members_of (change_is claim ops c.args.edit apart accepted c.judged-old.result c.judged-new.result old_is new_is after after_is) in
+    can_exchange_stretches claim ops c.args.edit apart accepted c.judged-old.result c.judged-new.result old_is new_is after after_is
+    c.value_in-first.result c.other_value-second.result (search rules) (search rules) c.stretches_in-stretches.result c.stretches_in-stretches_after.result c.self.inside.stretches c.self.invariant.stretched
+    (c.stretches_in-stretches.ensures c.self.invariant.members_of apart.ids) (c.stretches_in-stretches_after.ensures members later.ids)
+    (λ some. (enough_for c.self.inside.members c.self.inside.zones c.self.inside.stretches prepared c.self.invariant.room c.args.new held (subst (λ (n : Option Op). IsSome n) c.judged-new.ensures some)).1)
+
+pub invariant_of-self : goal.invariant_of-self
+invariant_of-self c =
+    let claim = terms_of c.self.inside.claim in
+    let ops = c.self.inside.table.ops in
+    let prepared = c.self.inside.table.prepared in
+    let zones = c.self.inside.zones in
+    let stretches = c.self.inside.stretches in
+    let accepted : reply_to claim ops c.args.edit ≡ None = subst (λ (x : Clustered). reply_to x.claim x.ops c.args.edit ≡ None) (sym c.self.view_is) c.requires.accepted in
+    let old_is : c.judged-old.result ≡ judged_part (op_of ops (edit_id c.args.edit)) = search rules in
+    let asked : c.args.new ≡ new_op ops c.args.edit = subst (λ (x : Clustered). c.args.new ≡ new_op x.ops c.args.edit) (sym c.self.view_is) c.requires.new in
+    let new_is : c.judged-new.result ≡ judged_part (new_op ops c.args.edit) = c.judged-new.ensures ∙ ap judged_part asked in
+    let after = c.admit.new.self.ops in
+    let after_is : after ≡ edited ops c.args.edit = ap (λ (t : Tabled). t.ops) c.admit.ensures in
+    let apart = c.self.invariant.apart in
+    let later = apart_after claim ops c.args.edit apart accepted c.judged-old.result c.judged-new.result old_is new_is after after_is in
+    let members : AreMembers after c.change.new.self = c.change.ensures.members ops after c.self.invariant.members_of (change_is claim ops c.args.edit apart accepted c.judged-old.result c.judged-new.result old_is new_is after after_is) in
+    let zones_before = c.zones_in-zones.ensures c.self.invariant.members_of apart.ids in
+    let zones_later = c.zones_in-zones_after.ensures members later.ids in
+    let stretches_before = c.stretches_in-stretches.ensures c.self.invariant.members_of apart.ids in
+    let stretches_later = c.stretches_in-stretches_after.ensures members later.ids in
+    record {
+      apart = later;
+      members_of = members;
+      zoned = zoned_after claim ops c.args.edit apart accepted c.judged-old.result c.judged-new.result old_is new_is after after_is
+          c.value_in-first.result c.other_value-second.result (search rules) (search rules) c.zones_in-zones.result c.zones_in-zones_after.result zones c.self.invariant.zoned
+          zones_before zones_later c.exchange.new.tree.zones c.exchange.ensures.zones;
+      stretched = stretched_after claim ops c.args.edit apart accepted c.judged-old.result c.judged-new.result old_is new_is after after_is
+          c.value_in-first.result c.other_value-second.result (search rules) (search rules) c.stretches_in-stretches.result c.stretches_in-stretches_after.result stretches c.self.invariant.stretched
+          stretches_before stretches_later c.exchange-2.new.tree.zones c.exchange-2.ensures.zones;
+      room = subst (λ (p : Option Op). IfSome p (HasRoomFor c.change.new.self c.exchange.new.tree c.exchange-2.new.tree)) (sym (ap (λ (t : Tabled). t.prepared) c.admit.ensures))
+          (room_after c.self.inside.members zones stretches prepared c.self.invariant.room c.change.new.self c.exchange.new.tree c.exchange-2.new.tree (new_op ops c.args.edit)
+          (subst (λ (p : Option Op). HasPlacesOf p c.change.new.self) c.prepared.ensures c.change.ensures.places)
+          (λ none. c.exchange.ensures.room (zones_need_no_room claim ops c.args.edit apart accepted c.judged-old.result c.judged-new.result old_is new_is after after_is
+          c.value_in-first.result c.other_value-second.result (search rules) (search rules) c.zones_in-zones.result c.zones_in-zones_after.result zones c.self.invariant.zoned
+          zones_before zones_later (new_is ∙ none)))
+          (λ none. c.exchange-2.ensures.room (stretches_need_no_room claim ops c.args.edit apart accepted c.judged-old.result c.judged-new.result old_is new_is after after_is
+          c.value_in-first.result c.other_value-second.result (search rules) (search rules) c.stretches_in-stretches.result c.stretches_in-stretches_after.result stretches c.self.invariant.stretched
+          stretches_before stretches_later (new_is ∙ none))));
+    }
+
+pub returns-clause-edited : goal.returns-clause-edited
+returns-clause-edited c =
+    let claim = terms_of c.self.inside.claim in
+    let table = c.self.inside.table in
+    let steps = c.exchange.new.tree.steps in
+    let asked : c.args.new ≡ new_op table.ops c.args.edit = subst (λ (x : Clustered). c.args.new ≡ new_op x.ops c.args.edit) (sym c.self.view_is) c.requires.new in
+    ap {B = Clustered} (λ (t : Tabled). record { claim = claim; ops = t.ops; prepared = t.prepared; steps = steps }) c.admit.ensures
+    ∙ (ap {B = Clustered} (λ (n : Option Op). record { claim = claim; ops = edited table.ops c.args.edit; prepared = prepared_after n table.prepared; steps = steps }) (sym asked)
+    ∙ ap {B = Clustered} (λ (x : Clustered). record { claim = x.claim; ops = edited x.ops c.args.edit; prepared = prepared_after c.args.new x.prepared; steps = steps }) c.self.view_is)
+
+pub returns-clause-steps : goal.returns-clause-steps
+returns-clause-steps c =
+    let claim = terms_of c.self.inside.claim in
+    let zones = c.self.inside.zones in
+    let many = as_many_zones claim c.self.inside.table.ops zones.zones c.self.invariant.apart c.iter.ensures.order c.self.invariant.zoned in
+    subst (λ (x : Clustered). c.exchange.new.tree.steps ≤ x.steps + 4 * (2 * digits (length (zones_of x.claim.initial x.ops) + 1) + 1)) c.self.view_is
+    (subst (λ (n : ℕ). c.exchange.new.tree.steps ≤ zones.steps + 4 * (2 * digits (n + 1) + 1)) many c.exchange.ensures.steps)
