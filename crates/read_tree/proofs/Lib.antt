@@ -6,3 +6,4 @@ pub mod Wrongs
 pub mod Tops
 pub mod Counts
 pub mod Members
+pub mod Crosses

@@ -5,3 +5,4 @@ pub mod Stand
 pub mod Orders
 pub mod Excluding
 pub mod OneWitness
+pub mod Crosses

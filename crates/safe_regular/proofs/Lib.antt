@@ -16,3 +16,4 @@ pub mod Changed
 pub mod Settled
 pub mod Named
 pub mod Refusals
+pub mod Crosses

@@ -17,3 +17,4 @@ mod Merged
 mod Strangers
 mod Locked
 mod Ended
+pub mod Crosses

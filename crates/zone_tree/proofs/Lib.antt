@@ -16,3 +16,4 @@ mod Items
 mod Seams
 mod FirstConflicts
 mod Counts
+pub mod Crosses

@@ -29,3 +29,4 @@ mod Stretches
 mod StretchFound
 mod FirstStretch
 mod KeyOrder
+pub mod Crosses
