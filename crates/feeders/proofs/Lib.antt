@@ -12,3 +12,4 @@ pub mod TextsLists
 pub mod TextsSteps
 pub mod TextsEntries
 pub mod TextsRun
+mod Crosses
