@@ -12,4 +12,3 @@ pub mod TextsLists
 pub mod TextsSteps
 pub mod TextsEntries
 pub mod TextsRun
-mod Crosses

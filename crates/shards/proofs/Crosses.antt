@@ -1,7 +1,15 @@
--- A shard may cross threads, alone and as a field, and so may what holds its lock: its books and its entries are found whole, so that a search ends.
+-- A shard may cross threads, alone and as a field, and so may what holds its lock: its books and its entries are found whole, so that a search ends. A closure may where all that it captures may.
+use mathlib.Core.List.{List, [], ◌∷◌}
+use mir.Syntax.{Sym, Ty}
+use denote.Exit.{no}
 use denote.RattleType.{RattleType}
 use denote.Ref.{NamedLft}
-use denote.Param.Send.{IsSend, IsSync, sendable}
+use denote.Param.{param, arg}
+use denote.Param.Send.{IsSend, IsSync, AllSend, param_send, arg_send, struct_send, recorded_send, sendable}
+use denote.Struct.Declared.{shape}
+use denote.Struct.Field.{rows}
+use denote.Struct.Struct.{Shape}
+use denote.Struct.Tuple.{TupleAt, type_at, field_at, parts}
 use Rattle.std.proofs.Crossing.{crosses}
 use Rattle.std.proofs.marker.PhantomData.TheSendSync as opening
 use Rattle.register_book.proofs.Crosses as book
@@ -30,3 +38,15 @@ module _ (a : NamedLft) (O : RattleType) (g : Ghosts O.Denot) where
 
   pub auditor_sync : IsSync (Auditor.the_row a O g)
   auditor_sync = search (state_send, sync, crosses, sendable) depth 60 fits 20000
+
+fields_send : (Ts : List RattleType) → AllSend Ts → AllSend (rows (parts Ts))
+fields_send [] s = tt
+fields_send (T ∷ Ts) s = (s.0, fields_send Ts s.1)
+
+module _ (ν : Sym) (Ts : List RattleType) where
+  pub tuple_send : AllSend Ts → IsSend (TupleAt ν Ts)
+  tuple_send s = recorded_send (field_at ν Ts).row _ _ (type_at ν Ts).to_one (struct_send (shape (type_at ν Ts)) (fields_send Ts s))
+
+  -- What a closure captures is a tuple of the closure's name.
+  pub closure_send : (δ : Ty) → AllSend Ts → IsSend (param 1 (arg δ no (TupleAt ν Ts)))
+  closure_send δ s = param_send 1 (arg δ no (TupleAt ν Ts)) (arg_send δ no (TupleAt ν Ts) (tuple_send s))

@@ -7,12 +7,11 @@ use Rattle.std.proofs.Common.{◌/◌, length, rules}
 use Rattle.std.proofs.Crossing.{Vec-send}
 use Rattle.std.proofs.alloc.Global.TheSendSync as alloc
 use Rattle.jepsen_form.proofs.item.MomentField.TheSendSync as field
-use Rattle.shards.proofs.Crosses.{auditor_sync}
+use Rattle.shards.proofs.Crosses.{auditor_sync, closure_send}
 use Rattle.shards.proofs.pass.Pass.TheSendSync as pass
 use Rattle.tower_file.proofs.tower.Tower.TheSendSync as tower
 use Rattle.feeders.specs.Progress.{AreFed}
 use Rattle.feeders.specs.contracts.halves.feed_all.{R-row, G-row}
-use Rattle.feeders.proofs.Crosses.{closure_send}
 use Rattle.feeders.proofs.halves.+feed_all+fn-feed_all-join+arg2+fn-feed_all-join+arg3.Lts-feed_all as of_code
 use Rattle.feeders.proofs.Split.{fed_parts}
 use Rattle.feeders.proofs.halves.+feed_all+fn-feed_all-join+arg2+fn-feed_all-join+arg3.Goals as goal
@@ -37,6 +36,6 @@ join-first-requires-send-F g t c κs within =
     let captured = of_code.of-38 g.row.O g.row.R g.row.G g.O.laws g.R.laws g.G.laws g.O.Opening g.O.Opening-dict g.R.Threads g.R.Threads-dict g.R.Wait g.R.Wait-dict g.G.Gate g.G.Gate-dict
         (at 6 κs.1.1.1.1.1.1.0) (at 7 κs.1.1.1.1.1.1.1.0) (at 8 κs.1.1.1.1.1.1.1.1.0) (at 4 κs.1.1.1.1.0) (at 9 κs.1.1.1.1.1.1.1.1.1.0)
         (at 10 κs.1.1.1.1.1.1.1.1.1.1.0) (at 11 κs.1.1.1.1.1.1.1.1.1.1.1.0) (at 12 κs.1.1.1.1.1.1.1.1.1.1.1.1.0) (at 13 κs.1.1.1.1.1.1.1.1.1.1.1.1.1.0) (at 14 κs.1.1.1.1.1.1.1.1.1.1.1.1.1.1.0) in
-    closure_send _ _ captured
+    closure_send _ captured _
         (shr_send _ _ _ runtime, (shr_send _ _ _ alloc.the_sync, (shr_send _ _ _ (auditor_sync _ _ _), (shr_send _ _ _ gate,
         (shr_send _ _ _ tower.the_sync, (shr_send _ _ _ field.the_sync, (Vec-send _ (pass.the_send _), (search sendable, tt))))))))
