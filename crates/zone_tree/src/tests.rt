@@ -1,5 +1,7 @@
 //! Rows of zones, as calls of a tree.
 
+ghost use Rattle.std.specs.Prelude.{◌≤◌, OnOk};
+
 use super::*;
 use crate::laws::{a_removed_zone_leaves_the_others, nothing_is_removed_where_no_zone_is};
 use intervals::{Memory, Moment, Value};
@@ -29,11 +31,45 @@ fn zone(word: &str) -> Zone {
     }
 }
 
+fn number(edge: Edge) -> u64 {
+    match edge {
+        Edge::Before => 1,
+        Edge::At(moment) => moment.0.wrapping_add(2),
+        Edge::Never => 0,
+    }
+}
+
+/// What can be seen of a tree without memory: a number that is made of all edges, the free places, the
+/// steps, and whether it is clean.
+fn seen(tree: &ZoneTree) -> (u64, usize, u64, bool) {
+    let mut edges: u64 = 0;
+    for zone in tree.iter() {
+        edges = edges.wrapping_mul(31).wrapping_add(number(zone.left));
+        edges = edges.wrapping_mul(31).wrapping_add(number(zone.right));
+    }
+    (edges, tree.free(), tree.steps(), tree.clean())
+}
+
+/// Makes room for several zones, one of which comes next. Where memory is refused the tree is as it
+/// was, and the same call then makes the room.
+fn make_room(rt: &impl Abort, tree: &mut ZoneTree) -> Result<(), Memory>
+    ensures { OnOk result (1 ≤ tree.new.free) }
+{
+    let before = seen(tree);
+    match tree.reserve(3) {
+        Ok(()) => Ok(()),
+        Err(Memory) => {
+            assert!(rt; seen(tree) == before);
+            tree.reserve(3)
+        }
+    }
+}
+
 /// In the place of the zone of that left edge, where there is one. A zone whose edges do not stand in
 /// order is left out.
-fn put(tree: &mut ZoneTree, zone: Zone) -> Result<(), Memory> {
+fn put(rt: &impl Abort, tree: &mut ZoneTree, zone: Zone) -> Result<(), Memory> {
     a_removed_zone_leaves_the_others();
-    tree.reserve(1)?;
+    make_room(rt, tree)?;
     let _ = tree.remove(zone.left);
     if zone.has_ordered_edges() {
         tree.insert(zone);
@@ -42,17 +78,26 @@ fn put(tree: &mut ZoneTree, zone: Zone) -> Result<(), Memory> {
 }
 
 /// Each word is a zone to be put in, or behind `!` the left edge of one to be taken out.
-fn tree_of(alloc: Global, words: &str) -> Result<ZoneTree, Memory> {
-    let mut tree = ZoneTree::new(alloc);
+fn tree_of<R: AllocGlobal + Abort>(rt: &R, words: &str) -> Result<ZoneTree, Memory> {
+    let mut tree = ZoneTree::new(rt.alloc());
     for word in words.split(' ') {
         match word.strip_prefix('!') {
             Some(left) => {
                 let _ = tree.remove(edge(left));
             }
-            None => put(&mut tree, zone(word))?,
+            None => put(rt, &mut tree, zone(word))?,
         }
     }
     Ok(tree)
+}
+
+/// An empty text with room for what is told of a row, so that telling it takes no memory.
+fn roomy(alloc: Global) -> Result<String, Memory> {
+    let mut text = String::new(alloc);
+    if text.reserve(200).is_err() {
+        text.reserve(200)?;
+    }
+    Ok(text)
 }
 
 fn tell_edge(told: &mut String, edge: Edge) {
@@ -71,8 +116,8 @@ fn tell(told: &mut String, zone: &Zone) {
 }
 
 /// The zones that stand, and the first conflict.
-fn told(alloc: Global, tree: &ZoneTree) -> String {
-    let mut told = String::new(alloc);
+fn told(alloc: Global, tree: &ZoneTree) -> Result<String, Memory> {
+    let mut told = roomy(alloc)?;
     for zone in tree.iter() {
         tell(&mut told, &zone);
     }
@@ -85,7 +130,7 @@ fn told(alloc: Global, tree: &ZoneTree) -> String {
         None => {}
     }
     let _ = write!(told, "{}", if tree.clean() { "clean" } else { "conflict" });
-    told
+    Ok(told)
 }
 
 const ROWS: &str = "3>4 -<- 7<+ 0<1 => -<- 0<1 3>4 7<+ clean
@@ -107,23 +152,24 @@ const ROWS: &str = "3>4 -<- 7<+ 0<1 => -<- 0<1 3>4 7<+ clean
 3<3 => 3<3 clean
 4<3 => clean";
 
+/// To be run with each allocation refused in turn too.
 #[test]
 fn rows_are_told(rt: HostRuntime) -> Result<(), Fail> {
     for row in ROWS.lines() {
         let (words, want) = row.split_once(" => ").ok_or("a row")?;
-        let tree = tree_of(rt.alloc(), words)?;
-        assert!(rt; told(rt.alloc(), &tree).as_str() == want, "{row}");
+        let tree = tree_of(&rt, words)?;
+        assert!(rt; told(rt.alloc(), &tree)?.as_str() == want, "{row}");
     }
     Ok(())
 }
 
 /// The zone of an edge, the first one that reaches it, and the first one that falls short of it.
-fn looked(alloc: Global, tree: &ZoneTree, edge: Edge) -> String {
-    let mut told = String::new(alloc);
+fn looked(alloc: Global, tree: &ZoneTree, edge: Edge) -> Result<String, Memory> {
+    let mut told = roomy(alloc)?;
     tell_found(&mut told, tree.get(edge));
     tell_found(&mut told, tree.first_reaching(edge));
     tell_found(&mut told, tree.first_short_of(edge));
-    told
+    Ok(told)
 }
 
 fn tell_found(told: &mut String, zone: Option<Zone>) {
@@ -152,8 +198,8 @@ fn looks_are_told(rt: HostRuntime) -> Result<(), Fail> {
     for row in LOOKS.lines() {
         let (words, want) = row.split_once(" => ").ok_or("a row")?;
         let (zones, at) = words.split_once(" ? ").ok_or("an edge")?;
-        let tree = tree_of(rt.alloc(), zones)?;
-        let found = looked(rt.alloc(), &tree, edge(at));
+        let tree = tree_of(&rt, zones)?;
+        let found = looked(rt.alloc(), &tree, edge(at))?;
         assert!(rt; found.as_str() == want.trim_end_matches('|'), "{row}");
     }
     Ok(())
