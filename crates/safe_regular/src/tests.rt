@@ -1,6 +1,6 @@
 //! Rows of histories, as calls of a judge.
 
-ghost use Rattle.std.specs.Prelude.{◌≡◌, ◌≢◌, None};
+ghost use Rattle.std.specs.Prelude.{◌≡◌, ◌≢◌, None, Some, OnOk};
 ghost use Rattle.intervals.specs.Edit.{new_op as new_one};
 ghost use Rattle.intervals.specs.Refusal.{reply_to, first_refusal, new_write_refusal, write_refusal};
 
@@ -10,6 +10,7 @@ use intervals::{
 };
 use std::alloc::Global;
 use std::fmt::Write;
+use std::process::Abort;
 use std::test::Fail;
 
 const SAFE: Claim = Claim {
@@ -124,13 +125,20 @@ fn refusal_of<'t>(judge: &SingleWriterJudge<'t>, edit: &Edit<'t>) -> Option<Refu
     new_refusal(judge, edit)
 }
 
-/// Carries the edit out by the call that is named after it, where there is one.
-fn carried_out<'t>(judge: &mut SingleWriterJudge<'t>, edit: Edit<'t>) -> Result<(), Memory>
-    requires { reply_to judge.old.claim judge.old.ops edit ≡ None }
+/// Lets the room go that there is for an operation.
+fn let_go(judge: &mut SingleWriterJudge)
+    ensures { judge.new ≡ record judge.old { prepared = None } }
 {
     if let Some(op) = judge.prepared() {
         judge.release(&op);
     }
+}
+
+/// Carries the edit out by the call that is named after it, where there is one.
+fn carried_out<'t>(judge: &mut SingleWriterJudge<'t>, edit: Edit<'t>) -> Result<(), Memory>
+    requires { reply_to judge.old.claim judge.old.ops edit ≡ None }
+{
+    let_go(judge);
     match edit {
         Edit::Append(op) if op.is_write() => judge.admit_write(&op),
         Edit::Append(op) if op.is_judged_read() => judge.admit_read(&op),
@@ -159,6 +167,97 @@ fn edited<'t>(
     Ok(())
 }
 
+fn event_of(id: Option<OpId>) -> u64 {
+    match id {
+        Some(id) => id.event.wrapping_add(1),
+        None => 0,
+    }
+}
+
+/// What can be seen of a judge without memory: a number that is made of the beginnings and ends of the
+/// operations, the operation that there is room for, the fault and the verdict.
+fn seen(judge: &SingleWriterJudge) -> (u64, u64, u64, bool) {
+    let mut moments: u64 = 0;
+    for slot in judge.operations().slots() {
+        if let Some(op) = slot {
+            let end = op.end.map_or(0, |end| end.0.wrapping_add(1));
+            moments = moments.wrapping_mul(31).wrapping_add(op.begin.0);
+            moments = moments.wrapping_mul(31).wrapping_add(end);
+        }
+    }
+    let room = judge.prepared().map(|op| op.id);
+    (
+        moments,
+        event_of(room),
+        event_of(judge.first_fault()),
+        judge.holds(),
+    )
+}
+
+/// Where memory is refused the judge is as it was, and the same edit is carried out then.
+fn retried<'t>(
+    rt: &impl Abort,
+    told: &mut String,
+    judge: &mut SingleWriterJudge<'t>,
+    edit: Edit<'t>,
+) -> Result<(), Memory> {
+    let before = seen(judge);
+    match edited(told, judge, edit) {
+        Ok(()) => Ok(()),
+        Err(Memory) => {
+            assert!(rt; seen(judge) == before);
+            edited(told, judge, edit)
+        }
+    }
+}
+
+/// Where memory is refused the judge is as it was, and the same call then makes the room.
+fn make_room<'t>(
+    rt: &impl Abort,
+    judge: &mut SingleWriterJudge<'t>,
+    op: &Op<'t>,
+) -> Result<(), Memory>
+    requires { judge.old.prepared ≡ None }
+    ensures { OnOk result (judge.new.prepared ≡ Some op.now) }
+{
+    let before = seen(judge);
+    match judge.prepare(op) {
+        Ok(()) => Ok(()),
+        Err(Memory) => {
+            assert!(rt; seen(judge) == before);
+            judge.prepare(op)
+        }
+    }
+}
+
+/// Makes room for an operation, and then admits it or lets the room go.
+fn with_room<'t>(
+    rt: &impl Abort,
+    judge: &mut SingleWriterJudge<'t>,
+    op: Op<'t>,
+) -> Result<(), Memory> {
+    let_go(judge);
+    make_room(rt, judge, &op)?;
+    if refusal_of(judge, &Edit::Append(op)).is_some() {
+        judge.release(&op);
+        return Ok(());
+    }
+    judge.admit(Edit::Append(op))
+}
+
+/// Behind `+` room is made for the operation first.
+fn step<'t>(
+    rt: &impl Abort,
+    told: &mut String,
+    judge: &mut SingleWriterJudge<'t>,
+    word: &'static str,
+) -> Result<(), Memory> {
+    match word.strip_prefix('+') {
+        Some(word) => with_room(rt, judge, appended(word)),
+        None => retried(rt, told, judge, edit_of(word)),
+    }
+}
+
 /// The wrong read that ended first, and whether the register holds.
 fn tell_fault(told: &mut String, judge: &SingleWriterJudge) {
     if let Some(read) = judge.first_fault() {
@@ -168,25 +267,47 @@ fn tell_fault(told: &mut String, judge: &SingleWriterJudge) {
     let _ = write!(told, "{verdict}");
 }
 
-/// What is refused, and the verdict after all.
-fn told(alloc: Global, claim: &Claim, words: &'static str) -> Result<String, Memory>
+/// An empty text with room for what is told of a row, so that telling it takes no memory.
+fn roomy(alloc: Global) -> Result<String, Memory> {
+    let mut text = String::new(alloc);
+    if text.reserve(200).is_err() {
+        text.reserve(200)?;
+    }
+    Ok(text)
+}
+
+fn begun(alloc: Global, claim: &Claim) -> Result<SingleWriterJudge<'static>, Memory>
     requires { claim.now.kind ≢ Kind.Atomic }
 {
-    let mut told = String::new(alloc);
-    let mut judge = SingleWriterJudge::new(alloc, claim)?;
+    match SingleWriterJudge::new(alloc, claim) {
+        Ok(judge) => Ok(judge),
+        Err(Memory) => SingleWriterJudge::new(alloc, claim),
+    }
+}
+
+/// What is refused, and the verdict after all.
+fn told<R: AllocGlobal + Abort>(
+    rt: &R,
+    claim: &Claim,
+    words: &'static str,
+) -> Result<String, Memory>
+    requires { claim.now.kind ≢ Kind.Atomic }
+{
+    let mut told = roomy(rt.alloc())?;
+    let mut judge = begun(rt.alloc(), claim)?;
     for word in words.split(' ') {
-        edited(&mut told, &mut judge, edit_of(word))?;
+        step(rt, &mut told, &mut judge, word)?;
     }
     tell_fault(&mut told, &judge);
     Ok(told)
 }
 
 /// `safe w1:0-3 => holds` begins with the kind.
-fn told_of_kind(alloc: Global, words: &'static str) -> Result<String, Memory> {
+fn told_of_kind<R: AllocGlobal + Abort>(rt: &R, words: &'static str) -> Result<String, Memory> {
     match words.strip_prefix("safe ") {
-        Some(words) => told(alloc, &SAFE, words),
+        Some(words) => told(rt, &SAFE, words),
         None => told(
-            alloc,
+            rt,
             &REGULAR,
             words.strip_prefix("regular ").unwrap_or(words),
         ),
@@ -208,13 +329,16 @@ safe w1:0-1 r2:5- ~5-9 ~5- => holds
 safe w1:0-1 w2:2-3 w3:4-5 r2:6-7 r9:8-9 !4 => 8 fails
 safe w1:0-1 r1:2-3 w2:4-5 w3:6-7 r1:8-9 r3:10-11 => 8 fails
 regular w1:0-9 w2:10-19 r1:11-12 r2:13-14 r1:15-16 => holds
+regular +w1:0-9 +r1:11-12 +w2:10-19 +r2:13-14 +r1:15-16 +r1:22-23 => 22 fails
+safe +w1:0-3 +w2:2-5 +r1:6-7 +w2:8-9 !0 r2:10-11 r1:12-13 => 6 fails
 safe w1:0- w2:5-6 r0:7-7 !3 => X7 WritesOverlap X3 EndNotAfterBegin X1 UnknownOp holds";
 
+/// To be run with each allocation refused in turn too.
 #[test]
 fn rows_are_told(rt: HostRuntime) -> Result<(), Fail> {
     for row in ROWS.lines() {
         let (words, want) = row.split_once(" => ").ok_or("a row")?;
-        let found = told_of_kind(rt.alloc(), words)?;
+        let found = told_of_kind(&rt, words)?;
         assert!(rt; found.as_str() == want, "{row}");
     }
     Ok(())
