@@ -1,6 +1,6 @@
 //! Rows of histories, as calls of a judge.
 
-ghost use Rattle.std.specs.Prelude.{◌≡◌, None};
+ghost use Rattle.std.specs.Prelude.{◌≡◌, None, Some, OnOk};
 ghost use Rattle.intervals.specs.Edit.{new_op as new_one};
 ghost use Rattle.intervals.specs.Refusal.{reply_to, first_refusal, new_write_refusal, write_refusal};
 
@@ -8,6 +8,7 @@ use super::*;
 use intervals::{Act, Claim, Edit, Kind, Memory, Moment, Op, OpId, Parts, Refusal, Value, Writers};
 use std::alloc::Global;
 use std::fmt::Write;
+use std::process::Abort;
 use std::test::Fail;
 use zone_tree::{Edge, Zone};
 
@@ -137,10 +138,52 @@ fn withdraw(clusters: &mut Clusters, id: OpId)
     }
 }
 
+fn event_of(op: Option<Op>) -> u64 {
+    match op {
+        Some(op) => op.id.event.wrapping_add(1),
+        None => 0,
+    }
+}
+
+/// What can be seen of a judge without memory: a number that is made of the beginnings and ends of the
+/// operations, the operation that there is room for, the steps and the verdict.
+fn seen(clusters: &Clusters) -> (u64, u64, u64, bool) {
+    let mut moments: u64 = 0;
+    for slot in clusters.operations().slots() {
+        if let Some(op) = slot {
+            let end = op.end.map_or(0, |end| end.0.wrapping_add(1));
+            moments = moments.wrapping_mul(31).wrapping_add(op.begin.0);
+            moments = moments.wrapping_mul(31).wrapping_add(end);
+        }
+    }
+    let room = event_of(clusters.prepared());
+    (moments, room, clusters.steps(), clusters.holds())
+}
+
+/// Where memory is refused the judge is as it was, and the same call then makes the room.
+fn make_room<'t>(rt: &impl Abort, clusters: &mut Clusters<'t>, op: &Op<'t>) -> Result<(), Memory>
+    requires { clusters.old.prepared ≡ None }
+    ensures { OnOk result (clusters.new.prepared ≡ Some op.now) }
+{
+    let before = seen(clusters);
+    match clusters.prepare(op) {
+        Ok(()) => Ok(()),
+        Err(Memory) => {
+            assert!(rt; seen(clusters) == before);
+            clusters.prepare(op)
+        }
+    }
+}
+
 /// Makes room for an operation, withdraws another, and then carries the append out or lets the room go.
-fn instead<'t>(clusters: &mut Clusters<'t>, op: Op<'t>, gone: OpId) -> Result<(), Memory> {
+fn instead<'t>(
+    rt: &impl Abort,
+    clusters: &mut Clusters<'t>,
+    op: Op<'t>,
+    gone: OpId,
+) -> Result<(), Memory> {
     let_go(clusters);
-    clusters.prepare(&op)?;
+    make_room(rt, clusters, &op)?;
     withdraw(clusters, gone);
     if refusal_of(clusters, &Edit::Append(op)).is_some() {
         clusters.release(&op);
@@ -164,17 +207,35 @@ fn edited<'t>(
     Ok(())
 }
 
+/// Where memory is refused the judge is as it was, and the same edit is carried out then.
+fn retried<'t>(
+    rt: &impl Abort,
+    told: &mut String,
+    clusters: &mut Clusters<'t>,
+    edit: Edit<'t>,
+) -> Result<(), Memory> {
+    let before = seen(clusters);
+    match edited(told, clusters, edit) {
+        Ok(()) => Ok(()),
+        Err(Memory) => {
+            assert!(rt; seen(clusters) == before);
+            edited(told, clusters, edit)
+        }
+    }
+}
+
 /// `w1:2-3/0` is the write in the place of what began at 0, which is withdrawn first.
 fn step<'t>(
+    rt: &impl Abort,
     told: &mut String,
     clusters: &mut Clusters<'t>,
     word: &'static str,
 ) -> Result<(), Memory> {
     let Some((word, gone)) = word.split_once('/') else {
-        return edited(told, clusters, edit_of(word));
+        return retried(rt, told, clusters, edit_of(word));
     };
     match edit_of(word) {
-        Edit::Append(op) => instead(clusters, op, id(number(gone))),
+        Edit::Append(op) => instead(rt, clusters, op, id(number(gone))),
         _ => Ok(()),
     }
 }
@@ -241,11 +302,18 @@ fn tell_firsts(told: &mut String, clusters: &Clusters) {
     }
 }
 
+fn ordered(alloc: Global, clusters: &Clusters) -> Result<Option<Vec<OpId>>, Memory> {
+    match clusters.order(alloc) {
+        Ok(found) => Ok(found),
+        Err(Memory) => clusters.order(alloc),
+    }
+}
+
 /// Whether the register holds, and then its operations in order, by where they began.
 fn tell_order(told: &mut String, alloc: Global, clusters: &Clusters) -> Result<(), Memory> {
     let verdict = if clusters.holds() { "holds" } else { "fails" };
     let _ = write!(told, "{verdict}");
-    let Some(ids) = clusters.order(alloc)? else {
+    let Some(ids) = ordered(alloc, clusters)? else {
         return Ok(());
     };
     for id in &ids {
@@ -254,17 +322,33 @@ fn tell_order(told: &mut String, alloc: Global, clusters: &Clusters) -> Result<(
     Ok(())
 }
 
+/// An empty text with room for what is told of a row, so that telling it takes no memory.
+fn roomy(alloc: Global) -> Result<String, Memory> {
+    let mut text = String::new(alloc);
+    if text.reserve(200).is_err() {
+        text.reserve(200)?;
+    }
+    Ok(text)
+}
+
+fn begun(alloc: Global) -> Result<Clusters<'static>, Memory> {
+    match Clusters::new(alloc, &CLAIM) {
+        Ok(clusters) => Ok(clusters),
+        Err(Memory) => Clusters::new(alloc, &CLAIM),
+    }
+}
+
 /// What is refused, the zones of nil, 1 and 2, what is wrong, and the order where nothing is.
-fn told(alloc: Global, words: &'static str) -> Result<String, Memory> {
-    let mut told = String::new(alloc);
-    let mut clusters = Clusters::new(alloc, &CLAIM)?;
+fn told<R: AllocGlobal + Abort>(rt: &R, words: &'static str) -> Result<String, Memory> {
+    let mut told = roomy(rt.alloc())?;
+    let mut clusters = begun(rt.alloc())?;
     for word in words.split(' ') {
-        step(&mut told, &mut clusters, word)?;
+        step(rt, &mut told, &mut clusters, word)?;
     }
     tell_zones(&mut told, &clusters);
     tell_firsts(&mut told, &clusters);
     tell_crossing(&mut told, &clusters);
-    tell_order(&mut told, alloc, &clusters)?;
+    tell_order(&mut told, rt.alloc(), &clusters)?;
     Ok(told)
 }
 
@@ -288,11 +372,12 @@ w1:0-1 r1:6-7 w2:2-9 r2:4-5/6 => -<- 0<1 4<5 holds 0 2 4
 w1:0-1 w1:2-3 wnil:4-5 !0 w1:6-7 => X8 ValueTaken X8 ValueTaken -<- 6<7 . holds 6
 w1:0-5 w2:5-6 !9 r1:7-7 => X4 MomentTaken X1 UnknownOp X3 EndNotAfterBegin -<- 0<5 . holds 0";
 
+/// To be run with each allocation refused in turn too.
 #[test]
 fn rows_are_told(rt: HostRuntime) -> Result<(), Fail> {
     for row in ROWS.lines() {
         let (words, want) = row.split_once(" => ").ok_or("a row")?;
-        let found = told(rt.alloc(), words)?;
+        let found = told(&rt, words)?;
         assert!(rt; found.as_str() == want, "{row}");
     }
     Ok(())
