@@ -8,6 +8,7 @@ pub mod Unique
 pub mod Ended
 pub mod Viable
 pub mod Reading
+pub mod Leading
 pub mod Skipping
 pub mod Views
 pub mod Integers

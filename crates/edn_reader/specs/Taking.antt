@@ -1,5 +1,5 @@
 -- What a token leads to where these stand open. No public clause speaks of it.
-use Rattle.std.specs.Prelude.{◌≡◌, ◌≢◌, ◌<◌, ◌≤◌, ◌-◌, ◌⊎◌, ℕ, Bool, true, false, ◌==◌, ◌&&◌, if◌then◌else◌, not, List, [], ◌∷◌, ◌++◌, length, take, drop, Option, Some, None, Result, Ok, Err}
+use Rattle.std.specs.Prelude.{◌≡◌, ◌≢◌, ◌<◌, ◌≤◌, ◌+◌, ◌-◌, ◌⊎◌, ℕ, Bool, true, false, ◌==◌, ◌&&◌, if◌then◌else◌, not, List, [], ◌∷◌, ◌++◌, length, take, drop, Option, Some, None, Result, Ok, Err}
 use Rattle.edn_reader.specs.declared.bytes.Bracket.{Bracket}
 use Rattle.edn_reader.specs.declared.element.ElementKind.{ElementKind}
 use Rattle.edn_reader.specs.declared.element.ElementKind.TheVariants.{Tagged}
@@ -13,6 +13,7 @@ use Rattle.edn_reader.specs.declared.token.Opener.{Opener}
 use Rattle.edn_reader.specs.declared.token.Opener.TheVariants as openers
 use Rattle.edn_reader.specs.Grammar.{Piece, fits, waits, is_paired, kind_of}
 use Rattle.edn_reader.specs.Text.{IsFront, IsText}
+use Rattle.edn_reader.specs.Token.{lexed}
 use Rattle.edn_reader.specs.Fault.{FaultOf, IsMemory, AreElementsBefore, innermost}
 
 -- The reader goes on with these open, gives an outermost element, or fails.
@@ -81,6 +82,31 @@ taken (tokens.Leaf kind) place after opens = completed (plain_span kind place af
 taken (tokens.Opens opener) place after opens = opened place opener opens
 taken (tokens.Closes bracket) place after opens = closed place after bracket opens
 taken tokens.Unfinished place after opens = fails (Truncated after)
+
+-- Tokens lead on from a place with these open to a place with those open.
+pub data LeadsOn : List ℕ → ℕ → List Open → ℕ → List Open → Type 0 where
+  stays : {input : List ℕ} {at : ℕ} {opens : List Open} → LeadsOn input at opens at opens
+  by_token : {input : List ℕ} {from at : ℕ} {opens inner after : List Open} → LeadsOn input from opens at inner → at < length input
+      → taken (lexed (drop at input)).0 at (at + (lexed (drop at input)).1) inner ≡ on after → LeadsOn input from opens (at + (lexed (drop at input)).1) after
+
+-- What is open, with an odd number of elements in it or an even one.
+abbrev pub item_odd : Bool → Open → Open
+item_odd odd item = record { place = item.place; opener = item.opener; odd = odd }
+
+-- These open, with an odd number of elements in the innermost or an even one.
+abbrev pub with_odd : Bool → List Open → List Open
+with_odd odd [] = []
+with_odd odd (item ∷ opens) = item_odd odd item ∷ opens
+
+-- Whether the innermost that is open holds an odd number of elements, where it is a bracket.
+abbrev pub odd_inside : List Open → Option Bool
+odd_inside [] = None
+odd_inside (item ∷ opens) = if waits item.opener then None else Some item.odd
+
+-- Tokens lead on from a place to another within each bracket, and say whether it then holds an odd number of elements.
+abbrev pub LeadsWithin : List ℕ → ℕ → Bool → ℕ → Bool → Type 0
+LeadsWithin input from odd end odd_then =
+    (item : Open) (opens : List Open) → waits item.opener ≡ false → LeadsOn input from (item_odd odd item ∷ opens) end (item_odd odd_then item ∷ opens)
 
 -- What the program answered is that, but for want of memory.
 abbrev pub Gives : Result (Option Span) EdnFault → List Open → Taken → Type 0

@@ -26,6 +26,7 @@ mod integer;
 pub mod laws;
 mod nesting;
 mod parts;
+mod plain;
 mod reader;
 mod skip;
 mod step;

@@ -1,7 +1,7 @@
 //! What stands open: brackets, tags and discards, the innermost first.
 
 ghost use Rattle.std.specs.Prelude.{◌≡◌, ◌==◌, ◌≤◌, [], ◌∷◌, length, OnOk, OnErr, MatchOption};
-ghost use Rattle.edn_reader.specs.Taking.{EndsOne};
+ghost use Rattle.edn_reader.specs.Taking.{EndsOne, odd_inside, with_odd};
 
 use crate::token::Opener;
 use smallvec::SmallVec;
@@ -92,6 +92,28 @@ impl Nesting {
             open.odd = !last.odd;
         }
         Some(last)
+    }
+
+    /// Whether the innermost, where it is a bracket, holds an odd number of elements.
+    #[inline(always)]
+    pub fn odd_inside(&self) -> Option<bool>
+        ensures { result ≡ odd_inside self.now }
+    {
+        let last = self.last?;
+        if last.opener.waits() {
+            return None;
+        }
+        Some(last.odd)
+    }
+
+    /// Says whether the innermost holds an odd number of elements.
+    #[inline(always)]
+    pub fn set_odd(&mut self, odd: bool)
+        ensures { self.new ≡ with_odd odd self.old }
+    {
+        if let Some(open) = &mut self.last {
+            open.odd = odd;
+        }
     }
 
     /// The innermost bracket.

@@ -9,6 +9,7 @@ ghost use Rattle.edn_reader.specs.Taking.{Reads};
 use crate::element::Element;
 use crate::fault::EdnFault;
 use crate::nesting::Nesting;
+use crate::plain::pass_plain;
 use crate::step::{Span, take};
 use crate::token::read_token;
 use std::alloc::Global;
@@ -36,7 +37,7 @@ impl<'t> Model for Reader<'t> {
 }
 
 /// Reads up to the end of the next outermost element.
-#[tactic(auto, using(crate::proofs::Reading::stands_begin, crate::proofs::Reading::stands_on))]
+#[tactic(auto, using(crate::proofs::Reading::stands_begin, crate::proofs::Reading::stands_on, crate::proofs::Leading::stands_led))]
 fn read_element(input: &[u8], from: usize, nesting: &mut Nesting) -> Result<Option<Span>, EdnFault>
     requires at { from ≤ length input.now }
     requires none_open { nesting.old ≡ [] }
@@ -47,7 +48,7 @@ fn read_element(input: &[u8], from: usize, nesting: &mut Nesting) -> Result<Opti
     while at < input.len() {
         let found = read_token(input, at);
         match take(at, found, nesting) {
-            Ok(None) => at = found.end,
+            Ok(None) => at = pass_plain(input, found.end, nesting),
             Ok(Some(span)) => return Ok(Some(span)),
             Err(fault) => return Err(fault),
         }

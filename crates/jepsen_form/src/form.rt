@@ -3,7 +3,7 @@
 ghost use Rattle.std.specs.Prelude.{◌≡◌, List, Some};
 ghost use Rattle.std.specs.Str.{bytes_eq};
 ghost use Rattle.edn_reader.specs.Grammar.{Piece};
-ghost use Rattle.edn_reader.specs.Given.{seen};
+ghost use Rattle.edn_reader.specs.Given.{one_more, seen};
 ghost use Rattle.edn_reader.specs.Pairs.{keyword_of};
 ghost use Rattle.edn_reader.specs.Lent.{piece_of, PairsLeft};
 ghost use Rattle.jepsen_form.specs.Fields.{fields_of, moment_key};
@@ -70,22 +70,34 @@ fn note<'t>(form: &mut Form<'t>, key: &Element<'t>, value: Element<'t>, chosen: 
     }
 }
 
-/// One value more under a field. Within the loop over the pairs it would take the form to pieces.
-#[inline(never)]
+/// One value more under a field.
+#[inline(always)]
 fn put<'t>(form: &mut Form<'t>, field: FormField, value: Element<'t>)
     ensures { seen_all form.new ≡ with_more (Some field) (seen_all form.old) (piece_of value.entry) }
 {
     match field {
-        FormField::Process => form.process = form.process.one_more(value),
-        FormField::Stage => form.stage = form.stage.one_more(value),
-        FormField::Action => form.action = form.action.one_more(value),
-        FormField::Value => form.value = form.value.one_more(value),
-        FormField::Moment => form.moment = form.moment.one_more(value),
-        FormField::Edit => form.edit = form.edit.one_more(value),
-        FormField::Of => form.of = form.of.one_more(value),
-        FormField::Begin => form.begin = form.begin.one_more(value),
-        FormField::End => form.end = form.end.one_more(value),
-        FormField::Ask => form.ask = form.ask.one_more(value),
+        FormField::Process => add(&mut form.process, value),
+        FormField::Stage => add(&mut form.stage, value),
+        FormField::Action => add(&mut form.action, value),
+        FormField::Value => add(&mut form.value, value),
+        FormField::Moment => add(&mut form.moment, value),
+        FormField::Edit => add(&mut form.edit, value),
+        FormField::Of => add(&mut form.of, value),
+        FormField::Begin => add(&mut form.begin, value),
+        FormField::End => add(&mut form.end, value),
+        FormField::Ask => add(&mut form.ask, value),
+    }
+}
+
+/// One value more. Within the loop over the pairs it would take the form to pieces.
+#[inline(never)]
+fn add<'t>(field: &mut Field<'t>, value: Element<'t>)
+    ensures { seen field.new ≡ one_more (seen field.old) (piece_of value.entry) }
+{
+    if let Field::Absent = *field {
+        *field = Field::Once(value);
+    } else {
+        *field = Field::Twice;
     }
 }
 

@@ -1,0 +1,47 @@
+//! What is plain within a bracket, white bytes and elements of one run: it changes only how many elements there are.
+
+ghost use Rattle.std.specs.Prelude.{◌≡◌, ◌≤◌, length};
+ghost use Rattle.edn_reader.specs.Taking.{LeadsOn, LeadsWithin};
+
+use crate::bytes::{is_plain, is_white, run_end};
+use crate::nesting::Nesting;
+
+/// Goes over what is plain from a place on, where the innermost that stands open is a bracket.
+#[inline(always)]
+#[tactic(auto, using(crate::proofs::Leading::leads_inside))]
+pub fn pass_plain(input: &[u8], from: usize, nesting: &mut Nesting) -> usize
+    requires { from ≤ length input.now }
+    ensures leads { LeadsOn input.now from nesting.old result nesting.new }
+    ensures within { result ≤ length input.now }
+    ensures after { from ≤ result }
+{
+    let Some(odd) = nesting.odd_inside() else {
+        return from;
+    };
+    let (end, odd) = plain_end(input, from, odd);
+    nesting.set_odd(odd);
+    end
+}
+
+/// Where it ends, and whether the bracket then holds an odd number of elements.
+#[inline(always)]
+fn plain_end(input: &[u8], from: usize, odd_before: bool) -> (usize, bool)
+    requires { from ≤ length input.now }
+    ensures leads { LeadsWithin input.now from odd_before result.0 result.1 }
+    ensures within { result.0 ≤ length input.now }
+    ensures after { from ≤ result.0 }
+{
+    let mut at = from;
+    let mut odd = odd_before;
+    while at < input.len() {
+        if is_white(input[at]) {
+            at += 1;
+        } else if is_plain(input[at]) {
+            at = run_end(input, at + 1);
+            odd = !odd;
+        } else {
+            return (at, odd);
+        }
+    }
+    (at, odd)
+}
