@@ -14,7 +14,7 @@ ghost use Rattle.register_book.specs.Fault.{IsWitness};
 use crate::Witness;
 use crate::many_writers::witness_of;
 use crate::one_writer::wrong_read_of;
-use intervals::{Claim, Edit, Kind, Memory, Op, OpTable, OpId, Refusal};
+use intervals::{Claim, Edit, Kind, Memory, Op, OpId, OpTable, Refusal};
 use safe_regular::SingleWriterJudge;
 use std::alloc::Global;
 use zones::Clusters;

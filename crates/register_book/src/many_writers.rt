@@ -8,7 +8,7 @@ ghost use Rattle.register_book.specs.Fault.{IsWitness, op_at};
 ghost use Rattle.register_book.specs.Judge.{found_by, pair_by};
 
 use crate::{Side, Witness};
-use intervals::{Kind, Op, OpTable, OpId};
+use intervals::{Kind, Op, OpId, OpTable};
 use zones::Clusters;
 use zones::laws::{
     faultless_where_no_fault_is_first, first_early_ended_first, first_unwritten_ended_first,

@@ -34,8 +34,18 @@ join-first-requires-send-F g t c κs within =
     let gate : IsSync (G-row g.row.O g.row.R g.row.G) = search rules parts 8 in
     let at : ℕ → Lft → NamedLft = λ n κ. record { mir = named n; lft = κ } in
     let captured = of_code.of-38 g.row.O g.row.R g.row.G g.O.laws g.R.laws g.G.laws g.O.Opening g.O.Opening-dict g.R.Threads g.R.Threads-dict g.R.Wait g.R.Wait-dict g.G.Gate g.G.Gate-dict
-        (at 6 κs.1.1.1.1.1.1.0) (at 7 κs.1.1.1.1.1.1.1.0) (at 8 κs.1.1.1.1.1.1.1.1.0) (at 4 κs.1.1.1.1.0) (at 9 κs.1.1.1.1.1.1.1.1.1.0)
-        (at 10 κs.1.1.1.1.1.1.1.1.1.1.0) (at 11 κs.1.1.1.1.1.1.1.1.1.1.1.0) (at 12 κs.1.1.1.1.1.1.1.1.1.1.1.1.0) (at 13 κs.1.1.1.1.1.1.1.1.1.1.1.1.1.0) (at 14 κs.1.1.1.1.1.1.1.1.1.1.1.1.1.1.0) in
-    closure_send _ captured _
-        (shr_send _ _ _ runtime, (shr_send _ _ _ alloc.the_sync, (shr_send _ _ _ (auditor_sync _ _ _), (shr_send _ _ _ gate,
-        (shr_send _ _ _ tower.the_sync, (shr_send _ _ _ field.the_sync, (Vec-send _ (pass.the_send _), (search sendable, tt))))))))
+    (at 6 κs.1.1.1.1.1.1.0) (at 7 κs.1.1.1.1.1.1.1.0) (at 8 κs.1.1.1.1.1.1.1.1.0) (at 4 κs.1.1.1.1.0) (at 9 κs.1.1.1.1.1.1.1.1.1.0)
+    (at 10 κs.1.1.1.1.1.1.1.1.1.1.0) (at 11 κs.1.1.1.1.1.1.1.1.1.1.1.0) (at 12 κs.1.1.1.1.1.1.1.1.1.1.1.1.0) (at 13 κs.1.1.1.1.1.1.1.1.1.1.1.1.1.0) (at 14 κs.1.1.1.1.1.1.1.1.1.1.1.1.1.1.0) in
+    closure_send _ captured _ (
+      shr_send _ _ _ runtime,
+      (
+        shr_send _ _ _ alloc.the_sync,
+        (
+          shr_send _ _ _ (auditor_sync _ _ _),
+          (
+            shr_send _ _ _ gate,
+            (shr_send _ _ _ tower.the_sync, (shr_send _ _ _ field.the_sync, (Vec-send _ (pass.the_send _), (search sendable, tt)))),
+          ),
+        ),
+      ),
+    )

@@ -17,10 +17,10 @@ join-requires-send-F g c κs within =
     let runtime : IsSync (R-row g.row.O g.row.R g.row.G) = search rules parts 8 in
     let gate : IsSync (G-row g.row.O g.row.R g.row.G) = search rules parts 8 in
     closure_send _
-        (ShrRef (named 6) κs.1.1.1.1.1.1.0 (R-row g.row.O g.row.R g.row.G) ∷
-        ShrRef (named 7) κs.1.1.1.1.1.1.1.0 (Auditor.the_row forever (O-row g.row.O g.row.R g.row.G) g.O.Opening) ∷
-        ShrRef (named 8) κs.1.1.1.1.1.1.1.1.0 (G-row g.row.O g.row.R g.row.G) ∷
-        Pass.the_row forever ∷
-        u32-field.row ∷
-        u32-field.row ∷ [])
-        _ (shr_send _ _ _ runtime, (shr_send _ _ _ (auditor_sync _ _ _), (shr_send _ _ _ gate, (pass.the_send forever, (search sendable, (search sendable, tt))))))
+    (ShrRef (named 6) κs.1.1.1.1.1.1.0 (R-row g.row.O g.row.R g.row.G) ∷
+    ShrRef (named 7) κs.1.1.1.1.1.1.1.0 (Auditor.the_row forever (O-row g.row.O g.row.R g.row.G) g.O.Opening) ∷
+    ShrRef (named 8) κs.1.1.1.1.1.1.1.1.0 (G-row g.row.O g.row.R g.row.G) ∷
+    Pass.the_row forever ∷
+    u32-field.row ∷
+    u32-field.row ∷ [])
+    _ (shr_send _ _ _ runtime, (shr_send _ _ _ (auditor_sync _ _ _), (shr_send _ _ _ gate, (pass.the_send forever, (search sendable, (search sendable, tt))))))

@@ -1,7 +1,7 @@
 use mathlib.Core.List.{[], ◌∷◌}
 use mir.Syntax.{named, static}
 use denote.Ref.{NamedLft, ShrRef}
-use denote.Param.Send.{IsSync, shr_send, sendable}
+use denote.Param.Send.{IsSync, shr_send}
 use Rattle.std.proofs.Common.{rules}
 use Rattle.std.proofs.alloc.Global.TheSendSync as alloc
 use Rattle.std.specs.contracts.alloc.Global as Global
@@ -19,9 +19,9 @@ join-requires-send-F g c κs within =
     let forever : NamedLft = record { mir = static; lft = [] } in
     let runtime : IsSync (R-row g.row.O g.row.R) = search rules parts 8 in
     closure_send _
-        (ShrRef (named 6) κs.1.1.1.1.1.1.0 (R-row g.row.O g.row.R) ∷
-        Global.the_row ∷
-        ShrRef (named 7) κs.1.1.1.1.1.1.1.0 (Auditor.the_row forever (O-row g.row.O g.row.R) g.O.Opening) ∷
-        ShrRef (named 8) κs.1.1.1.1.1.1.1.1.0 Mails.the_row ∷
-        Pass.the_row forever ∷ [])
-        _ (shr_send _ _ _ runtime, (alloc.the_send, (shr_send _ _ _ (auditor_sync _ _ _), (shr_send _ _ _ mails.the_sync, (pass.the_send forever, tt)))))
+    (ShrRef (named 6) κs.1.1.1.1.1.1.0 (R-row g.row.O g.row.R) ∷
+    Global.the_row ∷
+    ShrRef (named 7) κs.1.1.1.1.1.1.1.0 (Auditor.the_row forever (O-row g.row.O g.row.R) g.O.Opening) ∷
+    ShrRef (named 8) κs.1.1.1.1.1.1.1.1.0 Mails.the_row ∷
+    Pass.the_row forever ∷ [])
+    _ (shr_send _ _ _ runtime, (alloc.the_send, (shr_send _ _ _ (auditor_sync _ _ _), (shr_send _ _ _ mails.the_sync, (pass.the_send forever, tt)))))
