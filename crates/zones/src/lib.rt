@@ -39,6 +39,7 @@
 #![tactic(auto)]
 
 mod crossing;
+mod edges;
 mod index;
 pub mod laws;
 mod moves;
