@@ -1,6 +1,5 @@
 pub mod Agreement
 pub mod LeastOf
-mod Kept
 mod Spots
 mod Slots
 mod Indexed

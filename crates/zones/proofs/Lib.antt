@@ -27,7 +27,6 @@ mod Refusals
 mod FirstReads
 mod Stretches
 mod StretchFound
-mod EdgesOf
 mod FirstStretch
 mod KeyOrder
 pub mod Crosses
