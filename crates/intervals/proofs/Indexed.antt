@@ -6,16 +6,14 @@ use Rattle.std.proofs.lemmas.List.Elements.{All-contains}
 use Rattle.intervals.specs.declared.operation.Op.{Op}
 use Rattle.intervals.specs.declared.operation.OpId.{OpId}
 use Rattle.intervals.specs.declared.operation.Moment.{Moment}
-use Rattle.intervals.specs.declared.shelf.Shelf.{Shelf}
-use Rattle.intervals.specs.declared.shelf.Spot.{Spot}
+use Rattle.intervals.specs.declared.moments.Moments.{Moments}
 use Rattle.intervals.specs.declared.edit.Change.{Change}
 use Rattle.intervals.specs.declared.edit.Edit.TheVariants.{Append, Amend}
 use Rattle.intervals.specs.Operation.{same_id}
 use Rattle.intervals.specs.Edit.{op_of, changed, new_op}
 use Rattle.intervals.specs.Refusal.{is_at, is_moment_of, find_other_with, moments_refusal, first_refusal}
 use Rattle.intervals.specs.Standing.{IsMomentOf, ShareNoMoment}
-use Rattle.intervals.specs.Moments.{HasPlaces, is_moment_of_next, moment_spot}
-use Rattle.intervals.specs.Shelf.{place_at}
+use Rattle.intervals.specs.Moments.{HasPlaces, is_moment_of_next, kept_at}
 use Rattle.intervals.specs.Table.{standing, slot_at, IsIndexed}
 use Rattle.intervals.proofs.Accepted.{shares_none, moments_accepted}
 use Rattle.intervals.proofs.Found.{find-None, find-Some}
@@ -61,13 +59,13 @@ moment_of op m t = by_cases ((Decides-or (op.begin.0 == m.0) (is_at op.end m) (D
     by_cases (inr t) = inr (by_end op.end t)
 
 -- the place of the beginning was held, and then that of the end
-pub both_held : (op : Op) (first second : Shelf) (end : Moment) → op.end ≡ Some end → is_some (place_at first (moment_spot op.begin)) ≡ true
-    → ((other : Spot) → is_some (place_at first other) ≡ true → place_at second other ≡ place_at first other) → is_some (place_at second (moment_spot end)) ≡ true → HasPlaces second op
+pub both_held : (op : Op) (first second : Moments) (end : Moment) → op.end ≡ Some end → is_some (kept_at first op.begin) ≡ true
+    → ((other : Moment) → is_some (kept_at first other) ≡ true → kept_at second other ≡ kept_at first other) → is_some (kept_at second end) ≡ true → HasPlaces second op
 both_held op first second end e began others ended m t = by_cases (moment_of op m t)
   where
-    by_cases : IsMomentOf op m → is_some (place_at second (moment_spot m)) ≡ true
-    by_cases (inl f) = subst (λ (x : Moment). is_some (place_at second (moment_spot x)) ≡ true) f (ap is_some (others (moment_spot op.begin) began) ∙ began)
-    by_cases (inr f) = subst (λ (x : Moment). is_some (place_at second (moment_spot x)) ≡ true) (some_is end m (sym e ∙ f)) ended
+    by_cases : IsMomentOf op m → is_some (kept_at second m) ≡ true
+    by_cases (inl f) = subst (λ (x : Moment). is_some (kept_at second x) ≡ true) f (ap is_some (others op.begin began) ∙ began)
+    by_cases (inr f) = subst (λ (x : Moment). is_some (kept_at second x) ≡ true) (some_is end m (sym e ∙ f)) ended
 
 -- what is so of the operation that is there, where two facts of it give the third
 pub if_some_both : {X : Type 0} (P Q R : X → Type 0) → ((x : X) → P x → Q x → R x) → (o : Option X) → IfSome o P → IfSome o Q → IfSome o R

@@ -1,5 +1,6 @@
 pub mod Agreement
 pub mod LeastOf
+mod Kept
 mod Spots
 mod Slots
 mod Indexed

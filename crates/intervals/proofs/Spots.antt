@@ -1,4 +1,4 @@
--- The derived order of spots: by the value, then by the moment.
+-- The order of spots: the greatest value first, then the latest moment.
 use Rattle.std.proofs.Common.{◌≡◌, ◌<◌, ℕ, Bool, true, false, List, [], ◌∷◌, ◌++◌, Option, Some, None, refl, sym, ap, subst, ◌∙◌, arith}
 use Rattle.std.proofs.lemmas.Bool.Decides.{nat_tests}
 use Rattle.std.specs.Prelude.{MatchOption, IsSome, if◌then◌else◌}
@@ -40,7 +40,7 @@ value_back (Int x) Nil = refl
 value_back (Int x) (Int y) = int_cmp_total.antisymm x y
 
 -- at one value the moments decide
-at_value : (v : Value) (a b : Moment) → spot_cmp (spot_of v a) (spot_of v b) ≡ nat_cmp a.0 b.0
+at_value : (v : Value) (a b : Moment) → spot_cmp (spot_of v a) (spot_of v b) ≡ nat_cmp b.0 a.0
 at_value v a b = rw (value_itself v) refl
 
 nat_less : (a b : ℕ) → nat_cmp a b ≡ Less → a < b
@@ -52,14 +52,14 @@ nat_before a b lt = grind (arith, nat_tests)
 nat_after : (a b : ℕ) → b < a → nat_cmp a b ≡ Greater
 nat_after a b lt = grind (arith, nat_tests)
 
-before_is_less : (v : Value) (a b : Moment) → a.0 < b.0 → spot_cmp (spot_of v a) (spot_of v b) ≡ Less
-before_is_less v a b lt = at_value v a b ∙ nat_before a.0 b.0 lt
+later_is_less : (v : Value) (a b : Moment) → b.0 < a.0 → spot_cmp (spot_of v a) (spot_of v b) ≡ Less
+later_is_less v a b lt = at_value v a b ∙ nat_before b.0 a.0 lt
 
-after_is_greater : (v : Value) (a b : Moment) → b.0 < a.0 → spot_cmp (spot_of v a) (spot_of v b) ≡ Greater
-after_is_greater v a b lt = at_value v a b ∙ nat_after a.0 b.0 lt
+earlier_is_greater : (v : Value) (a b : Moment) → a.0 < b.0 → spot_cmp (spot_of v a) (spot_of v b) ≡ Greater
+earlier_is_greater v a b lt = at_value v a b ∙ nat_after b.0 a.0 lt
 
-less_is_before : (v : Value) (a b : Moment) → spot_cmp (spot_of v a) (spot_of v b) ≡ Less → a.0 < b.0
-less_is_before v a b h = nat_less a.0 b.0 (sym (at_value v a b) ∙ h)
+less_is_later : (v : Value) (a b : Moment) → spot_cmp (spot_of v a) (spot_of v b) ≡ Less → b.0 < a.0
+less_is_later v a b h = nat_less b.0 a.0 (sym (at_value v a b) ∙ h)
 
 tied_below : (o p q : Ordering) → ordering_then o p ≡ Less → is_lt (ordering_then o q) ≡ false → o ≡ Equal
 tied_below Less p q h k = absurd (cc)
@@ -72,15 +72,15 @@ tied_above Equal p q h k = refl
 tied_above Greater p q h k = absurd (cc)
 
 -- a spot that is between two spots of a value has that value
-value_below : (v : Value) (m limit : Moment) (key : Spot) → spot_cmp key (spot_of v limit) ≡ Less → is_lt (spot_cmp key (spot_of v m)) ≡ false → key.value ≡ v
-value_below v m limit key h k =
-    value_exact key.value v (tied_below (value_cmp key.value v) (nat_cmp key.moment.0 limit.0) (nat_cmp key.moment.0 m.0) h k)
+value_below : (v : Value) (m from : Moment) (key : Spot) → spot_cmp key (spot_of v from) ≡ Less → is_lt (spot_cmp key (spot_of v m)) ≡ false → key.value ≡ v
+value_below v m from key h k =
+    sym (value_exact v key.value (tied_below (value_cmp v key.value) (nat_cmp from.0 key.moment.0) (nat_cmp m.0 key.moment.0) h k))
 
-value_above : (v : Value) (m from : Moment) (key : Spot) → spot_cmp (spot_of v from) key ≡ Less → is_gt (spot_cmp key (spot_of v m)) ≡ false → key.value ≡ v
-value_above v m from key h k =
-    sym (value_exact v key.value
-    (tied_above (value_cmp v key.value) (nat_cmp from.0 key.moment.0) (nat_cmp key.moment.0 m.0) h
-    (rw (← value_back key.value v) k)))
+value_above : (v : Value) (m limit : Moment) (key : Spot) → spot_cmp (spot_of v limit) key ≡ Less → is_gt (spot_cmp key (spot_of v m)) ≡ false → key.value ≡ v
+value_above v m limit key h k =
+    value_exact key.value v
+    (tied_above (value_cmp key.value v) (nat_cmp key.moment.0 limit.0) (nat_cmp m.0 key.moment.0) h
+    (rw (← value_back v key.value) k))
 
 none_unless : {X : Type 0} (o : Option X) → ¬ IsSome o → o ≡ None
 none_unless None f = refl
@@ -93,55 +93,55 @@ module _ (map : BTreeMap Spot (Option OpId)) (v : Value) where
   abbrev chosen : Spot → Option OpId → Bool → Option (Moment × Option OpId)
   chosen key id t = if t then Some (key.moment, id) else None
 
-  -- the last place before a spot of the value is the nearest of the value before it, or none is
-  pub last_place : (limit : Moment) (key : Spot) (id : Option OpId) (front : List (Spot × Option OpId)) → IsRangeOf spot_cmp Unbounded (Excluded (spot_of v limit)) map (front ++ (key, id) ∷ [])
-      → MatchOption (chosen key id (same_value key.value v))
-      ((m : Moment) → m.0 < limit.0 → at m ≡ None)
-      (λ found. (found.0.0 < limit.0) × (at found.0 ≡ Some found.1) × ((m : Moment) → found.0.0 < m.0 → m.0 < limit.0 → at m ≡ None))
-  last_place limit key id front range = by_cases (same_value key.value v) refl
-    where
-      entry : (spot_cmp key (spot_of v limit) ≡ Less) × (get spot_cmp map key ≡ Some id)
-      entry = let e = range.3 (key, id) front refl in (e.0.1, e.1)
-
-      greatest : (m : Moment) → m.0 < limit.0 → IsSome (at m) → is_lt (spot_cmp key (spot_of v m)) ≡ false
-      greatest m lt is = range.4 (key, id) front refl (spot_of v m) (tt, before_is_less v m limit lt) is
-
-      by_cases : (t : Bool) → same_value key.value v ≡ t → MatchOption (chosen key id t)
-          ((m : Moment) → m.0 < limit.0 → at m ≡ None)
-          (λ found. (found.0.0 < limit.0) × (at found.0 ≡ Some found.1) × ((m : Moment) → found.0.0 < m.0 → m.0 < limit.0 → at m ≡ None))
-      by_cases true t =
-          let same : key ≡ spot_of v key.moment = ap {B = Spot} (λ u. spot_of u key.moment) ((Decides-same_value key.value v).0 t) in (
-            less_is_before v key.moment limit (rw same at entry.0),
-            rw same at entry.1,
-            λ m gt lt. none_unless (at m) (λ is. let e = before_is_less v key.moment m gt in let f = rw same at (greatest m lt is) in cc),
-          )
-      by_cases false t =
-          λ m lt. none_unless (at m) (λ is. let e = (Decides-same_value key.value v).1 (value_below v m limit key entry.0 (greatest m lt is)) in cc)
-
-  -- the first place after a spot of the value is the nearest of the value after it, or none is
-  pub first_place : (from : Moment) (key : Spot) (id : Option OpId) (rest : List (Spot × Option OpId)) → IsRangeOf spot_cmp (Excluded (spot_of v from)) Unbounded map ((key, id) ∷ rest)
+  -- the last place in front of a spot of the value is the nearest of the value after it, or none is
+  pub first_place : (from : Moment) (key : Spot) (id : Option OpId) (front : List (Spot × Option OpId)) → IsRangeOf spot_cmp Unbounded (Excluded (spot_of v from)) map (front ++ (key, id) ∷ [])
       → MatchOption (chosen key id (same_value key.value v))
       ((m : Moment) → from.0 < m.0 → at m ≡ None)
       (λ found. (from.0 < found.0.0) × (at found.0 ≡ Some found.1) × ((m : Moment) → from.0 < m.0 → m.0 < found.0.0 → at m ≡ None))
-  first_place from key id rest range = by_cases (same_value key.value v) refl
+  first_place from key id front range = by_cases (same_value key.value v) refl
     where
-      entry : (spot_cmp (spot_of v from) key ≡ Less) × (get spot_cmp map key ≡ Some id)
-      entry = let e = range.1 in (e.0.0, e.1)
+      entry : (spot_cmp key (spot_of v from) ≡ Less) × (get spot_cmp map key ≡ Some id)
+      entry = let e = range.3 (key, id) front refl in (e.0.1, e.1)
 
-      least : (m : Moment) → from.0 < m.0 → IsSome (at m) → is_gt (spot_cmp key (spot_of v m)) ≡ false
-      least m lt is = range.2 (spot_of v m) (before_is_less v from m lt, tt) is
+      least : (m : Moment) → from.0 < m.0 → IsSome (at m) → is_lt (spot_cmp key (spot_of v m)) ≡ false
+      least m lt is = range.4 (key, id) front refl (spot_of v m) (tt, later_is_less v m from lt) is
 
       by_cases : (t : Bool) → same_value key.value v ≡ t → MatchOption (chosen key id t)
           ((m : Moment) → from.0 < m.0 → at m ≡ None)
           (λ found. (from.0 < found.0.0) × (at found.0 ≡ Some found.1) × ((m : Moment) → from.0 < m.0 → m.0 < found.0.0 → at m ≡ None))
       by_cases true t =
           let same : key ≡ spot_of v key.moment = ap {B = Spot} (λ u. spot_of u key.moment) ((Decides-same_value key.value v).0 t) in (
-            less_is_before v from key.moment (rw same at entry.0),
+            less_is_later v key.moment from (rw same at entry.0),
             rw same at entry.1,
-            λ m gt lt. none_unless (at m) (λ is. let e = after_is_greater v key.moment m lt in let f = rw same at (least m gt is) in cc),
+            λ m gt lt. none_unless (at m) (λ is. let e = later_is_less v key.moment m lt in let f = rw same at (least m gt is) in cc),
           )
       by_cases false t =
-          λ m gt. none_unless (at m) (λ is. let e = (Decides-same_value key.value v).1 (value_above v m from key entry.0 (least m gt is)) in cc)
+          λ m gt. none_unless (at m) (λ is. let e = (Decides-same_value key.value v).1 (value_below v m from key entry.0 (least m gt is)) in cc)
+
+  -- the first place behind a spot of the value is the nearest of the value before it, or none is
+  pub last_place : (limit : Moment) (key : Spot) (id : Option OpId) (rest : List (Spot × Option OpId)) → IsRangeOf spot_cmp (Excluded (spot_of v limit)) Unbounded map ((key, id) ∷ rest)
+      → MatchOption (chosen key id (same_value key.value v))
+      ((m : Moment) → m.0 < limit.0 → at m ≡ None)
+      (λ found. (found.0.0 < limit.0) × (at found.0 ≡ Some found.1) × ((m : Moment) → found.0.0 < m.0 → m.0 < limit.0 → at m ≡ None))
+  last_place limit key id rest range = by_cases (same_value key.value v) refl
+    where
+      entry : (spot_cmp (spot_of v limit) key ≡ Less) × (get spot_cmp map key ≡ Some id)
+      entry = let e = range.1 in (e.0.0, e.1)
+
+      greatest : (m : Moment) → m.0 < limit.0 → IsSome (at m) → is_gt (spot_cmp key (spot_of v m)) ≡ false
+      greatest m lt is = range.2 (spot_of v m) (later_is_less v limit m lt, tt) is
+
+      by_cases : (t : Bool) → same_value key.value v ≡ t → MatchOption (chosen key id t)
+          ((m : Moment) → m.0 < limit.0 → at m ≡ None)
+          (λ found. (found.0.0 < limit.0) × (at found.0 ≡ Some found.1) × ((m : Moment) → found.0.0 < m.0 → m.0 < limit.0 → at m ≡ None))
+      by_cases true t =
+          let same : key ≡ spot_of v key.moment = ap {B = Spot} (λ u. spot_of u key.moment) ((Decides-same_value key.value v).0 t) in (
+            less_is_later v limit key.moment (rw same at entry.0),
+            rw same at entry.1,
+            λ m gt lt. none_unless (at m) (λ is. let e = earlier_is_greater v key.moment m gt in let f = rw same at (greatest m lt is) in cc),
+          )
+      by_cases false t =
+          λ m lt. none_unless (at m) (λ is. let e = (Decides-same_value key.value v).1 (value_above v m limit key entry.0 (greatest m lt is)) in cc)
 
 -- a range before a spot, and one after a spot, by their equals
 pub range_before : (map : BTreeMap Spot (Option OpId)) (a b : Spot) (found list : List (Spot × Option OpId)) → a ≡ b → found ≡ list → IsRangeOf spot_cmp Unbounded (Excluded a) map found → IsRangeOf spot_cmp Unbounded (Excluded b) map list

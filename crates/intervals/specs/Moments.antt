@@ -1,25 +1,31 @@
--- Whose each moment is: an operation's moments stand on a shelf at the value Nil, with its id.
+-- Whose each moment is. A place may be held where no operation stands.
 use Rattle.std.specs.Prelude.{◌≡◌, Bool, true, false, Option, None, Some, is_some}
+use Rattle.std.specs.declared.cmp.Ordering.{Ordering}
+use Rattle.std.specs.declared.cmp.Reverse.{Reverse}
+use Rattle.std.specs.BTreeMap.{get}
+use Rattle.std.specs.Ordering.{nat_cmp}
 use Rattle.intervals.specs.declared.operation.Op.{Op}
 use Rattle.intervals.specs.declared.operation.OpId.{OpId}
 use Rattle.intervals.specs.declared.operation.Moment.{Moment}
-use Rattle.intervals.specs.declared.operation.Value.TheVariants.{Nil}
-use Rattle.intervals.specs.declared.shelf.Shelf.{Shelf}
-use Rattle.intervals.specs.declared.shelf.Spot.{Spot}
+use Rattle.intervals.specs.declared.moments.Moments.{Moments}
 use Rattle.intervals.specs.Refusal.{is_moment_of}
-use Rattle.intervals.specs.Shelf.{place_at, id_at, spot_of}
+use Rattle.intervals.specs.Shelf.{joined}
 
--- where a moment stands
-abbrev pub moment_spot : Moment → Spot
-moment_spot moment = spot_of Nil moment
+-- the order of the moments: the latest first
+abbrev pub later_first : Reverse Moment → Reverse Moment → Ordering
+later_first a b = nat_cmp b.0.0 a.0.0
+
+-- what is at the moment: no place, a place that is held, or an id
+abbrev pub kept_at : Moments → Moment → Option (Option OpId)
+kept_at moments moment = get later_first moments.holders (record { 0 = moment })
 
 -- the operation that has the moment
-abbrev pub holder_at : Shelf → Moment → Option OpId
-holder_at shelf moment = id_at shelf (moment_spot moment)
+abbrev pub holder_at : Moments → Moment → Option OpId
+holder_at moments moment = joined (kept_at moments moment)
 
 -- each moment of the operation has a place
-abbrev pub HasPlaces : Shelf → Op → Type 0
-HasPlaces shelf op = (moment : Moment) → is_moment_of op moment ≡ true → is_some (place_at shelf (moment_spot moment)) ≡ true
+abbrev pub HasPlaces : Moments → Op → Type 0
+HasPlaces moments op = (moment : Moment) → is_moment_of op moment ≡ true → is_some (kept_at moments moment) ≡ true
 
 -- the moment is one of the operation that is to come
 abbrev pub is_moment_of_next : Option Op → Moment → Bool

@@ -1,33 +1,101 @@
-//! Whose each moment is: the moments of operations on a shelf.
+//! Whose each moment is, with places held ahead.
 
-ghost use Rattle.std.specs.Prelude.{◌≡◌, ◌==◌, true, None, Some, OnOk, IfSome, if◌then◌else◌};
+ghost use Rattle.std.specs.Prelude.{◌≡◌, ◌==◌, true, false, None, Some, OnOk, OnErr, IfSome, is_some, if◌then◌else◌};
 ghost use Rattle.intervals.specs.declared.operation.Moment.{Moment as AMoment};
-ghost use Rattle.intervals.specs.Moments.{holder_at, HasPlaces, is_moment_of_next, moment_spot};
+ghost use Rattle.intervals.specs.Moments.{kept_at, holder_at, HasPlaces, is_moment_of_next};
 ghost use Rattle.intervals.specs.Refusal.{is_moment_of, has_early_end, has_large_moment};
 
-use crate::{Memory, Moment, Op, OpId, Shelf, Spot, Value};
+use crate::{Memory, Moment, Op, OpId};
+use std::alloc::Global;
+use std::cmp::Reverse;
+use std::collections::BTreeMap;
 
 /// The greatest moment that an operation may have: two of them and a sign fit 64 bits.
 const GREATEST_MOMENT: u64 = 4611686018427387903;
 
-/// The operation that has the moment.
-pub(crate) fn holder_of(moments: &Shelf, moment: Moment) -> Option<OpId>
-    ensures { result ≡ holder_at moments.now moment }
-{
-    moments.get(spot_of(moment))
+/// The id of the operation that has each moment, the latest first. A place can be held where no operation
+/// stands yet, so that to put one there later takes no memory.
+#[derive(Drop)]
+pub struct Moments {
+    holders: BTreeMap<Reverse<Moment>, Option<OpId>>,
+}
+
+impl Moments {
+    pub(crate) fn new(alloc: Global) -> Self
+        ensures { (m : AMoment) → kept_at result m ≡ None }
+    {
+        Moments {
+            holders: BTreeMap::new(alloc),
+        }
+    }
+
+    /// The operation that has the moment.
+    pub(crate) fn holder_of(&self, moment: Moment) -> Option<OpId>
+        ensures { result ≡ holder_at self.now moment }
+    {
+        let found = self.holders.get(&Reverse(moment))?;
+        *found
+    }
+
+    /// Holds the place at the moment.
+    fn hold(&mut self, moment: Moment) -> Result<(), Memory>
+        ensures there { OnOk result (is_some (kept_at self.new moment) ≡ true) }
+        ensures holders { (m : AMoment) → holder_at self.new m ≡ holder_at self.old m }
+        ensures others { (m : AMoment) → is_some (kept_at self.old m) ≡ true → kept_at self.new m ≡ kept_at self.old m }
+    {
+        if self.holders.contains_key(&Reverse(moment)) {
+            return Ok(());
+        }
+        self.holders.insert(Reverse(moment), None)?;
+        Ok(())
+    }
+
+    /// Lets the place at the moment go where no operation has it.
+    fn release(&mut self, moment: Moment)
+        ensures { (m : AMoment) → holder_at self.new m ≡ holder_at self.old m }
+    {
+        if self.holder_of(moment).is_none() {
+            self.holders.remove(&Reverse(moment));
+        }
+    }
+
+    /// Puts an id at a place that is held.
+    fn put(&mut self, moment: Moment, id: OpId)
+        requires { is_some (kept_at self.old moment) ≡ true }
+        ensures { (m : AMoment) → kept_at self.new m ≡ (if moment.0 == m.0 then Some (Some id) else kept_at self.old m) }
+    {
+        let Ok(_) = self.holders.insert(Reverse(moment), Some(id)) else {
+            unreachable!()
+        };
+    }
+
+    /// Takes the id at the moment out and keeps the place.
+    fn vacate(&mut self, moment: Moment)
+        requires { is_some (kept_at self.old moment) ≡ true }
+        ensures { (m : AMoment) → kept_at self.new m ≡ (if moment.0 == m.0 then Some None else kept_at self.old m) }
+    {
+        let Ok(_) = self.holders.insert(Reverse(moment), None) else {
+            unreachable!()
+        };
+    }
+
+    /// Takes the id at the moment out, and lets the place go.
+    fn take(&mut self, moment: Moment)
+        ensures { (m : AMoment) → kept_at self.new m ≡ (if moment.0 == m.0 then None else kept_at self.old m) }
+    {
+        self.holders.remove(&Reverse(moment));
+    }
 }
 
 /// Holds the places of the operation's moments, all or none.
-pub(crate) fn hold_moments(moments: &mut Shelf, op: &Op) -> Result<(), Memory>
+pub(crate) fn hold_moments(moments: &mut Moments, op: &Op) -> Result<(), Memory>
     ensures held { OnOk result (HasPlaces moments.new op.now) }
     ensures holders { (m : AMoment) → holder_at moments.new m ≡ holder_at moments.old m }
 {
-    let made = moments.hold(spot_of(op.begin))?;
+    moments.hold(op.begin)?;
     if let Some(end) = op.end {
-        if let Err(memory) = moments.hold(spot_of(end)) {
-            if made {
-                moments.release(spot_of(op.begin));
-            }
+        if let Err(memory) = moments.hold(end) {
+            moments.release(op.begin);
             return Err(memory);
         }
     }
@@ -35,28 +103,66 @@ pub(crate) fn hold_moments(moments: &mut Shelf, op: &Op) -> Result<(), Memory>
 }
 
 /// Lets the places of the operation's moments go where no operation has them.
-pub(crate) fn release_moments(moments: &mut Shelf, op: &Op)
+pub(crate) fn release_moments(moments: &mut Moments, op: &Op)
     ensures { (m : AMoment) → holder_at moments.new m ≡ holder_at moments.old m }
 {
-    moments.release(spot_of(op.begin));
+    moments.release(op.begin);
     if let Some(end) = op.end {
-        moments.release(spot_of(end));
+        moments.release(end);
     }
 }
 
 /// Puts the operation at its moments, whose places are held.
-pub(crate) fn put_moments(moments: &mut Shelf, op: &Op)
+pub(crate) fn put_moments(moments: &mut Moments, op: &Op)
     requires { HasPlaces moments.old op.now }
     ensures { (m : AMoment) → holder_at moments.new m ≡ (if is_moment_of op.now m then Some op.now.id else holder_at moments.old m) }
 {
-    moments.put(spot_of(op.begin), op.id);
+    moments.put(op.begin, op.id);
     if let Some(end) = op.end {
-        moments.put(spot_of(end), op.id);
+        moments.put(end, op.id);
+    }
+}
+
+/// Takes the operation away from its moments, and puts what becomes of it at its own, whose places are held.
+/// What it keeps is not touched.
+pub(crate) fn move_moments(moments: &mut Moments, old: &Op, new: &Op)
+    requires id { old.now.id ≡ new.now.id }
+    requires held { (m : AMoment) → is_moment_of old.now m ≡ true → holder_at moments.old m ≡ Some old.now.id }
+    requires places { HasPlaces moments.old new.now }
+    ensures { (m : AMoment) → holder_at moments.new m ≡ (if is_moment_of new.now m then Some new.now.id else if is_moment_of old.now m then None else holder_at moments.old m) }
+{
+    leave(moments, old.begin, new);
+    if let Some(end) = old.end {
+        leave(moments, end, new);
+    }
+    enter(moments, new.begin, old);
+    if let Some(end) = new.end {
+        enter(moments, end, old);
+    }
+}
+
+/// Takes the operation away from the moment, unless it keeps it.
+fn leave(moments: &mut Moments, moment: Moment, new: &Op)
+    ensures { (m : AMoment) → kept_at moments.new m ≡ (if moment.0 == m.0 then (if is_moment_of new.now m then kept_at moments.old m else None) else kept_at moments.old m) }
+{
+    if !has_moment(new, moment) {
+        moments.take(moment);
+    }
+}
+
+/// Puts the operation at the moment, whose place is held, unless it has it already.
+fn enter(moments: &mut Moments, moment: Moment, old: &Op)
+    requires place { is_some (kept_at moments.old moment) ≡ true }
+    requires held { is_moment_of old.now moment ≡ true → holder_at moments.old moment ≡ Some old.now.id }
+    ensures { (m : AMoment) → kept_at moments.new m ≡ (if moment.0 == m.0 then Some (Some old.now.id) else kept_at moments.old m) }
+{
+    if !has_moment(old, moment) {
+        moments.put(moment, old.id);
     }
 }
 
 /// Takes the operation away from its moments, and keeps the places of the one that is to come.
-pub(crate) fn take_moments(moments: &mut Shelf, op: &Op, next: Option<Op>)
+pub(crate) fn take_moments(moments: &mut Moments, op: &Op, next: Option<Op>)
     ensures holders { (m : AMoment) → holder_at moments.new m ≡ (if is_moment_of op.now m then None else holder_at moments.old m) }
     ensures kept { IfSome next.entry (λ n. HasPlaces moments.old n → HasPlaces moments.new n) }
 {
@@ -66,15 +172,14 @@ pub(crate) fn take_moments(moments: &mut Shelf, op: &Op, next: Option<Op>)
     }
 }
 
-fn take_moment(moments: &mut Shelf, moment: Moment, next: Option<Op>)
+fn take_moment(moments: &mut Moments, moment: Moment, next: Option<Op>)
     ensures holders { (m : AMoment) → holder_at moments.new m ≡ (if moment.0 == m.0 then None else holder_at moments.old m) }
     ensures kept { IfSome next.entry (λ n. HasPlaces moments.old n → HasPlaces moments.new n) }
 {
-    let spot = spot_of(moment);
     if !comes_at(next, moment) {
-        moments.take(spot);
-    } else if moments.get(spot).is_some() {
-        moments.vacate(spot);
+        moments.take(moment);
+    } else if moments.holder_of(moment).is_some() {
+        moments.vacate(moment);
     }
 }
 
@@ -118,13 +223,4 @@ pub(crate) fn has_moment(op: &Op, moment: Moment) -> bool
         None => false,
     };
     op.begin.0 == moment.0 || ends_then
-}
-
-fn spot_of(moment: Moment) -> Spot
-    ensures { result ≡ moment_spot moment }
-{
-    Spot {
-        value: Value::Nil,
-        moment,
-    }
 }

@@ -1,20 +1,58 @@
 //! Ids by value and moment, with places held ahead.
 
 ghost use Rattle.std.specs.Prelude.{◌≡◌, ◌<◌, ◌≤◌, true, false, None, Some, MatchOption, IfOk, OnOk, OnErr, is_some, not, if◌then◌else◌};
+ghost use Rattle.std.proofs.Common.{rules};
+ghost use Rattle.std.specs.Cmp.{partial_order_from_agreeing_total};
+ghost use Rattle.std.specs.Cmp.Rules.{comparing};
+ghost use Rattle.std.specs.Ordering.{as_partial_cmp};
 ghost use Rattle.intervals.specs.declared.operation.Moment.{Moment as AMoment};
 ghost use Rattle.intervals.specs.Operation.{same_value};
 ghost use Rattle.intervals.specs.Shelf.{place_at, id_at, same_spot, spot_of};
 
 use crate::{Memory, Moment, OpId, Value, is_same_value};
 use std::alloc::Global;
+use std::cmp::Ordering;
 use std::collections::BTreeMap;
 use std::ops::Bound;
 
-/// A value and a moment. Spots are in the order of their values, and at one value of their moments.
-#[derive(Clone, Copy, Debug, PartialEq, Eq, PartialOrd, Ord)]
+/// A value and a moment. The greatest value comes first, and at one value the latest moment: a node is
+/// searched from its front, and what is newest is asked for most.
+#[derive(Clone, Copy, Debug, PartialEq, Eq)]
 pub struct Spot {
     pub value: Value,
     pub moment: Moment,
+}
+
+impl Ord for Spot {
+    ghost use Rattle.intervals.specs.Shelf.{spot_cmp, spot_total};
+
+    ghost cmp = { spot_cmp };
+
+    ghost total = { spot_total };
+
+    ghost matches_partial_cmp = { Prim.search (comparing, rules) };
+
+    ghost matches_eq = { Prim.search (comparing, rules) };
+
+    fn cmp(&self, other: &Spot) -> Ordering {
+        other
+            .value
+            .cmp(&self.value)
+            .then(other.moment.cmp(&self.moment))
+    }
+}
+
+impl PartialOrd for Spot {
+    ghost use Rattle.std.specs.Prelude.{refl};
+    ghost use Rattle.intervals.specs.Shelf.{spot_cmp, spot_total};
+
+    ghost partial_cmp = { as_partial_cmp spot_cmp };
+
+    ghost laws = { partial_order_from_agreeing_total spot_cmp spot_total (λ x y. refl) (Prim.search (comparing, rules)) };
+
+    fn partial_cmp(&self, other: &Spot) -> Option<Ordering> {
+        Some(self.cmp(other))
+    }
 }
 
 /// Ids, each at a spot. A place can be held where no id stands yet, so that to put one there later
@@ -164,7 +202,8 @@ impl Shelf {
             (λ found. (found.0.0 < limit.0) × (place_at self.now (spot_of value found.0) ≡ Some found.1)
             × ((m : AMoment) → found.0.0 < m.0 → m.0 < limit.0 → place_at self.now (spot_of value m) ≡ None)) }
     {
-        let (spot, id) = self.places.range(..spot_at(value, limit)).next_back()?;
+        let past = (Bound::Excluded(spot_at(value, limit)), Bound::Unbounded);
+        let (spot, id) = self.places.range(past).next()?;
         of_value(*spot, *id, value)
     }
 
@@ -175,8 +214,7 @@ impl Shelf {
             (λ found. (from.0 < found.0.0) × (place_at self.now (spot_of value found.0) ≡ Some found.1)
             × ((m : AMoment) → from.0 < m.0 → m.0 < found.0.0 → place_at self.now (spot_of value m) ≡ None)) }
     {
-        let past = (Bound::Excluded(spot_at(value, from)), Bound::Unbounded);
-        let (spot, id) = self.places.range(past).next()?;
+        let (spot, id) = self.places.range(..spot_at(value, from)).next_back()?;
         of_value(*spot, *id, value)
     }
 }

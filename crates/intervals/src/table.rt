@@ -9,10 +9,10 @@ ghost use Rattle.intervals.specs.Refusal.{first_refusal, moments_refusal, ok_unl
 ghost use Rattle.intervals.specs.Table.{admitted, prepared_after, standing, slot_at};
 
 use crate::moments::{
-    ends_too_early, hold_moments, holder_of, is_too_large, put_moments, release_moments,
-    take_moments,
+    Moments, ends_too_early, hold_moments, is_too_large, move_moments, put_moments,
+    release_moments, take_moments,
 };
-use crate::{Change, Edit, Memory, Moment, Op, OpId, Refusal, Shelf, changed};
+use crate::{Change, Edit, Memory, Moment, Op, OpId, Refusal, changed};
 use std::alloc::Global;
 use std::collections::HashMap;
 use std::marker::Model;
@@ -23,7 +23,7 @@ use std::marker::Model;
 pub struct OpTable<'t> {
     slots: Vec<Option<Op<'t>>>,
     places: HashMap<OpId, usize>,
-    moments: Shelf,
+    moments: Moments,
     count: usize,
     prepared: Option<Op<'t>>,
 }
@@ -52,7 +52,7 @@ impl<'t> OpTable<'t> {
         OpTable {
             slots: Vec::new(alloc),
             places: HashMap::new(alloc),
-            moments: Shelf::new(alloc),
+            moments: Moments::new(alloc),
             count: 0,
             prepared: None,
         }
@@ -186,8 +186,7 @@ impl<'t> OpTable<'t> {
             unreachable!()
         };
         let (old, new) = (*op, changed(op, change));
-        take_moments(&mut self.moments, &old, Some(new));
-        put_moments(&mut self.moments, &new);
+        move_moments(&mut self.moments, &old, &new);
         self.slots[place] = Some(new);
         self.prepared = None;
     }
@@ -231,7 +230,7 @@ impl<'t> OpTable<'t> {
     fn other_with(&self, id: OpId, moment: Moment) -> Option<OpId>
         ensures { result ≡ option_map (λ op. op.id) (find_other_with self.now.ops id moment) }
     {
-        let holder = holder_of(&self.moments, moment)?;
+        let holder = self.moments.holder_of(moment)?;
         if holder == id { None } else { Some(holder) }
     }
 }

@@ -105,10 +105,10 @@ module _ (ops : List Op) (v : Value) where
     held = inr (is.read, is.stands, is.judged, is.same, ap At is.began);
   }
 
-  in_judged-write : (op : Op) → Contains ops op → IsWrite op → Contains (judged ops) op
+  pub in_judged-write : (op : Op) → Contains ops op → IsWrite op → Contains (judged ops) op
   in_judged-write op h t = kept is_judged ops op h (judged_write op t)
 
-  in_judged-read : (op : Op) → Contains ops op → IsJudgedRead op → Contains (judged ops) op
+  pub in_judged-read : (op : Op) → Contains ops op → IsJudgedRead op → Contains (judged ops) op
   in_judged-read op h j = kept is_judged ops op h (judged_read op j).0
 
   -- an operation of the cluster is its write or a read

@@ -27,6 +27,7 @@ mod Refusals
 mod FirstReads
 mod Stretches
 mod StretchFound
+mod EdgesOf
 mod FirstStretch
 mod KeyOrder
 pub mod Crosses

@@ -114,10 +114,10 @@ module _ (ops : List Op) (v : Value) where
   first_at_most r h = least-bound (map span_of (reads_of ops v)) (span_of r) (mapped span_of (reads_of ops v) r (in_reads r h))
 
   -- and that of one of them, or never comes
-  abbrev IsHeld : Type 0
+  abbrev pub IsHeld : Type 0
   IsHeld = (first_end_of ops v ≡ Never) ⊎ ((r : Op) × IsReadAt ops v r × (edge_of_end r.end ≡ first_end_of ops v))
 
-  first_held : IsHeld
+  pub first_held : IsHeld
   first_held = by_cases (least-held (map span_of (reads_of ops v)))
     where
       by_cases : (first_end_of ops v ≡ Never) ⊎ ((s : Span) × Contains (map span_of (reads_of ops v)) s × (s.end ≡ first_end_of ops v)) → IsHeld

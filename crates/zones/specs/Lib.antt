@@ -7,6 +7,7 @@ pub mod Turn
 pub mod Examples
 -- words of private clauses
 pub mod Members
+pub mod Edges
 pub mod Index
 pub mod Faults
 pub mod Zoned

@@ -12,8 +12,8 @@ ghost use Rattle.zones.specs.Crossing.{HasLeastEnd, AreExtremes};
 ghost use Rattle.intervals.specs.Standing.{HasDistinctIds};
 ghost use Rattle.zones.specs.Index.{AreMembers};
 
+use crate::edges::edge_of_end;
 use crate::index::Members;
-use crate::zone_in::edge_of_end;
 use intervals::{Op, OpTable, Value, is_same_value};
 
 /// Four operations that no order has room for: `a` and `d` are of one value, `b` and `c` of another, `a`

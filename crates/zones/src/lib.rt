@@ -32,13 +32,14 @@
 //!
 //! The calls are in `register.rt`. `index.rt` keeps the ids of the judged operations of each value on
 //! shelves, by their ends and their beginnings, so that an edit looks at the first and the last of the two
-//! values that it may touch alone (`zone_in.rt`, `stretch.rt`). It moves their zones in one tree and their
-//! stretches, from the first read of a value to its write, in another (`moves.rt`); of each tree the root says
-//! what is asked. `prepare` makes the room for one operation ahead: to withdraw others and then to admit it
-//! takes no memory.
+//! values that it may touch alone, once (`edges.rt`): what it makes of them gives their zones and stretches
+//! (`zone_in.rt`, `stretch.rt`). It moves their zones in one tree and their stretches, from the first read of a
+//! value to its write, in another (`moves.rt`); of each tree the root says what is asked. `prepare` makes the
+//! room for one operation ahead: to withdraw others and then to admit it takes no memory.
 #![tactic(auto)]
 
 mod crossing;
+mod edges;
 mod index;
 pub mod laws;
 mod moves;

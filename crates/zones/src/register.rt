@@ -20,6 +20,7 @@ ghost use Rattle.zones.specs.Members.{IsChange};
 ghost use Rattle.zones.specs.Zoned.{judged_part, value_in as value_of_some, other_value as other};
 
 use crate::crossing::{Crossing, extremes};
+use crate::edges::{edges_after, edges_in, edges_of};
 use crate::index::Members;
 use crate::laws::faultless_exactly_where_arranged;
 use crate::moves::exchange;
@@ -61,10 +62,8 @@ impl<'t> Clusters<'t> {
         let claim = claim.try_clone(alloc)?;
         let table = OpTable::new(alloc);
         let members = Members::new(alloc);
-        let zones = tree_of(
-            alloc,
-            zone_of(&members, &table, claim.initial, claim.initial),
-        )?;
+        let edges = edges_of(&members, &table, None, claim.initial);
+        let zones = tree_of(alloc, zone_of(&edges, claim.initial))?;
         let stretches = ZoneTree::new(alloc);
         Ok(Clusters {
             claim,
@@ -165,12 +164,14 @@ impl<'t> Clusters<'t> {
         let new = judged(new);
         let first = value_in(old);
         let second = other_value(first, value_in(new));
-        let zones = zones_in(&self.members, &self.table, initial, first, second);
-        let stretches = stretches_in(&self.members, &self.table, initial, first, second);
+        let edges = edges_in(&self.members, &self.table, old, first, second);
         self.members.change(old, new, self.table.prepared());
         self.table.admit(edit);
-        let zones_after = zones_in(&self.members, &self.table, initial, first, second);
-        let stretches_after = stretches_in(&self.members, &self.table, initial, first, second);
+        let after = edges_after(edges, &self.members, &self.table, old, new);
+        let zones = zones_in(&edges, initial);
+        let zones_after = zones_in(&after, initial);
+        let stretches = stretches_in(&edges, initial);
+        let stretches_after = stretches_in(&after, initial);
         exchange(&mut self.zones, zones, zones_after);
         exchange(&mut self.stretches, stretches, stretches_after);
     }
@@ -219,7 +220,8 @@ impl<'t> Clusters<'t> {
         ensures zone { IfSome result (λ zone. zone ≡ zone_in_list self.now.claim.initial self.now.ops value) }
         ensures written { IsSome result ↔ Contains (written_values self.now.claim.initial self.now.ops) value }
     {
-        zone_in(&self.members, &self.table, self.claim.initial, value)
+        let edges = edges_of(&self.members, &self.table, None, value);
+        zone_in(&edges, self.claim.initial)
     }
 
     /// The unwritten read that ended first.

@@ -1,54 +1,57 @@
 //! The stretches between the reads of a value and its write, and the faulty reads that they show.
 
-ghost use Rattle.std.specs.Prelude.{◌≡◌};
-ghost use Rattle.intervals.specs.Standing.{HasDistinctIds};
+ghost use Rattle.std.specs.Prelude.{◌≡◌, List, Option};
+ghost use Rattle.intervals.specs.declared.operation.Op.{Op as AnOp};
+ghost use Rattle.intervals.specs.declared.operation.Value.{Value as AValue};
 ghost use Rattle.intervals.specs.Terms.{Terms};
 ghost use Rattle.zone_tree.specs.Order.{StandInOrder};
+ghost use Rattle.zones.specs.Edges.{AreEdges, AreEdgesAt, AreEdgesAtSome};
 ghost use Rattle.zones.specs.Fault.{first_unwritten as unwritten_first, first_early as early_first};
 ghost use Rattle.zones.specs.Faults.{AreStretched, IsStretchAt, IsStretchAtSome, AreStretchesAt, begin_of as begin_in};
 ghost use Rattle.zones.specs.Index.{AreMembers};
 ghost use Rattle.zones.specs.Zoned.{StandApart};
 
 use crate::crossing::first_read;
+use crate::edges::Edges;
 use crate::index::Members;
 use crate::zone_in::zone_between;
 use intervals::{Op, OpTable, Value, is_same_value};
 use zone_tree::{Edge, Zone, ZoneTree};
 
 /// The stretch of the value, where some judged read has it.
-pub fn stretch_in(members: &Members, table: &OpTable, initial: Value, value: Value) -> Option<Zone>
-    ensures { AreMembers table.now.ops members.now → HasDistinctIds table.now.ops → IsStretchAt initial table.now.ops value result }
+pub fn stretch_in(edges: &Edges, initial: Value) -> Option<Zone>
+    ensures { (ops : List AnOp) (value : AValue) → AreEdges ops value edges.now → IsStretchAt initial ops value result }
 {
-    let (end, _) = members.first_to_end(value)?;
-    let begin = begin_of(members, table, initial, value);
-    Some(zone_between(Edge::At(end), begin, value))
+    if Edge::Before.comes_before(edges.read_begin) {
+        Some(zone_between(edges.read_end, begin_of(edges, initial), edges.value))
+    } else {
+        None
+    }
 }
 
-fn begin_of(members: &Members, table: &OpTable, initial: Value, value: Value) -> Edge
-    ensures { AreMembers table.now.ops members.now → HasDistinctIds table.now.ops → result ≡ begin_in initial table.now.ops value }
+fn begin_of(edges: &Edges, initial: Value) -> Edge
+    ensures { (ops : List AnOp) (value : AValue) → AreEdges ops value edges.now → result ≡ begin_in initial ops value }
 {
-    if is_same_value(initial, value) {
+    if is_same_value(initial, edges.value) {
         return Edge::Before;
     }
-    match members.write_of(table, value) {
-        Some(write) => Edge::At(write.begin),
-        None => Edge::Never,
+    if Edge::Before.comes_before(edges.write_begin) {
+        edges.write_begin
+    } else {
+        Edge::Never
     }
 }
 
 /// The stretches of two values.
 pub fn stretches_in(
-    members: &Members,
-    table: &OpTable,
+    edges: &(Option<Edges>, Option<Edges>),
     initial: Value,
-    first: Option<Value>,
-    second: Option<Value>,
 ) -> (Option<Zone>, Option<Zone>)
-    ensures { AreMembers table.now.ops members.now → HasDistinctIds table.now.ops → AreStretchesAt initial table.now.ops first second result }
+    ensures { (ops : List AnOp) (first second : Option AValue) → AreEdgesAt ops first second edges.now → AreStretchesAt initial ops first second result }
 {
     (
-        stretch_in_some(members, table, initial, first),
-        stretch_in_some(members, table, initial, second),
+        stretch_in_some(&edges.0, initial),
+        stretch_in_some(&edges.1, initial),
     )
 }
 
@@ -80,16 +83,11 @@ pub fn first_early<'t>(
     Some((read, write))
 }
 
-fn stretch_in_some(
-    members: &Members,
-    table: &OpTable,
-    initial: Value,
-    value: Option<Value>,
-) -> Option<Zone>
-    ensures { AreMembers table.now.ops members.now → HasDistinctIds table.now.ops → IsStretchAtSome initial table.now.ops value result }
+fn stretch_in_some(edges: &Option<Edges>, initial: Value) -> Option<Zone>
+    ensures { (ops : List AnOp) (value : Option AValue) → AreEdgesAtSome ops value edges.now → IsStretchAtSome initial ops value result }
 {
-    match value {
-        Some(value) => stretch_in(members, table, initial, value),
+    match edges {
+        Some(edges) => stretch_in(edges, initial),
         None => None,
     }
 }

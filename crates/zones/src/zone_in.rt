@@ -1,74 +1,63 @@
-//! The zone of a value, from the extremes of its cluster.
+//! The zone of a value, from the edges of its cluster.
 
-ghost use Rattle.std.specs.Prelude.{◌≡◌, ◌↔◌, List, Contains, IsTrue};
+ghost use Rattle.std.specs.Prelude.{◌≡◌, ◌↔◌, List, Option, Contains, IsTrue};
 ghost use Rattle.intervals.specs.declared.operation.Op.{Op};
-ghost use Rattle.intervals.specs.declared.operation.Value.{Value};
-ghost use Rattle.zones.specs.Cluster.{edge_of_end as edge_of, least_end_of, greatest_begin_of, written_values, earlier_of as earlier, later_of as later, zone_between as between, zone_of as zone_in_list};
-ghost use Rattle.intervals.specs.Standing.{HasDistinctIds};
-ghost use Rattle.zones.specs.Index.{AreMembers};
-ghost use Rattle.intervals.specs.Operation.{IsJudgedRead, IsWrite};
-ghost use Rattle.zones.specs.Members.{IsGreatestBegin, IsLeastEnd};
+ghost use Rattle.intervals.specs.declared.operation.Value.{Value as AValue};
+ghost use Rattle.zones.specs.Cluster.{least_end_of, greatest_begin_of, written_values, zone_between as between, zone_of as zone_in_list};
+ghost use Rattle.zones.specs.Edges.{AreEdges, AreEdgesAt, AreEdgesAtSome};
 ghost use Rattle.zones.specs.Zoned.{IsZoneAt, IsZoneAtSome, AreZonesAt};
 
-use crate::index::Members;
-use intervals::{Moment, OpTable, Value, is_same_value};
+use crate::edges::{Edges, earlier_of, later_of};
+use intervals::{Value, is_same_value};
 use zone_tree::{Edge, Zone};
 
 /// The zone of the value, where that is the initial one or has a write.
-pub fn zone_in(members: &Members, table: &OpTable, initial: Value, value: Value) -> Option<Zone>
-    ensures { AreMembers table.now.ops members.now → HasDistinctIds table.now.ops → IsZoneAt initial table.now.ops value result }
+pub fn zone_in(edges: &Edges, initial: Value) -> Option<Zone>
+    ensures { (ops : List Op) (value : AValue) → AreEdges ops value edges.now → IsZoneAt initial ops value result }
 {
-    if is_written(members, table, initial, value) {
-        Some(zone_of(members, table, initial, value))
+    if is_written(edges, initial) {
+        Some(zone_of(edges, initial))
     } else {
         None
     }
 }
 
-fn zone_in_some(
-    members: &Members,
-    table: &OpTable,
-    initial: Value,
-    value: Option<Value>,
-) -> Option<Zone>
-    ensures { AreMembers table.now.ops members.now → HasDistinctIds table.now.ops → IsZoneAtSome initial table.now.ops value result }
+fn zone_in_some(edges: &Option<Edges>, initial: Value) -> Option<Zone>
+    ensures { (ops : List Op) (value : Option AValue) → AreEdgesAtSome ops value edges.now → IsZoneAtSome initial ops value result }
 {
-    match value {
-        Some(value) => zone_in(members, table, initial, value),
+    match edges {
+        Some(edges) => zone_in(edges, initial),
         None => None,
     }
 }
 
 /// The zones of two values.
 pub fn zones_in(
-    members: &Members,
-    table: &OpTable,
+    edges: &(Option<Edges>, Option<Edges>),
     initial: Value,
-    first: Option<Value>,
-    second: Option<Value>,
 ) -> (Option<Zone>, Option<Zone>)
-    ensures { AreMembers table.now.ops members.now → HasDistinctIds table.now.ops → AreZonesAt initial table.now.ops first second result }
+    ensures { (ops : List Op) (first second : Option AValue) → AreEdgesAt ops first second edges.now → AreZonesAt initial ops first second result }
 {
     (
-        zone_in_some(members, table, initial, first),
-        zone_in_some(members, table, initial, second),
+        zone_in_some(&edges.0, initial),
+        zone_in_some(&edges.1, initial),
     )
 }
 
-fn is_written(members: &Members, table: &OpTable, initial: Value, value: Value) -> bool
-    ensures { AreMembers table.now.ops members.now → HasDistinctIds table.now.ops → IsTrue result ↔ Contains (written_values initial table.now.ops) value }
+fn is_written(edges: &Edges, initial: Value) -> bool
+    ensures { (ops : List Op) (value : AValue) → AreEdges ops value edges.now → IsTrue result ↔ Contains (written_values initial ops) value }
 {
-    is_same_value(initial, value) || members.write_of(table, value).is_some()
+    is_same_value(initial, edges.value) || Edge::Before.comes_before(edges.write_begin)
 }
 
 /// The zone of the value, whether that has a write or not.
-pub fn zone_of(members: &Members, table: &OpTable, initial: Value, value: Value) -> Zone
-    ensures { AreMembers table.now.ops members.now → HasDistinctIds table.now.ops → result ≡ zone_in_list initial table.now.ops value }
+pub fn zone_of(edges: &Edges, initial: Value) -> Zone
+    ensures { (ops : List Op) (value : AValue) → AreEdges ops value edges.now → result ≡ zone_in_list initial ops value }
 {
     zone_between(
-        least_end(members, table, initial, value),
-        greatest_begin(members, table, value),
-        value,
+        least_end(edges, initial),
+        greatest_begin(edges),
+        edges.value,
     )
 }
 
@@ -93,77 +82,17 @@ pub fn zone_between(least: Edge, greatest: Edge, value: Value) -> Zone
 }
 
 /// The initial write ends before every moment.
-fn least_end(members: &Members, table: &OpTable, initial: Value, value: Value) -> Edge
-    ensures { AreMembers table.now.ops members.now → HasDistinctIds table.now.ops → result ≡ least_end_of initial table.now.ops value }
+fn least_end(edges: &Edges, initial: Value) -> Edge
+    ensures { (ops : List Op) (value : AValue) → AreEdges ops value edges.now → result ≡ least_end_of initial ops value }
 {
-    if is_same_value(initial, value) {
+    if is_same_value(initial, edges.value) {
         return Edge::Before;
     }
-    earlier_of(write_end(members, table, value), read_end(members, value))
+    earlier_of(edges.write_end, edges.read_end)
 }
 
-fn write_end(members: &Members, table: &OpTable, value: Value) -> Edge
-    ensures { AreMembers table.now.ops members.now → HasDistinctIds table.now.ops → IsLeastEnd IsWrite table.now.ops value result }
+fn greatest_begin(edges: &Edges) -> Edge
+    ensures { (initial : AValue) (ops : List Op) (value : AValue) → AreEdges ops value edges.now → result ≡ greatest_begin_of initial ops value }
 {
-    match members.write_of(table, value) {
-        Some(write) => edge_of_end(write.end),
-        None => Edge::Never,
-    }
-}
-
-fn read_end(members: &Members, value: Value) -> Edge
-    ensures { (ops : List Op) → AreMembers ops members.now → IsLeastEnd IsJudgedRead ops value result }
-{
-    match members.first_to_end(value) {
-        Some((end, _)) => Edge::At(end),
-        None => Edge::Never,
-    }
-}
-
-fn greatest_begin(members: &Members, table: &OpTable, value: Value) -> Edge
-    ensures { (initial : Value) → AreMembers table.now.ops members.now → HasDistinctIds table.now.ops → result ≡ greatest_begin_of initial table.now.ops value }
-{
-    later_of(
-        write_begin(members, table, value),
-        read_begin(members, value),
-    )
-}
-
-pub fn edge_of_end(end: Option<Moment>) -> Edge
-    ensures { result ≡ edge_of end }
-{
-    match end {
-        Some(end) => Edge::At(end),
-        None => Edge::Never,
-    }
-}
-
-fn write_begin(members: &Members, table: &OpTable, value: Value) -> Edge
-    ensures { AreMembers table.now.ops members.now → HasDistinctIds table.now.ops → IsGreatestBegin IsWrite table.now.ops value result }
-{
-    match members.write_of(table, value) {
-        Some(write) => Edge::At(write.begin),
-        None => Edge::Before,
-    }
-}
-
-fn read_begin(members: &Members, value: Value) -> Edge
-    ensures { (ops : List Op) → AreMembers ops members.now → IsGreatestBegin IsJudgedRead ops value result }
-{
-    match members.last_to_begin(value) {
-        Some((begin, _)) => Edge::At(begin),
-        None => Edge::Before,
-    }
-}
-
-fn earlier_of(a: Edge, b: Edge) -> Edge
-    ensures { result ≡ earlier a b }
-{
-    if b.comes_before(a) { b } else { a }
-}
-
-fn later_of(a: Edge, b: Edge) -> Edge
-    ensures { result ≡ later a b }
-{
-    if a.comes_before(b) { b } else { a }
+    later_of(edges.write_begin, edges.read_begin)
 }

@@ -14,14 +14,19 @@ unreachable-requires c =
     let e = rw (← c.self.view_is, none) at c.requires.accepted in
     cc
 
-pub put_moments-requires : goal.put_moments-requires
-put_moments-requires c =
+pub move_moments-requires-clause-places : goal.move_moments-requires-clause-places
+move_moments-requires-clause-places c =
     let inside = c.self.inside in
     let slot = rw c.as_slice.ensures.value at c.in-Some.ensures.slot in
     let new = new_in_slot inside.slots.items (place_of same_id inside.places) (holder_at inside.moments) c.self.invariant.0 c.args.id c.args.change.now c.in-Some.place c.in-Some.op.now c.in-Some.ensures.place slot in
     let room = rw (← c.self.view_is, new) at c.requires.room in
     let held = rw room at c.self.invariant.2 in
-    c.take_moments.ensures.kept (subst (HasPlaces inside.moments) (sym c.changed-new.ensures) held.2)
+    subst (HasPlaces inside.moments) (sym c.changed-new.ensures) held.2
+
+pub move_moments-requires-clause-held : goal.move_moments-requires-clause-held
+move_moments-requires-clause-held c m t =
+    let slot = rw c.as_slice.ensures.value at c.in-Some.ensures.slot in
+    c.self.invariant.0.held c.in-Some.place c.in-Some.op.now m slot t
 
 pub invariant_of-self : goal.invariant_of-self
 invariant_of-self c =
@@ -30,7 +35,7 @@ invariant_of-self c =
       rw c.changed-new.ensures
           (indexed_amended inside.slots.items (place_of same_id inside.places) (holder_at inside.moments) c.self.invariant.0 c.args.id c.args.change.now c.in-Some.place c.in-Some.op.now _
           (rw (← c.self.view_is) at c.requires.accepted) c.in-Some.ensures.place slot
-          (λ m. rw (c.changed-new.ensures, c.take_moments.ensures.holders m) at (c.put_moments.ensures m))),
+          (λ m. rw c.changed-new.ensures at (c.move_moments.ensures m))),
       rw (as_many inside.slots.items c.in-Some.place c.in-Some.op.now c.changed-new.result slot) c.self.invariant.1,
       tt,
     )

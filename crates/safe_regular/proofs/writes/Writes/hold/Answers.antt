@@ -1,6 +1,9 @@
-use Rattle.std.proofs.Common.{◌∙◌}
+use Rattle.std.proofs.Common.{refl, ◌∙◌}
 use Rattle.safe_regular.proofs.Shelves.{writes_alike}
 use Rattle.safe_regular.proofs.writes.Writes.hold.Goals as goal
+
+pub returns-in_err-made-clause-writes : goal.returns-in_err-made-clause-writes
+returns-in_err-made-clause-writes c ops are = writes_alike ops c.args.self.now c.hold.new.shelf c.args.self.now.values c.hold.ensures.ids (λ s. refl) are
 
 pub returns-then-made-clause-writes : goal.returns-then-made-clause-writes
 returns-then-made-clause-writes c ops are =

@@ -26,6 +26,13 @@ admit-requires-clause-accepted c =
     let ops = c.self.inside.table.ops in
     edit_accepted claim ops c.args.edit (subst (λ (x : Clustered). reply_to x.claim x.ops c.args.edit ≡ None) (sym c.self.view_is) c.requires.accepted)
 
+pub admit-requires-clause-room : goal.admit-requires-clause-room
+admit-requires-clause-room c =
+    let prepared = c.self.inside.table.prepared in
+    let asked : c.args.new ≡ new_op c.self.inside.table.ops c.args.edit = subst (λ (x : Clustered). c.args.new ≡ new_op x.ops c.args.edit) (sym c.self.view_is) c.requires.new in
+    let held : IfSome c.args.new (λ op. prepared ≡ Some op) = subst (λ (x : Clustered). IfSome c.args.new (λ op. x.prepared ≡ Some op)) (sym c.self.view_is) c.requires.prepared in
+    subst (λ (n : Option Op). IfSome n (λ op. prepared ≡ Some op)) asked held
+
 pub exchange-requires : goal.exchange-requires
 exchange-requires c =
     let claim = terms_of c.self.inside.claim in
@@ -40,10 +47,15 @@ exchange-requires c =
     let after_is : after ≡ edited ops c.args.edit = ap (λ (t : Tabled). t.ops) c.admit.ensures in
     let apart = c.self.invariant.apart in
     let later = apart_after claim ops c.args.edit apart accepted c.judged-old.result c.judged-new.result old_is new_is after after_is in
-    let members : AreMembers after c.change.new.self = c.change.ensures.members ops after c.self.invariant.members_of (change_is claim ops c.args.edit apart accepted c.judged-old.result c.judged-new.result old_is new_is after after_is) in
+    let change = change_is claim ops c.args.edit apart accepted c.judged-old.result c.judged-new.result old_is new_is after after_is in
+    let members : AreMembers after c.change.new.self = c.change.ensures.members ops after c.self.invariant.members_of change in
+    let first = c.value_in-first.result in
+    let second = c.other_value-second.result in
+    let before_is = c.edges_in-edges.ensures c.self.invariant.members_of apart.ids change.goes in
+    let later_is = c.edges_after-after.ensures ops first second before_is change members later.ids in
     can_exchange_zones claim ops c.args.edit apart accepted c.judged-old.result c.judged-new.result old_is new_is after after_is
     c.value_in-first.result c.other_value-second.result (search rules) (search rules) c.zones_in-zones.result c.zones_in-zones_after.result c.self.inside.zones c.self.invariant.zoned
-    (c.zones_in-zones.ensures c.self.invariant.members_of apart.ids) (c.zones_in-zones_after.ensures members later.ids)
+    (c.zones_in-zones.ensures ops first second before_is) (c.zones_in-zones_after.ensures after first second later_is)
     (λ some. (enough_for c.self.inside.members c.self.inside.zones c.self.inside.stretches prepared c.self.invariant.room c.args.new held (subst (λ (n : Option Op). IsSome n) c.judged-new.ensures some)).0)
 
 pub exchange-requires-2 : goal.exchange-requires-2
@@ -60,10 +72,15 @@ exchange-requires-2 c =
     let after_is : after ≡ edited ops c.args.edit = ap (λ (t : Tabled). t.ops) c.admit.ensures in
     let apart = c.self.invariant.apart in
     let later = apart_after claim ops c.args.edit apart accepted c.judged-old.result c.judged-new.result old_is new_is after after_is in
-    let members : AreMembers after c.change.new.self = c.change.ensures.members ops after c.self.invariant.members_of (change_is claim ops c.args.edit apart accepted c.judged-old.result c.judged-new.result old_is new_is after after_is) in
+    let change = change_is claim ops c.args.edit apart accepted c.judged-old.result c.judged-new.result old_is new_is after after_is in
+    let members : AreMembers after c.change.new.self = c.change.ensures.members ops after c.self.invariant.members_of change in
+    let first = c.value_in-first.result in
+    let second = c.other_value-second.result in
+    let before_is = c.edges_in-edges.ensures c.self.invariant.members_of apart.ids change.goes in
+    let later_is = c.edges_after-after.ensures ops first second before_is change members later.ids in
     can_exchange_stretches claim ops c.args.edit apart accepted c.judged-old.result c.judged-new.result old_is new_is after after_is
     c.value_in-first.result c.other_value-second.result (search rules) (search rules) c.stretches_in-stretches.result c.stretches_in-stretches_after.result c.self.inside.stretches c.self.invariant.stretched
-    (c.stretches_in-stretches.ensures c.self.invariant.members_of apart.ids) (c.stretches_in-stretches_after.ensures members later.ids)
+    (c.stretches_in-stretches.ensures ops first second before_is) (c.stretches_in-stretches_after.ensures after first second later_is)
     (λ some. (enough_for c.self.inside.members c.self.inside.zones c.self.inside.stretches prepared c.self.invariant.room c.args.new held (subst (λ (n : Option Op). IsSome n) c.judged-new.ensures some)).1)
 
 pub invariant_of-self : goal.invariant_of-self
@@ -81,11 +98,16 @@ invariant_of-self c =
     let after_is : after ≡ edited ops c.args.edit = ap (λ (t : Tabled). t.ops) c.admit.ensures in
     let apart = c.self.invariant.apart in
     let later = apart_after claim ops c.args.edit apart accepted c.judged-old.result c.judged-new.result old_is new_is after after_is in
-    let members : AreMembers after c.change.new.self = c.change.ensures.members ops after c.self.invariant.members_of (change_is claim ops c.args.edit apart accepted c.judged-old.result c.judged-new.result old_is new_is after after_is) in
-    let zones_before = c.zones_in-zones.ensures c.self.invariant.members_of apart.ids in
-    let zones_later = c.zones_in-zones_after.ensures members later.ids in
-    let stretches_before = c.stretches_in-stretches.ensures c.self.invariant.members_of apart.ids in
-    let stretches_later = c.stretches_in-stretches_after.ensures members later.ids in
+    let change = change_is claim ops c.args.edit apart accepted c.judged-old.result c.judged-new.result old_is new_is after after_is in
+    let members : AreMembers after c.change.new.self = c.change.ensures.members ops after c.self.invariant.members_of change in
+    let first = c.value_in-first.result in
+    let second = c.other_value-second.result in
+    let before_is = c.edges_in-edges.ensures c.self.invariant.members_of apart.ids change.goes in
+    let later_is = c.edges_after-after.ensures ops first second before_is change members later.ids in
+    let zones_before = c.zones_in-zones.ensures ops first second before_is in
+    let zones_later = c.zones_in-zones_after.ensures after first second later_is in
+    let stretches_before = c.stretches_in-stretches.ensures ops first second before_is in
+    let stretches_later = c.stretches_in-stretches_after.ensures after first second later_is in
     record {
       apart = later;
       members_of = members;

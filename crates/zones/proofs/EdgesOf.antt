@@ -1,0 +1,306 @@
+-- The edges of a value: what an edit makes of them, and what its zone and its stretch are by them.
+use Rattle.std.proofs.Common.{◌≡◌, ◌≢◌, ◌↔◌, ◌⊎◌, inl, inr, Bool, true, false, ◌&&◌, ◌||◌, List, Option, Some, None, refl, sym, ap, ◌∙◌, subst, cond}
+use Rattle.std.specs.Prelude.{All, Contains, IfSome, IsSome, IsTrue}
+use Rattle.std.proofs.lemmas.Bool.{both_ways}
+use Rattle.std.proofs.lemmas.List.Elements.{All-contains}
+use Rattle.intervals.specs.declared.operation.Op.{Op}
+use Rattle.intervals.specs.declared.operation.Value.{Value}
+use Rattle.intervals.specs.Operation.{IsJudgedRead, IsWrite, is_judged_read, is_write, judged, same_value, value_of}
+use Rattle.zone_tree.specs.declared.edge.Edge.{Edge}
+use Rattle.zone_tree.specs.declared.edge.Edge.TheVariants.{Before, At, Never}
+use Rattle.zone_tree.specs.Edge.{ComesBefore, comes_before}
+use Rattle.zones.specs.Cluster.{earlier_of, edge_of_end, later_of, written_values, zone_between}
+use Rattle.zones.specs.Edges.{AreEdges, AreReadEdges, AreWriteEdges, part_of, read_part, write_part}
+use Rattle.zone_tree.specs.declared.zone.Zone.{Zone}
+use Rattle.zones.specs.declared.edges.Edges.{Edges}
+use Rattle.zones.specs.Faults.{IsRead, IsStretchAt, begin_of, first_end_of}
+use Rattle.zones.specs.Members.{HasNoWrite, IsChange, IsGreatestBegin, IsLeastEnd, IsTheWriteAt}
+use Rattle.zones.specs.Zoned.{IsZoneAt}
+use Rattle.zones.proofs.EdgeOrder.{AtMost, at_most_both, at_most_itself, at_most_transitive, before_all, earlier-cases, earlier-left, earlier-right, later-cases, later-left, later-right}
+use Rattle.zones.proofs.Ends.{in_judged-read, in_judged-write, none_begins, none_ends}
+use Rattle.zones.proofs.Judged.{is_judged}
+use Rattle.zones.proofs.Members.{Decides-same_value, all_from, kept_stands}
+use Rattle.zones.proofs.Stretches.{begin_at_write, begin_never, begin_initial, first_at_most, first_held, no_write}
+use Rattle.zones.proofs.Written.{never_last, written_by, written_cases, written_initial}
+
+-- what passes a test and has the value
+passes : (test : Op → Bool) (v : Value) (op : Op) → test op ≡ true → value_of op.act ≡ v → part_of test v (Some op) ≡ Some op
+passes test v op t e = let s : same_value (value_of op.act) v ≡ true = (Decides-same_value (value_of op.act) v).1 e in rw (t, s) refl
+
+passed : (test : Op → Bool) (v : Value) (found : Option Op) (op : Op) → part_of test v found ≡ Some op → (found ≡ Some op) × (test op ≡ true) × (value_of op.act ≡ v)
+passed test v None op e = absurd (cc)
+passed test v (Some x) op e = by_cases (test x) (same_value (value_of x.act) v) refl refl e
+  where
+    by_cases : (t s : Bool) → test x ≡ t → same_value (value_of x.act) v ≡ s → cond (t && s) (Some x) None ≡ Some op → (Some x ≡ Some op) × (test op ≡ true) × (value_of op.act ≡ v)
+    by_cases true true p q f = let same : x ≡ op = cc in (f, subst (λ (o : Op). test o ≡ true) same p, subst (λ (o : Op). value_of o.act ≡ v) same ((Decides-same_value (value_of x.act) v).0 q))
+    by_cases true false p q f = absurd (cc)
+    by_cases false s p q f = absurd (cc)
+
+-- of the operations that pass a test and have the value, before and after a change
+module _ (test : Op → Bool) (before : List Op) (old new : Option Op) (after : List Op) (change : IsChange before old new after) (v : Value)
+    (judged_by : (ops : List Op) (op : Op) → Contains ops op → test op ≡ true → Contains (judged ops) op) where
+  abbrev Passes : Op → Type 0
+  Passes op = test op ≡ true
+
+  came : (op : Op) → new ≡ Some op → Contains after op
+  came op e = let h : IfSome (Some op) (λ op. Contains (judged after) op) = subst (λ (n : Option Op). IfSome n (λ op. Contains (judged after) op)) e change.comes in (kept_stands is_judged after op h).0
+
+  stayed : part_of test v old ≡ None → (op : Op) → Contains before op → test op ≡ true → value_of op.act ≡ v → Contains after op
+  stayed none op h t e = by_cases (change.stay op (judged_by before op h t))
+    where
+      by_cases : (old ≡ Some op) ⊎ Contains (judged after) op → Contains after op
+      by_cases (inl f) = absurd (let g : Some op ≡ None = sym (passes test v op t e) ∙ (ap (part_of test v) (sym f) ∙ none) in cc)
+      by_cases (inr k) = (kept_stands is_judged after op k).0
+
+  stood : (op : Op) → Contains after op → test op ≡ true → (new ≡ Some op) ⊎ Contains before op
+  stood op h t = by_cases (change.stood op (judged_by after op h t))
+    where
+      by_cases : (new ≡ Some op) ⊎ (Contains (judged before) op × (old ≢ Some op)) → (new ≡ Some op) ⊎ Contains before op
+      by_cases (inl e) = inl e
+      by_cases (inr (k, n)) = inr (kept_stands is_judged before op k).0
+
+  not_new : part_of test v new ≡ None → (op : Op) → test op ≡ true → value_of op.act ≡ v → new ≢ Some op
+  not_new none op t e f = absurd (let g : Some op ≡ None = sym (passes test v op t e) ∙ (ap (part_of test v) (sym f) ∙ none) in cc)
+
+  module _ (edge : Edge) (still : part_of test v old ≡ None) where
+    same_end : part_of test v new ≡ None → IsLeastEnd Passes before v edge → IsLeastEnd Passes after v edge
+    same_end none is = record {
+      least = all_from (λ op. Passes op → value_of op.act ≡ v → AtMost edge (edge_of_end op.end)) after (λ op h t e. by_place op t e (stood op h t));
+      held = by_held is.held;
+    }
+      where
+        by_place : (op : Op) → test op ≡ true → value_of op.act ≡ v → (new ≡ Some op) ⊎ Contains before op → AtMost edge (edge_of_end op.end)
+        by_place op t e (inl f) = absurd (not_new none op t e f)
+        by_place op t e (inr k) = All-contains (λ op. Passes op → value_of op.act ≡ v → AtMost edge (edge_of_end op.end)) before op is.least k t e
+
+        by_held : (edge ≡ Never) ⊎ ((op : Op) × Contains before op × Passes op × (value_of op.act ≡ v) × (edge_of_end op.end ≡ edge)) → (edge ≡ Never) ⊎ ((op : Op) × Contains after op × Passes op × (value_of op.act ≡ v) × (edge_of_end op.end ≡ edge))
+        by_held (inl e) = inl e
+        by_held (inr (op, h, t, e, f)) = inr (op, stayed still op h t e, t, e, f)
+
+    same_begin : part_of test v new ≡ None → IsGreatestBegin Passes before v edge → IsGreatestBegin Passes after v edge
+    same_begin none is = record {
+      greatest = all_from (λ op. Passes op → value_of op.act ≡ v → AtMost (At op.begin) edge) after (λ op h t e. by_place op t e (stood op h t));
+      held = by_held is.held;
+    }
+      where
+        by_place : (op : Op) → test op ≡ true → value_of op.act ≡ v → (new ≡ Some op) ⊎ Contains before op → AtMost (At op.begin) edge
+        by_place op t e (inl f) = absurd (not_new none op t e f)
+        by_place op t e (inr k) = All-contains (λ op. Passes op → value_of op.act ≡ v → AtMost (At op.begin) edge) before op is.greatest k t e
+
+        by_held : (edge ≡ Before) ⊎ ((op : Op) × Contains before op × Passes op × (value_of op.act ≡ v) × (At op.begin ≡ edge)) → (edge ≡ Before) ⊎ ((op : Op) × Contains after op × Passes op × (value_of op.act ≡ v) × (At op.begin ≡ edge))
+        by_held (inl e) = inl e
+        by_held (inr (op, h, t, e, f)) = inr (op, stayed still op h t e, t, e, f)
+
+    module _ (r : Op) (comes : part_of test v new ≡ Some r) where
+      is_r : (new ≡ Some r) × (test r ≡ true) × (value_of r.act ≡ v)
+      is_r = passed test v new r comes
+
+      one_new : (op : Op) → new ≡ Some op → r ≡ op
+      one_new op e = let f : Some r ≡ Some op = sym is_r.0 ∙ e in cc
+
+      more_end : IsLeastEnd Passes before v edge → IsLeastEnd Passes after v (earlier_of edge (edge_of_end r.end))
+      more_end is = record {
+        least = all_from (λ op. Passes op → value_of op.act ≡ v → AtMost least (edge_of_end op.end)) after (λ op h t e. by_place op t e (stood op h t));
+        held = by_cases (earlier-cases edge (edge_of_end r.end)) is.held;
+      }
+        where
+          least : Edge
+          least = earlier_of edge (edge_of_end r.end)
+
+          by_place : (op : Op) → test op ≡ true → value_of op.act ≡ v → (new ≡ Some op) ⊎ Contains before op → AtMost least (edge_of_end op.end)
+          by_place op t e (inl f) = subst (λ (x : Op). AtMost least (edge_of_end x.end)) (one_new op f) (earlier-right edge (edge_of_end r.end))
+          by_place op t e (inr k) =
+              at_most_transitive least edge (edge_of_end op.end) (earlier-left edge (edge_of_end r.end))
+              (All-contains (λ op. Passes op → value_of op.act ≡ v → AtMost edge (edge_of_end op.end)) before op is.least k t e)
+
+          by_cases : (edge ≡ least) ⊎ (edge_of_end r.end ≡ least) → (edge ≡ Never) ⊎ ((op : Op) × Contains before op × Passes op × (value_of op.act ≡ v) × (edge_of_end op.end ≡ edge))
+              → (least ≡ Never) ⊎ ((op : Op) × Contains after op × Passes op × (value_of op.act ≡ v) × (edge_of_end op.end ≡ least))
+          by_cases (inl e) (inl f) = inl (sym e ∙ f)
+          by_cases (inl e) (inr (op, h, t, s, f)) = inr (op, stayed still op h t s, t, s, f ∙ e)
+          by_cases (inr e) held = inr (r, came r is_r.0, is_r.1, is_r.2, e)
+
+      more_begin : IsGreatestBegin Passes before v edge → IsGreatestBegin Passes after v (later_of edge (At r.begin))
+      more_begin is = record {
+        greatest = all_from (λ op. Passes op → value_of op.act ≡ v → AtMost (At op.begin) greatest) after (λ op h t e. by_place op t e (stood op h t));
+        held = by_cases (later-cases edge (At r.begin)) is.held;
+      }
+        where
+          greatest : Edge
+          greatest = later_of edge (At r.begin)
+
+          by_place : (op : Op) → test op ≡ true → value_of op.act ≡ v → (new ≡ Some op) ⊎ Contains before op → AtMost (At op.begin) greatest
+          by_place op t e (inl f) = subst (λ (x : Op). AtMost (At x.begin) greatest) (one_new op f) (later-right edge (At r.begin))
+          by_place op t e (inr k) =
+              at_most_transitive (At op.begin) edge greatest
+              (All-contains (λ op. Passes op → value_of op.act ≡ v → AtMost (At op.begin) edge) before op is.greatest k t e)
+              (later-left edge (At r.begin))
+
+          by_cases : (edge ≡ greatest) ⊎ (At r.begin ≡ greatest) → (edge ≡ Before) ⊎ ((op : Op) × Contains before op × Passes op × (value_of op.act ≡ v) × (At op.begin ≡ edge))
+              → (greatest ≡ Before) ⊎ ((op : Op) × Contains after op × Passes op × (value_of op.act ≡ v) × (At op.begin ≡ greatest))
+          by_cases (inl e) (inl f) = inl (sym e ∙ f)
+          by_cases (inl e) (inr (op, h, t, s, f)) = inr (op, stayed still op h t s, t, s, f ∙ e)
+          by_cases (inr e) held = inr (r, came r is_r.0, is_r.1, is_r.2, e)
+
+-- of the reads
+module _ (before : List Op) (old new : Option Op) (after : List Op) (change : IsChange before old new after) (v : Value) (begin end : Edge)
+    (are : AreReadEdges before v begin end) (still : read_part v old ≡ None) where
+  pub reads_same : read_part v new ≡ None → AreReadEdges after v begin end
+  reads_same none = record {
+    begin = same_begin is_judged_read before old new after change v (λ ops. in_judged-read ops v) begin still none are.begin;
+    end = same_end is_judged_read before old new after change v (λ ops. in_judged-read ops v) end still none are.end;
+  }
+
+  pub reads_more : (r : Op) → read_part v new ≡ Some r → AreReadEdges after v (later_of begin (At r.begin)) (earlier_of end (edge_of_end r.end))
+  reads_more r is = record {
+    begin = more_begin is_judged_read before old new after change v (λ ops. in_judged-read ops v) begin still r is are.begin;
+    end = more_end is_judged_read before old new after change v (λ ops. in_judged-read ops v) end still r is are.end;
+  }
+
+-- the one write of a value
+pub edges_of_write : (ops : List Op) (v : Value) (w : Op) → IsTheWriteAt ops v w → ((a b : Op) → IsTheWriteAt ops v a → IsTheWriteAt ops v b → a ≡ b) → AreWriteEdges ops v (At w.begin) (edge_of_end w.end)
+edges_of_write ops v w is one = record {
+  begin = record {
+    greatest = all_from (λ op. IsWrite op → value_of op.act ≡ v → AtMost (At op.begin) (At w.begin)) ops (λ op h t e. subst (λ (x : Op). AtMost (At x.begin) (At w.begin)) (same op h t e) (at_most_itself (At w.begin)));
+    held = inr (w, is.stands, is.write, is.same, refl);
+  };
+  end = record {
+    least = all_from (λ op. IsWrite op → value_of op.act ≡ v → AtMost (edge_of_end w.end) (edge_of_end op.end)) ops (λ op h t e. subst (λ (x : Op). AtMost (edge_of_end w.end) (edge_of_end x.end)) (same op h t e) (at_most_itself (edge_of_end w.end)));
+    held = inr (w, is.stands, is.write, is.same, refl);
+  };
+  one = one;
+}
+  where
+    same : (op : Op) → Contains ops op → IsWrite op → value_of op.act ≡ v → w ≡ op
+    same op h t e = one w op is (record { stands = h; write = t; same = e })
+
+pub edges_of_none : (ops : List Op) (v : Value) → HasNoWrite ops v → AreWriteEdges ops v Before Never
+edges_of_none ops v none = record {
+  begin = none_begins ops v IsWrite none;
+  end = none_ends ops v IsWrite none;
+  one = λ a b is_a is_b. absurd (All-contains (λ w. IsWrite w → value_of w.act ≢ v) ops a none is_a.stands is_a.write is_a.same);
+}
+
+-- an operation that is known to stand is the write of its value
+pub known_write : (ops : List Op) (known : Option Op) (v : Value) (w : Op) → IfSome known (λ op. Contains (judged ops) op) → write_part v known ≡ Some w → IsTheWriteAt ops v w
+known_write ops known v w stands is =
+    let (e, t, s) = passed is_write v known w is in
+    let h : IfSome (Some w) (λ op. Contains (judged ops) op) = subst (λ (n : Option Op). IfSome n (λ op. Contains (judged ops) op)) e stands in
+    record { stands = (kept_stands is_judged ops w h).0; write = t; same = s }
+
+-- of the writes
+module _ (before : List Op) (old new : Option Op) (after : List Op) (change : IsChange before old new after) (v : Value) where
+  one_after : (a b : Op) → IsTheWriteAt after v a → IsTheWriteAt after v b → a ≡ b
+  one_after a b is_a is_b =
+      change.apart_after.by_value a b (in_judged-write after v a is_a.stands is_a.write) (in_judged-write after v b is_b.stands is_b.write) (is_a.same ∙ sym is_b.same) is_a.write is_b.write
+
+  pub write_came : (w : Op) → write_part v new ≡ Some w → AreWriteEdges after v (At w.begin) (edge_of_end w.end)
+  write_came w is = edges_of_write after v w (known_write after new v w change.comes is) one_after
+
+  pub write_went : (w : Op) → write_part v new ≡ None → write_part v old ≡ Some w → AreWriteEdges after v Before Never
+  write_went w none is = edges_of_none after v (no_write after v (λ x is_x. by_place x is_x (change.stood x (in_judged-write after v x is_x.stands is_x.write))))
+    where
+      is_w : IsTheWriteAt before v w
+      is_w = known_write before old v w change.goes is
+
+      by_place : (x : Op) → IsTheWriteAt after v x → (new ≡ Some x) ⊎ (Contains (judged before) x × (old ≢ Some x)) → ⊥
+      by_place x is_x (inl e) = not_new is_write before old new after change v (λ ops. in_judged-write ops v) none x is_x.write is_x.same e
+      by_place x is_x (inr (h, n)) =
+          let same : w ≡ x = change.apart_before.by_value w x (in_judged-write before v w is_w.stands is_w.write) h (is_w.same ∙ sym is_x.same) is_w.write is_x.write in
+          n ((passed is_write v old w is).0 ∙ ap Some same)
+
+  pub write_same : (begin end : Edge) → write_part v new ≡ None → write_part v old ≡ None → AreWriteEdges before v begin end → AreWriteEdges after v begin end
+  write_same begin end none still are = record {
+    begin = same_begin is_write before old new after change v (λ ops. in_judged-write ops v) begin still none are.begin;
+    end = same_end is_write before old new after change v (λ ops. in_judged-write ops v) end still none are.end;
+    one = one_after;
+  }
+
+-- something begins where the edge is not Before
+module _ (P : Op → Type 0) (ops : List Op) (v : Value) (edge : Edge) (is : IsGreatestBegin P ops v edge) where
+  pub begun : ComesBefore Before edge → (op : Op) × Contains ops op × P op × (value_of op.act ≡ v) × (At op.begin ≡ edge)
+  begun h = by_cases is.held
+    where
+      by_cases : (edge ≡ Before) ⊎ ((op : Op) × Contains ops op × P op × (value_of op.act ≡ v) × (At op.begin ≡ edge)) → (op : Op) × Contains ops op × P op × (value_of op.act ≡ v) × (At op.begin ≡ edge)
+      by_cases (inl e) = absurd (let k : ComesBefore Before Before = subst (ComesBefore Before) e h in cc)
+      by_cases (inr found) = found
+
+  pub has_begun : (op : Op) → Contains ops op → P op → value_of op.act ≡ v → ComesBefore Before edge
+  has_begun op h p e = by_edge edge (All-contains (λ op. P op → value_of op.act ≡ v → AtMost (At op.begin) edge) ops op is.greatest h p e)
+    where
+      by_edge : (x : Edge) → AtMost (At op.begin) x → ComesBefore Before x
+      by_edge Before k = absurd (k refl)
+      by_edge (At m) k = refl
+      by_edge Never k = refl
+
+-- a value is written that is the initial one or has a write
+pub written_by_edge : (initial : Value) (ops : List Op) (v : Value) (begin end : Edge) → AreWriteEdges ops v begin end → IsTrue (same_value initial v || comes_before Before begin) ↔ Contains (written_values initial ops) v
+written_by_edge initial ops v begin end are = (forward (same_value initial v) refl, back)
+  where
+    forward : (t : Bool) → same_value initial v ≡ t → IsTrue (t || comes_before Before begin) → Contains (written_values initial ops) v
+    forward true e h = subst (λ (u : Value). Contains (written_values initial ops) u) ((Decides-same_value initial v).0 e) (written_initial initial ops)
+    forward false e h = let (w, k, t, s, f) = begun IsWrite ops v begin are.begin h in written_by initial ops v w (record { stands = k; write = t; same = s })
+
+    by_cases : (t : Bool) → same_value initial v ≡ t → (initial ≡ v) ⊎ ((w : Op) × IsTheWriteAt ops v w) → IsTrue (t || comes_before Before begin)
+    by_cases true e found = refl
+    by_cases false e (inl f) = absurd (both_ways (same_value initial v) e ((Decides-same_value initial v).1 f))
+    by_cases false e (inr (w, is)) = has_begun IsWrite ops v begin are.begin w is.stands is.write is.same
+
+    back : Contains (written_values initial ops) v → IsTrue (same_value initial v || comes_before Before begin)
+    back h = by_cases (same_value initial v) refl (written_cases initial ops v h)
+
+-- the first end of the reads
+pub first_end_by_edge : (ops : List Op) (v : Value) (begin end : Edge) → AreReadEdges ops v begin end → first_end_of ops v ≡ end
+first_end_by_edge ops v begin end are = at_most_both (first_end_of ops v) end (by_edge are.end.held) (by_first (first_held ops v))
+  where
+    by_edge : (end ≡ Never) ⊎ ((op : Op) × Contains ops op × IsJudgedRead op × (value_of op.act ≡ v) × (edge_of_end op.end ≡ end)) → AtMost (first_end_of ops v) end
+    by_edge (inl e) = subst (AtMost (first_end_of ops v)) (sym e) (never_last (first_end_of ops v))
+    by_edge (inr (op, h, j, s, f)) = subst (AtMost (first_end_of ops v)) f (first_at_most ops v op (h, j, s))
+
+    by_first : (first_end_of ops v ≡ Never) ⊎ ((r : Op) × (Contains ops r × IsJudgedRead r × (value_of r.act ≡ v)) × (edge_of_end r.end ≡ first_end_of ops v)) → AtMost end (first_end_of ops v)
+    by_first (inl e) = subst (AtMost end) (sym e) (never_last end)
+    by_first (inr (r, (h, j, s), f)) = subst (AtMost end) f (All-contains (λ op. IsJudgedRead op → value_of op.act ≡ v → AtMost end (edge_of_end op.end)) ops r are.end.least h j s)
+
+-- a value is read where a read has begun
+pub read_by_edge : (ops : List Op) (v : Value) (begin end : Edge) → AreReadEdges ops v begin end → ComesBefore Before begin ↔ IsRead ops v
+read_by_edge ops v begin end are = (
+    (λ h. let (r, k, j, s, f) = begun IsJudgedRead ops v begin are.begin h in (r, k, j, s)),
+    (λ read. has_begun IsJudgedRead ops v begin are.begin read.0 read.1 read.2 read.3))
+
+-- where the write begins
+module _ (initial : Value) (ops : List Op) (v : Value) (begin end : Edge) (are : AreWriteEdges ops v begin end) (other : initial ≢ v) where
+  pub begin_by_edge : ComesBefore Before begin → begin ≡ begin_of initial ops v
+  begin_by_edge h =
+      let (w, k, t, s, f) = begun IsWrite ops v begin are.begin h in
+      let is : IsTheWriteAt ops v w = record { stands = k; write = t; same = s } in
+      sym f ∙ sym (begin_at_write initial ops v other w is (λ x is_x. are.one x w is_x is))
+
+  pub begin_by_none : ¬ ComesBefore Before begin → Never ≡ begin_of initial ops v
+  begin_by_none n = sym (begin_never initial ops v other (no_write ops v (λ w is. n (has_begun IsWrite ops v begin are.begin w is.stands is.write is.same))))
+
+-- edges are those of the value that they name
+pub at_itself : (ops : List Op) (v : Value) (edges : Edges) → AreEdges ops v edges → AreEdges ops edges.value edges
+at_itself ops v edges are = subst (λ (u : Value). AreEdges ops u edges) (sym are.same) are
+
+-- the stretch of a value
+module _ (initial : Value) (ops : List Op) (v : Value) (begin end : Edge) (are : AreReadEdges ops v begin end) where
+  pub stretch_by_edge : ComesBefore Before begin → (at : Edge) → at ≡ begin_of initial ops v → (zone : Zone) → zone ≡ zone_between end at v → IsStretchAt initial ops v (Some zone)
+  stretch_by_edge h at at_is zone e = record {
+    stretch =
+        e
+        ∙ (ap (λ (m : Edge). zone_between m at v) (sym (first_end_by_edge ops v begin end are))
+        ∙ ap (λ (m : Edge). zone_between (first_end_of ops v) m v) at_is);
+    none = λ n. absurd (cc);
+    some = λ n. (read_by_edge ops v begin end are).0 h;
+  }
+
+  pub no_stretch_by_edge : ¬ ComesBefore Before begin → IsStretchAt initial ops v None
+  no_stretch_by_edge n = record {
+    stretch = tt;
+    none = λ none read. n ((read_by_edge ops v begin end are).1 read);
+    some = λ some. absurd (cc);
+  }
+
+-- a zone is found where the value is written
+pub found_where_written : (initial : Value) (ops : List Op) (v : Value) (found : Option Zone) → IsZoneAt initial ops v found → IsSome found ↔ Contains (written_values initial ops) v
+found_where_written initial ops v None is = (is.some, λ h. absurd (is.none refl h))
+found_where_written initial ops v (Some zone) is = (is.some, λ h. refl)
