@@ -261,3 +261,14 @@ pub of_rows : (P : Row → Type 0) → P Writes → P Ends → P Begins → (row
 of_rows P w e b Writes = w
 of_rows P w e b Ends = e
 of_rows P w e b Begins = b
+
+-- a held place is there when an id was taken out
+pub place_left : (from to : Shelf) (out held : Option Spot) → HasPlaceAt from held
+    → ((other : Spot) → place_at to other ≡ taken_at out held other (place_at from other)) → HasPlaceAt to held
+place_left from to out None there is = there
+place_left from to out (Some spot) there is = ap is_some (is spot) ∙ place_taken out spot (place_at from spot) there
+
+-- the place of a new operation, which is the prepared one
+pub place_of_new : (row : Row) (new prepared : Option Op) (op : Op) (shelf : Shelf) → IfSome new (λ o. prepared ≡ Some o) → new ≡ Some op → HasPlaceAt shelf (spot_in row prepared) → HasPlaceAt shelf (spot_on row op)
+place_of_new row None prepared op shelf is e there = absurd (cc)
+place_of_new row (Some one) prepared op shelf is e there = subst (λ (p : Option Op). HasPlaceAt shelf (spot_in row p)) (is ∙ e) there

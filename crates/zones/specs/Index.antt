@@ -83,6 +83,10 @@ is_spot (Some spot) other = same_spot spot other
 abbrev pub HasPlaceAt : Shelf → Option Spot → Type 0
 HasPlaceAt shelf spot = IfSome spot (λ s. is_some (place_at shelf s) ≡ true)
 
+-- the two are one spot, and that id stands there
+abbrev pub IsStill : Shelf → Option Spot → Option Spot → OpId → Type 0
+IsStill shelf spot place id = (s : Spot) × (spot ≡ Some s) × (place ≡ Some s) × (place_at shelf s ≡ Some (Some id))
+
 -- the place was made at the spot that is given, and no other place changed
 pub record IsMade (before after : Shelf) (made : Option Spot) : Type 0 where
   pub new : IfSome made (λ s. place_at before s ≡ None)

@@ -7,7 +7,7 @@ ghost use Rattle.intervals.specs.Edit.{op_of};
 ghost use Rattle.intervals.specs.Shelf.{place_at, id_at};
 ghost use Rattle.intervals.specs.Standing.{HasDistinctIds};
 ghost use Rattle.zones.specs.Members.{IsChange, IsTheWriteAt, EndsFirstOf, BeginsLastOf, HasNoRead, HasNoWrite};
-ghost use Rattle.zones.specs.Index.{AreMembers, HasPlaces, HasPlacesOf, HasPlaceAt, HaveSamePlaces, IsInTime, IsMade, is_spot, spot_on as on, spot_in as in_row, taken_at, put_at, come_at};
+ghost use Rattle.zones.specs.Index.{AreMembers, HasPlaces, HasPlacesOf, HasPlaceAt, HaveSamePlaces, IsInTime, IsMade, IsStill, is_spot, spot_on as on, spot_in as in_row, taken_at, put_at, come_at};
 
 use intervals::{Memory, Moment, Op, OpId, OpTable, Shelf, Spot, Value};
 use std::alloc::Global;
@@ -165,16 +165,32 @@ fn release(shelf: &mut Shelf, spot: Option<Spot>)
 }
 
 /// Takes the old operation out and puts the new one in, whose place is held. The place of the prepared
-/// one stays.
+/// one stays. An operation that keeps its spot is not touched.
 fn change_row(shelf: &mut Shelf, row: Row, old: Option<Op>, new: Option<Op>, prepared: Option<Op>)
     requires prepared { IfSome new (λ op. prepared ≡ Some op) }
     requires place { HasPlaceAt shelf.old (in_row row prepared) }
     ensures in_time { IsInTime (in_row row new.entry) }
     ensures places { (other : ASpot) → place_at shelf.new other ≡ come_at row new.entry other (taken_at (in_row row old.entry) (in_row row prepared.entry) other (place_at shelf.old other)) }
 {
-    take_out(shelf, spot_in(row, old), spot_in(row, prepared));
-    if let Some(op) = new {
-        put_in(shelf, spot_on(row, &op), op.id);
+    let spot = spot_in(row, old);
+    let Some(op) = new else {
+        take_out(shelf, spot, spot_in(row, prepared));
+        return;
+    };
+    let place = spot_on(row, &op);
+    if !has_at(shelf, spot, place, op.id) {
+        take_out(shelf, spot, place);
+        put_in(shelf, place, op.id);
+    }
+}
+
+/// Whether the two are one spot, and the id stands there.
+fn has_at(shelf: &Shelf, spot: Option<Spot>, place: Option<Spot>, id: OpId) -> bool
+    ensures { result ≡ true → IsStill shelf.now spot place id }
+{
+    match (spot, place) {
+        (Some(spot), Some(place)) => spot == place && shelf.get(spot) == Some(id),
+        _ => false,
     }
 }
 
