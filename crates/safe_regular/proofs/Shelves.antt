@@ -20,7 +20,7 @@ use Rattle.safe_regular.specs.declared.writes.Writes.{Writes}
 use Rattle.safe_regular.specs.Index.{IsIndex}
 use Rattle.safe_regular.specs.LookUp.{BeginsBefore, BeginsFrom, BeginsAfter, HasValueBy, IsLastOf, IsFirstOf}
 use Rattle.safe_regular.specs.Window.{IsOneMore}
-use Rattle.safe_regular.specs.Writes.{AreWrites, HaveSameWrites, IsAdded, id_by_begin, id_by_value, spot_by_begin, spot_by_value, op_at}
+use Rattle.safe_regular.specs.Writes.{AreWrites, HaveSameWrites, IsAdded, IsAddedOf, StandAlike, StandAlikeIn, id_by_begin, id_by_value, spot_by_begin, spot_by_value, op_at}
 use Rattle.safe_regular.proofs.Apart.{either_way}
 use Rattle.safe_regular.proofs.Index.{none_indexed, last_indexed, first_indexed, index_with, index_without, index_beside, index_beside_back}
 use Rattle.safe_regular.proofs.Lists.{one_of_id}
@@ -235,3 +235,41 @@ module _ (others : List Op) (op : Op) (ops : List Op) (is : IsAdded others op op
         (subst (λ (s : Option Spot). IfSome s (λ s. id_at values s ≡ None)) value_is value_gone)
         (subst (λ (s : Option Spot). AreAlikeBeside s old.values values) value_is by_value) (are.by_value value);
   }
+
+-- a write that keeps its spots leaves the shelves as they are
+module _ (others before after : List Op) (old new : Op) (alike : StandAlike old new) (gone : IsAdded others old before) (come : IsAdded others new after) where
+  index_stays : (P : Op → Type 0) (at : Moment → Option OpId) → (P old → P new) → (P new → P old) → IsIndex P before at → IsIndex P after at
+  index_stays P at to from index = record { there = there_after; back = back_after }
+    where
+      there_after : (w : Op) → Contains after w → IsWrite w → P w → at w.begin ≡ Some w.id
+      there_after w stands write fits = by_cases (come.only w write stands)
+        where
+          by_cases : Contains others w ⊎ (w ≡ new) → at w.begin ≡ Some w.id
+          by_cases (inl left) = index.there w (gone.kept w write left) write fits
+          by_cases (inr e) =
+              let was : at old.begin ≡ Some old.id = index.there old (gone.added alike.old_writes) alike.old_writes (from (subst P e fits)) in
+              rw e (rw (← alike.begin) (rw (← alike.id) was))
+
+      back_after : (m : Moment) (id : OpId) → at m ≡ Some id → (w : Op) × Contains after w × IsWrite w × P w × (w.begin ≡ m) × (w.id ≡ id)
+      back_after m id e = by_cases (index.back m id e)
+        where
+          by_cases : ((w : Op) × Contains before w × IsWrite w × P w × (w.begin ≡ m) × (w.id ≡ id)) → (w : Op) × Contains after w × IsWrite w × P w × (w.begin ≡ m) × (w.id ≡ id)
+          by_cases (w, stands, write, fits, at_m, of_id) = by_origin (gone.only w write stands)
+            where
+              by_origin : Contains others w ⊎ (w ≡ old) → (w : Op) × Contains after w × IsWrite w × P w × (w.begin ≡ m) × (w.id ≡ id)
+              by_origin (inl left) = (w, come.kept w write left, write, fits, at_m, of_id)
+              by_origin (inr s) =
+                  (new, come.added alike.new_writes, alike.new_writes, to (subst P s fits), sym alike.begin ∙ ap (λ (o : Op). o.begin) (sym s) ∙ at_m, sym alike.id ∙ ap (λ (o : Op). o.id) (sym s) ∙ of_id)
+
+  pub writes_stay : (writes : Writes) → AreWrites before writes → AreWrites after writes
+  writes_stay writes are = record {
+    by_begin = index_stays (λ w. Unit {0}) (id_by_begin writes) (λ p. p) (λ p. p) are.by_begin;
+    by_value = λ value. index_stays (λ w. value_of w.act ≡ value) (id_by_value writes value) (λ p. sym alike.value ∙ p) (λ p. alike.value ∙ p) (are.by_value value);
+  }
+
+-- the same of operations that there may be
+pub writes_stay_in : (others before after : List Op) (old new : Option Op) → StandAlikeIn old new → IsAddedOf others old before → IsAddedOf others new after → (writes : Writes) → AreWrites before writes → AreWrites after writes
+writes_stay_in others before after old new (o, n, is_old, is_new, alike) gone come =
+    writes_stay others before after o n alike
+    (subst (λ (x : Option Op). IsAddedOf others x before) is_old gone)
+    (subst (λ (x : Option Op). IsAddedOf others x after) is_new come)

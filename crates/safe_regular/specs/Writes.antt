@@ -66,6 +66,18 @@ abbrev pub IsAddedOf : List Op → Option Op → List Op → Type 0
 IsAddedOf others None ops = HaveSameWrites others ops
 IsAddedOf others (Some op) ops = IsAdded others op ops
 
+-- both are writes of one id, beginning and value, so they stand at the same spots
+pub record StandAlike (old new : Op) : Type 0 where
+  pub old_writes : IsWrite old
+  pub new_writes : IsWrite new
+  pub id : old.id ≡ new.id
+  pub begin : old.begin ≡ new.begin
+  pub value : value_of old.act ≡ value_of new.act
+
+-- the same of two operations that there may be
+abbrev pub StandAlikeIn : Option Op → Option Op → Type 0
+StandAlikeIn old new = (o n : Op) × (old ≡ Some o) × (new ≡ Some n) × StandAlike o n
+
 -- the operation of an id that was found at a moment
 abbrev pub op_at : List Op → Option (Moment × OpId) → Option Op
 op_at ops None = None

@@ -1,6 +1,6 @@
 //! The writes by their beginnings and values, and which writes a claim allows beside them.
 
-ghost use Rattle.std.specs.Prelude.{◌≡◌, ◌≢◌, [], List, IfSome, OnOk, None, Some, false};
+ghost use Rattle.std.specs.Prelude.{◌≡◌, ◌≢◌, [], List, IfSome, OnOk, None, Some, false, true};
 ghost use Rattle.std.specs.List.{cons_option};
 ghost use Rattle.intervals.specs.declared.operation.Op.{Op as AnOp};
 ghost use Rattle.intervals.specs.declared.shelf.Spot.{Spot as ASpot};
@@ -11,10 +11,11 @@ ghost use Rattle.intervals.specs.Shelf.{id_at, same_spot};
 ghost use Rattle.intervals.specs.Standing.{HasDistinctIds};
 ghost use Rattle.safe_regular.specs.Apart.{AreApart};
 ghost use Rattle.safe_regular.specs.LookUp.{BeginsBefore, BeginsFrom, BeginsAfter, HasValueBy, IsLastOf, IsFirstOf, IsEarlierOf, IsBeyondOf};
-ghost use Rattle.safe_regular.specs.Writes.{AreWrites, HasPlace, HasPlaces, HasPlacesOf, IsAdded, IsAddedOf, spot_by_begin as begin_spot, spot_by_value as value_spot, op_at as op_of_found};
+ghost use Rattle.safe_regular.specs.Writes.{AreWrites, HasPlace, HasPlaces, HasPlacesOf, IsAdded, IsAddedOf, spot_by_begin as begin_spot, StandAlike, StandAlikeIn, spot_by_value as value_spot, op_at as op_of_found};
 
 use intervals::{
-    Claim, Kind, Memory, Moment, Op, OpId, OpTable, Refusal, Shelf, Spot, Value, overlaps,
+    Claim, Kind, Memory, Moment, Op, OpId, OpTable, Refusal, Shelf, Spot, Value, is_same_value,
+    overlaps,
 };
 use std::alloc::Global;
 
@@ -59,8 +60,20 @@ impl Writes {
         release(&mut self.values, spot_by_value(op));
     }
 
-    /// Takes an operation out, and puts in one that is prepared. The places of the prepared one stay.
+    /// Takes an operation out, and puts in one that is prepared. The places of the prepared one stay. A
+    /// write that keeps its spots is not touched.
     pub fn change(&mut self, old: Option<Op>, new: Option<Op>, prepared: Option<Op>)
+        requires new { IfSome new (λ op. prepared ≡ Some op) }
+        requires places { HasPlacesOf prepared self.old }
+        ensures writes { (before others after : List AnOp) → AreWrites before self.old → IsAddedOf others old.entry before → IsAddedOf others new.entry after → AreWrites after self.new }
+        ensures places { HasPlacesOf prepared.entry self.new }
+    {
+        if !keeps_its_spots(old, new) {
+            self.exchange(old, new, prepared);
+        }
+    }
+
+    fn exchange(&mut self, old: Option<Op>, new: Option<Op>, prepared: Option<Op>)
         requires new { IfSome new (λ op. prepared ≡ Some op) }
         requires places { HasPlacesOf prepared self.old }
         ensures writes { (before others after : List AnOp) → AreWrites before self.old → IsAddedOf others old.entry before → IsAddedOf others new.entry after → AreWrites after self.new }
@@ -91,6 +104,26 @@ impl Writes {
         put_in(&mut self.begins, spot_by_begin(op), op.id);
         put_in(&mut self.values, spot_by_value(op), op.id);
     }
+}
+
+/// Whether both are writes of one id, beginning and value.
+fn keeps_its_spots(old: Option<Op>, new: Option<Op>) -> bool
+    ensures { result ≡ true → StandAlikeIn old.entry new.entry }
+{
+    match (old, new) {
+        (Some(old), Some(new)) => stand_alike(&old, &new),
+        _ => false,
+    }
+}
+
+fn stand_alike(old: &Op, new: &Op) -> bool
+    ensures { result ≡ true → StandAlike old.now new.now }
+{
+    old.is_write()
+        && new.is_write()
+        && old.has_id(new.id)
+        && old.begin.0 == new.begin.0
+        && is_same_value(old.value(), new.value())
 }
 
 /// The first of `NotAWriter`, `WritesOverlap` and `OutOfDomain` that holds of the write. An operation of
