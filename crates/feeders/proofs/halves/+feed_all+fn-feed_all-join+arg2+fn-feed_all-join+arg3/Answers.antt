@@ -1,7 +1,9 @@
 use Prim.Native.Nat.{ℕ}
+use mathlib.Core.List.{[], ◌∷◌}
 use base.Fml.{Lft}
 use mir.Syntax.{named}
-use denote.Ref.{NamedLft}
+use denote.Ref.{NamedLft, ShrRef}
+use denote.Struct.Field.{shr_slice_field, u8-field}
 use denote.Param.Send.{IsSync, shr_send, sendable}
 use Rattle.std.proofs.Common.{◌/◌, length, rules}
 use Rattle.std.proofs.Crossing.{Vec-send}
@@ -11,8 +13,14 @@ use Rattle.shards.proofs.Crosses.{auditor_sync, closure_send}
 use Rattle.shards.proofs.pass.Pass.TheSendSync as pass
 use Rattle.tower_file.proofs.tower.Tower.TheSendSync as tower
 use Rattle.feeders.specs.Progress.{AreFed}
-use Rattle.feeders.specs.contracts.halves.feed_all.{R-row, G-row}
-use Rattle.feeders.proofs.halves.+feed_all+fn-feed_all-join+arg2+fn-feed_all-join+arg3.Lts-feed_all as of_code
+use Rattle.std.specs.contracts.alloc.Global as Global
+use Rattle.std.specs.contracts.impls.GlobalAllocator.TheImpl as allocator
+use Rattle.std.specs.contracts.vec.Vec as Vec
+use Rattle.jepsen_form.specs.contracts.item.MomentField as MomentField
+use Rattle.shards.specs.contracts.auditor.Auditor as Auditor
+use Rattle.shards.specs.contracts.pass.Pass as Pass
+use Rattle.tower_file.specs.contracts.tower.Tower as Tower
+use Rattle.feeders.specs.contracts.halves.feed_all.{O-row, R-row, G-row}
 use Rattle.feeders.proofs.Split.{fed_parts}
 use Rattle.feeders.proofs.halves.+feed_all+fn-feed_all-join+arg2+fn-feed_all-join+arg3.Goals as goal
 
@@ -33,9 +41,15 @@ join-first-requires-send-F g t c κs within =
     let runtime : IsSync (R-row g.row.O g.row.R g.row.G) = search rules parts 8 in
     let gate : IsSync (G-row g.row.O g.row.R g.row.G) = search rules parts 8 in
     let at : ℕ → Lft → NamedLft = λ n κ. record { mir = named n; lft = κ } in
-    let captured = of_code.of-38 g.row.O g.row.R g.row.G g.O.laws g.R.laws g.G.laws g.O.Opening g.O.Opening-dict g.R.Threads g.R.Threads-dict g.R.Wait g.R.Wait-dict g.G.Gate g.G.Gate-dict
-    (at 6 κs.1.1.1.1.1.1.0) (at 7 κs.1.1.1.1.1.1.1.0) (at 8 κs.1.1.1.1.1.1.1.1.0) (at 4 κs.1.1.1.1.0) (at 9 κs.1.1.1.1.1.1.1.1.1.0)
-    (at 10 κs.1.1.1.1.1.1.1.1.1.1.0) (at 11 κs.1.1.1.1.1.1.1.1.1.1.1.0) (at 12 κs.1.1.1.1.1.1.1.1.1.1.1.1.0) (at 13 κs.1.1.1.1.1.1.1.1.1.1.1.1.1.0) (at 14 κs.1.1.1.1.1.1.1.1.1.1.1.1.1.1.0) in
+    let captured =
+        ShrRef (named 6) κs.1.1.1.1.1.1.0 (R-row g.row.O g.row.R g.row.G) ∷
+        ShrRef (named 7) κs.1.1.1.1.1.1.1.0 Global.the_row ∷
+        ShrRef (named 8) κs.1.1.1.1.1.1.1.1.0 (Auditor.the_row (at 4 κs.1.1.1.1.0) (O-row g.row.O g.row.R g.row.G) g.O.Opening) ∷
+        ShrRef (named 9) κs.1.1.1.1.1.1.1.1.1.0 (G-row g.row.O g.row.R g.row.G) ∷
+        ShrRef (named 10) κs.1.1.1.1.1.1.1.1.1.1.0 Tower.the_row ∷
+        ShrRef (named 11) κs.1.1.1.1.1.1.1.1.1.1.1.0 MomentField.the_row ∷
+        Vec.the_row (Pass.the_row (at 12 κs.1.1.1.1.1.1.1.1.1.1.1.1.0)) Global.the_row allocator.ghosts ∷
+        (shr_slice_field (at 13 κs.1.1.1.1.1.1.1.1.1.1.1.1.1.0) (shr_slice_field (at 14 κs.1.1.1.1.1.1.1.1.1.1.1.1.1.1.0) u8-field.row tt).row tt).row ∷ [] in
     closure_send _ captured _ (
       shr_send _ _ _ runtime,
       (
