@@ -142,9 +142,10 @@ impl Shelf {
             (λ found. (from.0 ≤ found.0.0) × (id_at self.now (spot_of value found.0) ≡ Some found.1)
             × ((m : AMoment) → from.0 ≤ m.0 → m.0 < found.0.0 → id_at self.now (spot_of value m) ≡ None)) }
     {
-        match self.get(spot_at(value, from)) {
-            Some(id) => Some((from, id)),
-            None => self.first_after(value, from),
+        let (moment, id) = self.place_from(value, from)?;
+        match id {
+            Some(id) => Some((moment, id)),
+            None => self.first_after(value, moment),
         }
     }
 
@@ -155,9 +156,10 @@ impl Shelf {
             (λ found. (found.0.0 ≤ up_to.0) × (id_at self.now (spot_of value found.0) ≡ Some found.1)
             × ((m : AMoment) → found.0.0 < m.0 → m.0 ≤ up_to.0 → id_at self.now (spot_of value m) ≡ None)) }
     {
-        match self.get(spot_at(value, up_to)) {
-            Some(id) => Some((up_to, id)),
-            None => self.last_before(value, up_to),
+        let (moment, id) = self.place_up_to(value, up_to)?;
+        match id {
+            Some(id) => Some((moment, id)),
+            None => self.last_before(value, moment),
         }
     }
 
@@ -193,6 +195,28 @@ impl Shelf {
             after = moment;
         }
         None
+    }
+
+    /// Of the places of the value the first from the moment on, and its id.
+    fn place_from(&self, value: Value, from: Moment) -> Option<(Moment, Option<OpId>)>
+        ensures { MatchOption result
+            ((m : AMoment) → from.0 ≤ m.0 → place_at self.now (spot_of value m) ≡ None)
+            (λ found. (from.0 ≤ found.0.0) × (place_at self.now (spot_of value found.0) ≡ Some found.1)
+            × ((m : AMoment) → from.0 ≤ m.0 → m.0 < found.0.0 → place_at self.now (spot_of value m) ≡ None)) }
+    {
+        let (spot, id) = self.places.range(..=spot_at(value, from)).next_back()?;
+        of_value(*spot, *id, value)
+    }
+
+    /// Of the places of the value the last up to the moment, and its id.
+    fn place_up_to(&self, value: Value, up_to: Moment) -> Option<(Moment, Option<OpId>)>
+        ensures { MatchOption result
+            ((m : AMoment) → m.0 ≤ up_to.0 → place_at self.now (spot_of value m) ≡ None)
+            (λ found. (found.0.0 ≤ up_to.0) × (place_at self.now (spot_of value found.0) ≡ Some found.1)
+            × ((m : AMoment) → found.0.0 < m.0 → m.0 ≤ up_to.0 → place_at self.now (spot_of value m) ≡ None)) }
+    {
+        let (spot, id) = self.places.range(spot_at(value, up_to)..).next()?;
+        of_value(*spot, *id, value)
     }
 
     /// Of the places of the value the nearest before the moment, and its id.
