@@ -16,4 +16,5 @@ mod Items
 mod Seams
 mod FirstConflicts
 mod Counts
+mod Replaced
 pub mod Crosses

@@ -144,7 +144,7 @@ same_by left z n m (inl h) = absurd (n h)
 same_by left z n m (inr (inl h)) = sym h
 same_by left z n m (inr (inr h)) = absurd (m h)
 
-same_there : (left : Edge) (z : Zone) → ¬ ComesBefore left z.left → ¬ ComesBefore z.left left → z.left ≡ left
+pub same_there : (left : Edge) (z : Zone) → ¬ ComesBefore left z.left → ¬ ComesBefore z.left left → z.left ≡ left
 same_there left z n m = same_by left z n m (before_cases left z.left)
 
 pub at_here : (left : Edge) (xs : List Zone) (z : Zone) (ys : List Zone) → IsByLeft (xs ++ z ∷ ys) → ¬ ComesBefore left z.left → ¬ ComesBefore z.left left → zone_at left (xs ++ z ∷ ys) ≡ Some z

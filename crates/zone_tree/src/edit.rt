@@ -1,16 +1,16 @@
-//! Insertions and removals: one way down, and balanced on the way back up. Each descent goes through
-//! `go_left` or `go_right`, which count it.
+//! Insertions, removals and replacements: one way down, and balanced on the way back up, where a
+//! replacement leaves the heights. Each descent goes through `go_left` or `go_right`, which count it.
 
-ghost use Rattle.std.specs.Prelude.{◌≡◌, ◌+◌, ◌-◌, ◌^◌, ◌<◌, ◌≤◌, ◌++◌, None, min, max, MatchOption};
+ghost use Rattle.std.specs.Prelude.{◌≡◌, ◌+◌, ◌-◌, ◌^◌, ◌<◌, ◌≤◌, ◌++◌, None, min, max, IsSome, MatchOption};
 ghost use Rattle.std.specs.Borrow.{sem};
 ghost use Rattle.zone_tree.specs.Order.{IsByLeft, HasNoZoneAt, with_zone, without_zone_at, zone_at};
 ghost use Rattle.zone_tree.specs.Layers.{no_layers, DifferByAtMost};
 ghost use Rattle.zone_tree.specs.Node.{IsAlone, IsFirst, IsTaken};
 ghost use Rattle.zone_tree.specs.Descent.{LendsLeft, LendsRight};
 
-use crate::Edge;
 use crate::balance::balanced;
 use crate::node::{Node, Tree, close};
+use crate::{Edge, Zone};
 use std::mem;
 
 impl Node {
@@ -85,6 +85,28 @@ impl Tree {
             *self = others;
             Some(alone)
         }
+    }
+
+    /// Puts a zone in the place of the one of its left edge.
+    #[tactic(auto, using(crate::proofs::Sides::at_left, crate::proofs::Sides::at_right, crate::proofs::Replaced::replaced_left, crate::proofs::Replaced::replaced_right, crate::proofs::Replaced::replaced_here))]
+    pub fn replace(&mut self, zone: Zone, steps: &mut u64)
+        requires order { IsByLeft self.old.zones }
+        requires there { IsSome (zone_at zone.left self.old.zones) }
+        ensures zones { self.new.zones ≡ with_zone zone (without_zone_at zone.left self.old.zones) }
+        ensures height { self.new.height ≡ self.old.height }
+        ensures steps { steps.new ≤ steps.old + self.old.height }
+    {
+        let Some(mut top) = self.take() else {
+            unreachable!()
+        };
+        if zone.left.comes_before(top.zone.left) {
+            top.go_left(steps).replace(zone, steps);
+        } else if top.zone.left.comes_before(zone.left) {
+            top.go_right(steps).replace(zone, steps);
+        } else {
+            top.zone = zone;
+        }
+        *self = close(top);
     }
 
     /// Takes the first node out.

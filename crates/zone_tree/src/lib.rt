@@ -8,10 +8,11 @@
 //!     tree.insert(inner);             // backward, from 5 back to 4
 //!     tree.insert(outer);             // forward, from 1 to 6
 //!     tree.first_conflict()           // Some((outer, inner))
-//!     tree.remove(Edge::At(Moment(1)));
+//!     tree.replace(shorter);          // forward, from 1 to 5
 //!     tree.clean()                    // true
+//!     tree.remove(Edge::At(Moment(1)));
 //!
-//! The rows of `tests.rt` run these calls: the zones above stand in the row `4<5 -<- 1>6`.
+//! The rows of `tests.rt` run these calls: the zones above stand in the row `4<5 -<- 1>6 =1>5`.
 //!
 //! Read `specs/Zone.antt` and `specs/Conflict.antt` first: what a zone is and what a conflict;
 //! then the calls in `tree.rt`, and in `laws.rt` what the definitions come to. Inside stands a
@@ -21,7 +22,7 @@
 //!     zones     the iterator
 //!     node      the tree of boxes: each node is as `specs/Node.antt` says, as `close` made it
 //!     balance   rotations
-//!     edit      insertion and removal: one way down, counted
+//!     edit      insertion, removal and replacement: one way down, counted
 //!     look      the look-ups, by the summaries
 //!     summary   what a node keeps of the zones below it, so that `clean` asks the top alone
 //!     stock     spare nodes for reserved places

@@ -77,15 +77,27 @@ fn put(rt: &impl Abort, tree: &mut ZoneTree, zone: Zone) -> Result<(), Memory> {
     Ok(())
 }
 
-/// Each word is a zone to be put in, or behind `!` the left edge of one to be taken out.
+/// In the place of the zone of that left edge. Where there is none, or where the edges do not stand in
+/// order, the zone is left out.
+fn put_over(tree: &mut ZoneTree, zone: Zone) {
+    if tree.get(zone.left).is_some() && zone.has_ordered_edges() {
+        tree.replace(zone);
+    }
+}
+
+/// Each word is a zone to be put in, behind `=` one to be put over another, or behind `!` the left edge
+/// of one to be taken out.
 fn tree_of<R: AllocGlobal + Abort>(rt: &R, words: &str) -> Result<ZoneTree, Memory> {
     let mut tree = ZoneTree::new(rt.alloc());
     for word in words.split(' ') {
-        match word.strip_prefix('!') {
-            Some(left) => {
-                let _ = tree.remove(edge(left));
-            }
-            None => put(rt, &mut tree, zone(word))?,
+        if let Some(left) = word.strip_prefix('!') {
+            let _ = tree.remove(edge(left));
+        } else if let Some(word) = word.strip_prefix('=') {
+            let free = tree.free();
+            put_over(&mut tree, zone(word));
+            assert!(rt; tree.free() == free, "{word}");
+        } else {
+            put(rt, &mut tree, zone(word))?;
         }
     }
     Ok(tree)
@@ -148,6 +160,11 @@ const ROWS: &str = "3>4 -<- 7<+ 0<1 => -<- 0<1 3>4 7<+ clean
 0<+ ->3 !- => 0<+ clean
 1>10 2<11 4<5 => 1>10 2<11 4<5 of 1>10 4<5 conflict
 6<7 4<5 3>10 1>2 => 1>2 3>10 4<5 6<7 of 3>10 4<5 conflict
+3>4 7<+ 0<1 =7<9 => 0<1 3>4 7<9 clean
+4<5 -<- 1>6 =1>5 => -<- 1>5 4<5 clean
+3>4 4<5 1<2 =1>6 => 1>6 3>4 4<5 of 1>6 3>4 conflict
+6<7 4<5 3>10 1>2 =3>4 => 1>2 3>4 4<5 6<7 clean
+0<1 =2<3 => 0<1 clean
 3>3 => clean
 3<3 => 3<3 clean
 4<3 => clean";
@@ -235,11 +252,12 @@ fn steps_told(alloc: Global, words: &str) -> Result<String, Memory> {
     let mut tree = ZoneTree::new(alloc);
     for word in words.split(' ') {
         let (count, before) = (size(&tree), tree.steps());
-        match word.strip_prefix('!') {
-            Some(left) => {
-                let _ = tree.remove(edge(left));
-            }
-            None => put_new(&mut tree, zone(word))?,
+        if let Some(left) = word.strip_prefix('!') {
+            let _ = tree.remove(edge(left));
+        } else if let Some(word) = word.strip_prefix('=') {
+            put_over(&mut tree, zone(word));
+        } else {
+            put_new(&mut tree, zone(word))?;
         }
         tell_steps(
             &mut told,
@@ -258,7 +276,8 @@ fn tell_steps(told: &mut String, steps: u64, most: u64) {
 }
 
 const STEPS: &str = "0<1 2<3 4<5 6<7 8<9 10<11 12<13 14<15 !0 => 3 3 5 5 7 7 7 7 9 |
-14<15 12<13 10<11 8<9 6<7 4<5 2<3 0<1 !14 !9 => 3 3 5 5 7 7 7 7 9 7 |";
+14<15 12<13 10<11 8<9 6<7 4<5 2<3 0<1 !14 !9 => 3 3 5 5 7 7 7 7 9 7 |
+0<1 2<3 4<5 6<7 8<9 10<11 12<13 14<15 =0<9 =14<14 =6>7 => 3 3 5 5 7 7 7 7 9 9 9 |";
 
 #[test]
 fn steps_are_bounded(rt: HostRuntime) -> Result<(), Fail> {

@@ -1,4 +1,4 @@
-ghost use Rattle.std.specs.Prelude.{◌≡◌, ◌+◌, ◌*◌, ◌<◌, ◌≤◌, ◌↔◌, ◌&&◌, not, [], length, is_some, if◌then◌else◌, OnOk, OnErr, IsNone, IsTrue, IfSome};
+ghost use Rattle.std.specs.Prelude.{◌≡◌, ◌+◌, ◌*◌, ◌<◌, ◌≤◌, ◌↔◌, ◌&&◌, not, [], length, is_some, if◌then◌else◌, OnOk, OnErr, IsNone, IsSome, IsTrue, IfSome};
 ghost use Rattle.std.specs.List.{find};
 ghost use Rattle.zone_tree.specs.Edge.{comes_before};
 ghost use Rattle.zone_tree.specs.Zone.{HasOrderedEdges};
@@ -53,7 +53,7 @@ impl ZoneTree {
         self.places.free()
     }
 
-    /// How many times insertions and removals went from a node to one of its sides, up to the
+    /// How many times insertions, removals and replacements went from a node to one of its sides, up to the
     /// greatest number.
     pub fn steps(&self) -> u64
         ensures { result ≡ self.now.steps }
@@ -112,6 +112,19 @@ impl ZoneTree {
         let zone = place.zone;
         self.places.give(place);
         Some(zone)
+    }
+
+    /// Puts a zone in the place of the one of its left edge.
+    #[tactic(auto, using(crate::proofs::Counts::low_by_digits))]
+    pub fn replace(&mut self, zone: Zone)
+        requires there { IsSome (zone_at zone.left self.old.zones) }
+        requires edges { HasOrderedEdges zone }
+        ensures zones { self.new.zones ≡ with_zone zone (without_zone_at zone.left self.old.zones) }
+        ensures free { self.new.free ≡ self.old.free }
+        ensures steps { self.new.steps ≤ self.old.steps + (2 * digits (length self.old.zones) + 1) }
+    {
+        let _ = self.tree.height();
+        self.tree.replace(zone, &mut self.steps);
     }
 
     /// The zone of that left edge.
