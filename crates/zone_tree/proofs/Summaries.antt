@@ -208,6 +208,22 @@ none_join s =
     refl
     (or_false (s.conflict || false) ∙ or_false s.conflict)
 
+-- a backward zone in front of others adds its end
+backward_join : (z : Zone) (s : Summary) → join (of_backward z) s ≡ summary s.last_forward s.first_forward (earliest z.right s.first_backward) s.conflict
+unfolding join
+backward_join z s =
+    same_summary (latest Before s.last_forward) (earliest Never s.first_forward) (earliest z.right s.first_backward) (s.conflict || (comes_before s.first_forward Before || comes_before s.first_backward Before))
+    s.last_forward s.first_forward (earliest z.right s.first_backward) s.conflict
+    (latest_none s.last_forward)
+    (earliest_none s.first_forward)
+    refl
+    (ap (λ x. s.conflict || (x || comes_before s.first_backward Before)) (not_before_all s.first_forward)
+    ∙ ap (λ x. s.conflict || x) (not_before_all s.first_backward)
+    ∙ or_false s.conflict)
+
+pub backward_first : (z : Zone) (s : Summary) → z.forward ≡ false → join (one_zone z) s ≡ record { last_forward = s.last_forward; first_forward = s.first_forward; first_backward = earliest z.right s.first_backward; conflict = s.conflict }
+backward_first z s f = ap (λ (o : Summary). join o s) (one_backward z f) ∙ backward_join z s
+
 -- in front of no zones, and behind none
 pub none_before : (s : Summary) → join (summary_of []) s ≡ s
 unfolding summary_of

@@ -4,11 +4,11 @@ ghost use Rattle.std.specs.Prelude.{◌≡◌, ◌+◌, ◌<◌, max};
 ghost use Rattle.zone_tree.specs.Layers.{DifferByAtMost, IsSettled};
 ghost use Rattle.zone_tree.specs.Node.{zones_of};
 
-use crate::node::{Node, Tree, close};
+use crate::node::{Node, Tree, close, sum_up};
 use std::mem;
 
 /// The tree of a node whose sides may differ by two.
-pub fn balanced(node: Box<Node>) -> Tree
+pub fn balanced(mut node: Box<Node>) -> Tree
     requires near { DifferByAtMost 2 node.value.left.height node.value.right.height }
     requires room { max node.value.left.height node.value.right.height < 255 }
     ensures zones { result.zones ≡ zones_of node.value }
@@ -20,7 +20,8 @@ pub fn balanced(node: Box<Node>) -> Tree
     } else if right > left + 1 {
         lean_left(node)
     } else {
-        close(node)
+        node.height = left.max(right) + 1;
+        sum_up(node)
     }
 }
 

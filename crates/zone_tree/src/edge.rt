@@ -13,16 +13,14 @@ pub enum Edge {
 }
 
 impl Edge {
+    #[inline(always)]
     pub fn comes_before(self, other: Edge) -> bool
         ensures { result ≡ before self other }
     {
         match (self, other) {
-            (Edge::Before, Edge::Before) => false,
-            (Edge::Before, _) => true,
             (Edge::At(earlier), Edge::At(later)) => earlier.0 < later.0,
-            (Edge::At(_), Edge::Never) => true,
-            (Edge::At(_), Edge::Before) => false,
-            (Edge::Never, _) => false,
+            (Edge::Never, _) | (_, Edge::Before) => false,
+            _ => true,
         }
     }
 }

@@ -9,7 +9,7 @@ ghost use Rattle.zone_tree.specs.Node.{IsAlone, IsFirst, IsTaken};
 ghost use Rattle.zone_tree.specs.Descent.{LendsLeft, LendsRight};
 
 use crate::balance::balanced;
-use crate::node::{Node, Tree, close};
+use crate::node::{Node, Tree, close, sum_up};
 use crate::{Edge, Zone};
 use std::mem;
 
@@ -106,7 +106,7 @@ impl Tree {
         } else {
             top.zone = zone;
         }
-        *self = close(top);
+        *self = sum_up(top);
     }
 
     /// Takes the first node out.

@@ -1,9 +1,9 @@
-//! The tree of boxes. `close` alone makes trees of nodes, so it alone writes heights and summaries;
-//! what holds of each node stands in `specs/Node.antt`.
+//! The tree of boxes. `sum_up` alone makes trees of nodes, so it alone writes summaries; what holds of
+//! each node stands in `specs/Node.antt`.
 
 ghost use Rattle.std.specs.Prelude.{◌≡◌, ◌+◌, ◌<◌, max, MatchOption};
 ghost use Rattle.zone_tree.specs.Order.{IsByLeft};
-ghost use Rattle.zone_tree.specs.Summary.{join as joined, summary_of};
+ghost use Rattle.zone_tree.specs.Summary.{join as joined, one_zone, summary_of};
 ghost use Rattle.zone_tree.specs.Layers.{no_layers, DifferByAtMost, IsLow};
 ghost use Rattle.zone_tree.specs.Node.{zones_of, layers_of, IsBalanced, HasTopByLeft, IsTop};
 
@@ -97,6 +97,7 @@ impl Tree {
     }
 
     /// The summary of the zones of this tree and of those behind them.
+    #[inline(always)]
     #[tactic(auto, using(crate::proofs::Summaries::none_before))]
     fn before(&self, later: Summary) -> Summary
         ensures { result ≡ joined (summary_of self.now.zones) later }
@@ -104,6 +105,18 @@ impl Tree {
         match &self.top {
             Some(top) => top.summary.join(&later),
             None => later,
+        }
+    }
+
+    /// The summary of a zone and of those of this tree behind it.
+    #[inline(always)]
+    #[tactic(auto, using(crate::proofs::Summaries::none_behind))]
+    fn with_first(&self, zone: &Zone) -> Summary
+        ensures { result ≡ joined (one_zone zone.now) (summary_of self.now.zones) }
+    {
+        match &self.top {
+            Some(top) => top.summary.with_first(zone),
+            None => Summary::of_one(zone),
         }
     }
 
@@ -120,7 +133,6 @@ impl Tree {
 }
 
 /// The tree of a node.
-#[tactic(auto, using(crate::proofs::Low::low_node, crate::proofs::Summaries::summary_around))]
 pub fn close(mut node: Box<Node>) -> Tree
     requires near { DifferByAtMost 1 node.value.left.height node.value.right.height }
     requires room { max node.value.left.height node.value.right.height < 255 }
@@ -128,8 +140,19 @@ pub fn close(mut node: Box<Node>) -> Tree
     ensures height { result.height ≡ max node.value.left.height node.value.right.height + 1 }
 {
     node.height = node.left.height().max(node.right.height()) + 1;
-    node.summary = node
-        .left
-        .before(node.right.behind(Summary::of_one(&node.zone)));
+    sum_up(node)
+}
+
+/// The tree of a node whose height is right.
+#[tactic(auto, using(crate::proofs::Low::low_node, crate::proofs::Summaries::summary_around))]
+pub fn sum_up(mut node: Box<Node>) -> Tree
+    requires near { DifferByAtMost 1 node.value.left.height node.value.right.height }
+    requires height { node.value.height ≡ max node.value.left.height node.value.right.height + 1 }
+    requires room { max node.value.left.height node.value.right.height < 255 }
+    ensures zones { result.zones ≡ zones_of node.value }
+    ensures height { result.height ≡ node.value.height }
+{
+    let _ = (node.left.height(), node.right.height());
+    node.summary = node.left.before(node.right.with_first(&node.zone));
     Tree { top: Some(node) }
 }

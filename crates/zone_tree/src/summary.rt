@@ -31,6 +31,7 @@ impl Summary {
         }
     }
 
+    #[inline(always)]
     #[tactic(auto, unfolding(crate::specs::Summary::one_zone))]
     pub fn of_one(zone: &Zone) -> Self
         ensures { result ≡ one_zone zone.now }
@@ -53,6 +54,7 @@ impl Summary {
     }
 
     /// Of zones and of those behind them.
+    #[inline(always)]
     #[tactic(auto, unfolding(crate::specs::Summary::join))]
     pub fn join(&self, later: &Summary) -> Self
         ensures { result ≡ joined self.now later.now }
@@ -65,7 +67,25 @@ impl Summary {
         }
     }
 
+    /// Of a zone and of those behind it. A backward zone meets none of them, so only its end counts.
+    #[inline(always)]
+    #[tactic(auto, using(crate::proofs::Summaries::backward_first))]
+    pub fn with_first(&self, zone: &Zone) -> Self
+        ensures { result ≡ joined (one_zone zone.now) self.now }
+    {
+        if zone.forward {
+            return Summary::of_one(zone).join(self);
+        }
+        Summary {
+            last_forward: self.last_forward,
+            first_forward: self.first_forward,
+            first_backward: earliest(zone.right, self.first_backward),
+            conflict: self.conflict,
+        }
+    }
+
     /// Whether an earlier forward zone conflicts with a later zone.
+    #[inline(always)]
     fn meets(&self, later: &Summary) -> bool
         ensures { result ≡ meet self.now later.now }
     {
@@ -74,12 +94,14 @@ impl Summary {
     }
 }
 
+#[inline(always)]
 fn latest(a: Edge, b: Edge) -> Edge
     ensures { result ≡ later_of a b }
 {
     if a.comes_before(b) { b } else { a }
 }
 
+#[inline(always)]
 fn earliest(a: Edge, b: Edge) -> Edge
     ensures { result ≡ earlier_of a b }
 {
