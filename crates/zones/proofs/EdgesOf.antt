@@ -263,8 +263,9 @@ first_end_by_edge ops v begin end are = at_most_both (first_end_of ops v) end (b
 -- a value is read where a read has begun
 pub read_by_edge : (ops : List Op) (v : Value) (begin end : Edge) → AreReadEdges ops v begin end → ComesBefore Before begin ↔ IsRead ops v
 read_by_edge ops v begin end are = (
-    (λ h. let (r, k, j, s, f) = begun IsJudgedRead ops v begin are.begin h in (r, k, j, s)),
-    (λ read. has_begun IsJudgedRead ops v begin are.begin read.0 read.1 read.2 read.3))
+  (λ h. let (r, k, j, s, f) = begun IsJudgedRead ops v begin are.begin h in (r, k, j, s)),
+  (λ read. has_begun IsJudgedRead ops v begin are.begin read.0 read.1 read.2 read.3),
+)
 
 -- where the write begins
 module _ (initial : Value) (ops : List Op) (v : Value) (begin end : Edge) (are : AreWriteEdges ops v begin end) (other : initial ≢ v) where

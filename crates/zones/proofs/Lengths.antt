@@ -68,3 +68,22 @@ four_steps above gone come zones s0 s1 s2 s3 s4 a b c d =
       digits_up above (length twice) (length zones + 1) (omega (arith, fewer, fewest)),
       digits_up above (length more) (length zones + 1) (omega (arith, fewer, fewest, most)),
     )
+
+-- the steps of one call, and of one that takes a zone out and one that puts one in
+pub one_call : ((n : ℕ) → n < 2 ^ digits n) → (zones : List Zone) (s0 s1 : ℕ) → s1 ≤ s0 + (2 * digits (length zones) + 1) → s1 ≤ s0 + 4 * (2 * digits (length zones + 1) + 1)
+one_call above zones s0 s1 a = omega (arith, a, digits_up above (length zones) (length zones + 1) (omega arith))
+
+pub two_calls : ((n : ℕ) → n < 2 ^ digits n) → (gone : Option Zone) (zones : List Zone) (s0 s1 s2 : ℕ)
+    → s1 ≤ s0 + (2 * digits (length zones) + 1)
+    → s2 ≤ s1 + (2 * digits (length (without gone zones)) + 1)
+    → s2 ≤ s0 + 4 * (2 * digits (length zones + 1) + 1)
+two_calls above gone zones s0 s1 s2 a b =
+    let once = without gone zones in
+    let fewer = length_without gone zones in
+    omega (
+      arith,
+      a,
+      b,
+      digits_up above (length zones) (length zones + 1) (omega arith),
+      digits_up above (length once) (length zones + 1) (omega (arith, fewer)),
+    )

@@ -1,8 +1,9 @@
 //! Zones taken out of a tree, and put in.
 
-ghost use Rattle.std.specs.Prelude.{◌≡◌, ◌+◌, ◌*◌, ◌<◌, ◌≤◌, length, IsNone, IsSome, IsTrue};
+ghost use Rattle.std.specs.Prelude.{◌≡◌, ◌⊎◌, ◌+◌, ◌*◌, ◌<◌, ◌≤◌, length, true, IsNone, IsSome, IsTrue};
 ghost use Rattle.zone_tree.specs.Digits.{digits};
 ghost use Rattle.zone_tree.specs.Edge.{same_edge};
+ghost use Rattle.zone_tree.specs.Order.{zone_at};
 ghost use Rattle.zones.specs.Zoned.{AreChanges, AreExchanged, CanExchange, CanMove, IsChangeAt, IsNew, KeepsRoom, NeedsNoRoom, Stands, with, without, moved};
 
 use intervals::is_same_value;
@@ -35,6 +36,49 @@ fn move_zones(
     ensures room { KeepsRoom tree.old.zones gone come → tree.old.free ≤ tree.new.free }
     ensures steps { tree.new.steps ≤ tree.old.steps + 4 * (2 * digits (length tree.old.zones + 1) + 1) }
 {
+    match (gone, come) {
+        ((gone, None), (come, None)) => move_zone(tree, gone, come),
+        ((None, gone), (None, come)) => move_zone(tree, gone, come),
+        (gone, come) => move_both(tree, gone, come),
+    }
+}
+
+/// One zone for another. Where it keeps its left edge it is replaced.
+fn move_zone(tree: &mut ZoneTree, gone: Option<Zone>, come: Option<Zone>)
+    requires room { IsSome come → (0 < tree.old.free) ⊎ Stands tree.old.zones gone }
+    requires new { IsNew (without gone tree.old.zones) come }
+    ensures zones { tree.new.zones ≡ with come (without gone tree.old.zones) }
+    ensures room { (IsSome come → Stands tree.old.zones gone) → tree.old.free ≤ tree.new.free }
+    ensures steps { tree.new.steps ≤ tree.old.steps + 4 * (2 * digits (length tree.old.zones + 1) + 1) }
+{
+    digits_are_the_least_that_hold_a_number();
+    match (gone, come) {
+        (Some(old), Some(new)) if keeps_its_edge(tree, &old, &new) => tree.replace(new),
+        (gone, come) => {
+            take(tree, gone);
+            put(tree, come);
+        }
+    }
+}
+
+/// Whether the two have one left edge, and a zone of it stands.
+fn keeps_its_edge(tree: &ZoneTree, old: &Zone, new: &Zone) -> bool
+    ensures { result ≡ true → (old.now.left ≡ new.now.left) × IsSome (zone_at new.now.left tree.now.zones) }
+{
+    is_same_edge(old.left, new.left) && tree.get(new.left).is_some()
+}
+
+/// Two zones for two others, each taken out and put in.
+fn move_both(
+    tree: &mut ZoneTree,
+    gone: (Option<Zone>, Option<Zone>),
+    come: (Option<Zone>, Option<Zone>),
+)
+    requires { CanMove tree.old gone come }
+    ensures zones { tree.new.zones ≡ moved gone come tree.old.zones }
+    ensures room { KeepsRoom tree.old.zones gone come → tree.old.free ≤ tree.new.free }
+    ensures steps { tree.new.steps ≤ tree.old.steps + 4 * (2 * digits (length tree.old.zones + 1) + 1) }
+{
     digits_are_the_least_that_hold_a_number();
     take(tree, gone.0);
     take(tree, gone.1);
@@ -49,22 +93,22 @@ fn changes(
 ) -> ((Option<Zone>, Option<Zone>), (Option<Zone>, Option<Zone>))
     ensures { AreChanges before after result.0 result.1 }
 {
-    let one = change_at(before.0, after.0);
-    let other = change_at(before.1, after.1);
+    let one = change_at(&before.0, &after.0);
+    let other = change_at(&before.1, &after.1);
     ((one.0, other.0), (one.1, other.1))
 }
 
-fn change_at(before: Option<Zone>, after: Option<Zone>) -> (Option<Zone>, Option<Zone>)
-    ensures { IsChangeAt before after result }
+fn change_at(before: &Option<Zone>, after: &Option<Zone>) -> (Option<Zone>, Option<Zone>)
+    ensures { IsChangeAt before.now after.now result }
 {
     match (before, after) {
         (Some(old), Some(new)) if is_same(old, new) => (None, None),
-        change => change,
+        _ => (*before, *after),
     }
 }
 
-fn is_same(a: Zone, b: Zone) -> bool
-    ensures { IsTrue result → a ≡ b }
+fn is_same(a: &Zone, b: &Zone) -> bool
+    ensures { IsTrue result → a.now ≡ b.now }
 {
     is_same_edge(a.left, b.left)
         && is_same_edge(a.right, b.right)

@@ -3,7 +3,7 @@ use Rattle.zone_tree.specs.declared.zone.Zone.{Zone}
 use Rattle.zone_tree.specs.Digits.{digits}
 use Rattle.zones.specs.Zoned.{with, without}
 use Rattle.zones.proofs.Lengths.{four_steps}
-use Rattle.zones.proofs.moves.move_zones.Goals as goal
+use Rattle.zones.proofs.moves.move_both.Goals as goal
 
 pub returns-clause-steps : goal.returns-clause-steps
 returns-clause-steps c =
