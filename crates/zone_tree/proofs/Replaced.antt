@@ -1,5 +1,5 @@
 -- A zone in the place of the one of its left edge.
-use Rattle.std.proofs.Common.{◌≡◌, ◌∙◌, List, ◌∷◌, ◌++◌, length, Option, Some, None, refl, ap, subst, arith}
+use Rattle.std.proofs.Common.{◌≡◌, ◌∙◌, List, ◌∷◌, ◌++◌, length, Option, Some, None, refl, sym, ap, subst, arith}
 use Rattle.std.specs.Prelude.{All, IsSome}
 use Rattle.std.proofs.lemmas.List.Kept.{AllPairs-filter}
 use Rattle.zone_tree.specs.declared.edge.Edge.{Edge}
@@ -8,6 +8,9 @@ use Rattle.zone_tree.specs.Edge.{ComesBefore, same_edge}
 use Rattle.zone_tree.specs.Zone.{HasOrderedEdges}
 use Rattle.zone_tree.specs.Order.{IsByLeft, StandInOrder, HasNoZoneAt, above, with_zone, without_zone_at, zone_at}
 use Rattle.std.specs.Prelude.{not}
+use Rattle.zone_tree.specs.declared.summary.Summary.{Summary}
+use Rattle.zone_tree.specs.Summary.{one_zone, join, summary_of}
+use Rattle.zone_tree.proofs.Summaries.{summary_around}
 use Rattle.zone_tree.proofs.EdgeOrder.{not_both_ways}
 use Rattle.zone_tree.proofs.Places.{below_parts, above_parts, none_without, order_left, order_with}
 use Rattle.zone_tree.proofs.Sides.{earlier_edges, later_edges, same_there, with_left, with_right, without_left, without_right, without_here}
@@ -43,6 +46,15 @@ replaced_here new xs z ys by n m =
     ap (with_zone new) (without_here new.left xs z ys by n m)
     ∙ ap (λ zs. zs ++ new ∷ above new.left (xs ++ ys)) (below_parts new.left xs ys less more)
     ∙ ap (λ zs. xs ++ new ∷ zs) (above_parts new.left xs ys less more)
+
+-- the summary stays where that of one side does
+pub stays_by_left : (xs xs' : List Zone) (z : Zone) (ys : List Zone) → summary_of xs ≡ summary_of xs' → summary_of (xs ++ z ∷ ys) ≡ summary_of (xs' ++ z ∷ ys)
+stays_by_left xs xs' z ys e =
+    summary_around xs z ys ∙ ap (λ (s : Summary). join s (join (one_zone z) (summary_of ys))) e ∙ sym (summary_around xs' z ys)
+
+pub stays_by_right : (xs : List Zone) (z : Zone) (ys ys' : List Zone) → summary_of ys ≡ summary_of ys' → summary_of (xs ++ z ∷ ys) ≡ summary_of (xs ++ z ∷ ys')
+stays_by_right xs z ys ys' e =
+    summary_around xs z ys ∙ ap (λ (s : Summary). join (summary_of xs) (join (one_zone z) s)) e ∙ sym (summary_around xs z ys')
 
 -- all still stand in order, and as many
 pub order_replaced : (new : Zone) (zones : List Zone) → StandInOrder zones → HasOrderedEdges new → StandInOrder (with_zone new (without_zone_at new.left zones))

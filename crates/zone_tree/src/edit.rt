@@ -1,7 +1,8 @@
 //! Insertions, removals and replacements: one way down, and balanced on the way back up, where a
 //! replacement leaves the heights. Each descent goes through `go_left` or `go_right`, which count it.
 
-ghost use Rattle.std.specs.Prelude.{◌≡◌, ◌+◌, ◌-◌, ◌^◌, ◌<◌, ◌≤◌, ◌++◌, None, min, max, IsSome, MatchOption};
+ghost use Rattle.std.specs.Prelude.{◌≡◌, ◌+◌, ◌-◌, ◌^◌, ◌<◌, ◌≤◌, ◌++◌, None, min, max, ◌↔◌, IsSome, IsTrue, MatchOption};
+ghost use Rattle.zone_tree.specs.Summary.{summary_of};
 ghost use Rattle.std.specs.Borrow.{sem};
 ghost use Rattle.zone_tree.specs.Order.{IsByLeft, HasNoZoneAt, with_zone, without_zone_at, zone_at};
 ghost use Rattle.zone_tree.specs.Layers.{no_layers, DifferByAtMost};
@@ -9,7 +10,7 @@ ghost use Rattle.zone_tree.specs.Node.{IsAlone, IsFirst, IsTaken};
 ghost use Rattle.zone_tree.specs.Descent.{LendsLeft, LendsRight};
 
 use crate::balance::balanced;
-use crate::node::{Node, Tree, close, sum_up};
+use crate::node::{Node, Tree, close, renew};
 use crate::{Edge, Zone};
 use std::mem;
 
@@ -87,26 +88,31 @@ impl Tree {
         }
     }
 
-    /// Puts a zone in the place of the one of its left edge.
-    #[tactic(auto, using(crate::proofs::Sides::at_left, crate::proofs::Sides::at_right, crate::proofs::Replaced::replaced_left, crate::proofs::Replaced::replaced_right, crate::proofs::Replaced::replaced_here))]
-    pub fn replace(&mut self, zone: Zone, steps: &mut u64)
+    /// Puts a zone in the place of the one of its left edge. Says whether the summary stays, as then
+    /// those above do.
+    #[tactic(auto, using(crate::proofs::Sides::at_left, crate::proofs::Sides::at_right, crate::proofs::Replaced::replaced_left, crate::proofs::Replaced::replaced_right, crate::proofs::Replaced::replaced_here, crate::proofs::Replaced::stays_by_left, crate::proofs::Replaced::stays_by_right))]
+    pub fn replace(&mut self, zone: Zone, steps: &mut u64) -> bool
         requires order { IsByLeft self.old.zones }
         requires there { IsSome (zone_at zone.left self.old.zones) }
         ensures zones { self.new.zones ≡ with_zone zone (without_zone_at zone.left self.old.zones) }
         ensures height { self.new.height ≡ self.old.height }
+        ensures stays { IsTrue result ↔ (summary_of self.old.zones ≡ summary_of self.new.zones) }
         ensures steps { steps.new ≤ steps.old + self.old.height }
     {
         let Some(mut top) = self.take() else {
             unreachable!()
         };
-        if zone.left.comes_before(top.zone.left) {
-            top.go_left(steps).replace(zone, steps);
+        let stays = if zone.left.comes_before(top.zone.left) {
+            top.go_left(steps).replace(zone, steps)
         } else if top.zone.left.comes_before(zone.left) {
-            top.go_right(steps).replace(zone, steps);
+            top.go_right(steps).replace(zone, steps)
         } else {
             top.zone = zone;
-        }
-        *self = sum_up(top);
+            false
+        };
+        let (tree, stays) = renew(top, stays);
+        *self = tree;
+        stays
     }
 
     /// Takes the first node out.

@@ -20,7 +20,7 @@
 //!
 //!     tree      the calls: a tree, its reserved places and its count of steps
 //!     zones     the iterator
-//!     node      the tree of boxes: each node is as `specs/Node.antt` says, as `close` made it
+//!     node      the tree of boxes: each node is as `specs/Node.antt` says, as `keep` asks
 //!     balance   rotations
 //!     edit      insertion, removal and replacement: one way down, counted
 //!     look      the look-ups, by the summaries

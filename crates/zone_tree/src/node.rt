@@ -1,7 +1,7 @@
-//! The tree of boxes. `sum_up` alone makes trees of nodes, so it alone writes summaries; what holds of
-//! each node stands in `specs/Node.antt`.
+//! The tree of boxes. `keep` alone makes trees of nodes, and only of those that are as
+//! `specs/Node.antt` says.
 
-ghost use Rattle.std.specs.Prelude.{◌≡◌, ◌+◌, ◌<◌, max, MatchOption};
+ghost use Rattle.std.specs.Prelude.{◌≡◌, ◌+◌, ◌<◌, ◌↔◌, max, IsTrue, MatchOption};
 ghost use Rattle.zone_tree.specs.Order.{IsByLeft};
 ghost use Rattle.zone_tree.specs.Summary.{join as joined, one_zone, summary_of};
 ghost use Rattle.zone_tree.specs.Layers.{no_layers, DifferByAtMost, IsLow};
@@ -143,8 +143,18 @@ pub fn close(mut node: Box<Node>) -> Tree
     sum_up(node)
 }
 
+impl Node {
+    /// The summary of its zones, by those of its sides.
+    #[inline(always)]
+    #[tactic(auto, using(crate::proofs::Summaries::summary_around))]
+    fn sum(&self) -> Summary
+        ensures { result ≡ summary_of (zones_of self.now) }
+    {
+        self.left.before(self.right.with_first(&self.zone))
+    }
+}
+
 /// The tree of a node whose height is right.
-#[tactic(auto, using(crate::proofs::Low::low_node, crate::proofs::Summaries::summary_around))]
 pub fn sum_up(mut node: Box<Node>) -> Tree
     requires near { DifferByAtMost 1 node.value.left.height node.value.right.height }
     requires height { node.value.height ≡ max node.value.left.height node.value.right.height + 1 }
@@ -152,7 +162,41 @@ pub fn sum_up(mut node: Box<Node>) -> Tree
     ensures zones { result.zones ≡ zones_of node.value }
     ensures height { result.height ≡ node.value.height }
 {
+    node.summary = node.sum();
+    keep(node)
+}
+
+/// The same, and whether the summary was right, as is told where it is known.
+#[inline(always)]
+pub fn renew(mut node: Box<Node>, is_right: bool) -> (Tree, bool)
+    requires near { DifferByAtMost 1 node.value.left.height node.value.right.height }
+    requires height { node.value.height ≡ max node.value.left.height node.value.right.height + 1 }
+    requires room { max node.value.left.height node.value.right.height < 255 }
+    requires right { IsTrue is_right → node.value.summary ≡ summary_of (zones_of node.value) }
+    ensures zones { result.0.zones ≡ zones_of node.value }
+    ensures height { result.0.height ≡ node.value.height }
+    ensures right { IsTrue result.1 ↔ (node.value.summary ≡ summary_of (zones_of node.value)) }
+{
+    if is_right {
+        return (keep(node), true);
+    }
+    let summary = node.sum();
+    let was_right = node.summary.is_same(&summary);
+    node.summary = summary;
+    (keep(node), was_right)
+}
+
+/// The tree of a node whose height and summary are right.
+#[inline(always)]
+#[tactic(auto, using(crate::proofs::Low::low_node))]
+fn keep(node: Box<Node>) -> Tree
+    requires near { DifferByAtMost 1 node.value.left.height node.value.right.height }
+    requires height { node.value.height ≡ max node.value.left.height node.value.right.height + 1 }
+    requires room { max node.value.left.height node.value.right.height < 255 }
+    requires summary { node.value.summary ≡ summary_of (zones_of node.value) }
+    ensures zones { result.zones ≡ zones_of node.value }
+    ensures height { result.height ≡ node.value.height }
+{
     let _ = (node.left.height(), node.right.height());
-    node.summary = node.left.before(node.right.with_first(&node.zone));
     Tree { top: Some(node) }
 }

@@ -1,8 +1,9 @@
 //! What each node keeps of the zones below it.
 
-ghost use Rattle.std.specs.Prelude.{◌≡◌};
+ghost use Rattle.std.specs.Prelude.{◌≡◌, ◌↔◌, IsTrue};
 ghost use Rattle.zone_tree.specs.Summary.{no_zones, one_zone, join as joined, meets as meet, latest as later_of, earliest as earlier_of};
 
+use crate::edge::is_same;
 use crate::{Edge, Zone};
 
 /// The edges that decide whether zones conflict with others, and whether two of them do.
@@ -51,6 +52,16 @@ impl Summary {
                 conflict: false,
             }
         }
+    }
+
+    #[inline(always)]
+    pub fn is_same(&self, other: &Summary) -> bool
+        ensures { IsTrue result ↔ (self.now ≡ other.now) }
+    {
+        is_same(self.last_forward, other.last_forward)
+            && is_same(self.first_forward, other.first_forward)
+            && is_same(self.first_backward, other.first_backward)
+            && self.conflict == other.conflict
     }
 
     /// Of zones and of those behind them.

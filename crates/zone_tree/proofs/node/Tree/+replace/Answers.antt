@@ -9,8 +9,8 @@ use Rattle.zone_tree.specs.Order.{IsByLeft, zone_at}
 use Rattle.zone_tree.proofs.Sides.{at_left, at_right, left_by, right_by}
 use Rattle.zone_tree.proofs.node.Tree.+replace.Goals as goal
 
-pub replace-requires : goal.replace-requires
-replace-requires t c =
+pub replace-stays-requires : goal.replace-stays-requires
+replace-stays-requires t c =
     let top = c.in-Some.top.value in
     let edge = c.args.zone.left in
     let whole : zones_of top ≡ c.args.self.now.zones = ap (λ (l : Layers). l.zones) c.in-Some.ensures.same in
@@ -26,8 +26,8 @@ replace-requires t c =
       ),
     )
 
-pub replace-requires-then-comes_before-2 : goal.replace-requires-then-comes_before-2
-replace-requires-then-comes_before-2 t c =
+pub replace-requires : goal.replace-requires
+replace-requires t c =
     let top = c.in-Some.top.value in
     let edge = c.args.zone.left in
     let whole : zones_of top ≡ c.args.self.now.zones = ap (λ (l : Layers). l.zones) c.in-Some.ensures.same in
