@@ -1,7 +1,13 @@
 -- The edges of zones: one before every moment, the moments themselves, and one after them.
-use Rattle.std.specs.Prelude.{Bool, true, false, ◌==◌, nat_lt, IsTrue}
+use Rattle.std.specs.Prelude.{ℕ, Bool, true, false, ◌==◌, nat_lt, IsTrue}
 use Rattle.zone_tree.specs.declared.edge.Edge.{Edge}
 use Rattle.zone_tree.specs.declared.edge.Edge.TheVariants.{Before, At, Never}
+
+-- Before, the moments and Never, by number
+abbrev pub rank : Edge → ℕ
+rank Before = 0
+rank (At m) = 1
+rank Never = 2
 
 -- the order of edges: Before, then the moments one after another, then Never
 abbrev pub comes_before : Edge → Edge → Bool

@@ -26,6 +26,7 @@ pub fn balanced(mut node: Box<Node>) -> Tree
 }
 
 /// Turns a node whose left side is two higher.
+#[inline(never)]
 fn lean_right(mut top: Box<Node>) -> Tree
     requires higher { top.value.left.height ≡ top.value.right.height + 2 }
     requires room { top.value.left.height < 255 }
@@ -51,6 +52,7 @@ fn lean_right(mut top: Box<Node>) -> Tree
 }
 
 /// Turns a node whose right side is two higher.
+#[inline(never)]
 fn lean_left(mut top: Box<Node>) -> Tree
     requires higher { top.value.right.height ≡ top.value.left.height + 2 }
     requires room { top.value.right.height < 255 }

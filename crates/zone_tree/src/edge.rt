@@ -1,5 +1,5 @@
 ghost use Rattle.std.specs.Prelude.{◌≡◌};
-ghost use Rattle.zone_tree.specs.Edge.{comes_before as before, same_edge};
+ghost use Rattle.zone_tree.specs.Edge.{comes_before as before, rank as rank_of, same_edge};
 
 use intervals::Moment;
 
@@ -19,8 +19,18 @@ impl Edge {
     {
         match (self, other) {
             (Edge::At(earlier), Edge::At(later)) => earlier.0 < later.0,
-            (Edge::Never, _) | (_, Edge::Before) => false,
-            _ => true,
+            _ => self.rank() < other.rank(),
+        }
+    }
+
+    #[inline(always)]
+    fn rank(self) -> u8
+        ensures { result ≡ rank_of self }
+    {
+        match self {
+            Edge::Before => 0,
+            Edge::At(_) => 1,
+            Edge::Never => 2,
         }
     }
 }

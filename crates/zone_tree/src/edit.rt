@@ -91,10 +91,10 @@ impl Tree {
     /// Puts a zone in the place of the one of its left edge. Says whether the summary stays, as then
     /// those above do.
     #[tactic(auto, using(crate::proofs::Sides::at_left, crate::proofs::Sides::at_right, crate::proofs::Replaced::replaced_left, crate::proofs::Replaced::replaced_right, crate::proofs::Replaced::replaced_here, crate::proofs::Replaced::stays_by_left, crate::proofs::Replaced::stays_by_right))]
-    pub fn replace(&mut self, zone: Zone, steps: &mut u64) -> bool
+    pub fn replace(&mut self, zone: &Zone, steps: &mut u64) -> bool
         requires order { IsByLeft self.old.zones }
-        requires there { IsSome (zone_at zone.left self.old.zones) }
-        ensures zones { self.new.zones ≡ with_zone zone (without_zone_at zone.left self.old.zones) }
+        requires there { IsSome (zone_at zone.now.left self.old.zones) }
+        ensures zones { self.new.zones ≡ with_zone zone.now (without_zone_at zone.now.left self.old.zones) }
         ensures height { self.new.height ≡ self.old.height }
         ensures stays { IsTrue result ↔ (summary_of self.old.zones ≡ summary_of self.new.zones) }
         ensures steps { steps.new ≤ steps.old + self.old.height }
@@ -107,7 +107,7 @@ impl Tree {
         } else if top.zone.left.comes_before(zone.left) {
             top.go_right(steps).replace(zone, steps)
         } else {
-            top.zone = zone;
+            top.zone = *zone;
             false
         };
         let (tree, stays) = renew(top, stays);

@@ -124,7 +124,7 @@ impl ZoneTree {
         ensures steps { self.new.steps ≤ self.old.steps + (2 * digits (length self.old.zones) + 1) }
     {
         let _ = self.tree.height();
-        let _ = self.tree.replace(zone, &mut self.steps);
+        let _ = self.tree.replace(&zone, &mut self.steps);
     }
 
     /// The zone of that left edge.

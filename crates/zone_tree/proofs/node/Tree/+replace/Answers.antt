@@ -12,7 +12,7 @@ use Rattle.zone_tree.proofs.node.Tree.+replace.Goals as goal
 pub replace-stays-requires : goal.replace-stays-requires
 replace-stays-requires t c =
     let top = c.in-Some.top.value in
-    let edge = c.args.zone.left in
+    let edge = c.args.zone.now.left in
     let whole : zones_of top ≡ c.args.self.now.zones = ap (λ (l : Layers). l.zones) c.in-Some.ensures.same in
     let by = subst IsByLeft (sym whole) c.requires.order in
     let before : ComesBefore edge top.zone.left = sym (ap (λ (n : Node). comes_before edge n.zone.left) c.deref.ensures) ∙ sym c.comes_before.ensures ∙ c.if-comes_before.true in
@@ -29,7 +29,7 @@ replace-stays-requires t c =
 pub replace-requires : goal.replace-requires
 replace-requires t c =
     let top = c.in-Some.top.value in
-    let edge = c.args.zone.left in
+    let edge = c.args.zone.now.left in
     let whole : zones_of top ≡ c.args.self.now.zones = ap (λ (l : Layers). l.zones) c.in-Some.ensures.same in
     let by = subst IsByLeft (sym whole) c.requires.order in
     let before : ComesBefore top.zone.left edge = sym (ap (λ (n : Node). comes_before n.zone.left edge) c.deref-else-comes_before.ensures) ∙ sym c.comes_before-else-comes_before.ensures ∙ c.if-comes_before-2.true in
