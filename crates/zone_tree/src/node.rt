@@ -166,7 +166,7 @@ pub fn sum_up(mut node: Box<Node>) -> Tree
     keep(node)
 }
 
-/// The same, and whether the summary was right, as is told where it is known.
+/// The same, and whether its summary was right before. Where that is known it is not made anew.
 #[inline(always)]
 pub fn renew(mut node: Box<Node>, is_right: bool) -> (Tree, bool)
     requires near { DifferByAtMost 1 node.value.left.height node.value.right.height }
