@@ -10,6 +10,7 @@ use Rattle.edn_reader.specs.Token.{found_at, lexed}
 use Rattle.edn_reader.specs.Taking.{taken, on, plain_span, LeadsOn, stays, by_token, LeadsWithin, item_odd, with_odd, odd_inside}
 use Rattle.edn_reader.proofs.Lexing.{white_here, plain_here}
 use Rattle.edn_reader.proofs.Reading.{StandsFrom, stands_on, one_ended}
+use Rattle.edn_reader.proofs.Stretches.{along}
 
 -- One token more, as it was found.
 token_on : (input : List ℕ) (from at end : ℕ) (token : Token) (size : ℕ) (opens inner after : List Open) → at < length input → lexed (drop at input) ≡ (token, size) → at + size ≡ end
@@ -39,6 +40,13 @@ pub white_on : (input : List ℕ) (from at end : ℕ) (before odd : Bool) → at
     → LeadsWithin input from before at odd → LeadsWithin input from before end odd
 white_on input from at end before odd lt white place led item opens w =
     token_on input from at end Gap 1 (item_odd before item ∷ opens) (item_odd odd item ∷ opens) (item_odd odd item ∷ opens) lt (white_here input at lt white) (sym place) (gap_on at end (item_odd odd item ∷ opens)) (led item opens w)
+
+-- The white bytes that go on there more.
+pub whites_on : (input : List ℕ) (from at end : ℕ) (before odd : Bool) → end ≡ at + stretch is_white (drop at input) → LeadsWithin input from before at odd → LeadsWithin input from before end odd
+whites_on input from at end before odd ends led =
+    let after : LeadsWithin input from before (at + stretch is_white (drop at input)) odd =
+    along (λ n. LeadsWithin input from before n odd) is_white input (λ i lt white h. white_on input from i (i + 1) before odd lt white refl h) (stretch is_white (drop at input)) at refl led in
+    subst (λ (n : ℕ). LeadsWithin input from before n odd) (sym ends) after
 
 -- An element of one run more.
 pub run_on : (input : List ℕ) (from at end : ℕ) (before odd : Bool) → at < length input → is_plain (get_or input at 0) ≡ true → end ≡ at + 1 + stretch is_run (drop (at + 1) input)

@@ -1,5 +1,5 @@
 -- The ways over elements, gaps and tags by tokens alone.
-use Rattle.std.proofs.Common.{◌≡◌, ◌≢◌, ◌⊎◌, inl, inr, ℕ, zero, suc, pred, ◌+◌, ◌-◌, ◌<◌, ◌≤◌, true, false, List, [], length, drop, Some, refl, sym, ap, subst, ◌∙◌, arith}
+use Rattle.std.proofs.Common.{◌≡◌, ◌≢◌, ◌⊎◌, inl, inr, ℕ, zero, suc, pred, ◌+◌, ◌-◌, ◌<◌, ◌≤◌, true, false, List, [], length, get_or, drop, Some, refl, sym, ap, subst, ◌∙◌, arith}
 use Rattle.std.proofs.Math.ListN.{drop_of_length-le}
 use Rattle.std.proofs.lemmas.Bool.{cases_lt}
 use Rattle.std.proofs.lemmas.List.{drop-drop, drop_at}
@@ -14,10 +14,12 @@ use Rattle.edn_reader.specs.declared.token.Token.TheVariants.{Gap, Leaf, Opens, 
 use Rattle.edn_reader.specs.declared.token.Opener.{Opener}
 use Rattle.edn_reader.specs.declared.token.Opener.TheVariants as openers
 use Rattle.edn_reader.specs.Grammar.{Piece, IsGap, nothing, skipped, discarded, IsElementAt, leaf, bracketed, tagged, IsElements, none, next, fits}
+use Rattle.edn_reader.specs.Bytes.{is_white, stretch}
 use Rattle.edn_reader.specs.Token.{lexed}
 use Rattle.edn_reader.specs.Skipping.{counted, ended_at, ended_one, wanted_at, closed_at, opened_with, kind_token, is_tag_token, Stands, NoGap, SkipsElement, SkipsGap, SkipsTags}
-use Rattle.edn_reader.proofs.Lexing.{Lexed, lexed_token}
+use Rattle.edn_reader.proofs.Lexing.{Lexed, lexed_token, white_here}
 use Rattle.edn_reader.proofs.Places.{Replaced, moved_gap, moved_element, wider_element}
+use Rattle.edn_reader.proofs.Stretches.{along}
 
 -- ---- the ends of elements
 
@@ -235,6 +237,20 @@ gap_white bytes from at end left e f room start after rest gap clear =
     let token = lexed (drop at bytes) in
     let m = over_white k.3 clear e in
     (m.0, k.1 + token.1, omega (arith, k.2, f), subst (λ (x : List ℕ). IsGap m.0 (k.1 + token.1) x after rest) (between bytes (drop at bytes) at end token.1 refl (sym f)) m.1)
+
+pub gap_begins : (bytes : List ℕ) (from : ℕ) → GapLeft bytes from from
+gap_begins bytes from room start after rest gap clear = (room, start, refl, gap)
+
+one_white : (bytes : List ℕ) (from i : ℕ) → i < length bytes → is_white (get_or bytes i 0) ≡ true → GapLeft bytes from i → GapLeft bytes from (i + 1)
+one_white bytes from i lt white left =
+    let found = white_here bytes i lt white in
+    gap_white bytes from i (i + 1) left (ap (λ (t : Token × ℕ). t.0) found) (sym (ap (λ (t : Token × ℕ). i + t.1) found))
+
+pub gap_whites : (bytes : List ℕ) (from end : ℕ) → end ≡ from + stretch is_white (drop from bytes) → GapLeft bytes from end
+gap_whites bytes from end ends =
+    let after : GapLeft bytes from (from + stretch is_white (drop from bytes)) =
+    along (λ n. GapLeft bytes from n) is_white bytes (one_white bytes from) (stretch is_white (drop from bytes)) from refl (gap_begins bytes from) in
+    subst (λ (n : ℕ). GapLeft bytes from n) (sym ends) after
 
 pub gap_discard : (bytes : List ℕ) (from at inner end : ℕ) → GapLeft bytes from at → (lexed (drop at bytes)).0 ≡ Opens openers.Discard → inner ≡ at + (lexed (drop at bytes)).1
     → SkipsElement bytes inner end → inner ≤ end → GapLeft bytes from end

@@ -1,6 +1,7 @@
 -- Stretches of bytes that pass a test, and texts: how long they are, and that the grammar has them.
-use Rattle.std.proofs.Common.{◌≡◌, ◌≢◌, ℕ, zero, suc, ◌+◌, ◌-◌, ◌<◌, ◌≤◌, Bool, true, false, not, ◌||◌, cond, eqb, List, [], ◌∷◌, ◌++◌, length, get_or, take, drop, Option, Some, None, length-drop, refl, sym, ap, subst, ◌∙◌, arith, add-one, drop-cons}
+use Rattle.std.proofs.Common.{◌≡◌, ◌≢◌, ◌⊎◌, inl, inr, ℕ, zero, suc, ◌+◌, ◌-◌, ◌<◌, ◌≤◌, Bool, true, false, not, ◌||◌, cond, eqb, List, [], ◌∷◌, ◌++◌, length, get_or, take, drop, Option, Some, None, length-drop, refl, sym, ap, subst, ◌∙◌, arith, add-one, drop-cons}
 use Rattle.std.proofs.Math.ListN.{drop_of_length-le}
+use Rattle.std.proofs.lemmas.Bool.{cases_lt}
 use Rattle.std.proofs.lemmas.Bool.Decides.{nat_tests}
 use Rattle.std.specs.Option.{option_map}
 use Rattle.memchr.specs.Find.{NoneBefore, Nowhere, Passes, is_byte, is_byte2}
@@ -41,6 +42,25 @@ same_goes test xs end further total one lt e same =
 
 pub same_stops : (test : ℕ → Bool) (xs : List ℕ) (end total : ℕ) → end < length xs → test (get_or xs end 0) ≡ false → end + stretch test (drop end xs) ≡ total → end ≡ total
 same_stops test xs end total lt e same = omega (arith, stretch_stops test xs end lt e, same)
+
+goes_by : (test : ℕ → Bool) (xs : List ℕ) (i n : ℕ) (t : Bool) → test (get_or xs i 0) ≡ t → i < length xs → stretch test (drop i xs) ≡ suc n
+    → (i < length xs) × (test (get_or xs i 0) ≡ true) × (stretch test (drop (i + 1) xs) ≡ n)
+goes_by test xs i n true e lt same = (lt, e, omega (arith, stretch_goes test xs i lt e, same))
+goes_by test xs i n false e lt same = absurd (omega (arith, stretch_stops test xs i lt e, same))
+
+goes_on : (test : ℕ → Bool) (xs : List ℕ) (i n : ℕ) → (i < length xs) ⊎ (length xs ≤ i) → stretch test (drop i xs) ≡ suc n
+    → (i < length xs) × (test (get_or xs i 0) ≡ true) × (stretch test (drop (i + 1) xs) ≡ n)
+goes_on test xs i n (inl lt) same = goes_by test xs i n (test (get_or xs i 0)) refl lt same
+goes_on test xs i n (inr le) same = absurd (omega (arith, stretch_past test xs i le, same))
+
+-- What holds where a stretch begins, and goes on over each of its bytes, holds where it ends.
+pub along : (holds : ℕ → Type 0) (test : ℕ → Bool) (xs : List ℕ) → ((i : ℕ) → i < length xs → test (get_or xs i 0) ≡ true → holds i → holds (i + 1))
+    → (n i : ℕ) → stretch test (drop i xs) ≡ n → holds i → holds (i + n)
+along holds test xs step zero i same h = let none : i ≡ i + 0 = omega arith in subst holds none h
+along holds test xs step (suc n) i same h =
+    let k = goes_on test xs i n (cases_lt i (length xs)) same in
+    let place : i + 1 + n ≡ i + suc n = omega arith in
+    subst holds place (along holds test xs step n (i + 1) k.2 (step i k.0 k.1 h))
 
 -- ---- a stretch at the front
 

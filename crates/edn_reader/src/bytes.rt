@@ -78,6 +78,21 @@ pub fn is_white(byte: u8) -> bool
     MARKS[byte as usize] == b'.'
 }
 
+/// Where the white bytes end that go on at a place.
+#[inline(always)]
+#[tactic(auto, using(crate::proofs::Stretches::stretch_goes, crate::proofs::Stretches::stretch_stops, crate::proofs::Stretches::stretch_past))]
+pub fn white_end(input: &[u8], at: usize) -> usize
+    requires { at ≤ length input.now }
+    ensures end { result ≡ at + stretch is_white (drop at input.now) }
+    ensures within { result ≤ length input.now }
+{
+    let mut end = at;
+    while end < input.len() && is_white(input[end]) {
+        end += 1;
+    }
+    end
+}
+
 /// Where the run ends that goes on at a place. Four bytes are looked at for each look at the length.
 #[inline(always)]
 #[tactic(auto, using(crate::proofs::Stretches::stretch_goes, crate::proofs::Stretches::stretch_stops, crate::proofs::Stretches::stretch_past))]

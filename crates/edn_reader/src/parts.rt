@@ -37,8 +37,10 @@ impl<'t> Parts<'t> {
     {
         let Parts { left, at } = *self;
         let first = behind_gap(left, 0)?;
-        let Token::Leaf(kind) = first.found.token else {
-            return self.next_at(first);
+        let kind = match first.found.token {
+            Token::Leaf(kind) => kind,
+            Token::Closes(_) => return None,
+            _ => return self.next_at(first),
         };
         let start = at + first.at;
         let end = first.found.end;

@@ -3,7 +3,7 @@
 ghost use Rattle.std.specs.Prelude.{◌≡◌, ◌≤◌, length};
 ghost use Rattle.edn_reader.specs.Taking.{LeadsOn, LeadsWithin};
 
-use crate::bytes::{is_plain, is_white, run_end};
+use crate::bytes::{is_plain, run_end, white_end};
 use crate::nesting::Nesting;
 
 /// Goes over what is plain from a place on, where the innermost that stands open is a bracket.
@@ -31,17 +31,11 @@ fn plain_end(input: &[u8], from: usize, odd_before: bool) -> (usize, bool)
     ensures within { result.0 ≤ length input.now }
     ensures after { from ≤ result.0 }
 {
-    let mut at = from;
+    let mut at = white_end(input, from);
     let mut odd = odd_before;
-    while at < input.len() {
-        if is_white(input[at]) {
-            at += 1;
-        } else if is_plain(input[at]) {
-            at = run_end(input, at + 1);
-            odd = !odd;
-        } else {
-            return (at, odd);
-        }
+    while at < input.len() && is_plain(input[at]) {
+        at = white_end(input, run_end(input, at + 1));
+        odd = !odd;
     }
     (at, odd)
 }

@@ -3,6 +3,7 @@
 ghost use Rattle.std.specs.Prelude.{◌≡◌, ◌+◌, ◌≤◌, ◌<◌, ◌^◌, length, MatchOption, IfSome};
 ghost use Rattle.edn_reader.specs.Skipping.{counted, ended_one, kind_token, is_tag_token, Stands, SkipsGap, SkipsTags, SkipsElement};
 
+use crate::bytes::white_end;
 use crate::element::ElementKind;
 use crate::token::{Found, Opener, Token, read_token};
 
@@ -124,7 +125,7 @@ pub fn behind_gap(bytes: &[u8], from: usize) -> Option<Front>
     ensures end { MatchOption result (SkipsGap bytes.now from (length bytes.now)) (λ front. SkipsGap bytes.now from front.at) }
     ensures stands { IfSome result (λ front. Stands bytes.now front × (from ≤ front.at)) }
 {
-    let mut at = from;
+    let mut at = white_end(bytes, from);
     while at < bytes.len() {
         let front = front_at(bytes, at);
         match front.found.token {

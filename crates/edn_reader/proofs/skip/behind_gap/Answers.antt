@@ -1,8 +1,15 @@
 use Rattle.std.proofs.Common.{rules, ◌≡◌, ◌∙◌, arith}
 use Rattle.edn_reader.specs.declared.token.Token.TheVariants.{Opens}
 use Rattle.edn_reader.specs.declared.token.Opener.TheVariants.{Discard}
-use Rattle.edn_reader.proofs.Skipping.{gap_white, gap_discard, gap_met, gap_at_end, stands_token, stands_end}
+use Rattle.edn_reader.proofs.Skipping.{gap_white, gap_whites, gap_discard, gap_met, gap_at_end, stands_token, stands_end}
 use Rattle.edn_reader.proofs.skip.behind_gap.Goals as goal
+
+pub loop-at-init : goal.loop-at-init
+loop-at-init c = record {
+  within = c.white_end-at.ensures.within;
+  after = omega (arith, c.white_end-at.ensures.end);
+  left = gap_whites c.args.bytes.now c.args.from c.white_end-at.result c.white_end-at.ensures.end;
+}
 
 pub loop-at-preserved-in-Gap-1 : goal.loop-at-preserved-in-Gap-1
 loop-at-preserved-in-Gap-1 c =

@@ -1,9 +1,9 @@
-use Rattle.std.proofs.Common.{rules, ◌≡◌, length, Option, None, sym, ap, subst, ◌∙◌, arith}
+use Rattle.std.proofs.Common.{rules, ◌≡◌, length, Option, None, refl, sym, ap, subst, ◌∙◌, arith}
 use Rattle.edn_reader.specs.declared.element.Element.{Element}
 use Rattle.edn_reader.specs.Lent.{NextPart}
 use Rattle.edn_reader.specs.Skipping.{kind_token}
 use Rattle.edn_reader.proofs.Stretches.{from_index}
-use Rattle.edn_reader.proofs.Skipping.{none_at_end}
+use Rattle.edn_reader.proofs.Skipping.{none_at_end, stands_token}
 use Rattle.edn_reader.proofs.Views.{none_left, found_piece, leaf_part, next_part}
 use Rattle.edn_reader.proofs.Lent.{found_is_element}
 use Rattle.edn_reader.proofs.parts.Parts.next.Goals as goal
@@ -14,6 +14,13 @@ returns-in_err-first-clause-part c opener parts h =
     let given : c.from_residual.result ≡ None = search rules in
     subst (λ (o : Option Element). NextPart opener o c.args.self.now parts) (sym given)
     (none_left opener c.args.self.now (length left) c.in_err-first.ensures.end (ap kind_token (none_at_end left (length left) (omega arith))) parts h)
+
+pub returns-in-Closes-clause-part : goal.returns-in-Closes-clause-part
+returns-in-Closes-clause-part c opener parts h =
+    let left = c.args.self.now.left.now in
+    let first = c.in_ok-first.first in
+    none_left opener c.args.self.now first.at c.in_ok-first.ensures.end
+    (ap kind_token (stands_token left first first.at c.in_ok-first.ensures.stands.0 refl ∙ c.in-Closes.is)) parts h
 
 pub new-requires-2-clause-whole : goal.new-requires-2-clause-whole
 new-requires-2-clause-whole c =
