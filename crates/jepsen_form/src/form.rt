@@ -105,7 +105,7 @@ fn add<'t>(field: &mut Field<'t>, value: Element<'t>)
 fn field_of(word: &[u8], chosen: MomentField) -> Option<FormField>
     ensures { result ≡ field_of chosen word.now }
 {
-    if word == moment_key(chosen) {
+    if is(word, moment_key(chosen)) {
         return Some(FormField::Moment);
     }
     match word.len() {
@@ -122,10 +122,22 @@ fn field_of(word: &[u8], chosen: MomentField) -> Option<FormField>
     }
 }
 
+/// Whether a word is this key. Where the key is written at the call, its few bytes are compared in place.
+#[inline(always)]
 fn is(word: &[u8], key: &[u8]) -> bool
     ensures { result ≡ bytes_eq word.now key.now }
 {
-    word == key
+    if word.len() != key.len() {
+        return false;
+    }
+    let mut at = 0;
+    while at < key.len() {
+        if word[at] != key[at] {
+            return false;
+        }
+        at += 1;
+    }
+    true
 }
 
 fn moment_key(chosen: MomentField) -> &'static [u8]
