@@ -1,6 +1,6 @@
 -- The edges of a value: what an edit makes of them, and what its zone and its stretch are by them.
 use Rattle.std.proofs.Common.{◌≡◌, ◌≢◌, ◌↔◌, ◌⊎◌, inl, inr, Bool, true, false, ◌&&◌, ◌||◌, List, Option, Some, None, refl, sym, ap, ◌∙◌, subst, cond}
-use Rattle.std.specs.Prelude.{All, Contains, IfSome, IsSome, IsTrue}
+use Rattle.std.specs.Prelude.{Contains, IfSome, IsSome, IsTrue}
 use Rattle.std.proofs.lemmas.Bool.{both_ways}
 use Rattle.std.proofs.lemmas.List.Elements.{All-contains}
 use Rattle.intervals.specs.declared.operation.Op.{Op}
@@ -16,11 +16,11 @@ use Rattle.zones.specs.declared.edges.Edges.{Edges}
 use Rattle.zones.specs.Faults.{IsRead, IsStretchAt, begin_of, first_end_of}
 use Rattle.zones.specs.Members.{HasNoWrite, IsChange, IsGreatestBegin, IsLeastEnd, IsTheWriteAt}
 use Rattle.zones.specs.Zoned.{IsZoneAt}
-use Rattle.zones.proofs.EdgeOrder.{AtMost, at_most_both, at_most_itself, at_most_transitive, before_all, earlier-cases, earlier-left, earlier-right, later-cases, later-left, later-right}
+use Rattle.zones.proofs.EdgeOrder.{AtMost, at_most_both, at_most_itself, at_most_transitive, earlier-cases, earlier-left, earlier-right, later-cases, later-left, later-right}
 use Rattle.zones.proofs.Ends.{in_judged-read, in_judged-write, none_begins, none_ends}
 use Rattle.zones.proofs.Judged.{is_judged}
 use Rattle.zones.proofs.Members.{Decides-same_value, all_from, kept_stands}
-use Rattle.zones.proofs.Stretches.{begin_at_write, begin_never, begin_initial, first_at_most, first_held, no_write}
+use Rattle.zones.proofs.Stretches.{begin_at_write, begin_never, first_at_most, first_held, no_write}
 use Rattle.zones.proofs.Written.{never_last, written_by, written_cases, written_initial}
 
 -- what passes a test and has the value

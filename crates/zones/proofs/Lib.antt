@@ -6,6 +6,7 @@ mod Lookups
 mod Sorting
 mod Cluster
 mod Nearest
+mod Exchanged
 mod Excluded
 mod InTurn
 mod Existence

@@ -172,8 +172,8 @@ impl<'t> Clusters<'t> {
         let zones_after = zones_in(&after, initial);
         let stretches = stretches_in(&edges, initial);
         let stretches_after = stretches_in(&after, initial);
-        exchange(&mut self.zones, zones, zones_after);
-        exchange(&mut self.stretches, stretches, stretches_after);
+        exchange(&mut self.zones, &zones, &zones_after);
+        exchange(&mut self.stretches, &stretches, &stretches_after);
     }
 
     pub fn admit_write(&mut self, write: &Op<'t>) -> Result<(), Memory>

@@ -10,6 +10,6 @@ returns-in-Some-Some-clause-steps c =
 
 pub returns-in_default-clause-steps : goal.returns-in_default-clause-steps
 returns-in_default-clause-steps c =
-    two_calls c.digits_are_the_least_that_hold_a_number.ensures.above c.args.gone c.args.tree.now.zones c.args.tree.now.steps c.take.new.tree.steps c.put.new.tree.steps
+    two_calls c.digits_are_the_least_that_hold_a_number.ensures.above c.args.gone.now c.args.tree.now.zones c.args.tree.now.steps c.take.new.tree.steps c.put.new.tree.steps
     c.take.ensures.steps
     (subst (λ (l : List Zone). c.put.new.tree.steps ≤ c.take.new.tree.steps + (2 * digits (length l) + 1)) c.take.ensures.zones c.put.ensures.steps)

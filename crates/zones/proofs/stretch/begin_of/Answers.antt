@@ -1,4 +1,4 @@
-use Rattle.std.proofs.Common.{◌≡◌, ◌≢◌, Bool, true, false, sym, subst, rules}
+use Rattle.std.proofs.Common.{◌≡◌, true, false, subst, rules}
 use Rattle.std.proofs.lemmas.Bool.{both_ways}
 use Rattle.std.proofs.lemmas.Bool.Decides.{not_from_Decides}
 use Rattle.intervals.specs.declared.operation.Value.{Value}

@@ -1,6 +1,5 @@
-use Rattle.std.proofs.Common.{◌≡◌, ◌∙◌, true, false, sym, ap, rules}
+use Rattle.std.proofs.Common.{◌≡◌, ◌∙◌, true, false, ap, rules}
 use Rattle.std.proofs.lemmas.Bool.{both_ways}
-use Rattle.intervals.specs.declared.operation.Value.{Value}
 use Rattle.zone_tree.specs.declared.edge.Edge.TheVariants.{Before}
 use Rattle.zone_tree.specs.Edge.{comes_before}
 use Rattle.zones.specs.Cluster.{zone_between}

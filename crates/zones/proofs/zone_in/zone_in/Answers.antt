@@ -1,5 +1,4 @@
-use Rattle.std.proofs.Common.{◌≡◌, true, false, sym, ◌∙◌, rules}
-use Rattle.std.specs.Prelude.{IsTrue}
+use Rattle.std.proofs.Common.{◌≡◌, true, false, rules}
 use Rattle.zones.proofs.zone_in.zone_in.Goals as goal
 
 pub returns-then-is_written : goal.returns-then-is_written

@@ -1,6 +1,6 @@
-use Rattle.std.proofs.Common.{◌≡◌, ◌∙◌, ap}
+use Rattle.std.proofs.Common.{◌∙◌, ap}
 use Rattle.zone_tree.specs.declared.edge.Edge.{Edge}
-use Rattle.zones.specs.Cluster.{least_end_of, greatest_begin_of, zone_between}
+use Rattle.zones.specs.Cluster.{least_end_of, zone_between}
 use Rattle.zones.proofs.zone_in.zone_of.Goals as goal
 
 pub returns : goal.returns
