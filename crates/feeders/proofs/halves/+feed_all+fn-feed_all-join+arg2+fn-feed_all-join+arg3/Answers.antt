@@ -42,14 +42,14 @@ join-first-requires-send-F g t c κs within =
     let gate : IsSync (G-row g.row.O g.row.R g.row.G) = search rules parts 8 in
     let at : ℕ → Lft → NamedLft = λ n κ. record { mir = named n; lft = κ } in
     let captured =
-        ShrRef (named 6) κs.1.1.1.1.1.1.0 (R-row g.row.O g.row.R g.row.G) ∷
-        ShrRef (named 7) κs.1.1.1.1.1.1.1.0 Global.the_row ∷
-        ShrRef (named 8) κs.1.1.1.1.1.1.1.1.0 (Auditor.the_row (at 4 κs.1.1.1.1.0) (O-row g.row.O g.row.R g.row.G) g.O.Opening) ∷
-        ShrRef (named 9) κs.1.1.1.1.1.1.1.1.1.0 (G-row g.row.O g.row.R g.row.G) ∷
-        ShrRef (named 10) κs.1.1.1.1.1.1.1.1.1.1.0 Tower.the_row ∷
-        ShrRef (named 11) κs.1.1.1.1.1.1.1.1.1.1.1.0 MomentField.the_row ∷
-        Vec.the_row (Pass.the_row (at 12 κs.1.1.1.1.1.1.1.1.1.1.1.1.0)) Global.the_row allocator.ghosts ∷
-        (shr_slice_field (at 13 κs.1.1.1.1.1.1.1.1.1.1.1.1.1.0) (shr_slice_field (at 14 κs.1.1.1.1.1.1.1.1.1.1.1.1.1.1.0) u8-field.row tt).row tt).row ∷ [] in
+    ShrRef (named 6) κs.1.1.1.1.1.1.0 (R-row g.row.O g.row.R g.row.G) ∷
+    ShrRef (named 7) κs.1.1.1.1.1.1.1.0 Global.the_row ∷
+    ShrRef (named 8) κs.1.1.1.1.1.1.1.1.0 (Auditor.the_row (at 4 κs.1.1.1.1.0) (O-row g.row.O g.row.R g.row.G) g.O.Opening) ∷
+    ShrRef (named 9) κs.1.1.1.1.1.1.1.1.1.0 (G-row g.row.O g.row.R g.row.G) ∷
+    ShrRef (named 10) κs.1.1.1.1.1.1.1.1.1.1.0 Tower.the_row ∷
+    ShrRef (named 11) κs.1.1.1.1.1.1.1.1.1.1.1.0 MomentField.the_row ∷
+    Vec.the_row (Pass.the_row (at 12 κs.1.1.1.1.1.1.1.1.1.1.1.1.0)) Global.the_row allocator.ghosts ∷
+    (shr_slice_field (at 13 κs.1.1.1.1.1.1.1.1.1.1.1.1.1.0) (shr_slice_field (at 14 κs.1.1.1.1.1.1.1.1.1.1.1.1.1.1.0) u8-field.row tt).row tt).row ∷ [] in
     closure_send _ captured _ (
       shr_send _ _ _ runtime,
       (
