@@ -4,3 +4,4 @@ mod AloneReplies
 mod AloneRefusals
 mod AloneJournal
 mod Alone
+mod Behind

@@ -1,8 +1,8 @@
 //! Reads an input whole.
 
-ghost use Rattle.std.specs.Prelude.{◌≡◌, ◌≤◌, ◌<◌, ◌+◌, ◌^◌, Ok, Err, IfOk, IfSome, length, vec_len};
+ghost use Rattle.std.specs.Prelude.{◌≡◌, ◌≤◌, ◌<◌, ◌+◌, ◌^◌, Ok, Err, IfOk, IfSome, OnOk, length, take, vec_len};
 ghost use Rattle.std.specs.Io.KnownBytes.{IsAtEnd};
-ghost use Rattle.commands.specs.Input.{TakesOn};
+ghost use Rattle.commands.specs.Input.{IfMore, TakesOn};
 
 use std::alloc::{AllocError, Global};
 use std::io::{ErrorKind, Read};
@@ -44,59 +44,76 @@ pub fn read_within<R: Read>(alloc: Global, input: &mut R, calls: u32) -> Result<
     ensures within { IfOk result (λ bytes. vec_len bytes ≤ 2 ^ 30) }
     ensures too_long { result ≡ Err InputFault.TooLong → IfSome (R.remaining input.old) (λ left. 2 ^ 30 < length left) }
 {
-    let Ok(mut buffer) = new_buffer(alloc, CHUNK) else {
-        return Err(InputFault::Memory);
-    };
     let mut bytes = Vec::new(alloc);
+    let mut used = 0;
     for _ in 0..calls {
-        let wanted = (BYTE_LIMIT + 1 - bytes.len()).min(CHUNK);
-        match read_more(input, &mut buffer[..wanted], &mut bytes)? {
-            Turn::More => {}
-            Turn::End => return Ok(bytes),
+        match read_more(input, &mut bytes, used)? {
+            Turn::More(count) => used += count,
+            Turn::End => {
+                bytes.truncate(used);
+                return Ok(bytes);
+            }
         }
     }
     Err(InputFault::TooManyCalls)
 }
 
-fn new_buffer(alloc: Global, size: usize) -> Result<Vec<u8>, AllocError>
-    ensures { IfOk result (λ buffer. vec_len buffer ≡ size) }
-{
-    vec![in alloc; 0u8; size]
-}
-
-/// What one read call found.
+/// What one read call found: so many bytes more, none where it was interrupted.
 #[derive(Clone, Copy, Debug, PartialEq, Eq)]
 enum Turn {
-    More,
+    More(usize),
     End,
 }
 
-/// One read call: its bytes go to the end of those so far.
-fn read_more<R: Read>(
-    input: &mut R,
-    chunk: &mut [u8],
-    bytes: &mut Vec<u8>,
-) -> Result<Turn, InputFault>
-    requires room { 0 < length chunk.old }
-    requires within { vec_len bytes.old ≤ BYTE_LIMIT }
-    ensures more { result ≡ Ok Turn.More → TakesOn (R.remaining input.old) (R.remaining input.new) bytes.old.items bytes.new.items }
-    ensures limit { result ≡ Ok Turn.More → vec_len bytes.new ≤ BYTE_LIMIT }
+/// One read call: its bytes go behind those that are used, in place.
+fn read_more<R: Read>(input: &mut R, bytes: &mut Vec<u8>, used: usize) -> Result<Turn, InputFault>
+    requires used { used ≤ vec_len bytes.old }
+    requires within { used ≤ BYTE_LIMIT }
+    ensures more { IfOk result (λ turn. IfMore turn (λ count. TakesOn (R.remaining input.old) (R.remaining input.new) (take used bytes.old.items) (take (used + count) bytes.new.items))) }
+    ensures limit { IfOk result (λ turn. IfMore turn (λ count. (used + count ≤ BYTE_LIMIT) × (used + count ≤ vec_len bytes.new))) }
     ensures end { result ≡ Ok Turn.End → IsAtEnd (R.remaining input.old) }
-    ensures all { result ≡ Ok Turn.End → bytes.new.items ≡ bytes.old.items }
-    ensures too_long { result ≡ Err InputFault.TooLong → IfSome (R.remaining input.old) (λ left. BYTE_LIMIT < vec_len bytes.old + length left) }
+    ensures all { result ≡ Ok Turn.End → take used bytes.new.items ≡ take used bytes.old.items }
+    ensures too_long { result ≡ Err InputFault.TooLong → IfSome (R.remaining input.old) (λ left. BYTE_LIMIT < used + length left) }
 {
-    match input.read(chunk) {
+    if make_room(bytes, used).is_err() {
+        return Err(InputFault::Memory);
+    }
+    read_behind(input, bytes.as_mut_slice(), used)
+}
+
+/// Room behind the used bytes for all that is asked for in one read call.
+fn make_room(bytes: &mut Vec<u8>, used: usize) -> Result<(), AllocError>
+    requires used { used ≤ vec_len bytes.old }
+    requires within { used ≤ BYTE_LIMIT }
+    ensures room { OnOk result (used < vec_len bytes.new) }
+    ensures kept { take used bytes.new.items ≡ take used bytes.old.items }
+{
+    let end = used + (BYTE_LIMIT + 1 - used).min(CHUNK);
+    if end <= bytes.len() {
+        return Ok(());
+    }
+    bytes.resize(end, 0)
+}
+
+/// One read call into what lies behind the used bytes.
+fn read_behind<R: Read>(input: &mut R, bytes: &mut [u8], used: usize) -> Result<Turn, InputFault>
+    requires room { used < length bytes.old }
+    requires within { used ≤ BYTE_LIMIT }
+    ensures more { IfOk result (λ turn. IfMore turn (λ count. TakesOn (R.remaining input.old) (R.remaining input.new) (take used bytes.old) (take (used + count) bytes.new))) }
+    ensures limit { IfOk result (λ turn. IfMore turn (λ count. (used + count ≤ BYTE_LIMIT) × (used + count ≤ length bytes.new))) }
+    ensures end { result ≡ Ok Turn.End → IsAtEnd (R.remaining input.old) }
+    ensures all { result ≡ Ok Turn.End → take used bytes.new ≡ take used bytes.old }
+    ensures too_long { result ≡ Err InputFault.TooLong → IfSome (R.remaining input.old) (λ left. BYTE_LIMIT < used + length left) }
+{
+    match input.read(&mut bytes[used..]) {
         Ok(0) => Ok(Turn::End),
         Ok(count) => {
-            if count > BYTE_LIMIT - bytes.len() {
+            if count > BYTE_LIMIT - used {
                 return Err(InputFault::TooLong);
             }
-            if bytes.extend_from_slice(&chunk[..count]).is_err() {
-                return Err(InputFault::Memory);
-            }
-            Ok(Turn::More)
+            Ok(Turn::More(count))
         }
-        Err(error) if error.kind() == ErrorKind::Interrupted => Ok(Turn::More),
+        Err(error) if error.kind() == ErrorKind::Interrupted => Ok(Turn::More(0)),
         Err(_) => Err(InputFault::Failed),
     }
 }

@@ -1,11 +1,11 @@
 -- the bytes so far are those that the reader has given
-use Rattle.std.proofs.Common.{◌≡◌, ◌≤◌, vec_len}
+use Rattle.std.proofs.Common.{◌≤◌, take, vec_len}
 use Rattle.std.specs.Io.KnownBytes.{Consumes}
 use Rattle.commands.proofs.input.read_within.Given as goal
 
 abbrev pub invariant-loop : goal.invariant-loop
 invariant-loop g l = record {
-  given : Consumes (g.R.Read.remaining l.fn.input) (g.R.Read.remaining l.input) l.bytes.items;
-  limit : vec_len l.bytes ≤ 1073741824;
-  buffer : vec_len l.buffer ≡ 65536;
+  given : Consumes (g.R.Read.remaining l.fn.input) (g.R.Read.remaining l.input) (take l.used l.bytes.items);
+  limit : l.used ≤ 1073741824;
+  there : l.used ≤ vec_len l.bytes;
 }
