@@ -1,16 +1,19 @@
 -- What is plain within a bracket: how the tokens lead over it.
-use Rattle.std.proofs.Common.{◌≡◌, ℕ, ◌+◌, ◌<◌, Bool, true, false, not, cond, List, [], ◌∷◌, length, get_or, drop, Some, None, refl, sym, ap, subst, ◌∙◌, arith}
+use Rattle.std.proofs.Common.{◌≡◌, ◌≢◌, ℕ, ◌+◌, ◌<◌, ◌≤◌, Bool, true, false, not, cond, List, [], ◌∷◌, ◌++◌, length, get_or, drop, Some, None, refl, sym, ap, subst, ◌∙◌, arith, length-drop, length-append}
+use Rattle.std.proofs.lemmas.List.{drop-drop}
+use Rattle.edn_reader.specs.declared.bytes.ByteClass.TheVariants.{White, Plain}
 use Rattle.edn_reader.specs.declared.element.ElementKind.TheVariants.{Atom}
 use Rattle.edn_reader.specs.declared.nesting.Open.{Open}
 use Rattle.edn_reader.specs.declared.token.Token.{Token}
 use Rattle.edn_reader.specs.declared.token.Token.TheVariants.{Gap, Leaf}
-use Rattle.edn_reader.specs.Bytes.{is_plain, is_white, is_run, stretch}
-use Rattle.edn_reader.specs.Grammar.{waits}
+use Rattle.edn_reader.specs.Bytes.{class_of, is_plain, is_white, is_run, stretch}
+use Rattle.edn_reader.specs.Grammar.{Piece, waits}
 use Rattle.edn_reader.specs.Token.{found_at, lexed}
-use Rattle.edn_reader.specs.Taking.{taken, on, plain_span, LeadsOn, stays, by_token, LeadsWithin, item_odd, with_odd, odd_inside}
-use Rattle.edn_reader.proofs.Lexing.{white_here, plain_here}
-use Rattle.edn_reader.proofs.Reading.{StandsFrom, stands_on, one_ended}
-use Rattle.edn_reader.proofs.Stretches.{along}
+use Rattle.edn_reader.specs.Taking.{taken, on, plain_span, LeadsOn, stays, by_token, IsPieceAt, LeadsOver, LeadsWithin, item_odd, with_odd, odd_inside}
+use Rattle.edn_reader.proofs.Lexing.{lexed_by, white_class, plain_class}
+use Rattle.edn_reader.proofs.Reading.{StandsAt, stands_next, one_ended}
+use Rattle.edn_reader.proofs.Stretches.{along, drop_here, drop_before}
+use Rattle.edn_reader.proofs.Resuming.{stretch_stays}
 
 -- One token more, as it was found.
 token_on : (input : List ℕ) (from at end : ℕ) (token : Token) (size : ℕ) (opens inner after : List Open) → at < length input → lexed (drop at input) ≡ (token, size) → at + size ≡ end
@@ -35,45 +38,75 @@ gap_on : (place end : ℕ) (opens : List Open) → taken Gap place end opens ≡
 unfolding taken
 gap_on place end opens = refl
 
+-- ---- places of a piece
+
+-- What is left of the input at a place of a piece.
+pub in_piece : (input piece behind : List ℕ) (base at : ℕ) → IsPieceAt input base piece behind → at ≤ length piece → drop (base + at) input ≡ drop at piece ++ behind
+in_piece input piece behind base at is le = sym (drop-drop at base input) ∙ ap (drop at) is.1 ∙ drop_before at piece behind le
+
+pub in_input : (input piece behind : List ℕ) (base at : ℕ) → IsPieceAt input base piece behind → at < length piece → base + at < length input
+in_input input piece behind base at is lt =
+    omega (arith, length-drop (base + at) input, ap length (in_piece input piece behind base at is (omega (arith, lt))), length-append (drop at piece) behind, length-drop at piece, lt)
+
+left_here : (input piece behind : List ℕ) (base at : ℕ) → IsPieceAt input base piece behind → at < length piece
+    → drop (base + at) input ≡ get_or piece at 0 ∷ (drop (at + 1) piece ++ behind)
+left_here input piece behind base at is lt =
+    in_piece input piece behind base at is (omega (arith, lt)) ∙ ap (λ (xs : List ℕ). xs ++ behind) (drop_here piece at lt)
+
+-- ---- what is plain
+
 -- A white byte more.
-pub white_on : (input : List ℕ) (from at end : ℕ) (before odd : Bool) → at < length input → is_white (get_or input at 0) ≡ true → end ≡ at + 1
-    → LeadsWithin input from before at odd → LeadsWithin input from before end odd
-white_on input from at end before odd lt white place led item opens w =
-    token_on input from at end Gap 1 (item_odd before item ∷ opens) (item_odd odd item ∷ opens) (item_odd odd item ∷ opens) lt (white_here input at lt white) (sym place) (gap_on at end (item_odd odd item ∷ opens)) (led item opens w)
+white_on : (piece : List ℕ) (from at end : ℕ) (before odd : Bool) → at < length piece → is_white (get_or piece at 0) ≡ true → end ≡ at + 1
+    → LeadsWithin piece from before at odd → LeadsWithin piece from before end odd
+white_on piece from at end before odd lt white place led item opens w input base behind is =
+    let b = get_or piece at 0 in
+    let rest = drop (at + 1) piece ++ behind in
+    token_on input (base + from) (base + at) (base + end) Gap 1 (item_odd before item ∷ opens) (item_odd odd item ∷ opens) (item_odd odd item ∷ opens) (in_input input piece behind base at is lt)
+    (ap lexed (left_here input piece behind base at is lt) ∙ lexed_by b rest White (white_class (class_of b) white)) (omega (arith, place))
+    (gap_on (base + at) (base + end) (item_odd odd item ∷ opens)) (led item opens w input base behind is)
 
 -- The white bytes that go on there more.
-pub whites_on : (input : List ℕ) (from at end : ℕ) (before odd : Bool) → end ≡ at + stretch is_white (drop at input) → LeadsWithin input from before at odd → LeadsWithin input from before end odd
-whites_on input from at end before odd ends led =
-    let after : LeadsWithin input from before (at + stretch is_white (drop at input)) odd =
-    along (λ n. LeadsWithin input from before n odd) is_white input (λ i lt white h. white_on input from i (i + 1) before odd lt white refl h) (stretch is_white (drop at input)) at refl led in
-    subst (λ (n : ℕ). LeadsWithin input from before n odd) (sym ends) after
+pub whites_on : (piece : List ℕ) (from at end : ℕ) (before odd : Bool) → end ≡ at + stretch is_white (drop at piece) → LeadsWithin piece from before at odd → LeadsWithin piece from before end odd
+whites_on piece from at end before odd ends led =
+    let after : LeadsWithin piece from before (at + stretch is_white (drop at piece)) odd =
+    along (λ n. LeadsWithin piece from before n odd) is_white piece (λ i lt white h. white_on piece from i (i + 1) before odd lt white refl h) (stretch is_white (drop at piece)) at refl led in
+    subst (λ (n : ℕ). LeadsWithin piece from before n odd) (sym ends) after
 
--- An element of one run more.
-pub run_on : (input : List ℕ) (from at end : ℕ) (before odd : Bool) → at < length input → is_plain (get_or input at 0) ≡ true → end ≡ at + 1 + stretch is_run (drop (at + 1) input)
-    → LeadsWithin input from before at odd → LeadsWithin input from before end (not odd)
-run_on input from at end before odd lt plain place led item opens w =
-    token_on input from at end (Leaf Atom) (1 + stretch is_run (drop (at + 1) input)) (item_odd before item ∷ opens) (item_odd odd item ∷ opens) (item_odd (not odd) item ∷ opens)
-    lt (plain_here input at lt plain) (omega (arith, place)) (one_more_inside at end odd item opens w) (led item opens w)
+-- An element of one run more, which ends within the piece.
+pub run_on : (piece : List ℕ) (from at end : ℕ) (before odd : Bool) → at < length piece → is_plain (get_or piece at 0) ≡ true → end ≡ at + 1 + stretch is_run (drop (at + 1) piece)
+    → end ≤ length piece → end ≢ length piece → LeadsWithin piece from before at odd → LeadsWithin piece from before end (not odd)
+run_on piece from at end before odd lt plain place le other led item opens w input base behind is =
+    let b = get_or piece at 0 in
+    let left = drop (at + 1) piece in
+    let size = stretch is_run left in
+    let stays : stretch is_run (left ++ behind) ≡ size = stretch_stays is_run left behind (omega (arith, place, le, other, length-drop (at + 1) piece)) in
+    token_on input (base + from) (base + at) (base + end) (Leaf Atom) (1 + size) (item_odd before item ∷ opens) (item_odd odd item ∷ opens) (item_odd (not odd) item ∷ opens)
+    (in_input input piece behind base at is lt)
+    (ap lexed (left_here input piece behind base at is lt) ∙ lexed_by b (left ++ behind) Plain (plain_class (class_of b) plain) ∙ ap (λ (n : ℕ). (Leaf Atom, 1 + n)) stays)
+    (omega (arith, place)) (one_more_inside (base + at) (base + end) odd item opens w) (led item opens w input base behind is)
 
-pub none_on : (input : List ℕ) (from : ℕ) (odd : Bool) → LeadsWithin input from odd from odd
-none_on input from odd item opens w = stays
+pub none_on : (piece : List ℕ) (from : ℕ) (odd : Bool) → LeadsWithin piece from odd from odd
+none_on piece from odd item opens w input base behind is = stays
 
-inside_by : (input : List ℕ) (from end : ℕ) (odd odd_then w : Bool) (item : Open) (opens : List Open) → waits item.opener ≡ w → cond w None (Some item.odd) ≡ Some odd
-    → LeadsWithin input from odd end odd_then → LeadsOn input from (item ∷ opens) end (item_odd odd_then item ∷ opens)
-inside_by input from end odd odd_then true item opens e is led = absurd cc
-inside_by input from end odd odd_then false item opens e is led =
+inside_by : (piece : List ℕ) (from end : ℕ) (odd odd_then w : Bool) (item : Open) (opens : List Open) → waits item.opener ≡ w → cond w None (Some item.odd) ≡ Some odd
+    → LeadsWithin piece from odd end odd_then → LeadsOver piece from (item ∷ opens) end (item_odd odd_then item ∷ opens)
+inside_by piece from end odd odd_then true item opens e is led = absurd cc
+inside_by piece from end odd odd_then false item opens e is led =
     let same : item.odd ≡ odd = cc in
-    subst (λ (o : Bool). LeadsOn input from (item_odd o item ∷ opens) end (item_odd odd_then item ∷ opens)) (sym same) (led item opens e)
+    subst (λ (o : Bool). LeadsOver piece from (item_odd o item ∷ opens) end (item_odd odd_then item ∷ opens)) (sym same) (led item opens e)
 
 -- What leads within each bracket leads within the innermost.
-pub leads_inside : (input : List ℕ) (from end : ℕ) (odd odd_then : Bool) (opens after : List Open) → odd_inside opens ≡ Some odd
-    → LeadsWithin input from odd end odd_then → after ≡ with_odd odd_then opens → LeadsOn input from opens end after
-leads_inside input from end odd odd_then [] after is led same = absurd cc
-leads_inside input from end odd odd_then (item ∷ opens) after is led same =
-    subst (LeadsOn input from (item ∷ opens) end) (sym same) (inside_by input from end odd odd_then (waits item.opener) item opens refl is led)
+pub leads_inside : (piece : List ℕ) (from end : ℕ) (odd odd_then : Bool) (opens after : List Open) → odd_inside opens ≡ Some odd
+    → LeadsWithin piece from odd end odd_then → after ≡ with_odd odd_then opens → LeadsOver piece from opens end after
+leads_inside piece from end odd odd_then [] after is led same = absurd cc
+leads_inside piece from end odd odd_then (item ∷ opens) after is led same =
+    subst (LeadsOver piece from (item ∷ opens) end) (sym same) (inside_by piece from end odd odd_then (waits item.opener) item opens refl is led)
+
+pub leads_nowhere : (piece : List ℕ) (from : ℕ) (opens : List Open) → LeadsOver piece from opens from opens
+leads_nowhere piece from opens input base behind is = stays
 
 -- Where tokens lead on, what stood open does so too.
-pub stands_led : (input : List ℕ) (begin from end : ℕ) (opens after : List Open) → StandsFrom input begin opens from → LeadsOn input from opens end after → StandsFrom input begin after end
-stands_led input begin from end opens after s stays = s
-stands_led input begin from end opens after s (by_token {at = at} {inner = inner} led lt e) =
-    stands_on input begin at (found_at at (lexed (drop at input))) inner after lt (stands_led input begin from at opens inner s led) refl e
+pub stands_led : (input : List ℕ) (pieces : List Piece) (from end : ℕ) (opens after : List Open) → StandsAt input pieces opens from → LeadsOn input from opens end after → StandsAt input pieces after end
+stands_led input pieces from end opens after s stays = s
+stands_led input pieces from end opens after s (by_token {at = at} {inner = inner} led lt e) =
+    stands_next input pieces at (found_at at (lexed (drop at input))) inner after lt (stands_led input pieces from at opens inner s led) refl e

@@ -10,7 +10,7 @@ use Rattle.edn_reader.specs.declared.token.Found.{Found}
 use Rattle.edn_reader.specs.declared.token.Token.{Token}
 use Rattle.edn_reader.specs.declared.token.Token.TheVariants.{Gap, Leaf, Opens as Opening, Unfinished}
 use Rattle.edn_reader.specs.declared.token.Opener.TheVariants as openers
-use Rattle.edn_reader.specs.Bytes.{class_of, is_run, is_plain, is_plain_class, is_white, is_white_class, is_in_comment, Ends, stretch}
+use Rattle.edn_reader.specs.Bytes.{class_of, is_run, is_plain_class, is_white, is_white_class, is_in_comment, Ends, stretch}
 use Rattle.edn_reader.specs.Grammar.{ended, IsTag, IsToken, white, comment, run, hashed, character, text, hash_text, opening, set, discard, tag, close}
 use Rattle.edn_reader.specs.Token.{quoted_length, text_token, quoted, tag_token, hash_token, after_hash, after_backslash, class_token, lexed, found_at}
 use Rattle.edn_reader.proofs.Stretches.{drop_here, stretch_here, stretch_place, stretch_rest, stretch_within, quoted_is, quoted_here, quoted_within, ending}
@@ -22,15 +22,15 @@ pub record Lexed (token : Token) (p : ℕ) (a : List ℕ) (q : ℕ) (b : List �
   pub rest : drop (lexed a).1 a ≡ b
   pub some : 0 < (lexed a).1
 
-lexed_by : (b : ℕ) (bytes : List ℕ) (k : ByteClass) → class_of b ≡ k → lexed (b ∷ bytes) ≡ class_token k bytes
+pub lexed_by : (b : ℕ) (bytes : List ℕ) (k : ByteClass) → class_of b ≡ k → lexed (b ∷ bytes) ≡ class_token k bytes
 unfolding lexed
 lexed_by b bytes k e = ap (λ (c : ByteClass). class_token c bytes) e
 
-hash_by : (c : ℕ) (bytes : List ℕ) (k : ByteClass) → class_of c ≡ k → after_hash (c ∷ bytes) ≡ hash_token k c bytes
+pub hash_by : (c : ℕ) (bytes : List ℕ) (k : ByteClass) → class_of c ≡ k → after_hash (c ∷ bytes) ≡ hash_token k c bytes
 unfolding after_hash
 hash_by c bytes k e = ap (λ (d : ByteClass). hash_token d c bytes) e
 
-hash_alone : after_hash [] ≡ (Unfinished, 1)
+pub hash_alone : after_hash [] ≡ (Unfinished, 1)
 unfolding after_hash
 hash_alone = refl
 
@@ -45,12 +45,12 @@ backslash_alone = refl
 quoted_by : (n : ℕ) (bytes : List ℕ) (size : ℕ) → quoted_length bytes ≡ Some size → quoted n bytes ≡ (Leaf Text, n + size)
 quoted_by n bytes size e = ap (text_token n bytes) e
 
-underscore : class_of 95 ≡ Plain
+pub underscore : class_of 95 ≡ Plain
 unfolding class_of
 underscore = refl
 
 -- A # before a byte that begins no other token begins a tag.
-tagged_by : (k : ByteClass) (c : ℕ) (bytes : List ℕ) → k ≢ Hash → k ≢ Quote → k ≢ Opens Curly → c ≢ 95 → hash_token k c bytes ≡ tag_token (c ∷ bytes)
+pub tagged_by : (k : ByteClass) (c : ℕ) (bytes : List ℕ) → k ≢ Hash → k ≢ Quote → k ≢ Opens Curly → c ≢ 95 → hash_token k c bytes ≡ tag_token (c ∷ bytes)
 tagged_by Hash c bytes u v w x = absurd (u refl)
 tagged_by Quote c bytes u v w x = absurd (v refl)
 tagged_by (Opens Curly) c bytes u v w x = absurd (w refl)
@@ -205,10 +205,10 @@ token_lexed p a t e u = subst (λ (token : Token). IsToken token p a (p + (lexed
 -- ---- how long a token is
 
 -- A token lies within so many bytes, has one, and takes them all where it is unfinished.
-record Fits (n : ℕ) (x : Token × ℕ) : Type 0 where
-  within : x.1 ≤ n
-  some : 0 < x.1
-  all : x.0 ≡ Unfinished → x.1 ≡ n
+pub record Fits (n : ℕ) (x : Token × ℕ) : Type 0 where
+  pub within : x.1 ≤ n
+  pub some : 0 < x.1
+  pub all : x.0 ≡ Unfinished → x.1 ≡ n
 
 fits_text : (opened : ℕ) (bytes : List ℕ) (o : Option ℕ) → 0 < opened → quoted_length bytes ≡ o → Fits (opened + length bytes) (text_token opened bytes o)
 fits_text opened bytes None some e = record { within = omega arith; some = omega arith; all = λ h. refl }
@@ -240,7 +240,7 @@ fits_hash Semicolon c bytes = fits_behind c bytes
 fits_hash Backslash c bytes = fits_behind c bytes
 fits_hash Plain c bytes = fits_plain c bytes (eqb c 95)
 
-fits_after_hash : (bytes : List ℕ) → Fits (1 + length bytes) (after_hash bytes)
+pub fits_after_hash : (bytes : List ℕ) → Fits (1 + length bytes) (after_hash bytes)
 unfolding after_hash
 fits_after_hash [] = record { within = omega arith; some = omega arith; all = λ h. refl }
 fits_after_hash (c ∷ bytes) =
@@ -266,7 +266,7 @@ fits_here : (b : ℕ) (bytes : List ℕ) → Fits (1 + length bytes) (lexed (b �
 unfolding lexed
 fits_here b bytes = fits_class (class_of b) bytes
 
-lexed_nothing : lexed [] ≡ (Unfinished, 0)
+pub lexed_nothing : lexed [] ≡ (Unfinished, 0)
 unfolding lexed
 lexed_nothing = refl
 
@@ -360,7 +360,7 @@ found_is at after x t n e place = ap (λ (m : ℕ). record { token = t; end = m 
 lexed_here : (xs : List ℕ) (i : ℕ) (k : ByteClass) → i < length xs → class_of (get_or xs i 0) ≡ k → lexed (drop i xs) ≡ class_token k (drop (i + 1) xs)
 lexed_here xs i k lt e = ap lexed (drop_here xs i lt) ∙ lexed_by (get_or xs i 0) (drop (i + 1) xs) k e
 
-plain_class : (k : ByteClass) → is_plain_class k ≡ true → k ≡ Plain
+pub plain_class : (k : ByteClass) → is_plain_class k ≡ true → k ≡ Plain
 plain_class Plain e = refl
 plain_class Hash e = absurd cc
 plain_class Backslash e = absurd cc
@@ -370,7 +370,7 @@ plain_class Quote e = absurd cc
 plain_class (Opens bracket) e = absurd cc
 plain_class (Closes bracket) e = absurd cc
 
-white_class : (k : ByteClass) → is_white_class k ≡ true → k ≡ White
+pub white_class : (k : ByteClass) → is_white_class k ≡ true → k ≡ White
 white_class White e = refl
 white_class Plain e = absurd cc
 white_class Hash e = absurd cc
@@ -380,19 +380,5 @@ white_class Quote e = absurd cc
 white_class (Opens bracket) e = absurd cc
 white_class (Closes bracket) e = absurd cc
 
-pub plain_here : (xs : List ℕ) (i : ℕ) → i < length xs → is_plain (get_or xs i 0) ≡ true → lexed (drop i xs) ≡ (Leaf Atom, 1 + stretch is_run (drop (i + 1) xs))
-plain_here xs i lt e = lexed_here xs i Plain lt (plain_class (class_of (get_or xs i 0)) e)
-
 pub white_here : (xs : List ℕ) (i : ℕ) → i < length xs → is_white (get_or xs i 0) ≡ true → lexed (drop i xs) ≡ (Gap, 1)
 white_here xs i lt e = lexed_here xs i White lt (white_class (class_of (get_or xs i 0)) e)
-
-pub backslash_here : (xs : List ℕ) (i : ℕ) → i < length xs → after_backslash (drop i xs) ≡ (Leaf Char, 2 + stretch is_run (drop (i + 1) xs))
-backslash_here xs i lt = ap after_backslash (drop_here xs i lt) ∙ backslash_by (get_or xs i 0) (drop (i + 1) xs)
-
-pub hash_here : (xs : List ℕ) (i : ℕ) (k : ByteClass) → i < length xs → class_of (get_or xs i 0) ≡ k → after_hash (drop i xs) ≡ hash_token k (get_or xs i 0) (drop (i + 1) xs)
-hash_here xs i k lt e = ap after_hash (drop_here xs i lt) ∙ hash_by (get_or xs i 0) (drop (i + 1) xs) k e
-
-pub hash_discard : (xs : List ℕ) (i : ℕ) → i < length xs → get_or xs i 0 ≡ 95 → after_hash (drop i xs) ≡ (Opening openers.Discard, 2)
-hash_discard xs i lt e =
-    let test : eqb (get_or xs i 0) 95 ≡ true = grind (arith, nat_tests) in
-    hash_here xs i Plain lt (ap class_of e ∙ underscore) ∙ ap (λ (t : Bool). cond t (Opening openers.Discard, 2) (tag_token (get_or xs i 0 ∷ drop (i + 1) xs))) test

@@ -1,6 +1,7 @@
 pub mod Tables
 pub mod Stretches
 pub mod Lexing
+pub mod Resuming
 pub mod Places
 pub mod Steps
 pub mod Runs
@@ -9,6 +10,9 @@ pub mod Ended
 pub mod Viable
 pub mod Reading
 pub mod Leading
+pub mod Keeping
+pub mod Within
+pub mod Splitting
 pub mod Skipping
 pub mod Views
 pub mod Integers

@@ -243,16 +243,16 @@ wider_element {room} {p} {q} {kind} {core} {a} {b} (suc n) element =
 
 -- ---- the core of an element
 
-gap_forward : {room p q : ℕ} {a b : List ℕ} → IsGap room p a q b → p ≤ q
+pub gap_forward : {room p q : ℕ} {a b : List ℕ} → IsGap room p a q b → p ≤ q
 gap_forward {b = b} gap = let m = moved_gap gap b (λ h. h, λ h. h, λ h. h) in omega (arith, m.2.place)
 
-token_forward : {t : Token} {p q : ℕ} {a b : List ℕ} → IsToken t p a q b → p < q
+pub token_forward : {t : Token} {p q : ℕ} {a b : List ℕ} → IsToken t p a q b → p < q
 token_forward {t = t} {b = b} token = (moved_token token b (needed t b b (λ h. h, λ h. h, λ h. h))).some
 
 element_forward : {room p q : ℕ} {kind : ElementKind} {core : Core} {a b : List ℕ} → IsElementAt room kind core p a q b → p ≤ q
 element_forward {b = b} element = let m = moved_element element b (λ h. h) in omega (arith, m.place.place)
 
-elements_forward : {room p q : ℕ} {pieces : List Piece} {a b : List ℕ} → IsElements room p a pieces q b → p ≤ q
+pub elements_forward : {room p q : ℕ} {pieces : List Piece} {a b : List ℕ} → IsElements room p a pieces q b → p ≤ q
 elements_forward {b = b} els = let m = moved_elements els b (λ h. h, λ h. h, λ h. h) in omega (arith, m.2.place)
 
 pub core_within : {room p q : ℕ} {kind : ElementKind} {core : Core} {a b : List ℕ} → IsElementAt room kind core p a q b → (p ≤ core.start) × (core.start < q)

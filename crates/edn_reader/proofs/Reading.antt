@@ -1,8 +1,7 @@
 -- What each token says of the input, and so what reading an element says.
-use Rattle.std.proofs.Common.{◌≡◌, ◌⊎◌, inl, inr, ℕ, zero, suc, ◌+◌, ◌<◌, ◌≤◌, Bool, true, false, cond, eqb, ◌&&◌, List, [], ◌∷◌, ◌++◌, length, drop, length-drop, Option, Some, None, Ok, Err, refl, sym, ap, subst, ◌∙◌, arith, length-append}
+use Rattle.std.proofs.Common.{◌≡◌, ◌⊎◌, inl, inr, ℕ, zero, suc, ◌+◌, ◌<◌, ◌≤◌, Bool, true, false, cond, eqb, ◌&&◌, List, [], ◌∷◌, ◌++◌, length, drop, length-drop, Option, Some, None, refl, sym, ap, subst, ◌∙◌, arith, length-append}
 use Rattle.std.proofs.lemmas.Bool.Decides.{nat_tests}
 use Rattle.std.proofs.Math.ListN.{drop_of_length-le}
-use Rattle.std.specs.Bool.{◌==◌}
 use Rattle.edn_reader.specs.declared.bytes.ByteClass.TheVariants.{Plain, Hash, Quote, Opens, Closes}
 use Rattle.edn_reader.specs.declared.bytes.Bracket.{Bracket}
 use Rattle.edn_reader.specs.declared.bytes.Bracket.TheVariants.{Curly}
@@ -17,10 +16,11 @@ use Rattle.edn_reader.specs.declared.token.Opener.{Opener}
 use Rattle.edn_reader.specs.declared.token.Opener.TheVariants as openers
 use Rattle.edn_reader.specs.Bytes.{class_of}
 use Rattle.edn_reader.specs.Grammar.{Piece, IsToken, opening, set, discard, tag, close, nothing, skipped, IsElementAt, leaf, IsElements, none, waits, fits, is_paired, kind_of}
-use Rattle.edn_reader.specs.Text.{IsFront, IsText, StandsOpen, outermost}
-use Rattle.edn_reader.specs.Fault.{by_bracket, by_hash, Refuses, too_deep, closing, FaultOf, IsMemory, CanWantMemory, MemoryOnlyThere, AreElementsBefore, innermost}
+use Rattle.edn_reader.specs.Text.{IsFront, IsText, StandsOpen, outermost, opened}
+use Rattle.edn_reader.specs.Fault.{by_bracket, by_hash, Refuses, too_deep, closing, FaultOf, CanWantMemory, MemoryOnlyThere, AreElementsBefore, innermost}
 use Rattle.edn_reader.specs.Token.{found_at, lexed}
-use Rattle.edn_reader.specs.Taking.{Taken, on, ends, fails, with_one, is_tag, behind_tag, completed, EndsOne, plain_span, fault_before, closed, taken, GrowthRefused, piece_in, Reads}
+use Rattle.edn_reader.specs.Taking.{Taken, on, ends, fails, with_one, is_tag, behind_tag, completed, EndsOne, plain_span, fault_before, closed, taken, GrowthRefused, piece_in}
+use Rattle.edn_reader.specs.Within.{OneMore}
 use Rattle.edn_reader.proofs.Lexing.{token_lexed, lexed_some, unfinished_long, finishing}
 use Rattle.edn_reader.proofs.Places.{moved_elements}
 use Rattle.edn_reader.proofs.Steps.{stands_gap, stands_opened, stands_closed}
@@ -155,14 +155,11 @@ pub says : (input : List ℕ) (pieces : List Piece) (opens : List Open) (p : ℕ
     → Says input pieces (p + (lexed a).1) (drop (lexed a).1 a) (front_taken p a opens)
 says input pieces opens p a s some = token_by input pieces opens p a (lexed a).0 refl s some
 
--- ---- what reading an element says
+-- ---- what the next token says
 
--- What stands open after the bytes read so far, whatever elements came before.
-abbrev pub StandsFrom : List ℕ → ℕ → List Open → ℕ → Type 0
-StandsFrom input from opens at = (pieces : List Piece) → IsFront input pieces from → StandsOpen input pieces opens at (drop at input)
-
-pub stands_begin : (input : List ℕ) (from : ℕ) (opens : List Open) → opens ≡ [] → StandsFrom input from opens from
-stands_begin input from opens e pieces front = subst (λ (o : List Open). StandsOpen input pieces o from (drop from input)) (sym e) (outermost front nothing)
+-- What stands open before a place of the input.
+abbrev pub StandsAt : List ℕ → List Piece → List Open → ℕ → Type 0
+StandsAt input pieces opens at = StandsOpen input pieces opens at (drop at input)
 
 some_left : (input : List ℕ) (at : ℕ) → at < length input → 0 < length (drop at input)
 some_left input at lt = omega (arith, length-drop at input, lt)
@@ -171,16 +168,16 @@ some_left input at lt = omega (arith, length-drop at input, lt)
 found_front : (input : List ℕ) (at : ℕ) (found : Found) (opens : List Open) → found ≡ found_at at (lexed (drop at input)) → taken found.token at found.end opens ≡ front_taken at (drop at input) opens
 found_front input at found opens e = ap (λ (f : Found). taken f.token at f.end opens) e
 
-said : (input : List ℕ) (from at : ℕ) (found : Found) (opens : List Open) (t : Taken) → at < length input → StandsFrom input from opens at → found ≡ found_at at (lexed (drop at input))
-    → taken found.token at found.end opens ≡ t → (pieces : List Piece) → IsFront input pieces from → Says input pieces (at + (lexed (drop at input)).1) (drop (lexed (drop at input)).1 (drop at input)) t
-said input from at found opens t lt s e f pieces front =
+said : (input : List ℕ) (pieces : List Piece) (at : ℕ) (found : Found) (opens : List Open) (t : Taken) → at < length input → StandsAt input pieces opens at → found ≡ found_at at (lexed (drop at input))
+    → taken found.token at found.end opens ≡ t → Says input pieces (at + (lexed (drop at input)).1) (drop (lexed (drop at input)).1 (drop at input)) t
+said input pieces at found opens t lt s e f =
     subst (Says input pieces (at + (lexed (drop at input)).1) (drop (lexed (drop at input)).1 (drop at input))) (sym (found_front input at found opens e) ∙ f)
-    (says input pieces opens at (drop at input) (s pieces front) (some_left input at lt))
+    (says input pieces opens at (drop at input) s (some_left input at lt))
 
-pub stands_on : (input : List ℕ) (from at : ℕ) (found : Found) (opens after : List Open) → at < length input → StandsFrom input from opens at → found ≡ found_at at (lexed (drop at input))
-    → taken found.token at found.end opens ≡ on after → StandsFrom input from after found.end
-stands_on input from at found opens after lt s e f pieces front =
-    let now = said input from at found opens (on after) lt s e f pieces front in
+pub stands_next : (input : List ℕ) (pieces : List Piece) (at : ℕ) (found : Found) (opens after : List Open) → at < length input → StandsAt input pieces opens at → found ≡ found_at at (lexed (drop at input))
+    → taken found.token at found.end opens ≡ on after → StandsAt input pieces after found.end
+stands_next input pieces at found opens after lt s e f =
+    let now = said input pieces at found opens (on after) lt s e f in
     let place : at + (lexed (drop at input)).1 ≡ found.end = sym (ap (λ (x : Found). x.end) e) in
     let rest : drop (lexed (drop at input)).1 (drop at input) ≡ drop found.end input = stands_left now ∙ ap (λ (n : ℕ). drop n input) place in
     subst (λ (n : ℕ). StandsOpen input pieces after n (drop found.end input)) place (subst (λ (b : List ℕ). StandsOpen input pieces after (at + (lexed (drop at input)).1) b) rest now)
@@ -216,7 +213,7 @@ opened_never : (t : Bool) (f : EdnFault) (opens : List Open) (s : Span) → cond
 opened_never true f opens s e = cc
 opened_never false f opens s e = cc
 
-taken_ends : (t : Token) (p q : ℕ) (opens : List Open) (s : Span) → taken t p q opens ≡ ends s → s.end ≡ q
+pub taken_ends : (t : Token) (p q : ℕ) (opens : List Open) (s : Span) → taken t p q opens ≡ ends s → s.end ≡ q
 unfolding taken
 taken_ends tokens.Gap p q opens s e = absurd cc
 taken_ends (tokens.Leaf kind) p q opens s e = completed_ends opens (plain_span kind p q) s e
@@ -224,34 +221,40 @@ taken_ends (tokens.Opens opener) p q opens s e = absurd (opened_never (eqb (leng
 taken_ends (tokens.Closes bracket) p q opens s e = closed_ends p q bracket opens s e
 taken_ends tokens.Unfinished p q opens s e = absurd cc
 
-pub reads_element : (input : List ℕ) (from at : ℕ) (found : Found) (span : Span) (opens after : List Open) → from ≤ at → at < found.end → at < length input → StandsFrom input from opens at
-    → found ≡ found_at at (lexed (drop at input)) → taken found.token at found.end opens ≡ ends span → after ≡ [] → Reads input from (Ok (Some span)) after
-reads_element input from at found span opens after le more lt s e f empty = (
-  empty,
-  omega (arith, le, more, taken_ends found.token at found.end opens span f),
-  λ pieces front.
-      let now = said input from at found opens (ends span) lt s e f pieces front in
-      let there : IsElements 64 0 input (pieces ++ piece_in input span ∷ []) span.end (drop (lexed (drop at input)).1 (drop at input)) =
-      subst (λ (n : ℕ). IsElements 64 0 input (pieces ++ piece_in input span ∷ []) n (drop (lexed (drop at input)).1 (drop at input))) (sym now.2) now.3 in
-      (now.0, now.1, elements_within there, subst (λ (b : List ℕ). IsElements 64 0 input (pieces ++ piece_in input span ∷ []) span.end b) (elements_left there) there),
-)
+pub element_next : (input : List ℕ) (pieces : List Piece) (at : ℕ) (found : Found) (span : Span) (opens : List Open) → at < length input → StandsAt input pieces opens at
+    → found ≡ found_at at (lexed (drop at input)) → taken found.token at found.end opens ≡ ends span → OneMore input pieces span
+element_next input pieces at found span opens lt s e f =
+    let now = said input pieces at found opens (ends span) lt s e f in
+    let there : IsElements 64 0 input (pieces ++ piece_in input span ∷ []) span.end (drop (lexed (drop at input)).1 (drop at input)) =
+    subst (λ (n : ℕ). IsElements 64 0 input (pieces ++ piece_in input span ∷ []) n (drop (lexed (drop at input)).1 (drop at input))) (sym now.2) now.3 in
+    (now.0, now.1, elements_within there, subst (λ (b : List ℕ). IsElements 64 0 input (pieces ++ piece_in input span ∷ []) span.end b) (elements_left there) there)
 
-before_fault : (input : List ℕ) (from : ℕ) (pieces : List Piece) (fault : EdnFault) → IsFront input pieces from → Fails input pieces fault → FaultOf input fault × AreElementsBefore input pieces
-before_fault input from pieces fault front f = (
+-- The elements that have ended before what stands open.
+front_of : {p : ℕ} {input rest : List ℕ} {pieces : List Piece} {opens : List Open} → StandsOpen input pieces opens p rest → (at : ℕ) × IsFront input pieces at
+front_of {input = input} {pieces = pieces} (outermost {place = at} els gap) = (at, subst (λ (b : List ℕ). IsElements 64 0 input pieces at b) (elements_left els) els)
+front_of (opened s token room inside) = front_of s
+
+before_fault : (input : List ℕ) (pieces : List Piece) (fault : EdnFault) → (at : ℕ) × IsFront input pieces at → Fails input pieces fault → FaultOf input fault × AreElementsBefore input pieces
+before_fault input pieces fault (from, front) f = (
   f.met,
   (from, front, λ others there h. agree others pieces (omega arith) (omega arith) h front (front_fewer (omega arith) h f.ending)),
 )
 
-pub reads_fault : (input : List ℕ) (from at : ℕ) (found : Found) (fault : EdnFault) (opens after : List Open) → at < length input → StandsFrom input from opens at
-    → found ≡ found_at at (lexed (drop at input)) → IsMemory fault ⊎ (taken found.token at found.end opens ≡ fails fault) → Reads input from (Err fault) after
-reads_fault input from at found fault opens after lt s e (inl memory) = inl memory
-reads_fault input from at found fault opens after lt s e (inr f) =
-    inr (λ pieces front. before_fault input from pieces fault front (said input from at found opens (fails fault) lt s e f pieces front))
+pub fault_next : (input : List ℕ) (pieces : List Piece) (at : ℕ) (found : Found) (fault : EdnFault) (opens : List Open) → at < length input → StandsAt input pieces opens at
+    → found ≡ found_at at (lexed (drop at input)) → taken found.token at found.end opens ≡ fails fault → FaultOf input fault × AreElementsBefore input pieces
+fault_next input pieces at found fault opens lt s e f = before_fault input pieces fault (front_of s) (said input pieces at found opens (fails fault) lt s e f)
+
+-- What opens at a place where 64 are open is refused, whatever more of it follows.
+pub full_fails : (input : List ℕ) (pieces : List Piece) (at : ℕ) (opener : Opener) (opens : List Open) → StandsAt input pieces opens at → (lexed (drop at input)).0 ≡ tokens.Opens opener → length opens ≡ 64
+    → FaultOf input (faults.TooDeep at) × AreElementsBefore input pieces
+full_fails input pieces at opener opens s is full =
+    let token = token_lexed at (drop at input) (tokens.Opens opener) is (λ h. cc) in
+    before_fault input pieces (faults.TooDeep at) (front_of s) (says_refused s (deep_refused token full).1)
 
 -- Where a growth was refused.
-pub memory_there : (input : List ℕ) (from at : ℕ) (found : Found) (fault : EdnFault) (opens : List Open) → at < length input → StandsFrom input from opens at
-    → found ≡ found_at at (lexed (drop at input)) → GrowthRefused found.token at opens fault → (pieces : List Piece) → IsFront input pieces from → MemoryOnlyThere input pieces fault
-memory_there input from at found (faults.Memory place) opens lt s e (same, opener, token, many, room) pieces front =
+pub memory_next : (input : List ℕ) (pieces : List Piece) (at : ℕ) (found : Found) (fault : EdnFault) (opens : List Open) → StandsAt input pieces opens at
+    → found ≡ found_at at (lexed (drop at input)) → GrowthRefused found.token at opens fault → MemoryOnlyThere input pieces fault
+memory_next input pieces at found (faults.Memory place) opens s e (same, opener, token, many, room) =
     let left = drop at input in
     let is : (lexed left).0 ≡ tokens.Opens opener = sym (ap (λ (f : Found). f.token) e) ∙ token in
     subst (λ (n : ℕ). CanWantMemory input pieces n) (sym same)
@@ -261,32 +264,32 @@ memory_there input from at found (faults.Memory place) opens lt s e (same, opene
       opener = opener;
       inner = at + (lexed left).1;
       left = drop (lexed left).1 left;
-      stands = s pieces front;
+      stands = s;
       begins = token_lexed at left (tokens.Opens opener) is (λ h. cc);
       many = many;
-      room = omega (arith, stands_room opens (s pieces front));
+      room = omega (arith, stands_room opens s);
     })
-memory_there input from at found (faults.Truncated place) opens lt s e refused pieces front = tt
-memory_there input from at found (faults.StrayClose place) opens lt s e refused pieces front = tt
-memory_there input from at found (faults.WrongClose place) opens lt s e refused pieces front = tt
-memory_there input from at found (faults.TooDeep place) opens lt s e refused pieces front = tt
-memory_there input from at found (faults.OddMap place) opens lt s e refused pieces front = tt
-memory_there input from at found (faults.TagWithoutElement place) opens lt s e refused pieces front = tt
+memory_next input pieces at found (faults.Truncated place) opens s e refused = tt
+memory_next input pieces at found (faults.StrayClose place) opens s e refused = tt
+memory_next input pieces at found (faults.WrongClose place) opens s e refused = tt
+memory_next input pieces at found (faults.TooDeep place) opens s e refused = tt
+memory_next input pieces at found (faults.OddMap place) opens s e refused = tt
+memory_next input pieces at found (faults.TagWithoutElement place) opens s e refused = tt
 
 nothing_left : (at : ℕ) (input : List ℕ) → length input ≤ at → drop at input ≡ []
 nothing_left at input le = drop_of_length-le input le
 
-pub reads_end : (input : List ℕ) (from at : ℕ) (opens : List Open) → length input ≤ at → StandsFrom input from opens at → (length opens == 0) ≡ true → Reads input from (Ok None) opens
-reads_end input from at [] le s e = (refl, λ pieces front. stands_text (subst (λ (r : List ℕ). StandsOpen input pieces [] at r) (nothing_left at input le) (s pieces front)))
-reads_end input from at (item ∷ opens) le s e = let none : suc (length opens) ≡ 0 = grind (arith, nat_tests) in absurd (omega arith)
+-- At the end of the input it is a text where nothing is open, and else ends too early.
+pub text_end : (input : List ℕ) (pieces : List Piece) (at : ℕ) → length input ≤ at → StandsAt input pieces [] at → IsText input pieces
+text_end input pieces at le s = stands_text (subst (λ (r : List ℕ). StandsOpen input pieces [] at r) (nothing_left at input le) s)
 
 fails_open : {p : ℕ} {input : List ℕ} {pieces : List Piece} {item : Open} {opens : List Open} → StandsOpen input pieces (item ∷ opens) p [] → Fails input pieces (faults.Truncated p)
 fails_open {p} {item = item} {opens = opens} s = record { met = fault_open_end s; place = p; bytes = []; opens = item ∷ opens; ending = ending_end s }
 
-pub reads_open_end : (input : List ℕ) (from at : ℕ) (opens : List Open) → length input ≤ at → StandsFrom input from opens at → (length opens == 0) ≡ false → Reads input from (Err (faults.Truncated at)) opens
-reads_open_end input from at [] le s h = absurd cc
-reads_open_end input from at (item ∷ opens) le s h =
-    inr (λ pieces front. before_fault input from pieces (faults.Truncated at) front (fails_open (subst (λ (r : List ℕ). StandsOpen input pieces (item ∷ opens) at r) (nothing_left at input le) (s pieces front))))
+pub open_end : (input : List ℕ) (pieces : List Piece) (at : ℕ) (item : Open) (opens : List Open) → length input ≤ at → StandsAt input pieces (item ∷ opens) at
+    → FaultOf input (faults.Truncated at) × AreElementsBefore input pieces
+open_end input pieces at item opens le s =
+    before_fault input pieces (faults.Truncated at) (front_of s) (fails_open (subst (λ (r : List ℕ). StandsOpen input pieces (item ∷ opens) at r) (nothing_left at input le) s))
 
 -- ---- every input is a text or has a fault
 

@@ -16,6 +16,12 @@ pub take_all : (xs : List ℕ) → take (length xs) xs ≡ xs
 take_all [] = refl
 take_all (x ∷ xs) = ap (λ (ys : List ℕ). x ∷ ys) (take_all xs)
 
+-- What is left before bytes that stand behind.
+pub drop_before : (n : ℕ) (xs ys : List ℕ) → n ≤ length xs → drop n (xs ++ ys) ≡ drop n xs ++ ys
+drop_before zero xs ys le = refl
+drop_before (suc n) [] ys le = absurd (omega arith)
+drop_before (suc n) (x ∷ xs) ys le = drop_before n xs ys (omega arith)
+
 -- The slice from an index to the end.
 pub from_index : (xs : List ℕ) (i : ℕ) → take (length xs - i) (drop i xs) ≡ drop i xs
 from_index xs i = ap (λ (n : ℕ). take n (drop i xs)) (sym (length-drop i xs)) ∙ take_all (drop i xs)
@@ -303,7 +309,7 @@ comment_open bytes nowhere =
     stretch_whole is_in_comment bytes (λ k low. no_line_end (get_or bytes k 0) (eqb (get_or bytes k 0) 10) refl (nowhere k (omega arith) low))
 
 -- So many bytes more.
-pub add_length : ℕ → Option ℕ → Option ℕ
+unfoldable pub add_length : ℕ → Option ℕ → Option ℕ
 add_length n o = option_map (λ m. n + m) o
 
 pub add_some : (n m : ℕ) (o : Option ℕ) → o ≡ Some m → add_length n o ≡ Some (n + m)
@@ -335,16 +341,16 @@ add_two_length None = refl
 add_two_length (Some m) = ap Some (omega arith)
 
 -- Bytes that are no quote and no backslash.
-quoted_behind : (bytes : List ℕ) (n : ℕ) → n ≤ length bytes → ((k : ℕ) → k < n → (get_or bytes k 0 ≢ 34) × (get_or bytes k 0 ≢ 92))
-    → quoted_length bytes ≡ add_length n (quoted_length (drop n bytes))
-quoted_behind [] zero le all = sym (add_zero (quoted_length []))
-quoted_behind [] (suc n) le all = absurd (omega arith)
-quoted_behind (b ∷ bytes) zero le all = sym (add_zero (quoted_length (b ∷ bytes)))
-quoted_behind (b ∷ bytes) (suc n) le all =
+quoted_behind : (bytes behind : List ℕ) (n : ℕ) → n ≤ length bytes → ((k : ℕ) → k < n → (get_or bytes k 0 ≢ 34) × (get_or bytes k 0 ≢ 92))
+    → quoted_length (bytes ++ behind) ≡ add_length n (quoted_length (drop n bytes ++ behind))
+quoted_behind [] behind zero le all = sym (add_zero (quoted_length behind))
+quoted_behind [] behind (suc n) le all = absurd (omega arith)
+quoted_behind (b ∷ bytes) behind zero le all = sym (add_zero (quoted_length (b ∷ (bytes ++ behind))))
+quoted_behind (b ∷ bytes) behind (suc n) le all =
     let here = all 0 (omega arith) in
-    quoted_other b bytes here.0 here.1
-    ∙ (ap (option_map suc) (quoted_behind bytes n (omega arith) (λ k low. all (suc k) (omega arith)))
-    ∙ (add_one_length (add_length n (quoted_length (drop n bytes))) ∙ add_twice 1 n (suc n) (quoted_length (drop n bytes)) (omega arith)))
+    quoted_other b (bytes ++ behind) here.0 here.1
+    ∙ (ap (option_map suc) (quoted_behind bytes behind n (omega arith) (λ k low. all (suc k) (omega arith)))
+    ∙ (add_one_length (add_length n (quoted_length (drop n bytes ++ behind))) ∙ add_twice 1 n (suc n) (quoted_length (drop n bytes ++ behind)) (omega arith)))
 
 no_sign : (b : ℕ) → Sign b → ¬ (is_byte2 34 92 b ≡ true) → (b ≢ 34) × (b ≢ 92)
 no_sign b (quote e) u = absurd (u (let one : eqb b 34 ≡ true = grind (arith, nat_tests) in ap (λ (t : Bool). t || eqb b 92) one))
@@ -352,32 +358,35 @@ no_sign b (backslash e) u = absurd (u (grind (arith, nat_tests)))
 no_sign b (plain v w) u = (v, w)
 
 -- Up to the first quote or backslash.
-quoted_up : (bytes : List ℕ) (n : ℕ) → NoneBefore (Passes (is_byte2 34 92) bytes) 0 (length bytes) n → quoted_length bytes ≡ add_length n (quoted_length (get_or bytes n 0 ∷ drop (n + 1) bytes))
-quoted_up bytes n found =
-    quoted_behind bytes n (omega (arith, found.high)) (λ k low. no_sign (get_or bytes k 0) (sign_of (get_or bytes k 0)) (found.before k (omega arith) low))
-    ∙ ap (λ (left : List ℕ). add_length n (quoted_length left)) (drop_here bytes n found.high)
+quoted_up : (bytes behind : List ℕ) (n : ℕ) → NoneBefore (Passes (is_byte2 34 92) bytes) 0 (length bytes) n
+    → quoted_length (bytes ++ behind) ≡ add_length n (quoted_length (get_or bytes n 0 ∷ (drop (n + 1) bytes ++ behind)))
+quoted_up bytes behind n found =
+    quoted_behind bytes behind n (omega (arith, found.high)) (λ k low. no_sign (get_or bytes k 0) (sign_of (get_or bytes k 0)) (found.before k (omega arith) low))
+    ∙ ap (λ (left : List ℕ). add_length n (quoted_length (left ++ behind))) (drop_here bytes n found.high)
 
-pub quote_found : (bytes : List ℕ) (n : ℕ) → NoneBefore (Passes (is_byte2 34 92) bytes) 0 (length bytes) n → get_or bytes n 0 ≡ 34 → quoted_length bytes ≡ Some (n + 1)
-quote_found bytes n found e = quoted_up bytes n found ∙ add_some n 1 _ (quoted_closing (get_or bytes n 0) (drop (n + 1) bytes) e)
+pub quote_found : (bytes behind : List ℕ) (n : ℕ) → NoneBefore (Passes (is_byte2 34 92) bytes) 0 (length bytes) n → get_or bytes n 0 ≡ 34 → quoted_length (bytes ++ behind) ≡ Some (n + 1)
+quote_found bytes behind n found e = quoted_up bytes behind n found ∙ add_some n 1 _ (quoted_closing (get_or bytes n 0) (drop (n + 1) bytes ++ behind) e)
 
-pub backslash_last : (bytes : List ℕ) (n : ℕ) → NoneBefore (Passes (is_byte2 34 92) bytes) 0 (length bytes) n → get_or bytes n 0 ≡ 92 → n + 1 ≡ length bytes → quoted_length bytes ≡ None
-backslash_last bytes n found e last =
+-- A backslash that is the last of the bytes takes the first of those behind them.
+pub backslash_last : (bytes behind : List ℕ) (n : ℕ) → NoneBefore (Passes (is_byte2 34 92) bytes) 0 (length bytes) n → n + 1 ≡ length bytes
+    → quoted_length (bytes ++ behind) ≡ add_length n (quoted_length (get_or bytes n 0 ∷ behind))
+backslash_last bytes behind n found last =
     let nothing : drop (n + 1) bytes ≡ [] = drop_of_length-le bytes (omega arith) in
-    quoted_up bytes n found ∙ add_none n _ (ap (λ (left : List ℕ). quoted_length (get_or bytes n 0 ∷ left)) nothing ∙ quoted_last (get_or bytes n 0) (omega arith))
+    quoted_up bytes behind n found ∙ ap (λ (left : List ℕ). add_length n (quoted_length (get_or bytes n 0 ∷ (left ++ behind)))) nothing
 
-pub backslash_found : (bytes : List ℕ) (n : ℕ) → NoneBefore (Passes (is_byte2 34 92) bytes) 0 (length bytes) n → get_or bytes n 0 ≡ 92 → n + 1 < length bytes
-    → quoted_length bytes ≡ add_length (n + 2) (quoted_length (drop (n + 2) bytes))
-backslash_found bytes n found e more_left =
+pub backslash_found : (bytes behind : List ℕ) (n : ℕ) → NoneBefore (Passes (is_byte2 34 92) bytes) 0 (length bytes) n → get_or bytes n 0 ≡ 92 → n + 1 < length bytes
+    → quoted_length (bytes ++ behind) ≡ add_length (n + 2) (quoted_length (drop (n + 2) bytes ++ behind))
+backslash_found bytes behind n found e more_left =
     let place : n + 1 + 1 ≡ n + 2 = omega arith in
     let left : drop (n + 1) bytes ≡ get_or bytes (n + 1) 0 ∷ drop (n + 2) bytes =
     drop_here bytes (n + 1) more_left ∙ ap (λ (k : ℕ). get_or bytes (n + 1) 0 ∷ drop k bytes) place in
-    quoted_up bytes n found
-    ∙ ap (add_length n) (ap (λ (xs : List ℕ). quoted_length (get_or bytes n 0 ∷ xs)) left
-    ∙ (quoted_taken (get_or bytes n 0) (get_or bytes (n + 1) 0) (drop (n + 2) bytes) e ∙ add_two_length (quoted_length (drop (n + 2) bytes))))
-    ∙ add_twice n 2 (n + 2) (quoted_length (drop (n + 2) bytes)) refl
+    quoted_up bytes behind n found
+    ∙ ap (add_length n) (ap (λ (xs : List ℕ). quoted_length (get_or bytes n 0 ∷ (xs ++ behind))) left
+    ∙ (quoted_taken (get_or bytes n 0) (get_or bytes (n + 1) 0) (drop (n + 2) bytes ++ behind) e ∙ add_two_length (quoted_length (drop (n + 2) bytes ++ behind))))
+    ∙ add_twice n 2 (n + 2) (quoted_length (drop (n + 2) bytes ++ behind)) refl
 
-pub sign_nowhere : (bytes : List ℕ) → Nowhere (Passes (is_byte2 34 92) bytes) 0 (length bytes) → quoted_length bytes ≡ None
-sign_nowhere bytes nowhere =
+pub sign_nowhere : (bytes behind : List ℕ) → Nowhere (Passes (is_byte2 34 92) bytes) 0 (length bytes) → quoted_length (bytes ++ behind) ≡ add_length (length bytes) (quoted_length behind)
+sign_nowhere bytes behind nowhere =
     let nothing : drop (length bytes) bytes ≡ [] = drop_of_length-le bytes (omega arith) in
-    quoted_behind bytes (length bytes) (omega arith) (λ k low. no_sign (get_or bytes k 0) (sign_of (get_or bytes k 0)) (nowhere k (omega arith) low))
-    ∙ add_none (length bytes) _ (ap quoted_length nothing ∙ quoted_nothing)
+    quoted_behind bytes behind (length bytes) (omega arith) (λ k low. no_sign (get_or bytes k 0) (sign_of (get_or bytes k 0)) (nowhere k (omega arith) low))
+    ∙ ap (λ (left : List ℕ). add_length (length bytes) (quoted_length (left ++ behind))) nothing

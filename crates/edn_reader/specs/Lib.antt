@@ -8,6 +8,9 @@ pub mod Lent
 pub mod Given
 pub mod Reading
 pub mod Token
+pub mod Resuming
 pub mod Taking
+pub mod Within
+pub mod Splitting
 pub mod Skipping
 pub mod Standing

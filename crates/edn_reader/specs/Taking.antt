@@ -89,6 +89,16 @@ pub data LeadsOn : List ℕ → ℕ → List Open → ℕ → List Open → Type
   by_token : {input : List ℕ} {from at : ℕ} {opens inner after : List Open} → LeadsOn input from opens at inner → at < length input
       → taken (lexed (drop at input)).0 at (at + (lexed (drop at input)).1) inner ≡ on after → LeadsOn input from opens (at + (lexed (drop at input)).1) after
 
+-- A piece stands at a place of an input, with these bytes behind it.
+abbrev pub IsPieceAt : List ℕ → ℕ → List ℕ → List ℕ → Type 0
+IsPieceAt input base piece behind = (base ≤ length input) × (drop base input ≡ piece ++ behind)
+
+-- Tokens lead on from a place of a piece with these open to another with those open, wherever it stands and whatever is
+-- behind it.
+abbrev pub LeadsOver : List ℕ → ℕ → List Open → ℕ → List Open → Type 0
+LeadsOver piece from opens end after =
+    (input : List ℕ) (base : ℕ) (behind : List ℕ) → IsPieceAt input base piece behind → LeadsOn input (base + from) opens (base + end) after
+
 -- What is open, with an odd number of elements in it or an even one.
 abbrev pub item_odd : Bool → Open → Open
 item_odd odd item = record { place = item.place; opener = item.opener; odd = odd }
@@ -103,10 +113,11 @@ abbrev pub odd_inside : List Open → Option Bool
 odd_inside [] = None
 odd_inside (item ∷ opens) = if waits item.opener then None else Some item.odd
 
--- Tokens lead on from a place to another within each bracket, and say whether it then holds an odd number of elements.
+-- Tokens lead on from a place of a piece to another within each bracket, and say whether it then holds an odd number of
+-- elements.
 abbrev pub LeadsWithin : List ℕ → ℕ → Bool → ℕ → Bool → Type 0
-LeadsWithin input from odd end odd_then =
-    (item : Open) (opens : List Open) → waits item.opener ≡ false → LeadsOn input from (item_odd odd item ∷ opens) end (item_odd odd_then item ∷ opens)
+LeadsWithin piece from odd end odd_then =
+    (item : Open) (opens : List Open) → waits item.opener ≡ false → LeadsOver piece from (item_odd odd item ∷ opens) end (item_odd odd_then item ∷ opens)
 
 -- What the program answered is that, but for want of memory.
 abbrev pub Gives : Result (Option Span) EdnFault → List Open → Taken → Type 0

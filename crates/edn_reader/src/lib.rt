@@ -28,15 +28,19 @@ mod nesting;
 mod parts;
 mod plain;
 mod reader;
+mod resume;
 mod skip;
+mod splitter;
 mod step;
 mod token;
+mod tokens;
 mod view;
 
 pub use element::{Element, ElementKind};
 pub use fault::EdnFault;
 pub use field::Field;
 pub use reader::Reader;
+pub use splitter::{Splitter, Taken};
 pub use view::{MapView, VectorView};
 
 #[cfg(test)]

@@ -37,6 +37,7 @@ impl Model for Nesting {
 
 impl Nesting {
     ghost use Rattle.edn_reader.specs.Fault.{innermost};
+    ghost use Rattle.edn_reader.specs.Within.{outer};
 
     pub fn new(alloc: Global) -> Nesting
         ensures { result ≡ [] }
@@ -113,6 +114,19 @@ impl Nesting {
     {
         if let Some(open) = &mut self.last {
             open.odd = odd;
+        }
+    }
+
+    /// The place of the outermost, or another where nothing is open.
+    pub fn outer(&self, place: usize) -> usize
+        ensures { result ≡ outer self.now place }
+    {
+        match self.around.as_slice().first() {
+            Some(open) => open.place,
+            None => match self.last {
+                Some(open) => open.place,
+                None => place,
+            },
         }
     }
 

@@ -1,17 +1,18 @@
 //! What is plain within a bracket, white bytes and elements of one run: it changes only how many elements there are.
 
 ghost use Rattle.std.specs.Prelude.{◌≡◌, ◌≤◌, length};
-ghost use Rattle.edn_reader.specs.Taking.{LeadsOn, LeadsWithin};
+ghost use Rattle.edn_reader.specs.Taking.{LeadsOver, LeadsWithin};
 
 use crate::bytes::{is_plain, run_end, white_end};
 use crate::nesting::Nesting;
 
-/// Goes over what is plain from a place on, where the innermost that stands open is a bracket.
+/// Goes over what is plain from a place on, where the innermost that stands open is a bracket. A run that the bytes end
+/// within is left.
 #[inline(always)]
 #[tactic(auto, using(crate::proofs::Leading::leads_inside))]
 pub fn pass_plain(input: &[u8], from: usize, nesting: &mut Nesting) -> usize
     requires { from ≤ length input.now }
-    ensures leads { LeadsOn input.now from nesting.old result nesting.new }
+    ensures leads { LeadsOver input.now from nesting.old result nesting.new }
     ensures within { result ≤ length input.now }
     ensures after { from ≤ result }
 {
@@ -34,7 +35,11 @@ fn plain_end(input: &[u8], from: usize, odd_before: bool) -> (usize, bool)
     let mut at = white_end(input, from);
     let mut odd = odd_before;
     while at < input.len() && is_plain(input[at]) {
-        at = white_end(input, run_end(input, at + 1));
+        let end = run_end(input, at + 1);
+        if end == input.len() {
+            return (at, odd);
+        }
+        at = white_end(input, end);
         odd = !odd;
     }
     (at, odd)

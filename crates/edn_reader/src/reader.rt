@@ -9,9 +9,8 @@ ghost use Rattle.edn_reader.specs.Taking.{Reads};
 use crate::element::Element;
 use crate::fault::EdnFault;
 use crate::nesting::Nesting;
-use crate::plain::pass_plain;
-use crate::step::{Span, take};
-use crate::token::read_token;
+use crate::step::Span;
+use crate::tokens::{Reached, read_end, read_tokens};
 use std::alloc::Global;
 use std::marker::Model;
 
@@ -37,26 +36,16 @@ impl<'t> Model for Reader<'t> {
 }
 
 /// Reads up to the end of the next outermost element.
-#[tactic(auto, using(crate::proofs::Reading::stands_begin, crate::proofs::Reading::stands_on, crate::proofs::Leading::stands_led))]
 fn read_element(input: &[u8], from: usize, nesting: &mut Nesting) -> Result<Option<Span>, EdnFault>
     requires at { from ≤ length input.now }
     requires none_open { nesting.old ≡ [] }
     ensures reads { Reads input.now from result nesting.new }
     ensures memory { IfErr result (λ fault. (pieces : List Piece) → IsFront input.now pieces from → MemoryOnlyThere input.now pieces fault) }
 {
-    let mut at = from;
-    while at < input.len() {
-        let found = read_token(input, at);
-        match take(at, found, nesting) {
-            Ok(None) => at = pass_plain(input, found.end, nesting),
-            Ok(Some(span)) => return Ok(Some(span)),
-            Err(fault) => return Err(fault),
-        }
-    }
-    if nesting.has(0) {
-        Ok(None)
-    } else {
-        Err(EdnFault::Truncated(at))
+    match read_tokens(input, 0, from, nesting) {
+        Ok(Reached::Ended(span)) => Ok(Some(span)),
+        Ok(Reached::Within(begun)) => read_end(input.len(), begun, nesting),
+        Err(fault) => Err(fault),
     }
 }
 

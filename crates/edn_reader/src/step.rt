@@ -13,7 +13,7 @@ use crate::nesting::{Nesting, Open};
 use crate::token::{Found, Opener, Token};
 
 /// How many brackets, tags and discards may be open at once.
-const ROOM: usize = 64;
+pub const ROOM: usize = 64;
 
 /// An element by its places in the input.
 #[derive(Clone, Copy)]

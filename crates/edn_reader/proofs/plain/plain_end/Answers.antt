@@ -17,7 +17,7 @@ loop-at-preserved c =
     let odd = c.loop-at.odd in
     record {
       within = c.white_end-at-in-loop-at.ensures.within;
-      after = omega (arith, c.loop-at.invariant.after, c.run_end.ensures.end, c.white_end-at-in-loop-at.ensures.end);
-      leads = whites_on input from c.run_end.result c.white_end-at-in-loop-at.result before (not odd) c.white_end-at-in-loop-at.ensures.end
-          (run_on input from c.loop-at.at c.run_end.result before odd c.loop-at-test.true (sym c.is_plain.ensures ∙ c.if-is_plain.true) c.run_end.ensures.end c.loop-at.invariant.leads);
+      after = omega (arith, c.loop-at.invariant.after, c.run_end-end.ensures.end, c.white_end-at-in-loop-at.ensures.end);
+      leads = whites_on input from c.run_end-end.result c.white_end-at-in-loop-at.result before (not odd) c.white_end-at-in-loop-at.ensures.end
+          (run_on input from c.loop-at.at c.run_end-end.result before odd c.loop-at-test.true (sym c.is_plain.ensures ∙ c.if-is_plain.true) c.run_end-end.ensures.end c.run_end-end.ensures.within c.if-end-input.false c.loop-at.invariant.leads);
     }

@@ -1,21 +1,24 @@
-use Rattle.std.proofs.Common.{sym, ◌∙◌, arith}
-use Rattle.edn_reader.proofs.Reading.{reads_element, reads_fault, reads_end, reads_open_end, memory_there}
+use Rattle.edn_reader.proofs.Within.{whole_element, whole_fault, whole_memory, whole_end, whole_end_memory}
 use Rattle.edn_reader.proofs.reader.read_element.Goals as goal
 
-pub returns-in-Ok-Some-clause-reads : goal.returns-in-Ok-Some-clause-reads
-returns-in-Ok-Some-clause-reads c =
-    let given = rw c.in-Ok-Some.field-0-is at c.in-Ok-Some.ensures.gives in
-    reads_element c.args.input.now c.args.from c.loop-at.at c.read_token-found.result c.in-Ok-Some.span c.loop-at.nesting c.take.new.nesting c.loop-at.invariant.1 (omega (arith, c.read_token-found.ensures.forward)) c.loop-at-test.true c.loop-at.invariant.0
-    c.read_token-found.ensures.found given.0 given.1
+pub returns-in-Ok-Ended-clause-reads : goal.returns-in-Ok-Ended-clause-reads
+returns-in-Ok-Ended-clause-reads c =
+    let said = rw c.in-Ok-Ended.field-0-is at c.in-Ok-Ended.ensures in
+    whole_element c.args.input.now c.args.from c.args.nesting.now c.read_tokens.new.nesting c.in-Ok-Ended.span c.requires.none_open said.reads said.between
+
+pub returns-in-Ok-Within-clause-reads : goal.returns-in-Ok-Within-clause-reads
+returns-in-Ok-Within-clause-reads c =
+    let said = rw c.in-Ok-Within.field-0-is at c.in-Ok-Within.ensures in
+    whole_end c.args.input.now c.args.from c.args.nesting.now c.read_tokens.new.nesting c.read_end.new.nesting c.in-Ok-Within.begun c.read_end.result c.requires.none_open said.reads said.between
+    c.read_end.ensures.reads c.read_end.ensures.place
+
+pub returns-in-Ok-Within-clause-memory : goal.returns-in-Ok-Within-clause-memory
+returns-in-Ok-Within-clause-memory c =
+    let said = rw c.in-Ok-Within.field-0-is at c.in-Ok-Within.ensures in
+    whole_end_memory c.args.input.now c.args.from c.args.nesting.now c.read_tokens.new.nesting c.in-Ok-Within.begun c.read_end.result c.requires.none_open said.reads c.read_end.ensures.reads
 
 pub returns-in-Err-clause-reads : goal.returns-in-Err-clause-reads
-returns-in-Err-clause-reads c = reads_fault c.args.input.now c.args.from c.loop-at.at c.read_token-found.result c.in-Err.fault c.loop-at.nesting c.take.new.nesting c.loop-at-test.true c.loop-at.invariant.0 c.read_token-found.ensures.found c.in-Err.ensures.gives
+returns-in-Err-clause-reads c = whole_fault c.args.input.now c.args.from c.args.nesting.now c.read_tokens.new.nesting c.in-Err.fault c.requires.none_open c.in-Err.ensures.reads
 
 pub returns-in-Err-clause-memory : goal.returns-in-Err-clause-memory
-returns-in-Err-clause-memory c = memory_there c.args.input.now c.args.from c.loop-at.at c.read_token-found.result c.in-Err.fault c.loop-at.nesting c.loop-at-test.true c.loop-at.invariant.0 c.read_token-found.ensures.found c.in-Err.ensures.memory
-
-pub returns-then-has-clause-reads : goal.returns-then-has-clause-reads
-returns-then-has-clause-reads c = reads_end c.args.input.now c.args.from c.loop-at.at c.loop-at.nesting c.loop-at-test.false c.loop-at.invariant.0 (sym c.has.ensures ∙ c.if-has.true)
-
-pub returns-else-has-clause-reads : goal.returns-else-has-clause-reads
-returns-else-has-clause-reads c = reads_open_end c.args.input.now c.args.from c.loop-at.at c.loop-at.nesting c.loop-at-test.false c.loop-at.invariant.0 (sym c.has.ensures ∙ c.if-has.false)
+returns-in-Err-clause-memory c = whole_memory c.args.input.now c.args.from c.args.nesting.now c.read_tokens.new.nesting c.in-Err.fault c.requires.none_open c.in-Err.ensures.reads

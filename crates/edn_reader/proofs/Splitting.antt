@@ -1,0 +1,228 @@
+-- What a splitter says of the inputs that go on from the bytes that it has taken.
+use Rattle.std.proofs.Common.{◌≡◌, inr, ℕ, ◌+◌, ◌-◌, ◌<◌, ◌≤◌, true, List, [], ◌∷◌, ◌++◌, length, take, drop, reverse, Option, Some, None, Result, Ok, Err, refl, sym, ap, subst, ◌∙◌, arith, append_assoc, length-append, length-drop}
+use Rattle.std.proofs.Math.Seq.{drop-append_seam}
+use Rattle.std.proofs.lemmas.List.{take-append-drop, take-append-le, length-take-le}
+use Rattle.std.proofs.lemmas.Grind.{reverse_onto}
+use Rattle.std.specs.List.{slice_get}
+use Rattle.std.specs.Option.{option_to_list}
+use Rattle.edn_reader.specs.declared.fault.EdnFault.{EdnFault}
+use Rattle.edn_reader.specs.declared.fault.EdnFault.TheVariants as faults
+use Rattle.edn_reader.specs.declared.nesting.Open.{Open}
+use Rattle.edn_reader.specs.declared.resume.Part.{Part}
+use Rattle.edn_reader.specs.declared.resume.Part.TheVariants as parts
+use Rattle.edn_reader.specs.declared.splitter.Taken.{Taken}
+use Rattle.edn_reader.specs.declared.step.Span.{Span}
+use Rattle.edn_reader.specs.declared.token.Token.TheVariants as tokens
+use Rattle.edn_reader.specs.declared.token.Opener.{Opener}
+use Rattle.edn_reader.specs.declared.tokens.Begun.{Begun}
+use Rattle.edn_reader.specs.declared.tokens.Reached.{Reached}
+use Rattle.edn_reader.specs.declared.tokens.Reached.TheVariants.{Ended, Within}
+use Rattle.edn_reader.specs.Grammar.{Piece, nothing, none}
+use Rattle.edn_reader.specs.Text.{IsFront, IsText, StandsOpen, outermost}
+use Rattle.edn_reader.specs.Token.{lexed}
+use Rattle.edn_reader.specs.Resuming.{longer, resumed, last}
+use Rattle.edn_reader.specs.Taking.{IsPieceAt, piece_in}
+use Rattle.edn_reader.specs.Within.{StandsWithin, FaultBehind, outer, Reaches, ReadsPiece, EndsBetween, Concludes, ReadsEnd, EndsAt}
+use Rattle.edn_reader.specs.Splitting.{Splitting, keep, IsAfter, StandsAfter, TakesOn, EndsOn, IsFull}
+use Rattle.edn_reader.proofs.Stretches.{drop_before}
+use Rattle.edn_reader.proofs.Resuming.{same_size}
+use Rattle.edn_reader.proofs.Ended.{stands_end, stands_left}
+use Rattle.edn_reader.proofs.Reading.{StandsAt, full_fails}
+
+-- ---- places of joined bytes
+
+-- The bytes of the piece, in an input that goes on from it.
+regroup : (bytes piece next more input : List ℕ) → input ≡ bytes ++ ((piece ++ next) ++ more) → input ≡ bytes ++ (piece ++ (next ++ more))
+regroup bytes piece next more input e = e ∙ ap (λ (xs : List ℕ). bytes ++ xs) (append_assoc piece next more)
+
+piece_at : (bytes piece next more input : List ℕ) → input ≡ bytes ++ ((piece ++ next) ++ more) → IsPieceAt input (length bytes) piece (next ++ more)
+piece_at bytes piece next more input e =
+    let f = regroup bytes piece next more input e in
+    (omega (arith, ap length f, length-append bytes (piece ++ (next ++ more))), ap (drop (length bytes)) f ∙ drop-append_seam bytes (piece ++ (next ++ more)))
+
+-- Behind the whole piece.
+behind_all : (bytes piece next more input : List ℕ) → input ≡ (bytes ++ piece) ++ (next ++ more) → input ≡ bytes ++ ((piece ++ next) ++ more)
+behind_all bytes piece next more input e = e ∙ append_assoc bytes piece (next ++ more) ∙ ap (λ (xs : List ℕ). bytes ++ xs) (sym (append_assoc piece next more))
+
+-- Behind so much of it.
+behind_used : (bytes piece next more input : List ℕ) (used : ℕ) → input ≡ (bytes ++ take used piece) ++ ((drop used piece ++ next) ++ more) → input ≡ bytes ++ ((piece ++ next) ++ more)
+behind_used bytes piece next more input used e =
+    e ∙ append_assoc bytes (take used piece) ((drop used piece ++ next) ++ more)
+    ∙ ap (λ (xs : List ℕ). bytes ++ xs)
+    (ap (λ (xs : List ℕ). take used piece ++ xs) (append_assoc (drop used piece) next more) ∙ sym (append_assoc (take used piece) (drop used piece) (next ++ more))
+    ∙ ap (λ (xs : List ℕ). xs ++ (next ++ more)) (take-append-drop used piece) ∙ sym (append_assoc piece next more))
+
+-- An element among the first bytes.
+piece_front : (xs ys : List ℕ) (span : Span) → span.start ≤ span.end → span.end ≤ length xs → piece_in (xs ++ ys) span ≡ piece_in xs span
+piece_front xs ys span low high =
+    let text : take (span.end - span.start) (drop span.start (xs ++ ys)) ≡ take (span.end - span.start) (drop span.start xs) =
+    ap (take (span.end - span.start)) (drop_before span.start xs ys (omega (arith, low, high)))
+    ∙ take-append-le (span.end - span.start) (drop span.start xs) ys (omega (arith, low, high, length-drop span.start xs)) in
+    ap (λ (bytes : List ℕ). record { kind = span.kind; start = span.start; text = bytes; core = span.core }) text
+
+-- ---- where nothing has begun
+
+stands_anew : (input : List ℕ) (at end : ℕ) (pieces : List Piece) (opens : List Open) → at ≡ end → opens ≡ [] → StandsAt input pieces [] at
+    → StandsWithin input end pieces opens (record { start = at; part = parts.Nothing })
+stands_anew input at end pieces opens same empty s =
+    let left = lexed (drop at input) in
+    record {
+      low = omega (arith, same);
+      stands = subst (λ (o : List Open). StandsAt input pieces o at) (sym empty) s;
+      token = same_size left.0 left.1 (end - at + left.1) (omega (arith, same)) ∙ ap (λ (n : ℕ). longer (end - at) (lexed (drop n input))) same;
+    }
+
+pub after_nothing : (next : List ℕ) → StandsAfter [] next [] (record { taken = 0; begun = record { start = 0; part = parts.Nothing }; opens = []; fault = None })
+after_nothing next input more e = record { no_fault = refl; taken = refl; stands = stands_anew input 0 0 [] [] refl refl (outermost none nothing) }
+
+-- ---- a piece
+
+-- What reading a piece says of an input that goes on from it.
+read_at : (piece : List ℕ) (old : Splitting) (result : Result Reached EdnFault) (after : List Open) → ReadsPiece piece old.taken old.begun old.opens result after
+    → (bytes next : List ℕ) (pieces : List Piece) → StandsAfter bytes (piece ++ next) pieces old → (input more : List ℕ) → input ≡ bytes ++ ((piece ++ next) ++ more)
+    → Reaches input (old.taken + length piece) pieces (keep old) result after
+read_at piece old result after reads bytes next pieces stands input more e =
+    let s = stands input more e in
+    reads input (next ++ more) pieces (subst (λ (n : ℕ). IsPieceAt input n piece (next ++ more)) (sym s.taken) (piece_at bytes piece next more input e))
+    (subst (λ (n : ℕ). StandsWithin input n pieces old.opens old.begun) (sym s.taken) s.stands)
+
+-- One input that goes on so.
+abbrev some_input : List ℕ → List ℕ → List ℕ → List ℕ
+some_input bytes piece next = bytes ++ ((piece ++ next) ++ [])
+
+pub takes_within : (piece : List ℕ) (old : Splitting) (later : Begun) (after : List Open) → ReadsPiece piece old.taken old.begun old.opens (Ok (Within later)) after
+    → TakesOn piece old (Ok (record { used = length piece; whole = None })) (record { taken = old.taken + length piece; begun = later; opens = after; fault = old.fault })
+takes_within piece old later after reads bytes next pieces stands =
+    let known = read_at piece old (Ok (Within later)) after reads bytes next pieces stands in (
+      refl,
+      (λ input more e.
+          let f = behind_all bytes piece next more input e in
+          let s = stands input more f in
+          let long : old.taken + length piece ≡ length (bytes ++ piece) = omega (arith, s.taken, length-append bytes piece) in
+          record { no_fault = s.no_fault; taken = long; stands = subst (λ (n : ℕ). StandsWithin input n pieces after later) long (known input more f).0 }),
+      (known (some_input bytes piece next) [] refl).1,
+    )
+
+pub takes_fault : (piece : List ℕ) (old : Splitting) (fault : EdnFault) (new : Splitting) → new.fault ≡ Some fault → ReadsPiece piece old.taken old.begun old.opens (Err fault) new.opens
+    → TakesOn piece old (Err fault) new
+takes_fault piece old fault new same reads bytes next pieces stands = (same, read_at piece old (Err fault) new.opens reads bytes next pieces stands)
+
+opens_stays : (part : Part) (opener : Opener) (rest : List ℕ) → last part ≡ tokens.Opens opener → (resumed part rest).0 ≡ tokens.Opens opener
+opens_stays parts.Nothing opener rest e = absurd cc
+opens_stays parts.Comment opener rest e = absurd cc
+opens_stays (parts.Run token) opener rest e = e
+opens_stays parts.Text opener rest e = absurd cc
+opens_stays parts.Escape opener rest e = absurd cc
+opens_stays parts.Hash opener rest e = absurd cc
+opens_stays parts.Backslash opener rest e = absurd cc
+
+full_behind : (input : List ℕ) (end : ℕ) (pieces : List Piece) (later : Begun) (after : List Open) → IsFull true later after → StandsWithin input end pieces after later
+    → FaultBehind input pieces (faults.TooDeep later.start)
+full_behind input end pieces later after full w =
+    let is = ap (λ (x : _ × ℕ). x.0) w.token ∙ opens_stays later.part full.0.0 (drop end input) full.0.1 in
+    (inr (full_fails input pieces later.start full.0.0 after w.stands is full.1), tt)
+
+pub takes_full : (piece : List ℕ) (old : Splitting) (later : Begun) (after : List Open) (new : Splitting) → new.fault ≡ Some (faults.TooDeep later.start) → IsFull true later after
+    → ReadsPiece piece old.taken old.begun old.opens (Ok (Within later)) after → TakesOn piece old (Err (faults.TooDeep later.start)) new
+takes_full piece old later after new same full reads bytes next pieces stands =
+    (same, λ input more e. full_behind input (old.taken + length piece) pieces later after full (read_at piece old (Ok (Within later)) after reads bytes next pieces stands input more e).0)
+
+pub takes_element : (piece : List ℕ) (old : Splitting) (span : Span) (after : List Open) → ReadsPiece piece old.taken old.begun old.opens (Ok (Ended span)) after
+    → EndsBetween old.taken (old.taken + length piece) (Ended span) after
+    → TakesOn piece old (Ok (record { used = span.end - old.taken; whole = Some (span.start, span.end) }))
+    (record { taken = span.end; begun = record { start = span.end; part = parts.Nothing }; opens = after; fault = old.fault })
+takes_element piece old span after reads (empty, low, high) bytes next pieces stands =
+    let known = read_at piece old (Ok (Ended span)) after reads bytes next pieces stands in
+    let one = known (some_input bytes piece next) [] refl in
+    let first = stands (some_input bytes piece next) [] refl in
+    let used = span.end - old.taken in
+    let size : used ≤ length piece = omega (arith, low, high) in
+    let place : span.end ≡ length bytes + used = omega (arith, low, first.taken) in
+    let begins : span.start < span.end = omega (arith, one.0.0, one.0.1) in
+    let within : span.end ≤ length (bytes ++ piece) = omega (arith, length-append bytes piece, place, size) in
+    let front : (input more : List ℕ) → input ≡ bytes ++ ((piece ++ next) ++ more) → IsFront input (pieces ++ piece_in (bytes ++ piece) span ∷ []) span.end = λ input more e.
+    let whole : input ≡ (bytes ++ piece) ++ (next ++ more) = regroup bytes piece next more input e ∙ sym (append_assoc bytes piece (next ++ more)) in
+    let same : piece_in input span ≡ piece_in (bytes ++ piece) span = ap (λ (xs : List ℕ). piece_in xs span) whole ∙ piece_front (bytes ++ piece) (next ++ more) span (omega (arith, begins)) within in
+    subst (λ (x : Piece). IsFront input (pieces ++ x ∷ []) span.end) same (known input more e).0.3 in
+    let ends : keep (record { taken = span.end; begun = record { start = span.end; part = parts.Nothing }; opens = after; fault = old.fault }) ≡ span.end =
+    ap (λ (o : List Open). outer o span.end) empty in (
+      size,
+      place,
+      one.1,
+      ends,
+      (
+        piece_in (bytes ++ piece) span,
+        (refl, begins, refl),
+        (λ input more e.
+            let f = behind_used bytes piece next more input used e in
+            let s = stands input more f in
+            let long : span.end ≡ length (bytes ++ take used piece) = omega (arith, place, length-append bytes (take used piece), length-take-le used piece size) in
+            record { no_fault = s.no_fault; taken = long; stands = stands_anew input span.end (length (bytes ++ take used piece)) (pieces ++ piece_in (bytes ++ piece) span ∷ []) after long empty (outermost (front input more f) nothing) }),
+        front,
+      ),
+    )
+
+-- ---- the end of the input
+
+-- What the end says of the input.
+end_at : (old : Splitting) (result : Result (Option Span) EdnFault) → ReadsEnd old.taken old.begun old.opens result → (input : List ℕ) (pieces : List Piece) → IsAfter input input pieces old
+    → Concludes input pieces (keep old) result
+end_at old result reads input pieces s =
+    reads input pieces (sym s.taken) (subst (λ (n : ℕ). StandsWithin input n pieces old.opens old.begun) (sym s.taken) s.stands)
+
+pub ends_element : (old : Splitting) (span : Span) (after : List Open) → ReadsEnd old.taken old.begun old.opens (Ok (Some span)) → EndsAt old.begun.start old.taken (Some span) after
+    → EndsOn old (Ok (Some (span.start, span.end))) (record { taken = old.taken; begun = record { start = old.taken; part = parts.Nothing }; opens = after; fault = old.fault })
+ends_element old span after reads (empty, some, place) input pieces s =
+    let known = end_at old (Ok (Some span)) reads input pieces s in
+    let front = subst (IsFront input (pieces ++ piece_in input span ∷ [])) place known.0.3 in (
+      place ∙ s.taken,
+      known.2,
+      (
+        piece_in input span,
+        (refl, omega (arith, known.0.0, known.0.1), refl),
+        known.1,
+        record { no_fault = s.no_fault; taken = s.taken; stands = stands_anew input old.taken (length input) (pieces ++ piece_in input span ∷ []) after s.taken empty (outermost front nothing) },
+      ),
+    )
+
+-- A text ends with nothing open.
+text_stands : (input : List ℕ) (pieces : List Piece) (at : ℕ) → at ≡ length input → IsText input pieces → StandsAt input pieces [] at
+text_stands input pieces at same (begins, after, front, gap) =
+    let here : StandsOpen input pieces [] after [] = outermost front gap in
+    let place : after ≡ at = omega (arith, stands_end here, same) in
+    subst (StandsAt input pieces []) place (subst (λ (rest : List ℕ). StandsOpen input pieces [] after rest) (stands_left here) here)
+
+pub ends_text : (old : Splitting) (after : List Open) → ReadsEnd old.taken old.begun old.opens (Ok None) → after ≡ []
+    → EndsOn old (Ok None) (record { taken = old.taken; begun = record { start = old.taken; part = parts.Nothing }; opens = after; fault = old.fault })
+ends_text old after reads empty input pieces s =
+    let text = end_at old (Ok None) reads input pieces s in
+    (text, record { no_fault = s.no_fault; taken = s.taken; stands = stands_anew input old.taken (length input) pieces after s.taken empty (text_stands input pieces old.taken s.taken text) })
+
+pub ends_fault : (old : Splitting) (fault : EdnFault) (new : Splitting) → new.fault ≡ Some fault → ReadsEnd old.taken old.begun old.opens (Err fault) → EndsOn old (Err fault) new
+ends_fault old fault new same reads input pieces s = (same, end_at old (Err fault) reads input pieces s)
+
+-- ---- after a fault
+
+-- A splitter that met a fault stands after no bytes.
+pub takes_never : (piece : List ℕ) (old new : Splitting) (result : Result Taken EdnFault) (fault : EdnFault) → old.fault ≡ Some fault → TakesOn piece old result new
+takes_never piece old new result fault e bytes next pieces stands =
+    let s = stands (some_input bytes piece next) [] refl in
+    let both : Some fault ≡ None = sym e ∙ s.no_fault in absurd cc
+
+pub ends_never : (old new : Splitting) (result : Result (Option (ℕ × ℕ)) EdnFault) (fault : EdnFault) → old.fault ≡ Some fault → EndsOn old result new
+ends_never old new result fault e input pieces s = let both : Some fault ≡ None = sym e ∙ s.no_fault in absurd cc
+
+-- ---- the outermost
+
+pub outer_last : (opens : List Open) (item : Open) (place : ℕ) → outer (opens ++ item ∷ []) place ≡ item.place
+outer_last [] item place = refl
+outer_last (first ∷ opens) item place = outer_last opens item first.place
+
+-- Of a stack with the innermost apart, what lies lowest is the outermost.
+pub outer_first : (innermost : Option Open) (around : List Open) (first : Open) (place : ℕ) → Some first ≡ slice_get around 0 → (innermost ≡ None → around ≡ [])
+    → first.place ≡ outer (option_to_list innermost ++ reverse around) place
+outer_first innermost [] first place e h = absurd cc
+outer_first None (x ∷ around) first place e h = let empty : x ∷ around ≡ [] = h refl in absurd cc
+outer_first (Some item) (x ∷ around) first place e h =
+    let same : first ≡ x = cc in
+    ap (λ (o : Open). o.place) same ∙ sym (ap (λ (opens : List Open). outer opens item.place) (reverse_onto around x []) ∙ outer_last (reverse around) x item.place)

@@ -1,0 +1,10 @@
+use Rattle.std.proofs.Common.{[], None, List, sym, subst}
+use Rattle.edn_reader.specs.declared.nesting.Open.{Open}
+use Rattle.edn_reader.specs.declared.resume.Part.TheVariants.{Nothing}
+use Rattle.edn_reader.specs.Splitting.{StandsAfter}
+use Rattle.edn_reader.proofs.Splitting.{after_nothing}
+use Rattle.edn_reader.proofs.splitter.Splitter.new.Goals as goal
+
+pub returns : goal.returns
+returns c next =
+    subst (λ (opens : List Open). StandsAfter [] next [] (record { taken = 0; begun = record { start = 0; part = Nothing }; opens = opens; fault = None })) (sym c.new.ensures) (after_nothing next)

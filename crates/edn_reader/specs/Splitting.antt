@@ -1,0 +1,76 @@
+-- What a splitter stands for, and what it says of the inputs that the bytes which it has taken can go on to be.
+use Rattle.std.specs.Prelude.{◌≡◌, ◌≤◌, ◌<◌, ◌+◌, ◌-◌, ℕ, Bool, true, false, List, [], ◌∷◌, ◌++◌, length, take, drop, Option, Some, None, Result, Ok, Err}
+use Rattle.edn_reader.specs.declared.fault.EdnFault.{EdnFault}
+use Rattle.edn_reader.specs.declared.nesting.Open.{Open}
+use Rattle.edn_reader.specs.declared.splitter.Taken.{Taken}
+use Rattle.edn_reader.specs.declared.token.Opener.{Opener}
+use Rattle.edn_reader.specs.declared.token.Token.TheVariants.{Opens}
+use Rattle.edn_reader.specs.declared.tokens.Begun.{Begun}
+use Rattle.edn_reader.specs.Grammar.{Piece}
+use Rattle.edn_reader.specs.Text.{IsFront, IsText}
+use Rattle.edn_reader.specs.Resuming.{last}
+use Rattle.edn_reader.specs.Within.{StandsWithin, FaultBehind, kept}
+
+-- A splitter: how many bytes it has taken, what has begun among them and has not ended, what stands open before that,
+-- and the fault that was met.
+pub record Splitting : Type 0 where
+  pub taken : ℕ
+  pub begun : Begun
+  pub opens : List Open
+  pub fault : Option EdnFault
+
+-- The first place that an element which is given later may begin at.
+abbrev pub keep : Splitting → ℕ
+keep splitting = kept splitting.opens splitting.begun splitting.taken
+
+-- It stands after the first bytes of an input, behind these elements.
+pub record IsAfter (bytes input : List ℕ) (pieces : List Piece) (splitting : Splitting) : Type 0 where
+  pub no_fault : splitting.fault ≡ None
+  pub taken : splitting.taken ≡ length bytes
+  pub stands : StandsWithin input (length bytes) pieces splitting.opens splitting.begun
+
+-- It stands after bytes, behind these elements, whatever follows those that come next. (An element that needs no
+-- closing byte, and was given, ends where the next byte does not go on with it: so that byte is known, and comes next.)
+abbrev pub StandsAfter : List ℕ → List ℕ → List Piece → Splitting → Type 0
+StandsAfter bytes next pieces splitting = (input more : List ℕ) → input ≡ bytes ++ (next ++ more) → IsAfter bytes input pieces splitting
+
+-- The element at these places of bytes.
+abbrev pub IsSpan : List ℕ → ℕ → ℕ → Piece → Type 0
+IsSpan bytes start end piece = (piece.start ≡ start) × (start < end) × (piece.text ≡ take (end - start) (drop start bytes))
+
+-- After bytes so many of a piece were used, which goes on with these. All of it was used and no element ended; or so much
+-- of it that the next element ends there, which begins no sooner than at the place that was kept.
+abbrev pub TakesUpTo : List ℕ → List ℕ → List ℕ → List Piece → Splitting → ℕ → Option (ℕ × ℕ) → Splitting → Type 0
+TakesUpTo bytes piece next pieces old used None new = (used ≡ length piece) × StandsAfter (bytes ++ piece) next pieces new × (keep old ≤ keep new)
+TakesUpTo bytes piece next pieces old used (Some span) new =
+    (used ≤ length piece) × (span.1 ≡ length bytes + used) × (keep old ≤ span.0) × (keep new ≡ span.1)
+    × ((last : Piece) × IsSpan (bytes ++ piece) span.0 span.1 last × StandsAfter (bytes ++ take used piece) (drop used piece ++ next) (pieces ++ last ∷ []) new
+    × ((input more : List ℕ) → input ≡ bytes ++ ((piece ++ next) ++ more) → IsFront input (pieces ++ last ∷ []) span.1))
+
+-- The same of what taking the piece answered; or each input that goes on so has the fault, or memory was wanted.
+abbrev pub Takes : List ℕ → List ℕ → List ℕ → List Piece → Splitting → Result Taken EdnFault → Splitting → Type 0
+Takes bytes piece next pieces old (Ok taken) new = TakesUpTo bytes piece next pieces old taken.used taken.whole new
+Takes bytes piece next pieces old (Err fault) new =
+    (new.fault ≡ Some fault) × ((input more : List ℕ) → input ≡ bytes ++ ((piece ++ next) ++ more) → FaultBehind input pieces fault)
+
+-- Taking a piece, after whatever bytes.
+abbrev pub TakesOn : List ℕ → Splitting → Result Taken EdnFault → Splitting → Type 0
+TakesOn piece old result new = (bytes next : List ℕ) (pieces : List Piece) → StandsAfter bytes (piece ++ next) pieces old → Takes bytes piece next pieces old result new
+
+-- The end of an input. There is no element more; or the last one ends there; or the input has the fault, or memory was
+-- wanted.
+abbrev pub Finishes : List ℕ → List Piece → Splitting → Result (Option (ℕ × ℕ)) EdnFault → Splitting → Type 0
+Finishes input pieces old (Ok None) new = IsText input pieces × IsAfter input input pieces new
+Finishes input pieces old (Ok (Some span)) new =
+    (span.1 ≡ length input) × (keep old ≤ span.0)
+    × ((last : Piece) × IsSpan input span.0 span.1 last × IsText input (pieces ++ last ∷ []) × IsAfter input input (pieces ++ last ∷ []) new)
+Finishes input pieces old (Err fault) new = (new.fault ≡ Some fault) × FaultBehind input pieces fault
+
+-- The same of whatever input ends there.
+abbrev pub EndsOn : Splitting → Result (Option (ℕ × ℕ)) EdnFault → Splitting → Type 0
+EndsOn old result new = (input : List ℕ) (pieces : List Piece) → IsAfter input input pieces old → Finishes input pieces old result new
+
+-- So many are open that what has begun, which is sure to open one more, is too deep.
+abbrev pub IsFull : Bool → Begun → List Open → Type 0
+IsFull true begun opens = ((opener : Opener) × (last begun.part ≡ Opens opener)) × (length opens ≡ 64)
+IsFull false begun opens = Unit {0}

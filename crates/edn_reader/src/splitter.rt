@@ -1,0 +1,157 @@
+//! The splitter: a reader over pieces, which tells where the elements of the whole begin and end.
+
+ghost use Rattle.std.specs.Prelude.{◌≡◌, ◌+◌, ◌<◌, ◌^◌, List, [], length, Some, Err, IfSome, ℕ};
+ghost use Rattle.edn_reader.specs.Splitting.{IsFull};
+
+use crate::fault::EdnFault;
+use crate::nesting::Nesting;
+use crate::resume::Part;
+use crate::step::ROOM;
+use crate::token::Token;
+use crate::tokens::{Begun, Reached, read_end, read_piece};
+use std::alloc::Global;
+use std::marker::Model;
+
+/// Reads an input that comes in pieces, cut anywhere, and keeps none of its bytes. The elements and the first fault are
+/// those that a [`Reader`](crate::Reader) finds in the joined pieces. A fault that it met it answers for good.
+#[derive(Drop)]
+pub struct Splitter {
+    nesting: Nesting,
+    begun: Begun,
+    taken: usize,
+    fault: Option<EdnFault>,
+}
+
+/// How much of a piece was taken.
+#[derive(Clone, Copy, Debug, PartialEq, Eq)]
+pub struct Taken {
+    /// So many of its bytes: fewer than it has only where an element ended. The rest begins the next piece.
+    pub used: usize,
+    /// The outermost element that ended: the places in the joined pieces of its first byte and behind its last.
+    pub whole: Option<(u64, u64)>,
+}
+
+impl Model for Splitter {
+    ghost use Rattle.edn_reader.specs.Splitting.{Splitting};
+
+    ghost Value = { Splitting };
+
+    ghost view = { λ a. record { taken = a.taken; begun = a.begun; opens = a.nesting; fault = a.fault } };
+}
+
+/// Whether a bracket, a tag or a discard begins that is one too many, as is told once nothing else can come of it.
+fn is_full(begun: Begun, nesting: &Nesting) -> bool
+    ensures { IsFull result begun nesting.now }
+{
+    match begun.part.last() {
+        Token::Opens(_) => nesting.has(ROOM),
+        _ => false,
+    }
+}
+
+impl Splitter {
+    ghost use Rattle.edn_reader.specs.Splitting.{StandsAfter, TakesOn, EndsOn, keep};
+
+    /// Takes no memory.
+    pub fn new(alloc: Global) -> Splitter
+        ensures { (next : List ℕ) → StandsAfter [] next [] result }
+    {
+        Splitter {
+            nesting: Nesting::new(alloc),
+            begun: Begun {
+                start: 0,
+                part: Part::Nothing,
+            },
+            taken: 0,
+            fault: None,
+        }
+    }
+
+    /// How many bytes it has taken.
+    pub fn taken(&self) -> u64
+        ensures { result ≡ self.now.taken }
+    {
+        self.taken as u64
+    }
+
+    /// The place in the joined pieces from which their bytes may still be wanted: no element that is given later begins
+    /// before it. It never falls.
+    pub fn keep_from(&self) -> u64
+        ensures { result ≡ keep self.now }
+    {
+        let place = match self.begun.part.last() {
+            Token::Gap => self.taken,
+            _ => self.begun.start,
+        };
+        self.nesting.outer(place) as u64
+    }
+
+    /// Takes a piece, up to the end of the next outermost element or to its own. An element that needs no closing byte
+    /// ends with the byte behind it, which is not used.
+    pub fn take(&mut self, piece: &[u8]) -> Result<Taken, EdnFault>
+        requires { self.old.taken + length piece.now < 2 ^ 64 }
+        ensures takes { TakesOn piece.now self.old result self.new }
+        ensures again { IfSome self.old.fault (λ fault. (result ≡ Err fault) × (self.new ≡ self.old)) }
+    {
+        if let Some(fault) = self.fault {
+            return Err(fault);
+        }
+        let base = self.taken;
+        match read_piece(piece, base, self.begun, &mut self.nesting) {
+            Ok(Reached::Ended(span)) => {
+                self.taken = span.end;
+                self.begun = Begun {
+                    start: span.end,
+                    part: Part::Nothing,
+                };
+                Ok(Taken {
+                    used: span.end - base,
+                    whole: Some((span.start as u64, span.end as u64)),
+                })
+            }
+            Ok(Reached::Within(begun)) => {
+                self.taken = base + piece.len();
+                self.begun = begun;
+                if is_full(begun, &self.nesting) {
+                    let fault = EdnFault::TooDeep(begun.start);
+                    self.fault = Some(fault);
+                    return Err(fault);
+                }
+                Ok(Taken {
+                    used: piece.len(),
+                    whole: None,
+                })
+            }
+            Err(fault) => {
+                self.fault = Some(fault);
+                Err(fault)
+            }
+        }
+    }
+
+    /// Takes the end of the input: the element that ended with it, where there is one.
+    pub fn end(&mut self) -> Result<Option<(u64, u64)>, EdnFault>
+        ensures ends { EndsOn self.old result self.new }
+        ensures again { IfSome self.old.fault (λ fault. (result ≡ Err fault) × (self.new ≡ self.old)) }
+    {
+        if let Some(fault) = self.fault {
+            return Err(fault);
+        }
+        match read_end(self.taken, self.begun, &mut self.nesting) {
+            Ok(whole) => {
+                self.begun = Begun {
+                    start: self.taken,
+                    part: Part::Nothing,
+                };
+                match whole {
+                    Some(span) => Ok(Some((span.start as u64, span.end as u64))),
+                    None => Ok(None),
+                }
+            }
+            Err(fault) => {
+                self.fault = Some(fault);
+                Err(fault)
+            }
+        }
+    }
+}

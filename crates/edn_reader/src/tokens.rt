@@ -1,0 +1,125 @@
+//! Token after token over a piece of an input, up to the end of an outermost element or of the piece.
+
+ghost use Rattle.std.specs.Prelude.{◌≡◌, ◌+◌, ◌≤◌, ◌<◌, ◌^◌, length, IfOk};
+ghost use Rattle.edn_reader.specs.Within.{ReadsOn, ReadsPiece, ReadsEnd, IsBetween, EndsBetween, EndsAt};
+
+use crate::fault::EdnFault;
+use crate::nesting::Nesting;
+use crate::plain::pass_plain;
+use crate::resume::{Ahead, Part, begin, read_on};
+use crate::step::{Span, take};
+use crate::token::Found;
+
+/// Where the token begins that the bytes so far end within, and what they hold of it. Where it would begin behind the
+/// last of them, nothing has begun.
+#[derive(Clone, Copy, Default)]
+pub struct Begun {
+    pub start: usize,
+    pub part: Part,
+}
+
+/// How far a piece was read.
+#[derive(Clone, Copy)]
+pub enum Reached {
+    /// Up to the end of an outermost element.
+    Ended(Span),
+    /// Up to its own end.
+    Within(Begun),
+}
+
+/// Reads on from a place of a piece where nothing has begun; the piece begins at a place of the input.
+#[inline(always)]
+pub fn read_tokens(
+    piece: &[u8],
+    base: usize,
+    from: usize,
+    nesting: &mut Nesting,
+) -> Result<Reached, EdnFault>
+    requires within { from ≤ length piece.now }
+    requires fits { base + length piece.now < 2 ^ 64 }
+    ensures reads { ReadsOn piece.now base from nesting.old result nesting.new }
+    ensures between { IfOk result (λ reached. IsBetween (base + from) (base + length piece.now) reached nesting.new) }
+{
+    let mut at = from;
+    while at < piece.len() {
+        match begin(piece, at) {
+            Ahead::Whole(found) => {
+                let token = Found {
+                    token: found.token,
+                    end: base + found.end,
+                };
+                match take(base + at, token, nesting) {
+                    Ok(None) => at = pass_plain(piece, found.end, nesting),
+                    Ok(Some(span)) => return Ok(Reached::Ended(span)),
+                    Err(fault) => return Err(fault),
+                }
+            }
+            Ahead::Within(part) => {
+                return Ok(Reached::Within(Begun {
+                    start: base + at,
+                    part,
+                }));
+            }
+        }
+    }
+    Ok(Reached::Within(Begun {
+        start: base + at,
+        part: Part::Nothing,
+    }))
+}
+
+/// Reads a piece, first on with what has begun before it.
+pub fn read_piece(
+    piece: &[u8],
+    base: usize,
+    begun: Begun,
+    nesting: &mut Nesting,
+) -> Result<Reached, EdnFault>
+    requires { base + length piece.now < 2 ^ 64 }
+    ensures reads { ReadsPiece piece.now base begun nesting.old result nesting.new }
+    ensures between { IfOk result (λ reached. EndsBetween base (base + length piece.now) reached nesting.new) }
+{
+    if begun.start == base {
+        return read_tokens(piece, base, 0, nesting);
+    }
+    match read_on(piece, 0, begun.part) {
+        Ahead::Whole(found) => {
+            let token = Found {
+                token: found.token,
+                end: base + found.end,
+            };
+            match take(begun.start, token, nesting) {
+                Ok(None) => read_tokens(piece, base, found.end, nesting),
+                Ok(Some(span)) => Ok(Reached::Ended(span)),
+                Err(fault) => Err(fault),
+            }
+        }
+        Ahead::Within(part) => Ok(Reached::Within(Begun {
+            start: begun.start,
+            part,
+        })),
+    }
+}
+
+/// Takes what has begun as the last token of an input that ends here.
+pub fn read_end(end: usize, begun: Begun, nesting: &mut Nesting) -> Result<Option<Span>, EdnFault>
+    ensures reads { ReadsEnd end begun nesting.old result }
+    ensures place { IfOk result (λ span. EndsAt begun.start end span nesting.new) }
+{
+    if begun.start < end {
+        let token = Found {
+            token: begun.part.last(),
+            end,
+        };
+        match take(begun.start, token, nesting) {
+            Ok(None) => {}
+            Ok(Some(span)) => return Ok(Some(span)),
+            Err(fault) => return Err(fault),
+        }
+    }
+    if nesting.has(0) {
+        Ok(None)
+    } else {
+        Err(EdnFault::Truncated(end))
+    }
+}
