@@ -1,10 +1,12 @@
 -- What a splitter says of the inputs that go on from the bytes that it has taken.
-use Rattle.std.proofs.Common.{◌≡◌, inr, ℕ, ◌+◌, ◌-◌, ◌<◌, ◌≤◌, true, List, [], ◌∷◌, ◌++◌, length, take, drop, reverse, Option, Some, None, Result, Ok, Err, refl, sym, ap, subst, ◌∙◌, arith, append_assoc, length-append, length-drop}
-use Rattle.std.proofs.Math.Seq.{drop-append_seam}
+use Rattle.std.proofs.Common.{◌≡◌, inr, ℕ, ◌+◌, ◌-◌, ◌<◌, ◌≤◌, true, List, [], ◌∷◌, ◌++◌, length, take, drop, reverse, Option, Some, None, Result, Ok, Err, refl, sym, ap, subst, ◌∙◌, arith, append_assoc, length-append, length-drop, ◌≢◌, ◌⊎◌, false, append-nil, inl, drop_of_length-le}
+use Rattle.std.proofs.Math.Seq.{drop-append_seam, take-length}
+use Rattle.std.proofs.lemmas.Bool.{cases_lt}
 use Rattle.std.proofs.lemmas.List.{take-append-drop, take-append-le, length-take-le}
 use Rattle.std.proofs.lemmas.Grind.{reverse_onto}
 use Rattle.std.specs.List.{slice_get}
 use Rattle.std.specs.Option.{option_to_list}
+use Rattle.edn_reader.specs.declared.bytes.Bracket.{Bracket}
 use Rattle.edn_reader.specs.declared.fault.EdnFault.{EdnFault}
 use Rattle.edn_reader.specs.declared.fault.EdnFault.TheVariants as faults
 use Rattle.edn_reader.specs.declared.nesting.Open.{Open}
@@ -12,21 +14,27 @@ use Rattle.edn_reader.specs.declared.resume.Part.{Part}
 use Rattle.edn_reader.specs.declared.resume.Part.TheVariants as parts
 use Rattle.edn_reader.specs.declared.splitter.Taken.{Taken}
 use Rattle.edn_reader.specs.declared.step.Span.{Span}
+use Rattle.edn_reader.specs.declared.token.Token.{Token}
 use Rattle.edn_reader.specs.declared.token.Token.TheVariants as tokens
 use Rattle.edn_reader.specs.declared.token.Opener.{Opener}
 use Rattle.edn_reader.specs.declared.tokens.Begun.{Begun}
 use Rattle.edn_reader.specs.declared.tokens.Reached.{Reached}
 use Rattle.edn_reader.specs.declared.tokens.Reached.TheVariants.{Ended, Within}
-use Rattle.edn_reader.specs.Grammar.{Piece, nothing, none}
-use Rattle.edn_reader.specs.Text.{IsFront, IsText, StandsOpen, outermost}
+use Rattle.edn_reader.specs.Bytes.{class_of, is_run, stretch}
+use Rattle.edn_reader.specs.Grammar.{Piece, IsToken, close, nothing, skipped, leaf, none, waits}
+use Rattle.edn_reader.specs.Text.{IsFront, IsText, IsViable, StandsOpen, outermost}
 use Rattle.edn_reader.specs.Token.{lexed}
 use Rattle.edn_reader.specs.Resuming.{longer, resumed, last}
 use Rattle.edn_reader.specs.Taking.{IsPieceAt, piece_in}
 use Rattle.edn_reader.specs.Within.{StandsWithin, FaultBehind, outer, Reaches, ReadsPiece, EndsBetween, Concludes, ReadsEnd, EndsAt}
 use Rattle.edn_reader.specs.Splitting.{Splitting, keep, IsAfter, StandsAfter, TakesOn, EndsOn, IsFull}
 use Rattle.edn_reader.proofs.Stretches.{drop_before}
-use Rattle.edn_reader.proofs.Resuming.{same_size}
-use Rattle.edn_reader.proofs.Ended.{stands_end, stands_left}
+use Rattle.edn_reader.proofs.Lexing.{token_lexed, finishing}
+use Rattle.edn_reader.proofs.Resuming.{same_size, resumed_last}
+use Rattle.edn_reader.proofs.Steps.{stands_gap, stands_opened}
+use Rattle.edn_reader.proofs.Runs.{span_at}
+use Rattle.edn_reader.proofs.Ended.{stands_end, stands_left, stands_room}
+use Rattle.edn_reader.proofs.Viable.{viable, stands_after, viable_finished}
 use Rattle.edn_reader.proofs.Reading.{StandsAt, full_fails}
 
 -- ---- places of joined bytes
@@ -72,8 +80,11 @@ stands_anew input at end pieces opens same empty s =
       token = same_size left.0 left.1 (end - at + left.1) (omega (arith, same)) ∙ ap (λ (n : ℕ). longer (end - at) (lexed (drop n input))) same;
     }
 
+none_full : (opens : List Open) (at : ℕ) → IsFull false (record { start = at; part = parts.Nothing }) opens
+none_full opens at opener e = absurd cc
+
 pub after_nothing : (next : List ℕ) → StandsAfter [] next [] (record { taken = 0; begun = record { start = 0; part = parts.Nothing }; opens = []; fault = None })
-after_nothing next input more e = record { no_fault = refl; taken = refl; stands = stands_anew input 0 0 [] [] refl refl (outermost none nothing) }
+after_nothing next input more e = record { no_fault = refl; taken = refl; stands = stands_anew input 0 0 [] [] refl refl (outermost none nothing); not_full = none_full [] 0 }
 
 -- ---- a piece
 
@@ -90,16 +101,16 @@ read_at piece old result after reads bytes next pieces stands input more e =
 abbrev some_input : List ℕ → List ℕ → List ℕ → List ℕ
 some_input bytes piece next = bytes ++ ((piece ++ next) ++ [])
 
-pub takes_within : (piece : List ℕ) (old : Splitting) (later : Begun) (after : List Open) → ReadsPiece piece old.taken old.begun old.opens (Ok (Within later)) after
+pub takes_within : (piece : List ℕ) (old : Splitting) (later : Begun) (after : List Open) → IsFull false later after → ReadsPiece piece old.taken old.begun old.opens (Ok (Within later)) after
     → TakesOn piece old (Ok (record { used = length piece; whole = None })) (record { taken = old.taken + length piece; begun = later; opens = after; fault = old.fault })
-takes_within piece old later after reads bytes next pieces stands =
+takes_within piece old later after few reads bytes next pieces stands =
     let known = read_at piece old (Ok (Within later)) after reads bytes next pieces stands in (
       refl,
       (λ input more e.
           let f = behind_all bytes piece next more input e in
           let s = stands input more f in
           let long : old.taken + length piece ≡ length (bytes ++ piece) = omega (arith, s.taken, length-append bytes piece) in
-          record { no_fault = s.no_fault; taken = long; stands = subst (λ (n : ℕ). StandsWithin input n pieces after later) long (known input more f).0 }),
+          record { no_fault = s.no_fault; taken = long; stands = subst (λ (n : ℕ). StandsWithin input n pieces after later) long (known input more f).0; not_full = few }),
       (known (some_input bytes piece next) [] refl).1,
     )
 
@@ -157,7 +168,7 @@ takes_element piece old span after reads (empty, low, high) bytes next pieces st
             let f = behind_used bytes piece next more input used e in
             let s = stands input more f in
             let long : span.end ≡ length (bytes ++ take used piece) = omega (arith, place, length-append bytes (take used piece), length-take-le used piece size) in
-            record { no_fault = s.no_fault; taken = long; stands = stands_anew input span.end (length (bytes ++ take used piece)) (pieces ++ piece_in (bytes ++ piece) span ∷ []) after long empty (outermost (front input more f) nothing) }),
+            record { no_fault = s.no_fault; taken = long; stands = stands_anew input span.end (length (bytes ++ take used piece)) (pieces ++ piece_in (bytes ++ piece) span ∷ []) after long empty (outermost (front input more f) nothing); not_full = none_full after span.end }),
         front,
       ),
     )
@@ -181,7 +192,7 @@ ends_element old span after reads (empty, some, place) input pieces s =
         piece_in input span,
         (refl, omega (arith, known.0.0, known.0.1), refl),
         known.1,
-        record { no_fault = s.no_fault; taken = s.taken; stands = stands_anew input old.taken (length input) (pieces ++ piece_in input span ∷ []) after s.taken empty (outermost front nothing) },
+        record { no_fault = s.no_fault; taken = s.taken; stands = stands_anew input old.taken (length input) (pieces ++ piece_in input span ∷ []) after s.taken empty (outermost front nothing); not_full = none_full after old.taken },
       ),
     )
 
@@ -196,7 +207,7 @@ pub ends_text : (old : Splitting) (after : List Open) → ReadsEnd old.taken old
     → EndsOn old (Ok None) (record { taken = old.taken; begun = record { start = old.taken; part = parts.Nothing }; opens = after; fault = old.fault })
 ends_text old after reads empty input pieces s =
     let text = end_at old (Ok None) reads input pieces s in
-    (text, record { no_fault = s.no_fault; taken = s.taken; stands = stands_anew input old.taken (length input) pieces after s.taken empty (text_stands input pieces old.taken s.taken text) })
+    (text, record { no_fault = s.no_fault; taken = s.taken; stands = stands_anew input old.taken (length input) pieces after s.taken empty (text_stands input pieces old.taken s.taken text); not_full = none_full after old.taken })
 
 pub ends_fault : (old : Splitting) (fault : EdnFault) (new : Splitting) → new.fault ≡ Some fault → ReadsEnd old.taken old.begun old.opens (Err fault) → EndsOn old (Err fault) new
 ends_fault old fault new same reads input pieces s = (same, end_at old (Err fault) reads input pieces s)
@@ -211,6 +222,88 @@ takes_never piece old new result fault e bytes next pieces stands =
 
 pub ends_never : (old new : Splitting) (result : Result (Option (ℕ × ℕ)) EdnFault) (fault : EdnFault) → old.fault ≡ Some fault → EndsOn old result new
 ends_never old new result fault e input pieces s = let both : Some fault ≡ None = sym e ∙ s.no_fault in absurd cc
+
+-- ---- what can go on
+
+whole_viable : {input rest : List ℕ} {pieces : List Piece} {opens : List Open} (at : ℕ) → at ≡ length input → StandsOpen input pieces opens at rest → IsViable input
+whole_viable {input} at e s =
+    let whole : take at input ≡ input = ap (λ (n : ℕ). take n input) e ∙ take-length input in
+    subst IsViable whole (viable s)
+
+-- Behind the last token the input can go on, where that is no bracket that closes and no bracket, tag or discard too many.
+token_viable : (token : Token) (input : List ℕ) (pieces : List Piece) (opens : List Open) (start : ℕ) → StandsAt input pieces opens start → start < length input → (lexed (drop start input)).0 ≡ token
+    → start + (lexed (drop start input)).1 ≡ length input → ((opener : Opener) → token ≡ tokens.Opens opener → length opens ≢ 64) → ((bracket : Bracket) → token ≡ tokens.Closes bracket → ⊥) → IsViable input
+token_viable tokens.Gap input pieces opens start s lt is long few never =
+    let a = drop start input in
+    whole_viable (start + (lexed a).1) long (stands_gap s (λ room fit. skipped (token_lexed start a tokens.Gap is (λ h. cc)) nothing))
+token_viable (tokens.Leaf kind) input pieces opens start s lt is long few never =
+    let a = drop start input in
+    let span = span_at kind (record { kind = kind; start = start }) start (start + (lexed a).1) in
+    whole_viable (start + (lexed a).1) long (stands_after opens span s (λ room fit. leaf (token_lexed start a (tokens.Leaf kind) is (λ h. cc)))).1
+token_viable (tokens.Opens opener) input pieces opens start s lt is long few never =
+    let a = drop start input in
+    let most = stands_room opens s in
+    whole_viable (start + (lexed a).1) long (stands_opened opener (waits opener) refl s (token_lexed start a (tokens.Opens opener) is (λ h. cc)) (omega (arith, most, few opener refl)))
+token_viable (tokens.Closes bracket) input pieces opens start s lt is long few never = absurd (never bracket refl)
+token_viable tokens.Unfinished input pieces opens start s lt is long few never =
+    let some : 0 < length (drop start input) = omega (arith, length-drop start input, lt) in
+    viable_finished s some (finishing (drop start input) some is)
+
+closes_place : {bracket : Bracket} {p q : ℕ} {a b : List ℕ} → IsToken (tokens.Closes bracket) p a q b → q ≡ p + 1
+closes_place (close e) = omega arith
+
+-- A bracket that closes is one byte, so it is no token that a later byte goes on with.
+closes_size : (a : List ℕ) (bracket : Bracket) → (lexed a).0 ≡ tokens.Closes bracket → (lexed a).1 ≡ 1
+closes_size a bracket is = omega (arith, closes_place (token_lexed 0 a (tokens.Closes bracket) is (λ h. cc)))
+
+closes_run : (part : Part) (bracket : Bracket) (rest : List ℕ) → last part ≡ tokens.Closes bracket → resumed part rest ≡ (tokens.Closes bracket, stretch is_run rest)
+closes_run parts.Nothing bracket rest e = absurd cc
+closes_run parts.Comment bracket rest e = absurd cc
+closes_run (parts.Run token) bracket rest e = ap (λ (t : Token). (t, stretch is_run rest)) e
+closes_run parts.Text bracket rest e = absurd cc
+closes_run parts.Escape bracket rest e = absurd cc
+closes_run parts.Hash bracket rest e = absurd cc
+closes_run parts.Backslash bracket rest e = absurd cc
+
+-- How long it would be, with these bytes behind it.
+closes_long : (input : List ℕ) (end : ℕ) (pieces : List Piece) (opens : List Open) (begun : Begun) (bracket : Bracket) (rest : List ℕ) → StandsWithin input end pieces opens begun
+    → last begun.part ≡ tokens.Closes bracket → drop end input ≡ rest → end - begun.start + stretch is_run rest ≡ 1
+closes_long input end pieces opens begun bracket rest w e left =
+    let made : lexed (drop begun.start input) ≡ (tokens.Closes bracket, end - begun.start + stretch is_run rest) =
+    w.token ∙ ap (λ (xs : List ℕ). longer (end - begun.start) (resumed begun.part xs)) left ∙ ap (longer (end - begun.start)) (closes_run begun.part bracket rest e) in
+    sym (ap (λ (x : Token × ℕ). x.1) made) ∙ closes_size (drop begun.start input) bracket (ap (λ (x : Token × ℕ). x.0) made)
+
+letter_run : stretch is_run (97 ∷ []) ≡ 1
+unfolding stretch class_of
+letter_run = refl
+
+no_letter : stretch is_run [] ≡ 0
+unfolding stretch
+no_letter = refl
+
+never_closes : (bytes : List ℕ) (pieces : List Piece) (splitting : Splitting) → StandsAfter bytes [] pieces splitting → (bracket : Bracket) → last splitting.begun.part ≡ tokens.Closes bracket → ⊥
+never_closes bytes pieces splitting stands bracket e =
+    let one = closes_long bytes (length bytes) pieces splitting.opens splitting.begun bracket [] (stands bytes [] (sym (append-nil bytes))).stands e (drop_of_length-le bytes (omega arith)) in
+    let two = closes_long (bytes ++ 97 ∷ []) (length bytes) pieces splitting.opens splitting.begun bracket (97 ∷ []) (stands (bytes ++ 97 ∷ []) (97 ∷ []) refl).stands e
+    (drop-append_seam bytes (97 ∷ [])) in
+    omega (arith, one, two, letter_run, no_letter)
+
+pub viable_so_far : (bytes : List ℕ) (pieces : List Piece) (splitting : Splitting) → StandsAfter bytes [] pieces splitting → IsViable bytes
+viable_so_far bytes pieces splitting stands = viable_by (cases_lt splitting.begun.start (length bytes)) where
+  after : IsAfter bytes bytes pieces splitting
+  after = stands bytes [] (sym (append-nil bytes))
+
+  rest : drop (length bytes) bytes ≡ []
+  rest = drop_of_length-le bytes (omega arith)
+
+  made : lexed (drop splitting.begun.start bytes) ≡ (last splitting.begun.part, length bytes - splitting.begun.start + 0)
+  made = after.stands.token ∙ ap (longer (length bytes - splitting.begun.start)) (ap (resumed splitting.begun.part) rest ∙ resumed_last splitting.begun.part)
+
+  viable_by : (splitting.begun.start < length bytes) ⊎ (length bytes ≤ splitting.begun.start) → IsViable bytes
+  viable_by (inl lt) =
+      token_viable (last splitting.begun.part) bytes pieces splitting.opens splitting.begun.start after.stands.stands lt (ap (λ (x : Token × ℕ). x.0) made)
+      (omega (arith, lt, ap (λ (x : Token × ℕ). x.1) made)) after.not_full (never_closes bytes pieces splitting stands)
+  viable_by (inr le) = whole_viable splitting.begun.start (omega (arith, le, after.stands.low)) after.stands.stands
 
 -- ---- the outermost
 

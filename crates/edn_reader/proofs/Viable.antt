@@ -287,7 +287,7 @@ clear_run : (tail : List ℕ) → Ends is_run (10 ∷ tail)
 unfolding class_of
 clear_run tail = refl
 
-viable_finished : {p : ℕ} {input a : List ℕ} {pieces : List Piece} {opens : List Open} → StandsOpen input pieces opens p a → 0 < length a → Finishing a → IsViable input
+pub viable_finished : {p : ℕ} {input a : List ℕ} {pieces : List Piece} {opens : List Open} → StandsOpen input pieces opens p a → 0 < length a → Finishing a → IsViable input
 viable_finished {p} {input} {a} {pieces} {opens} s some f =
     let c = complete (after_one opens) in
     let more = f.tail ++ (10 ∷ c.tail) in

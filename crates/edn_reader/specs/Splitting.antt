@@ -1,5 +1,5 @@
 -- What a splitter stands for, and what it says of the inputs that the bytes which it has taken can go on to be.
-use Rattle.std.specs.Prelude.{◌≡◌, ◌≤◌, ◌<◌, ◌+◌, ◌-◌, ℕ, Bool, true, false, List, [], ◌∷◌, ◌++◌, length, take, drop, Option, Some, None, Result, Ok, Err}
+use Rattle.std.specs.Prelude.{◌≡◌, ◌≢◌, ◌≤◌, ◌<◌, ◌+◌, ◌-◌, ℕ, Bool, true, false, List, [], ◌∷◌, ◌++◌, length, take, drop, Option, Some, None, Result, Ok, Err}
 use Rattle.edn_reader.specs.declared.fault.EdnFault.{EdnFault}
 use Rattle.edn_reader.specs.declared.nesting.Open.{Open}
 use Rattle.edn_reader.specs.declared.splitter.Taken.{Taken}
@@ -23,11 +23,18 @@ pub record Splitting : Type 0 where
 abbrev pub keep : Splitting → ℕ
 keep splitting = kept splitting.opens splitting.begun splitting.taken
 
--- It stands after the first bytes of an input, behind these elements.
+-- Whether so many are open that what has begun, which is sure to open one more, is too deep.
+abbrev pub IsFull : Bool → Begun → List Open → Type 0
+IsFull true begun opens = ((opener : Opener) × (last begun.part ≡ Opens opener)) × (length opens ≡ 64)
+IsFull false begun opens = (opener : Opener) → last begun.part ≡ Opens opener → length opens ≢ 64
+
+-- It stands after the first bytes of an input, behind these elements. What has begun is not too deep: a tag is only
+-- whole behind its name, but with its first byte it is one too many.
 pub record IsAfter (bytes input : List ℕ) (pieces : List Piece) (splitting : Splitting) : Type 0 where
   pub no_fault : splitting.fault ≡ None
   pub taken : splitting.taken ≡ length bytes
   pub stands : StandsWithin input (length bytes) pieces splitting.opens splitting.begun
+  pub not_full : IsFull false splitting.begun splitting.opens
 
 -- It stands after bytes, behind these elements, whatever follows those that come next. (An element that needs no
 -- closing byte, and was given, ends where the next byte does not go on with it: so that byte is known, and comes next.)
@@ -69,8 +76,3 @@ Finishes input pieces old (Err fault) new = (new.fault ≡ Some fault) × FaultB
 -- The same of whatever input ends there.
 abbrev pub EndsOn : Splitting → Result (Option (ℕ × ℕ)) EdnFault → Splitting → Type 0
 EndsOn old result new = (input : List ℕ) (pieces : List Piece) → IsAfter input input pieces old → Finishes input pieces old result new
-
--- So many are open that what has begun, which is sure to open one more, is too deep.
-abbrev pub IsFull : Bool → Begun → List Open → Type 0
-IsFull true begun opens = ((opener : Opener) × (last begun.part ≡ Opens opener)) × (length opens ≡ 64)
-IsFull false begun opens = Unit {0}

@@ -1,14 +1,15 @@
 //! Laws of the format. Each is proved, and does nothing.
 
-ghost use Rattle.std.specs.Prelude.{◌≡◌, ◌⊎◌, ℕ, List};
+ghost use Rattle.std.specs.Prelude.{◌≡◌, ◌⊎◌, ℕ, List, []};
 ghost use Rattle.std.specs.List.{AllByRecursion};
 ghost use Rattle.edn_reader.specs.declared.fault.EdnFault.{EdnFault};
 ghost use Rattle.edn_reader.specs.declared.element.Element.{Element};
 ghost use Rattle.edn_reader.specs.declared.element.ElementKind.TheVariants.{Vector, Map};
 ghost use Rattle.edn_reader.specs.Lent.{piece_of};
 ghost use Rattle.edn_reader.specs.Grammar.{Piece, IsElement};
-ghost use Rattle.edn_reader.specs.Text.{IsFront, IsText};
+ghost use Rattle.edn_reader.specs.Text.{IsFront, IsText, IsViable};
 ghost use Rattle.edn_reader.specs.Fault.{FaultOf};
+ghost use Rattle.edn_reader.specs.Splitting.{Splitting, StandsAfter};
 ghost use Rattle.edn_reader.specs.Pairs.{values_of, HasPairs, HasMembers};
 
 /// A text has one division into elements.
@@ -50,4 +51,10 @@ pub fn members_of_vector()
     ensures some { (piece : Piece) → IsElement piece → piece.core.kind ≡ Vector → (members : List Piece) × HasMembers piece members }
     ensures one { (piece : Piece) (firsts seconds : List Piece) → HasMembers piece firsts → HasMembers piece seconds → firsts ≡ seconds }
     ensures elements { (piece : Piece) (members : List Piece) → HasMembers piece members → AllByRecursion IsElement members }
+{}
+
+/// While a splitter has met no fault, the bytes that it has taken can go on to be a text: a fault that their input has is
+/// met by a later byte, or by its end.
+pub fn no_fault_so_far()
+    ensures { (bytes : List ℕ) (pieces : List Piece) (splitting : Splitting) → StandsAfter bytes [] pieces splitting → IsViable bytes }
 {}

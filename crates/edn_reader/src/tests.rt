@@ -1,7 +1,7 @@
 //! Rows of a text and what is told of it. In a text `%` and two digits stand for the byte that they are;
 //! bars part it, and a part behind a number and a star is written so many times.
 
-ghost use Rattle.std.specs.Prelude.{◌≤◌};
+ghost use Rattle.std.specs.Prelude.{◌≤◌, ◌<◌};
 
 use super::*;
 use std::alloc::{AllocError, Global};
@@ -129,6 +129,102 @@ fn told(alloc: Global, input: &[u8]) -> Result<String, AllocError> {
     }
     if !is_again(reader.next(), fault) || !is_again(reader.next(), fault) {
         told.push_str(" once")?;
+    }
+    Ok(told)
+}
+
+/// The places of each element of an input, and its fault or its end.
+fn spans_told(alloc: Global, input: &[u8]) -> Result<String, AllocError> {
+    let mut told = String::new(alloc);
+    let mut reader = Reader::new(alloc, input);
+    for _ in input {
+        match reader.next() {
+            Ok(Some(element)) => {
+                let (start, end) = element.span();
+                write!(told, "{start} {end}, ")?;
+            }
+            Ok(None) => break,
+            Err(fault) => {
+                write!(told, "{fault}")?;
+                return Ok(told);
+            }
+        }
+    }
+    told.push_str("end")?;
+    Ok(told)
+}
+
+/// The same of an element that a splitter gave, and whether it kept its bytes until then and no longer.
+fn tell_span(told: &mut String, span: (u64, u64), kept: u64, keeps: u64) -> Result<(), AllocError> {
+    write!(told, "{} {}, ", span.0, span.1)?;
+    if kept > span.0 || keeps != span.1 {
+        told.push_str("not kept, ")?;
+    }
+    Ok(())
+}
+
+/// Takes a piece whole, and tells what ended in it.
+fn tell_piece(
+    told: &mut String,
+    splitter: &mut Splitter,
+    piece: &[u8],
+) -> Result<Option<EdnFault>, Fail> {
+    let mut left = piece;
+    for _ in 0..=piece.len() {
+        let kept = splitter.keep_from();
+        let before = splitter.taken();
+        if kept > before {
+            return Err("a place past what was taken".into());
+        }
+        if before > u32::MAX as u64 || left.len() > u32::MAX as usize {
+            return Err("a long input".into());
+        }
+        match splitter.take(left) {
+            Ok(taken) => {
+                left = left.get(taken.used..).ok_or("more used than there was")?;
+                if splitter.taken() != before + taken.used as u64 || splitter.keep_from() < kept {
+                    told.push_str("miscounted, ")?;
+                }
+                match taken.whole {
+                    Some(span) => tell_span(told, span, kept, splitter.keep_from())?,
+                    None if left.is_empty() => return Ok(None),
+                    None => return Err("a piece that is not used".into()),
+                }
+            }
+            Err(fault) => return Ok(Some(fault)),
+        }
+    }
+    Err("a piece without end".into())
+}
+
+/// What a splitter tells of an input, which it takes up to a cut and from there on in pieces of so many bytes.
+fn pieces_told(alloc: Global, input: &[u8], cut: usize, size: usize) -> Result<String, Fail>
+    requires { 0 < size }
+{
+    let mut told = String::new(alloc);
+    let mut splitter = Splitter::new(alloc);
+    let (front, back) = input.split_at_checked(cut).ok_or("a cut")?;
+    let mut fault = tell_piece(&mut told, &mut splitter, front)?;
+    for piece in back.chunks(size) {
+        if fault.is_none() {
+            fault = tell_piece(&mut told, &mut splitter, piece)?;
+        }
+    }
+    let kept = splitter.keep_from();
+    match splitter.end() {
+        Ok(Some(span)) => tell_span(&mut told, span, kept, splitter.keep_from())?,
+        Ok(None) => {}
+        Err(met) => fault = Some(met),
+    }
+    match fault {
+        Some(met) => {
+            let again = tell_piece(&mut told, &mut splitter, b"a")?;
+            write!(told, "{met}")?;
+            if again != Some(met) || splitter.end() != Err(met) {
+                told.push_str(" once")?;
+            }
+        }
+        None => told.push_str("end")?,
     }
     Ok(told)
 }
@@ -308,6 +404,35 @@ a] => Atom 0 1, E2 StrayClose at 1
 #[test]
 fn rows_are_told(rt: HostRuntime) -> Result<(), Fail> {
     each_is_told(&rt, ROWS)
+}
+
+/// Each row's text is taken whole, in pieces of one byte and in two pieces with each single cut; a long one with a cut
+/// behind the brackets that it may begin with, and in pieces of 4,096 bytes.
+#[test]
+fn rows_are_told_in_pieces(rt: HostRuntime) -> Result<(), Fail> {
+    for row in ROWS.lines() {
+        let (text, _) = row.split_once(" => ").ok_or("a row")?;
+        let input = written_out(rt.alloc(), text)?;
+        let whole = spans_told(rt.alloc(), &input)?;
+        let (first, last, size) = if input.len() < 300 {
+            (0, input.len(), 1)
+        } else {
+            (66, 66, 4096)
+        };
+        let found = pieces_told(rt.alloc(), &input, 0, size)?;
+        assert!(rt;
+            found.as_str() == whole.as_str(),
+            "{text} in small pieces => {found}"
+        );
+        for cut in first..=last {
+            let found = pieces_told(rt.alloc(), &input, cut, 1 << 20)?;
+            assert!(rt;
+                found.as_str() == whole.as_str(),
+                "{text} cut at {cut} => {found}"
+            );
+        }
+    }
+    Ok(())
 }
 
 /// Forty vectors, one in the other, between two atoms: what stands open has to grow twice.

@@ -31,7 +31,8 @@ returns-else-is_full-clause-takes c =
     let inside = c.self.inside in
     let old : Splitting = record { taken = inside.taken; begun = inside.begun; opens = inside.nesting; fault = inside.fault } in
     let said = rw c.in-Ok-Within.field-0-is at c.in-Ok-Within.ensures in
-    rw (← c.self.view_is) (takes_within c.args.piece.now old c.in-Ok-Within.begun c.read_piece.new.nesting said.reads)
+    let few = subst (λ (t : Bool). IsFull t c.in-Ok-Within.begun c.read_piece.new.nesting) c.if-is_full.false c.is_full.ensures in
+    rw (← c.self.view_is) (takes_within c.args.piece.now old c.in-Ok-Within.begun c.read_piece.new.nesting few said.reads)
 
 pub returns-in-Err-clause-takes : goal.returns-in-Err-clause-takes
 returns-in-Err-clause-takes c =
