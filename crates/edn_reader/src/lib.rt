@@ -13,8 +13,20 @@
 //! let end = reader.next()?;                     // None, and None again
 //! ```
 //!
-//! The first row of `tests.rt` is this text; its other rows have each form and each fault. Begin with `Reader::next`:
-//! its clauses name the grammar (specs/Grammar.antt), the texts (Text.antt) and the first fault (Fault.antt).
+//! A [`Splitter`] finds the same elements where the text comes in pieces, and tells their places:
+//!
+//! ```text
+//! let mut splitter = Splitter::new(alloc);
+//! let taken = splitter.take(b"{:f :wri")?;      // all 8 bytes used, and no element has ended
+//! let taken = splitter.take(b"te :k 7} a")?;    // 8 of them used: an element from 0 to 16
+//! let kept = splitter.keep_from();              // 16: no later element begins before it
+//! let taken = splitter.take(b" a")?;            // all used; the Atom may go on
+//! let last = splitter.end()?;                   // an element from 17 to 18
+//! ```
+//!
+//! The first row of `tests.rt` is the first text; its other rows have each form and each fault. Begin with `Reader::next`:
+//! its clauses name the grammar (specs/Grammar.antt), the texts (Text.antt) and the first fault (Fault.antt); those of
+//! `Splitter` stand in Splitting.antt.
 //! `laws` has what follows: one division into elements, one fault, a text or a fault.
 #![tactic(auto)]
 
