@@ -15,5 +15,6 @@ pub mod Within
 pub mod Splitting
 pub mod Skipping
 pub mod Views
+pub mod Apart
 pub mod Integers
 pub mod Lent

@@ -30,6 +30,7 @@
 //! `laws` has what follows: one division into elements, one fault, a text or a fault.
 #![tactic(auto)]
 
+mod alone;
 mod bytes;
 mod element;
 mod fault;
