@@ -13,12 +13,14 @@ mod fed;
 mod halves;
 pub mod laws;
 mod log;
+mod pages;
 mod progress;
 mod run;
 mod trace;
 
 pub use fault::RunFault;
 pub use log::{BreakCode, Broken, Code, Line, Log, What};
+pub use pages::Pages;
 pub use run::{Run, run_traces};
 
 #[cfg(test)]

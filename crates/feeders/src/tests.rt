@@ -2,6 +2,7 @@
 //! is found at each gate.
 
 mod gates;
+mod pages;
 
 ghost use Rattle.std.specs.Prelude.{◌≤◌};
 
