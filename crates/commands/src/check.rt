@@ -64,7 +64,7 @@ pub fn check<'a, A: AllocGlobal + Threads + Wait + Sync, F: Files, W: Write>(
         Ok(run) => run,
         Err(fault) => return Err(CommandFault::of_run(fault)),
     };
-    match report(alloc, &tower, &run, order, out) {
+    match report(rt, alloc, &tower, &run, order, out) {
         Ok(()) => Ok(status_after(&tower, &run)),
         Err(fault) => Err(CommandFault::of_report(fault)),
     }

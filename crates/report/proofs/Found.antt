@@ -1,6 +1,7 @@
 -- What is found of the registers, by number.
 use Rattle.std.proofs.Common.{◌≡◌, ◌∙◌, ◌≤◌, ◌<◌, ℕ, zero, suc, ◌+◌, Bool, true, false, List, [], ◌∷◌, ◌++◌, length, Option, Some, None, refl, sym, ap, subst, arith}
 use Rattle.std.proofs.lemmas.Bool.{true≢false, false≢true}
+use Rattle.std.proofs.lemmas.List.{length-append, map-append}
 use Rattle.std.proofs.lemmas.Option.{none-some, same_Some, slice_get_past}
 use Rattle.std.specs.Prelude.{IsSomeAnd, IsSome, option_map, is_some, is_none, not}
 use Rattle.std.specs.Option.{option_map_or}
@@ -10,7 +11,7 @@ use Rattle.intervals.specs.Kind.{Holds}
 use Rattle.tower_file.specs.Contents.{Contents, Register}
 use Rattle.shards.specs.Closing.{Ended, book_of}
 use Rattle.report.specs.declared.finding.Finding.{Finding}
-use Rattle.report.specs.Finding.{AreFindings, IsFindingOf, IsOfTower, fails_in, holds_in}
+use Rattle.report.specs.Finding.{AreFailing, AreFindings, IsFindingOf, IsOfTower, fails_of, fails_in, holds_in}
 use Rattle.report.specs.Culprit.{Keeps, Fails}
 
 no_book : (book : Option Claimed) → option_map (λ held. held.claim) book ≡ None → book ≡ None
@@ -42,12 +43,30 @@ finding_at closed first (head ∷ findings) zero number finding at found is =
     subst (λ (x : Finding). IsFindingOf (book_of closed number) x) (same_Some head finding is) (subst (λ (n : ℕ). IsFindingOf (book_of closed n) head) (sym here) found.0)
 finding_at closed first (head ∷ findings) (suc k) number finding at found is = finding_at closed (first + 1) findings k number finding (omega arith) found.1 is
 
--- one more finding
-pub found_more : (closed : List Ended) (first : ℕ) (findings : List Finding) (number : ℕ) (finding : Finding) → number ≡ first + length findings → AreFindings closed first findings → IsFindingOf (book_of closed number) finding → AreFindings closed first (findings ++ finding ∷ [])
-found_more closed first [] number finding at found is =
-    let here : number ≡ first = omega arith in
-    (subst (λ (n : ℕ). IsFindingOf (book_of closed n) finding) here is, tt)
-found_more closed first (head ∷ findings) number finding at found is = (found.0, found_more closed (first + 1) findings number finding (omega arith) found.1 is)
+pub found_joined : (closed : List Ended) (first middle : ℕ) (findings more : List Finding) → first + length findings ≡ middle → AreFindings closed first findings → AreFindings closed middle more → AreFindings closed first (findings ++ more)
+found_joined closed first middle [] more many found rest =
+    let here : middle ≡ first = omega arith in
+    subst (λ (n : ℕ). AreFindings closed n more) here rest
+found_joined closed first middle (head ∷ findings) more many found rest =
+    (found.0, found_joined closed (first + 1) middle findings more (omega arith) found.1 rest)
+
+-- of one register
+abbrev pub one_failing : (closed : List Ended) (number : ℕ) (finding : Finding) → IsFindingOf (book_of closed number) finding → AreFailing closed number (number + 1) (is_some finding.witness ∷ [])
+one_failing closed number finding is = record { findings = finding ∷ []; many = omega arith; found = (is, tt); fails_are = refl }
+
+-- of registers and of those that come next
+abbrev pub failing_joined : (closed : List Ended) (first middle last : ℕ) (fails more : List Bool) → AreFailing closed first middle fails → AreFailing closed middle last more → AreFailing closed first last (fails ++ more)
+failing_joined closed first middle last fails more are rest = record {
+  findings = are.findings ++ rest.findings;
+  many = omega (arith, are.many, rest.many, length-append are.findings rest.findings);
+  found = found_joined closed first middle are.findings rest.findings are.many are.found rest.found;
+  fails_are = (λ i. are.fails_are i ++ rest.fails_are i) ∙ sym (map-append (λ (finding : Finding). is_some finding.witness) are.findings rest.findings);
+}
+
+-- one register more
+pub failing_more : (closed : List Ended) (number : ℕ) (finding : Finding) (old new : List Bool) → IsFindingOf (book_of closed number) finding → new ≡ old ++ is_some finding.witness ∷ [] → AreFailing closed 0 number old → AreFailing closed 0 (number + 1) new
+failing_more closed number finding old new is more so_far =
+    subst (λ (fails : List Bool). AreFailing closed 0 (number + 1) fails) (sym more) (failing_joined closed 0 number (number + 1) old (is_some finding.witness ∷ []) so_far (one_failing closed number finding is))
 
 -- what a finding says of its book
 
@@ -84,25 +103,35 @@ nothing_past (finding ∷ findings) (suc number) is =
     let past : length findings ≤ number = nothing_past findings number is in
     omega arith
 
-pub fails_by : (closed : List Ended) (findings : List Finding) (number : ℕ) → AreFindings closed 0 findings → fails_in findings number ≡ true → Fails closed number
+fails_found : (findings : List Finding) (number : ℕ) → fails_in (fails_of findings) number ≡ option_map_or (λ (finding : Finding). is_some finding.witness) (slice_get findings number) false
+fails_found [] number = refl
+fails_found (finding ∷ findings) zero = refl
+fails_found (finding ∷ findings) (suc number) = fails_found findings number
+
+holds_found : (findings : List Finding) (number : ℕ) → holds_in (fails_of findings) number ≡ option_map_or (λ (finding : Finding). is_none finding.witness) (slice_get findings number) false
+holds_found [] number = refl
+holds_found (finding ∷ findings) zero = refl
+holds_found (finding ∷ findings) (suc number) = holds_found findings number
+
+pub fails_by : (closed : List Ended) (findings : List Finding) (number : ℕ) → AreFindings closed 0 findings → fails_in (fails_of findings) number ≡ true → Fails closed number
 fails_by closed findings number found is =
     let by : (found_there : Option Finding) → slice_get findings number ≡ found_there → option_map_or (λ (finding : Finding). is_some finding.witness) found_there false ≡ true → Fails closed number =
     λ found_there. elim found_there as (λ (o : Option Finding). slice_get findings number ≡ o → option_map_or (λ (finding : Finding). is_some finding.witness) o false ≡ true → Fails closed number) [
       | None ↦ λ at some. absurd (false≢true some)
       | Some finding ↦ λ at some. fails_from (book_of closed number) finding (finding_at closed 0 findings number number finding (omega arith) found at) some
     ] in
-    by (slice_get findings number) refl is
+    by (slice_get findings number) refl (sym (fails_found findings number) ∙ is)
 
-pub holds_by : (closed : List Ended) (findings : List Finding) (number : ℕ) → AreFindings closed 0 findings → holds_in findings number ≡ true → Keeps closed number
+pub holds_by : (closed : List Ended) (findings : List Finding) (number : ℕ) → AreFindings closed 0 findings → holds_in (fails_of findings) number ≡ true → Keeps closed number
 holds_by closed findings number found is =
     let by : (found_there : Option Finding) → slice_get findings number ≡ found_there → option_map_or (λ (finding : Finding). is_none finding.witness) found_there false ≡ true → Keeps closed number =
     λ found_there. elim found_there as (λ (o : Option Finding). slice_get findings number ≡ o → option_map_or (λ (finding : Finding). is_none finding.witness) o false ≡ true → Keeps closed number) [
       | None ↦ λ at some. absurd (false≢true some)
       | Some finding ↦ λ at some. holds_from (book_of closed number) finding (finding_at closed 0 findings number number finding (omega arith) found at) some
     ] in
-    by (slice_get findings number) refl is
+    by (slice_get findings number) refl (sym (holds_found findings number) ∙ is)
 
-pub by_fails : (tower : Contents) (closed : List Ended) (findings : List Finding) (number : ℕ) → IsOfTower tower closed → length findings ≡ length tower.registers → AreFindings closed 0 findings → Fails closed number → fails_in findings number ≡ true
+pub by_fails : (tower : Contents) (closed : List Ended) (findings : List Finding) (number : ℕ) → IsOfTower tower closed → length findings ≡ length tower.registers → AreFindings closed 0 findings → Fails closed number → fails_in (fails_of findings) number ≡ true
 by_fails tower closed findings number of_tower many found fails =
     let by : (found_there : Option Finding) → slice_get findings number ≡ found_there → option_map_or (λ (finding : Finding). is_some finding.witness) found_there false ≡ true =
     λ found_there. elim found_there as (λ (o : Option Finding). slice_get findings number ≡ o → option_map_or (λ (finding : Finding). is_some finding.witness) o false ≡ true) [
@@ -111,9 +140,9 @@ by_fails tower closed findings number of_tower many found fails =
           absurd (subst (λ (book : Option Claimed). IsSomeAnd book (λ held. ¬ Holds held.claim held.ops)) (past_all tower closed number of_tower (omega arith)) fails)
       | Some finding ↦ λ at. fails_to (book_of closed number) finding (finding_at closed 0 findings number number finding (omega arith) found at) fails
     ] in
-    by (slice_get findings number) refl
+    fails_found findings number ∙ by (slice_get findings number) refl
 
-pub by_holds : (tower : Contents) (closed : List Ended) (findings : List Finding) (number : ℕ) → IsOfTower tower closed → length findings ≡ length tower.registers → AreFindings closed 0 findings → Keeps closed number → holds_in findings number ≡ true
+pub by_holds : (tower : Contents) (closed : List Ended) (findings : List Finding) (number : ℕ) → IsOfTower tower closed → length findings ≡ length tower.registers → AreFindings closed 0 findings → Keeps closed number → holds_in (fails_of findings) number ≡ true
 by_holds tower closed findings number of_tower many found keeps =
     let by : (found_there : Option Finding) → slice_get findings number ≡ found_there → option_map_or (λ (finding : Finding). is_none finding.witness) found_there false ≡ true =
     λ found_there. elim found_there as (λ (o : Option Finding). slice_get findings number ≡ o → option_map_or (λ (finding : Finding). is_none finding.witness) o false ≡ true) [
@@ -122,4 +151,4 @@ by_holds tower closed findings number of_tower many found keeps =
           absurd (subst (λ (book : Option Claimed). IsSomeAnd book (λ held. Holds held.claim held.ops)) (past_all tower closed number of_tower (omega arith)) keeps)
       | Some finding ↦ λ at. holds_to (book_of closed number) finding (finding_at closed 0 findings number number finding (omega arith) found at) keeps
     ] in
-    by (slice_get findings number) refl
+    holds_found findings number ∙ by (slice_get findings number) refl

@@ -3,4 +3,5 @@ pub mod Listings
 pub mod Found
 pub mod Blamed
 pub mod Orders
-pub mod Sections
+pub mod Crosses
+pub mod Pieces

@@ -6,7 +6,7 @@ use Rattle.intervals.specs.Kind.{Holds}
 use Rattle.tower_file.specs.Contents.{Contents, Register}
 use Rattle.shards.specs.Closing.{Ended, book_of}
 use Rattle.report.specs.declared.finding.Finding.{Finding}
-use Rattle.report.specs.Finding.{fails_in, holds_in}
+use Rattle.report.specs.Finding.{fails_of, fails_in, holds_in}
 
 -- the register of this number holds, for what stands when its auditor is closed
 abbrev pub Keeps : List Ended → ℕ → Type 0
@@ -29,18 +29,18 @@ pub record AreCulprits (tower : Contents) (closed : List Ended) (culprits : List
   pub each : All (λ culprit. IsCulprit tower closed culprit.0) culprits
   pub all : (number : ℕ) → IsCulprit tower closed number → Contains culprits (record { 0 = number })
 
--- the same as a test, by what is found of all registers
-abbrev pub is_culprit : List Finding → ℕ → Register → Bool
-is_culprit findings number register = fails_in findings number && list_all (λ part. holds_in findings part.0) register.parts
+-- the same as a test, by which registers fail
+abbrev pub is_culprit : List Bool → ℕ → Register → Bool
+is_culprit fails number register = fails_in fails number && list_all (λ part. holds_in fails part.0) register.parts
 
 -- the culprits among registers, of which the first has this number
-abbrev pub culprits_from : List Finding → ℕ → List Register → List RegId
-culprits_from findings number [] = []
-culprits_from findings number (register ∷ registers) =
-    if is_culprit findings number register
-    then record { 0 = number } ∷ culprits_from findings (number + 1) registers
-    else culprits_from findings (number + 1) registers
+abbrev pub culprits_from : List Bool → ℕ → List Register → List RegId
+culprits_from fails number [] = []
+culprits_from fails number (register ∷ registers) =
+    if is_culprit fails number register
+    then record { 0 = number } ∷ culprits_from fails (number + 1) registers
+    else culprits_from fails (number + 1) registers
 
--- the culprits of a tower
+-- the culprits of a tower, by what is found of its registers
 abbrev pub culprits_of : Contents → List Finding → List RegId
-culprits_of tower findings = culprits_from findings 0 tower.registers
+culprits_of tower findings = culprits_from (fails_of findings) 0 tower.registers

@@ -1,5 +1,5 @@
 -- What is found of the registers of a tower when its auditor is closed.
-use Rattle.std.specs.Prelude.{◌≡◌, ◌↔◌, ◌+◌, ℕ, Bool, false, List, [], ◌∷◌, length, Option, Some, None, option_map, is_none, is_some, IfSome, IsNone}
+use Rattle.std.specs.Prelude.{◌≡◌, ◌↔◌, ◌+◌, ℕ, Bool, false, List, [], ◌∷◌, length, Option, Some, None, map, not, option_map, is_some, IfSome, IsNone}
 use Rattle.std.specs.Option.{option_map_or}
 use Rattle.std.specs.List.{slice_get}
 use Rattle.intervals.specs.Terms.{Claimed}
@@ -30,10 +30,21 @@ abbrev pub AreFindings : List Ended → ℕ → List Finding → Type 0
 AreFindings closed number [] = Unit {0}
 AreFindings closed number (finding ∷ findings) = IsFindingOf (book_of closed number) finding × AreFindings closed (number + 1) findings
 
--- the register of this number fails
-abbrev pub fails_in : List Finding → ℕ → Bool
-fails_in findings number = option_map_or (λ finding. is_some finding.witness) (slice_get findings number) false
+-- which of the registers fail, by what is found of them
+abbrev pub fails_of : List Finding → List Bool
+fails_of findings = map (λ finding. is_some finding.witness) findings
+
+-- by which registers fail, the register of this number fails
+abbrev pub fails_in : List Bool → ℕ → Bool
+fails_in fails number = option_map_or (λ failed. failed) (slice_get fails number) false
 
 -- it holds
-abbrev pub holds_in : List Finding → ℕ → Bool
-holds_in findings number = option_map_or (λ finding. is_none finding.witness) (slice_get findings number) false
+abbrev pub holds_in : List Bool → ℕ → Bool
+holds_in fails number = option_map_or not (slice_get fails number) false
+
+-- which of the registers from one number to another fail
+pub record AreFailing (closed : List Ended) (first last : ℕ) (fails : List Bool) : Type 0 where
+  pub findings : List Finding
+  pub many : first + length findings ≡ last
+  pub found : AreFindings closed first findings
+  pub fails_are : fails ≡ fails_of findings

@@ -4,6 +4,7 @@ pub mod Listing
 pub mod Finding
 pub mod Culprit
 pub mod Section
+pub mod Piece
 pub mod Notes
 pub mod Order
 pub mod Report

@@ -1,9 +1,9 @@
 //! What is found of the registers when their auditor is closed.
 
-ghost use Rattle.std.specs.Prelude.{◌≡◌, IfOk, IsSome, vec_len, length};
+ghost use Rattle.std.specs.Prelude.{◌≡◌, IfOk, IsSome, length};
 ghost use Rattle.register_book.specs.Kept.{claimed_of};
 ghost use Rattle.shards.specs.Closing.{book_of};
-ghost use Rattle.report.specs.Finding.{AreFindings, IsFinding, IsFindingOf, IsOfTower, fails_in, holds_in};
+ghost use Rattle.report.specs.Finding.{AreFailing, IsFinding, IsFindingOf, IsOfTower, fails_in, holds_in};
 
 use intervals::RegId;
 use register_book::{RegisterBook, Witness};
@@ -20,24 +20,21 @@ pub struct Finding<'t> {
     pub witness: Option<Witness<'t>>,
 }
 
-/// What is found of each register, by number.
-pub fn find_all<'t>(
-    alloc: Global,
-    tower: &Tower,
-    closed: &Closed<'t>,
-) -> Result<Vec<Finding<'t>>, AllocError>
+/// Which registers fail, by number.
+pub fn find_failing(alloc: Global, tower: &Tower, closed: &Closed) -> Result<Vec<bool>, AllocError>
     requires of_tower { IsOfTower tower.now closed.now }
-    ensures many { IfOk result (λ findings. vec_len findings ≡ length tower.now.registers) }
-    ensures found { IfOk result (λ findings. AreFindings closed.now 0 findings.items) }
+    ensures { IfOk result (λ failing. AreFailing closed.now 0 (length tower.now.registers) failing.items) }
 {
-    let mut findings = Vec::with_capacity(alloc, tower.len())?;
+    let mut failing = Vec::new(alloc);
     for number in 0..tower.len() {
-        findings.push_reserved(finding_of(closed, RegId(number as u32)));
+        let finding = finding_of(closed, RegId(number as u32));
+        failing.push(finding.witness.is_some())?;
     }
-    Ok(findings)
+    Ok(failing)
 }
 
-fn finding_of<'t>(closed: &Closed<'t>, id: RegId) -> Finding<'t>
+/// What is found of a register that is there.
+pub fn finding_of<'t>(closed: &Closed<'t>, id: RegId) -> Finding<'t>
     requires there { IsSome (book_of closed.now id.0) }
     ensures { IsFindingOf (book_of closed.now id.0) result }
 {
@@ -47,7 +44,6 @@ fn finding_of<'t>(closed: &Closed<'t>, id: RegId) -> Finding<'t>
     }
 }
 
-/// What is found of a register.
 fn found_in<'t>(book: &RegisterBook<'t>) -> Finding<'t>
     ensures { IsFinding (claimed_of book.now) result }
 {
@@ -58,21 +54,21 @@ fn found_in<'t>(book: &RegisterBook<'t>) -> Finding<'t>
 }
 
 /// Whether the register of that number fails.
-pub fn fails(findings: &[Finding], number: usize) -> bool
-    ensures { result ≡ fails_in findings.now number }
+pub fn fails(failing: &[bool], number: usize) -> bool
+    ensures { result ≡ fails_in failing.now number }
 {
-    match findings.get(number) {
-        Some(finding) => finding.witness.is_some(),
+    match failing.get(number) {
+        Some(failed) => *failed,
         None => false,
     }
 }
 
 /// Whether it holds.
-pub fn holds(findings: &[Finding], number: usize) -> bool
-    ensures { result ≡ holds_in findings.now number }
+pub fn holds(failing: &[bool], number: usize) -> bool
+    ensures { result ≡ holds_in failing.now number }
 {
-    match findings.get(number) {
-        Some(finding) => finding.witness.is_none(),
+    match failing.get(number) {
+        Some(failed) => !*failed,
         None => false,
     }
 }

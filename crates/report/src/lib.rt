@@ -1,7 +1,7 @@
 //! The report of a run: for each register its verdict and the operations that show why it fails, the registers
 //! to blame, the answers and refusals of each trace, and an order where one is asked for.
 //!
-//!     report(alloc, &tower, &run, None, &mut out)?
+//!     report(rt, alloc, &tower, &run, None, &mut out)?
 //!     culprits(alloc, &tower, &run.closed)?          // the registers that fail while their parts hold
 //!     tower_text(alloc, &tower)?                     // a line for each register of a tower
 //!
@@ -17,6 +17,7 @@ mod listing;
 mod names;
 mod notes;
 mod order;
+mod piece;
 mod section;
 mod text;
 

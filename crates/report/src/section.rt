@@ -1,12 +1,12 @@
 //! What is printed of a register.
 
-ghost use Rattle.std.specs.Prelude.{◌≡◌, ◌++◌, ◌∷◌, [], OnOk, string_bytes, is_none, length, flat_map, codes, if◌then◌else◌};
+ghost use Rattle.std.specs.Prelude.{◌≡◌, ◌++◌, ◌∷◌, [], OnOk, string_bytes, is_none, flat_map, codes, if◌then◌else◌};
 ghost use Rattle.std.specs.List.{slice_get};
 ghost use Rattle.std.specs.Option.{option_map_or};
 ghost use Rattle.intervals.specs.Operation.{same_id};
 ghost use Rattle.register_book.specs.Fault.{ops_at};
 ghost use Rattle.report.specs.Names.{id_text};
-ghost use Rattle.report.specs.Section.{fault_line, holder_text, is_one as is_one_operation, part_line, part_line_of, part_lines, register_line, section_text, sections_text, shown_of, witness_text};
+ghost use Rattle.report.specs.Section.{fault_line, holder_text, is_one as is_one_operation, part_line, part_line_of, part_lines, register_line, section_text, shown_of, witness_text};
 
 use crate::finding::Finding;
 use crate::names::{kind_word, name_of, push_id, push_printed, verdict_word};
@@ -15,23 +15,8 @@ use register_book::{Fault, Side, Witness};
 use std::alloc::AllocError;
 use tower_file::Tower;
 
-/// The lines of all registers, by number.
-pub fn push_sections(
-    text: &mut String,
-    tower: &Tower,
-    findings: &[Finding],
-) -> Result<(), AllocError>
-    requires many { length findings.now ≡ length tower.now.registers }
-    ensures { OnOk result (string_bytes text.new ≡ string_bytes text.old ++ sections_text tower.now.registers findings.now) }
-{
-    for number in 0..tower.len() {
-        push_section(text, tower, RegId(number as u32), &findings[number])?;
-    }
-    Ok(())
-}
-
 /// The lines of a register; nothing where there is none of that number.
-fn push_section(
+pub fn push_section(
     text: &mut String,
     tower: &Tower,
     id: RegId,

@@ -9,21 +9,22 @@ ghost use Rattle.report.specs.Report.{IsReport, culprit_line};
 
 use crate::culprit::culprits_in;
 use crate::fault::ReportFault;
-use crate::finding::find_all;
 use crate::names::{name_of, push_printed};
 use crate::notes::push_logs;
 use crate::order::{order_of, push_order};
-use crate::section::push_sections;
+use crate::piece::{Piece, sections};
 use feeders::Run;
 use intervals::{OpId, RegId};
 use shards::Closed;
 use std::alloc::{AllocError, Global};
 use std::io::Write;
+use std::thread::Threads;
 use tower_file::Tower;
 
 /// Writes the report of a run over the registers of a tower, with the order of a register where one is asked for,
 /// in one write and one flush. The run and the register have to be of the tower.
-pub fn report<W: Write>(
+pub fn report<R: Threads + Sync, W: Write>(
+    rt: &R,
     alloc: Global,
     tower: &Tower,
     run: &Run,
@@ -35,13 +36,14 @@ pub fn report<W: Write>(
     ensures report { OnOk result ((text : List ℕ) × IsReport tower.now run.now.closed run.now.logs.items order text × Appends (W.contents out.old) (W.contents out.new) text) }
     ensures memory { result ≡ Err ReportFault.Memory → out.new ≡ out.old }
 {
-    let text = report_text(alloc, tower, run, order)?;
+    let text = report_text(rt, alloc, tower, run, order)?;
     out.write_all(text.as_bytes())?;
     out.flush()?;
     Ok(())
 }
 
 fn report_text(
+    rt: &(impl Threads + Sync),
     alloc: Global,
     tower: &Tower,
     run: &Run,
@@ -52,10 +54,8 @@ fn report_text(
     ensures report { IfOk result (λ text. IsReport tower.now run.now.closed run.now.logs.items order (string_bytes text)) }
     ensures memory { IfErr result (λ fault. fault ≡ ReportFault.Memory) }
 {
-    let findings = find_all(alloc, tower, &run.closed)?;
-    let culprits = culprits_in(alloc, tower, &findings)?;
-    let mut text = String::new(alloc);
-    push_sections(&mut text, tower, &findings)?;
+    let Piece { mut text, failing } = sections(rt, alloc, tower, &run.closed)?;
+    let culprits = culprits_in(alloc, tower, &failing)?;
     push_culprits(&mut text, tower, &culprits)?;
     push_logs(&mut text, tower, &run.logs)?;
     push_asked(&mut text, alloc, tower, &run.closed, order)?;
