@@ -82,6 +82,7 @@ pub fn sections(
     Ok(whole)
 }
 
+/// The pieces, in order. Each is worth a thread of its own.
 fn pieces(
     rt: &(impl Threads + Sync),
     alloc: Global,
