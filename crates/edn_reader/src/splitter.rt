@@ -1,6 +1,6 @@
 //! The splitter: a reader over pieces, which tells where the elements of the whole begin and end.
 
-ghost use Rattle.std.specs.Prelude.{◌≡◌, ◌+◌, ◌<◌, ◌^◌, List, [], length, Some, Err, IfSome, ℕ};
+ghost use Rattle.std.specs.Prelude.{◌≡◌, ◌+◌, ◌≤◌, ◌<◌, ◌^◌, List, [], length, Some, Err, IfOk, IfSome, ℕ};
 ghost use Rattle.edn_reader.specs.Splitting.{IsFull};
 
 use crate::fault::EdnFault;
@@ -91,6 +91,7 @@ impl Splitter {
     pub fn take(&mut self, piece: &[u8]) -> Result<Taken, EdnFault>
         requires { self.old.taken + length piece.now < 2 ^ 64 }
         ensures takes { TakesOn piece.now self.old result self.new }
+        ensures counted { IfOk result (λ taken. (taken.used ≤ length piece.now) × (self.new.taken ≡ self.old.taken + taken.used)) }
         ensures again { IfSome self.old.fault (λ fault. (result ≡ Err fault) × (self.new ≡ self.old)) }
     {
         if let Some(fault) = self.fault {
