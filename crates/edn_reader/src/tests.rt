@@ -209,6 +209,17 @@ fn tell_piece(
     Err("a piece without end".into())
 }
 
+/// The fault of one byte more.
+fn fault_of_more(splitter: &mut Splitter) -> Option<EdnFault> {
+    if splitter.taken() > u32::MAX as u64 {
+        return None;
+    }
+    match splitter.take(b"a") {
+        Ok(_) => None,
+        Err(fault) => Some(fault),
+    }
+}
+
 /// What a splitter tells of an input, which it takes up to a cut and from there on in pieces of so many bytes.
 fn pieces_told(alloc: Global, input: &[u8], cut: usize, size: usize) -> Result<String, Fail>
     requires { 0 < size }
@@ -230,9 +241,8 @@ fn pieces_told(alloc: Global, input: &[u8], cut: usize, size: usize) -> Result<S
     }
     match fault {
         Some(met) => {
-            let again = tell_piece(&mut told, &mut splitter, b"a")?;
             write!(told, "{met}")?;
-            if again != Some(met) || splitter.end() != Err(met) {
+            if fault_of_more(&mut splitter) != Some(met) || splitter.end() != Err(met) {
                 told.push_str(" once")?;
             }
         }
