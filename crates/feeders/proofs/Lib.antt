@@ -1,6 +1,8 @@
 pub mod Items
 pub mod Doing
+pub mod Holding
 pub mod Going
+pub mod Lending
 pub mod Reading
 pub mod Telling
 pub mod Split

@@ -21,12 +21,12 @@ use Rattle.feeders.specs.Steps.{steps_of}
 use Rattle.feeders.specs.Progress.{HasDone, IsAt, IsFed}
 
 -- the state is that of the elements up to a place
-pub record HasRead (plan : Plan) (tower : Contents) (chosen : MomentField) (feeder : ℕ) (trace : List ℕ) (at : ℕ) (progress : Progress) : Type 0 where
+pub record HasRead (plan : Plan) (tower : Contents) (chosen : MomentField) (feeder : ℕ) (trace : List ℕ) (at : ℕ) (progress : Progress) (pass : Passed) : Type 0 where
   pub pieces : List Piece
   pub front : IsFront trace pieces at
   pub items : List (Result Item FormFault)
   pub read : AllZip (IsItem tower chosen) pieces items
-  pub is_at : IsAt plan feeder items progress
+  pub is_at : IsAt plan feeder items progress pass
 
 -- two lists that go together, with one more each
 zip_push : {A B : Type 0} (R : A → B → Type 0) (xs : List A) (ys : List B) (x : A) (y : B) → AllZip R xs ys → R x y → AllZip R (xs ++ x ∷ []) (ys ++ y ∷ [])
@@ -35,16 +35,16 @@ zip_push R [] (first ∷ ys) x y both is = absurd both
 zip_push R (first ∷ xs) [] x y both is = absurd both
 zip_push R (first ∷ xs) (other ∷ ys) x y both is = (both.0, zip_push R xs ys x y both.1 is)
 
-pub begun : (plan : Plan) (tower : Contents) (chosen : MomentField) (feeder : ℕ) (trace : List ℕ) (progress : Progress) → IsFront trace [] 0 → IsAt plan feeder [] progress → HasRead plan tower chosen feeder trace 0 progress
-begun plan tower chosen feeder trace progress front at = record { pieces = []; front = front; items = []; read = tt; is_at = at }
+pub begun : (plan : Plan) (tower : Contents) (chosen : MomentField) (feeder : ℕ) (trace : List ℕ) (progress : Progress) (pass : Passed) → IsFront trace [] 0 → IsAt plan feeder [] progress pass → HasRead plan tower chosen feeder trace 0 progress pass
+begun plan tower chosen feeder trace progress pass front at = record { pieces = []; front = front; items = []; read = tt; is_at = at }
 
-pub read_on : (plan : Plan) (tower : Contents) (chosen : MomentField) (feeder : ℕ) (trace : List ℕ) (at to : ℕ) (old new : Progress) (piece : Piece) (item : Result Item FormFault)
-    → HasRead plan tower chosen feeder trace at old
+pub read_on : (plan : Plan) (tower : Contents) (chosen : MomentField) (feeder : ℕ) (trace : List ℕ) (at to : ℕ) (old new : Progress) (pass after : Passed) (piece : Piece) (item : Result Item FormFault)
+    → HasRead plan tower chosen feeder trace at old pass
     → ((pieces : List Piece) → IsFront trace pieces at → IsFront trace (pieces ++ piece ∷ []) to)
     → IsItem tower chosen piece item
-    → ((of : ℕ) (items : List (Result Item FormFault)) → IsAt plan of items old → IsAt plan of (items ++ item ∷ []) new)
-    → HasRead plan tower chosen feeder trace to new
-read_on plan tower chosen feeder trace at to old new piece item so_far goes is taken = record {
+    → ((of : ℕ) (items : List (Result Item FormFault)) → IsAt plan of items old pass → IsAt plan of (items ++ item ∷ []) new after)
+    → HasRead plan tower chosen feeder trace to new after
+read_on plan tower chosen feeder trace at to old new pass after piece item so_far goes is taken = record {
   pieces = so_far.pieces ++ piece ∷ [];
   front = goes so_far.pieces so_far.front;
   items = so_far.items ++ item ∷ [];
@@ -52,12 +52,12 @@ read_on plan tower chosen feeder trace at to old new piece item so_far goes is t
   is_at = taken feeder so_far.items so_far.is_at;
 }
 
-pub ends : (plan : Plan) (tower : Contents) (chosen : MomentField) (feeder : ℕ) (trace : List ℕ) (at : ℕ) (progress : Progress) (broken : Option Broken) (fed : Fed)
-    → HasRead plan tower chosen feeder trace at progress
+pub ends : (plan : Plan) (tower : Contents) (chosen : MomentField) (feeder : ℕ) (trace : List ℕ) (at : ℕ) (progress : Progress) (before : Passed) (broken : Option Broken) (fed : Fed)
+    → HasRead plan tower chosen feeder trace at progress before
     → ((pieces : List Piece) → IsFront trace pieces at → AreElements trace broken pieces)
-    → fed.pass ≡ progress.fed.pass → fed.log.lines ≡ progress.fed.log.lines → fed.log.broken ≡ broken
+    → fed.pass ≡ before → fed.log.lines ≡ progress.log.lines → fed.log.broken ≡ broken
     → IsFed plan tower chosen feeder trace fed
-ends plan tower chosen feeder trace at progress broken fed so_far elements pass lines is = record {
+ends plan tower chosen feeder trace at progress before broken fed so_far elements pass lines is = record {
   items = so_far.items;
   are = record {
     pieces = so_far.pieces;
@@ -65,7 +65,7 @@ ends plan tower chosen feeder trace at progress broken fed so_far elements pass 
     read = so_far.read;
   };
   done = subst (λ (p : Passed). HasDone plan feeder p fed.log.lines.items (steps_of feeder so_far.items)) (sym pass)
-      (subst (λ l. HasDone plan feeder progress.fed.pass l.items (steps_of feeder so_far.items)) (sym lines) so_far.is_at.done);
+      (subst (λ l. HasDone plan feeder before l.items (steps_of feeder so_far.items)) (sym lines) so_far.is_at.done);
 }
 
 no_memory : (fault : EdnFault) (broken : Broken) → broken_by fault ≡ Some broken → ¬ IsMemory fault

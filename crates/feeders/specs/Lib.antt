@@ -7,3 +7,5 @@ pub mod Ending
 pub mod Texts
 -- words of private clauses
 pub mod Progress
+pub mod Kept
+pub mod Lending

@@ -11,6 +11,7 @@ use Rattle.shards.specs.Plan.{Plan}
 use Rattle.shards.specs.Pass.{IsPassOf, Passed, fresh, told}
 use Rattle.feeders.specs.declared.fed.Fed.{Fed}
 use Rattle.feeders.specs.declared.log.Line.{Line}
+use Rattle.feeders.specs.declared.log.Log.{Log}
 use Rattle.feeders.specs.declared.progress.Progress.{Progress}
 use Rattle.feeders.specs.Steps.{AreItems, Taken, placed, steps_of}
 use Rattle.feeders.specs.Doings.{Doing, AreDone, entered_in}
@@ -24,20 +25,20 @@ pub record HasDone (plan : Plan) (feeder : ℕ) (pass : Passed) (lines : List Li
   pub own : (at : ℕ) → at < plan.shards → told pass at ≡ entered_in plan.shards feeder at doings
 
 -- the feeder goes on by one step, at the place of its element, whatever those so far are
-abbrev pub GoesOn : Plan → Fed → Fed → ℕ → Taken → Type 0
-GoesOn plan old new place step = (feeder : ℕ) (steps : List Taken) → place ≡ length steps
-    → HasDone plan feeder old.pass old.log.lines.items steps → HasDone plan feeder new.pass new.log.lines.items (steps ++ step ∷ [])
+abbrev pub GoesOn : Plan → Passed → Log → Passed → Log → ℕ → Taken → Type 0
+GoesOn plan pass log pass' log' place step = (feeder : ℕ) (steps : List Taken) → place ≡ length steps
+    → HasDone plan feeder pass log.lines.items steps → HasDone plan feeder pass' log'.lines.items (steps ++ step ∷ [])
 
 -- each place that the pairing took is before the next
 abbrev pub IsAhead : Progress → Type 0
 IsAhead progress = ForSome progress.pairing.last (λ last. last < progress.place)
 
--- the state of the program is that of these elements
-pub record IsAt (plan : Plan) (feeder : ℕ) (items : List (Result Item FormFault)) (progress : Progress) : Type 0 where
+-- the state of the program is that of these elements, which nothing broke off
+pub record IsAt (plan : Plan) (feeder : ℕ) (items : List (Result Item FormFault)) (progress : Progress) (pass : Passed) : Type 0 where
   pub place : progress.place ≡ length items
   pub feeder_is : progress.pairing.feeder ≡ feeder
   pub pairing : StandsAfter progress.pairing (placed items)
-  pub done : HasDone plan feeder progress.fed.pass progress.fed.log.lines.items (steps_of feeder items)
+  pub done : HasDone plan feeder pass progress.log.lines.items (steps_of feeder items)
 
 -- a feeder has gone through its trace, up to the end or to where it broke
 pub record IsFed (plan : Plan) (tower : Contents) (chosen : MomentField) (feeder : ℕ) (trace : List ℕ) (fed : Fed) : Type 0 where

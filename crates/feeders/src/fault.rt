@@ -4,6 +4,7 @@ ghost use Rattle.std.specs.Prelude.{◌≡◌};
 ghost use Rattle.shards.specs.declared.fault.ShardFault.{ShardFault as AShardFault};
 ghost use Rattle.feeders.specs.declared.fault.RunFault.TheVariants.{Memory as NoMemory};
 
+use intervals::Memory;
 use shards::ShardFault;
 use std::alloc::{AllocError, AllocFailed};
 use thiserror::Error;
@@ -30,6 +31,14 @@ impl<T: Drop> From<AllocFailed<T>> for RunFault {
     ghost from_gives = { λ _ fault. fault ≡ NoMemory };
 
     fn from(_e: AllocFailed<T>) -> RunFault {
+        RunFault::Memory
+    }
+}
+
+impl From<Memory> for RunFault {
+    ghost from_gives = { λ _ fault. fault ≡ NoMemory };
+
+    fn from(_e: Memory) -> RunFault {
         RunFault::Memory
     }
 }

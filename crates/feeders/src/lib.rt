@@ -8,9 +8,11 @@
 //! `specs/Run.antt` what a run leaves. `laws` says what these words come to.
 #![tactic(auto)]
 
+mod element;
 mod fault;
 mod fed;
 mod halves;
+mod kept;
 pub mod laws;
 mod log;
 mod pages;

@@ -1,13 +1,22 @@
 //! What is noted of a trace.
 
-ghost use Rattle.std.specs.Prelude.{◌≡◌};
+ghost use Rattle.std.specs.Prelude.{◌≡◌, ◌∷◌, ◌++◌, ◌<◌, [], IfErr, OnOk, Ok, Err, Some};
+ghost use Rattle.pairing.specs.declared.step.Step.TheVariants.{Edit as ToEdit, Ask};
+ghost use Rattle.shards.specs.Pass.{IsPassOf, Passed};
 ghost use Rattle.feeders.specs.Broken.{broken_by as break_of};
+ghost use Rattle.feeders.specs.Steps.{by_pairing};
+ghost use Rattle.feeders.specs.Ending.{MayEnd};
+ghost use Rattle.feeders.specs.Progress.{GoesOn};
 
+use crate::fault::RunFault;
 use edn_reader::EdnFault;
-use intervals::{Refusal, RegId};
+use intervals::{Edit, Refusal, RegId};
 use jepsen_form::FormFault;
-use pairing::PairFault;
-use shards::Answer;
+use pairing::{PairFault, Step};
+use register_book::Reply;
+use shards::laws::what_was_told_stays;
+use shards::{Answer, Auditor, Gate, Opening, Pass};
+use std::sync::Wait;
 
 /// Why an element of a trace was refused: by its form, by the pairing, or by its register.
 #[derive(Clone, Copy, Debug, PartialEq, Eq)]
@@ -60,6 +69,113 @@ pub struct Broken {
 pub struct Log<'t> {
     pub lines: Vec<Line<'t>>,
     pub broken: Option<Broken>,
+}
+
+impl<'t> Log<'t> {
+    /// Carries out the step of the element at a place, or notes why it is refused. Where it answers a fault the
+    /// run is over: what was done then stands for nothing.
+    pub fn follow<O: Opening, R: Wait, G: Gate>(
+        &mut self,
+        rt: &R,
+        auditor: &Auditor<'t, O>,
+        gate: &G,
+        pass: &mut Pass<'t>,
+        place: u64,
+        step: Result<Option<Step<'t>>, PairFault>,
+    ) -> Result<(), RunFault>
+        requires some { 0 < O.plan.shards }
+        ensures done { OnOk result (GoesOn O.plan pass.old self.old pass.new self.new place (by_pairing step.entry)) }
+        ensures fault { IfErr result (λ fault. IsPassOf O.plan pass.old → MayEnd fault) }
+    {
+        match step {
+            Ok(step) => self.carry_out(rt, auditor, gate, pass, place, step),
+            Err(fault) => self.refuse::<O>(place, Code::Pair(fault)),
+        }
+    }
+
+    fn carry_out<O: Opening, R: Wait, G: Gate>(
+        &mut self,
+        rt: &R,
+        auditor: &Auditor<'t, O>,
+        gate: &G,
+        pass: &mut Pass<'t>,
+        place: u64,
+        step: Option<Step<'t>>,
+    ) -> Result<(), RunFault>
+        requires some { 0 < O.plan.shards }
+        ensures done { OnOk result (GoesOn O.plan pass.old self.old pass.new self.new place (Ok step.entry)) }
+        ensures fault { IfErr result (λ fault. IsPassOf O.plan pass.old → MayEnd fault) }
+    {
+        match step {
+            Some(Step::Edit(register, edit)) => {
+                self.submit(rt, auditor, gate, pass, place, register, edit)
+            }
+            Some(Step::Ask(register)) => self.ask(rt, auditor, gate, pass, place, register),
+            None => Ok(()),
+        }
+    }
+
+    /// Notes that the element at a place is refused before it reaches a register.
+    pub fn refuse<O: Opening>(&mut self, place: u64, code: Code) -> Result<(), RunFault>
+        ensures done { OnOk result ((pass : Passed) → GoesOn O.plan pass self.old pass self.new place (Err code)) }
+        ensures fault { IfErr result MayEnd }
+    {
+        self.lines.push(Line {
+            event: place,
+            what: What::Refused(code),
+        })?;
+        Ok(())
+    }
+
+    /// Has an edit entered. Room for its line is made first.
+    fn submit<O: Opening, R: Wait, G: Gate>(
+        &mut self,
+        rt: &R,
+        auditor: &Auditor<'t, O>,
+        gate: &G,
+        pass: &mut Pass<'t>,
+        place: u64,
+        register: RegId,
+        edit: Edit<'t>,
+    ) -> Result<(), RunFault>
+        requires some { 0 < O.plan.shards }
+        ensures done { OnOk result (GoesOn O.plan pass.old self.old pass.new self.new place (Ok (Some (ToEdit register edit.entry)))) }
+        ensures fault { IfErr result (λ fault. IsPassOf O.plan pass.old → MayEnd fault) }
+    {
+        what_was_told_stays();
+        self.lines.reserve(1)?;
+        let receipt = auditor.submit(rt, gate, pass, register, edit)?;
+        if let Reply::Refused(refusal) = receipt.reply {
+            self.lines.push_reserved(Line {
+                event: place,
+                what: What::Refused(Code::Register(refusal)),
+            });
+        }
+        Ok(())
+    }
+
+    fn ask<O: Opening, R: Wait, G: Gate>(
+        &mut self,
+        rt: &R,
+        auditor: &Auditor<'t, O>,
+        gate: &G,
+        pass: &mut Pass<'t>,
+        place: u64,
+        register: RegId,
+    ) -> Result<(), RunFault>
+        requires some { 0 < O.plan.shards }
+        ensures done { OnOk result (GoesOn O.plan pass.old self.old pass.new self.new place (Ok (Some (Ask register)))) }
+        ensures fault { IfErr result (λ fault. IsPassOf O.plan pass.old → MayEnd fault) }
+    {
+        what_was_told_stays();
+        self.lines.reserve(1)?;
+        let answer = auditor.standing(rt, gate, pass, register)?;
+        self.lines.push_reserved(Line {
+            event: place,
+            what: What::Answered(register, answer),
+        });
+        Ok(())
+    }
 }
 
 /// A fault of the text as what broke the trace. Want of memory is none.

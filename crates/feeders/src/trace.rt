@@ -25,7 +25,7 @@ pub fn feed_trace<'t, O: Opening, R: Wait, G: Gate>(
     gate: &G,
     tower: &Tower,
     field: MomentField,
-    pass: Pass<'t>,
+    mut pass: Pass<'t>,
     trace: &'t [u8],
 ) -> Result<Fed<'t>, RunFault>
     requires some { 0 < O.plan.shards }
@@ -35,18 +35,19 @@ pub fn feed_trace<'t, O: Opening, R: Wait, G: Gate>(
     ensures fault { IfErr result MayEnd }
 {
     let mut reader = Reader::new(alloc, trace);
-    let mut progress = Progress::new::<O>(alloc, pass);
+    let mut progress = Progress::new(alloc, pass.feeder());
     loop {
         match reader.next() {
             Ok(Some(element)) => {
-                progress.take(rt, auditor, gate, read_item(element, field, tower))?;
+                let item = read_item(element, field, tower);
+                progress.take(rt, auditor, gate, &mut pass, item)?;
             }
-            Ok(None) => return Ok(progress.end(None)),
+            Ok(None) => return Ok(progress.end(pass, None)),
             Err(fault) => {
                 let Some(broken) = broken_by(fault) else {
                     return Err(RunFault::Memory);
                 };
-                return Ok(progress.end(Some(broken)));
+                return Ok(progress.end(pass, Some(broken)));
             }
         }
     }

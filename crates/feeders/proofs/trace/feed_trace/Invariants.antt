@@ -10,7 +10,7 @@ invariant-loop-element g l = record {
   within : l.reader.at ≤ length l.trace;
   place : l.progress.place ≤ l.reader.at;
   ahead : IsAhead l.progress;
-  so_far : HasRead g.O.Opening.plan l.tower l.field l.fn.pass.feeder l.trace l.reader.at l.progress;
+  so_far : HasRead g.O.Opening.plan l.tower l.field l.fn.pass.feeder l.trace l.reader.at l.progress l.pass;
 }
 
 abbrev pub decreases-loop-element : goal.decreases-loop-element

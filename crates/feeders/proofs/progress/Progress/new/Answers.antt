@@ -1,17 +1,8 @@
-use Rattle.std.proofs.Common.{refl, ap, ◌∙◌}
-use Rattle.shards.specs.Pass.{Passed, told}
-use Rattle.feeders.proofs.Doing.{fresh_is_of, nothing_done}
+use Rattle.std.proofs.Common.{refl, None}
+use Rattle.feeders.proofs.Going.{at_first}
 use Rattle.feeders.proofs.progress.Progress.new.Goals as goal
 
 pub returns-clause-at : goal.returns-clause-at
-returns-clause-at g c =
-    let plan = g.O.Opening.plan in
-    record {
-      place = refl;
-      feeder_is = c.new.ensures.feeder ∙ c.feeder.ensures;
-      pairing = c.new.ensures.stands;
-      done = nothing_done plan c.args.pass c.new-2.result.items
-          (fresh_is_of plan c.args.pass c.requires.fresh c.requires.known)
-          (λ at. ap (λ (p : Passed). told p at) c.requires.fresh ∙ c.what_was_told_stays.ensures.fresh plan c.args.pass.feeder at)
-          c.new-2.ensures.items;
-    }
+returns-clause-at c plan pass fresh_is known =
+    at_first plan c.args.feeder pass (record { place = 0; pairing = c.new.result; log = record { lines = c.new-2.result; broken = None } }) fresh_is known refl
+    c.new.ensures.feeder c.new.ensures.stands c.new-2.ensures.items (c.what_was_told_stays.ensures.fresh plan c.args.feeder)

@@ -6,5 +6,5 @@ use Rattle.feeders.proofs.progress.Progress.pair.Goals as goal
 pub returns-clause-taken : goal.returns-clause-taken
 returns-clause-taken g c =
     let other : c.take-step.result ≢ Err pairs.Memory = λ is. let yes = c.wants_memory.ensures.1 is in let no = c.if-wants_memory.false in cc in
-    paired g.O.Opening.plan c.args.self.now c.take-step.new.self c.follow.new.self c.args.item c.take-step.result c.follow.result other
+    paired g.O.Opening.plan c.args.self.now c.take-step.new.self c.args.pass.now c.follow.new.pass c.follow.new.self c.args.item c.take-step.result c.follow.result other
     c.take-step.ensures.step c.take-step.ensures.stands c.take-step.ensures.feeder c.follow.ensures.done
