@@ -1,21 +1,19 @@
 -- An element that stands alone, read at its place: white bytes could stand before it.
-use Rattle.std.proofs.Common.{◌≡◌, ◌⊎◌, inl, inr, ℕ, zero, suc, ◌+◌, ◌-◌, ◌<◌, ◌≤◌, List, [], ◌∷◌, ◌++◌, length, take, drop, Option, Some, None, Result, Ok, Err, refl, sym, ap, subst, ◌∙◌, arith, append-nil, length-append, length-drop}
+use Rattle.std.proofs.Common.{◌≡◌, ◌⊎◌, inl, inr, ℕ, zero, suc, ◌+◌, ◌-◌, List, [], ◌∷◌, length, take, drop, Option, Some, None, Result, Ok, Err, refl, sym, ap, subst, ◌∙◌, arith, append-nil}
 use Rattle.std.proofs.lemmas.List.{drop-drop}
 use Rattle.std.specs.Prelude.{IfOk, IfSome}
 use Rattle.edn_reader.specs.declared.bytes.ByteClass.TheVariants.{White}
-use Rattle.edn_reader.specs.declared.element.Element.{Element}
 use Rattle.edn_reader.specs.declared.fault.EdnFault.{EdnFault}
 use Rattle.edn_reader.specs.declared.nesting.Open.{Open}
 use Rattle.edn_reader.specs.declared.step.Span.{Span}
 use Rattle.edn_reader.specs.declared.tokens.Begun.{Begun}
-use Rattle.edn_reader.specs.declared.tokens.Reached.{Reached}
 use Rattle.edn_reader.specs.declared.tokens.Reached.TheVariants.{Ended, Within}
 use Rattle.edn_reader.specs.Bytes.{class_of}
 use Rattle.edn_reader.specs.Grammar.{Piece, white, IsGap, nothing, skipped, IsElementAt, IsElements, none, next, IsElement}
-use Rattle.edn_reader.specs.Text.{IsFront, IsText, StandsOpen, outermost}
+use Rattle.edn_reader.specs.Text.{IsText, StandsOpen, outermost}
 use Rattle.edn_reader.specs.Fault.{IsMemory}
 use Rattle.edn_reader.specs.Taking.{IsPieceAt, piece_in}
-use Rattle.edn_reader.specs.Within.{StandsWithin, OneMore, Reaches, ReadsOn, Concludes, ReadsEnd, kept}
+use Rattle.edn_reader.specs.Within.{StandsWithin, ReadsOn, Concludes, ReadsEnd, kept}
 use Rattle.edn_reader.specs.Apart.{behind_spaces, IsReadHere, IsSpanOf}
 use Rattle.edn_reader.proofs.Unique.{same_list}
 use Rattle.edn_reader.proofs.Ended.{elements_left}
