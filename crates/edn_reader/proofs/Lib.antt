@@ -13,6 +13,7 @@ pub mod Leading
 pub mod Keeping
 pub mod Within
 pub mod Splitting
+pub mod SoFar
 pub mod Skipping
 pub mod Views
 pub mod Apart

@@ -182,7 +182,7 @@ stands_next input pieces at found opens after lt s e f =
     let rest : drop (lexed (drop at input)).1 (drop at input) ≡ drop found.end input = stands_left now ∙ ap (λ (n : ℕ). drop n input) place in
     subst (λ (n : ℕ). StandsOpen input pieces after n (drop found.end input)) place (subst (λ (b : List ℕ). StandsOpen input pieces after (at + (lexed (drop at input)).1) b) rest now)
 
-elements_within : {q : ℕ} {pieces : List Piece} {input rest : List ℕ} → IsElements 64 0 input pieces q rest → q ≤ length input
+pub elements_within : {q : ℕ} {pieces : List Piece} {input rest : List ℕ} → IsElements 64 0 input pieces q rest → q ≤ length input
 elements_within {rest = rest} els = let m = moved_elements els rest (λ h. h, λ h. h, λ h. h) in omega (arith, m.2.place, ap length m.2.here, length-append m.2.front rest)
 
 -- An element ends where its last token ends.
@@ -230,7 +230,7 @@ element_next input pieces at found span opens lt s e f =
     (now.0, now.1, elements_within there, subst (λ (b : List ℕ). IsElements 64 0 input (pieces ++ piece_in input span ∷ []) span.end b) (elements_left there) there)
 
 -- The elements that have ended before what stands open.
-front_of : {p : ℕ} {input rest : List ℕ} {pieces : List Piece} {opens : List Open} → StandsOpen input pieces opens p rest → (at : ℕ) × IsFront input pieces at
+pub front_of : {p : ℕ} {input rest : List ℕ} {pieces : List Piece} {opens : List Open} → StandsOpen input pieces opens p rest → (at : ℕ) × IsFront input pieces at
 front_of {input = input} {pieces = pieces} (outermost {place = at} els gap) = (at, subst (λ (b : List ℕ). IsElements 64 0 input pieces at b) (elements_left els) els)
 front_of (opened s token room inside) = front_of s
 

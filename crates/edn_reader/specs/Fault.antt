@@ -98,3 +98,10 @@ IsBeginning pieces all = (more : List Piece) × (all ≡ pieces ++ more)
 abbrev pub AreElementsBefore : List ℕ → List Piece → Type 0
 AreElementsBefore input pieces =
     (at : ℕ) × IsFront input pieces at × ((others : List Piece) (there : ℕ) → IsFront input others there → IsBeginning others pieces)
+
+-- The elements that have ended by the end of these bytes, whatever follows them: a front of each input that begins so, and
+-- the longest of these.
+abbrev pub AreElementsSoFar : List ℕ → List Piece → Type 0
+AreElementsSoFar bytes pieces =
+    ((at : ℕ) × (at ≤ length bytes) × ((more : List ℕ) → IsFront (bytes ++ more) pieces at))
+    × ((others : List Piece) (there : ℕ) → ((more : List ℕ) → IsFront (bytes ++ more) others there) → IsBeginning others pieces)

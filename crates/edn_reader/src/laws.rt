@@ -8,7 +8,7 @@ ghost use Rattle.edn_reader.specs.declared.element.ElementKind.TheVariants.{Vect
 ghost use Rattle.edn_reader.specs.Lent.{piece_of};
 ghost use Rattle.edn_reader.specs.Grammar.{Piece, IsElement};
 ghost use Rattle.edn_reader.specs.Text.{IsFront, IsText, IsViable};
-ghost use Rattle.edn_reader.specs.Fault.{FaultOf};
+ghost use Rattle.edn_reader.specs.Fault.{FaultOf, AreElementsSoFar};
 ghost use Rattle.edn_reader.specs.Splitting.{Splitting, StandsAfter};
 ghost use Rattle.edn_reader.specs.Pairs.{values_of, HasPairs, HasMembers};
 
@@ -57,4 +57,10 @@ pub fn members_of_vector()
 /// met by a later byte, or by its end.
 pub fn no_fault_so_far()
     ensures { (bytes : List ℕ) (pieces : List Piece) (splitting : Splitting) → StandsAfter bytes [] pieces splitting → IsViable bytes }
+{}
+
+/// While a splitter has met no fault, the elements that it told are those that have ended in the bytes that it has taken,
+/// whatever follows them.
+pub fn told_so_far()
+    ensures { (bytes : List ℕ) (pieces : List Piece) (splitting : Splitting) → StandsAfter bytes [] pieces splitting → AreElementsSoFar bytes pieces }
 {}
