@@ -1,7 +1,6 @@
 -- What a run leaves of its traces, by the closed journals.
-use Rattle.std.proofs.Common.{◌≡◌, ℕ, zero, suc, ◌+◌, ◌<◌, List, [], ◌∷◌, length, get_or, map, refl, sym, ap, subst, ◌∙◌, arith}
+use Rattle.std.proofs.Common.{◌≡◌, ℕ, zero, suc, ◌+◌, ◌<◌, List, [], ◌∷◌, Option, length, get_or, map, refl, sym, ap, subst, ◌∙◌, arith}
 use Rattle.std.specs.Prelude.{Contains}
-use Rattle.std.specs.Borrow.{Bor}
 use Rattle.std.specs.List.{AllByRecursion, range_with_len}
 use Rattle.std.proofs.lemmas.List.{length-map}
 use Rattle.std.proofs.lemmas.List.Elements.{Contains-get_or, recursion_from_All}
@@ -18,7 +17,8 @@ use Rattle.feeders.specs.declared.fed.Fed.{Fed}
 use Rattle.feeders.specs.declared.log.Log.{Log}
 use Rattle.feeders.specs.Doings.{entered_in}
 use Rattle.feeders.specs.Ending.{MayEnd, ended_by}
-use Rattle.feeders.specs.Progress.{AreFed, IsFed}
+use Rattle.feeders.specs.Progress.{AreFedBy, AreReadAndFed, IsFed}
+use Rattle.feeders.specs.Readers.{AreReadOf}
 use Rattle.feeders.specs.Run.{EachNumbered, IsRun, IsTraced, plan_of_run}
 
 -- the entries of the pass's feeder in the journal of a shard are those that the pass submitted there
@@ -37,7 +37,7 @@ merged_of : (plan : Plan) (closed : List Ended) (feds : List Fed) → IsClosed p
 merged_of plan closed feds is = merged_each plan.shards closed feds
     (λ at below. recursion_from_All (IsMergedAt closed at) (map (λ fed. fed.pass) feds) (is.finished at (omega (arith, is.many))).merge.of_each)
 
-module _ (plan : Plan) (tower : Contents) (chosen : MomentField) (closed : List Ended) where
+module _ {X : Type 0} (of : X → List ℕ) (plan : Plan) (tower : Contents) (chosen : MomentField) (closed : List Ended) where
   one_traced : (feeder : ℕ) (trace : List ℕ) (fed : Fed) → IsFed plan tower chosen feeder trace fed → IsMergedBelow plan.shards closed fed
       → IsTraced plan tower chosen closed feeder trace fed.log
   one_traced feeder trace fed is merged = record {
@@ -51,40 +51,40 @@ module _ (plan : Plan) (tower : Contents) (chosen : MomentField) (closed : List 
         (merged at below ∙ ap (map plain_numbered) (is.done.own at below));
   }
 
-  each_traced : (number : ℕ) (traces : List (Bor (List ℕ))) (feds : List Fed)
-      → AreFed plan tower chosen (map (fresh plan) (range_with_len number (length traces))) traces feds → AllByRecursion (IsMergedBelow plan.shards closed) feds
-      → EachNumbered (IsTraced plan tower chosen closed) number (map (λ trace. trace.now) traces) (map (λ fed. fed.log) feds)
+  each_traced : (number : ℕ) (traces : List X) (feds : List Fed)
+      → AreFedBy (λ feeder trace fed. IsFed plan tower chosen feeder (of trace) fed) (map (fresh plan) (range_with_len number (length traces))) traces feds → AllByRecursion (IsMergedBelow plan.shards closed) feds
+      → EachNumbered (IsTraced plan tower chosen closed) number (map of traces) (map (λ fed. fed.log) feds)
   each_traced number [] [] are merged = tt
   each_traced number [] (fed ∷ feds) are merged = absurd are
   each_traced number (trace ∷ traces) [] are merged = absurd are
-  each_traced number (trace ∷ traces) (fed ∷ feds) are merged = (one_traced number trace.now fed are.0 merged.0, each_traced (number + 1) traces feds are.1 merged.1)
+  each_traced number (trace ∷ traces) (fed ∷ feds) are merged = (one_traced number (of trace) fed are.0 merged.0, each_traced (number + 1) traces feds are.1 merged.1)
 
 -- a run: the passes that an auditor gave, what was fed with them, and what it left
-pub run_of : (plan : Plan) (tower : Contents) (chosen : MomentField) (shards : ℕ) (traces : List (Bor (List ℕ))) (opened : List Passed) (feds : List Fed) (passes : List Passed) (logs : List Log) (closed : List Ended)
-    → plan ≡ plan_of 0 tower shards (length traces) → opened ≡ map (fresh plan) (range_with_len 0 (length traces)) → AreFed plan tower chosen opened traces feds
+pub run_of : {X : Type 0} (of : X → List ℕ) (plan : Plan) (tower : Contents) (chosen : MomentField) (shards : ℕ) (traces : List X) (opened : List Passed) (feds : List Fed) (passes : List Passed) (logs : List Log) (closed : List Ended)
+    → plan ≡ plan_of 0 tower shards (length traces) → opened ≡ map (fresh plan) (range_with_len 0 (length traces)) → AreFedBy (λ feeder trace fed. IsFed plan tower chosen feeder (of trace) fed) opened traces feds
     → passes ≡ map (λ fed. fed.pass) feds → logs ≡ map (λ fed. fed.log) feds → IsClosed plan passes closed
-    → IsRun tower chosen shards (map (λ trace. trace.now) traces) closed logs
-run_of plan tower chosen shards traces opened feds passes logs closed opening fresh_ones fed passes_are logs_are is =
-    let same : plan ≡ plan_of_run tower shards (map (λ (trace : Bor (List ℕ)). trace.now) traces) = opening ∙ ap (plan_of 0 tower shards) (sym (length-map traces (λ (trace : Bor (List ℕ)). trace.now))) in
-    let traced : EachNumbered (IsTraced plan tower chosen closed) 0 (map (λ (trace : Bor (List ℕ)). trace.now) traces) (map (λ (fed : Fed). fed.log) feds) =
-    each_traced plan tower chosen closed 0 traces feds (subst (λ (ps : List Passed). AreFed plan tower chosen ps traces feds) fresh_ones fed)
+    → IsRun tower chosen shards (map of traces) closed logs
+run_of {X} of plan tower chosen shards traces opened feds passes logs closed opening fresh_ones fed passes_are logs_are is =
+    let same : plan ≡ plan_of_run tower shards (map of traces) = opening ∙ ap (plan_of 0 tower shards) (sym (length-map traces of)) in
+    let traced : EachNumbered (IsTraced plan tower chosen closed) 0 (map of traces) (map (λ (fed : Fed). fed.log) feds) =
+    each_traced of plan tower chosen closed 0 traces feds (subst (λ (ps : List Passed). AreFedBy (λ feeder trace fed. IsFed plan tower chosen feeder (of trace) fed) ps traces feds) fresh_ones fed)
     (merged_of plan closed feds (subst (λ (ps : List Passed). IsClosed plan ps closed) passes_are is)) in
     record {
       passes = passes;
       finished = subst (λ (p : Plan). IsClosed p passes closed) same is;
-      traced = subst (λ (p : Plan). EachNumbered (IsTraced p tower chosen closed) 0 (map (λ (trace : Bor (List ℕ)). trace.now) traces) logs) same
-          (subst (EachNumbered (IsTraced plan tower chosen closed) 0 (map (λ (trace : Bor (List ℕ)). trace.now) traces)) (sym logs_are) traced);
+      traced = subst (λ (p : Plan). EachNumbered (IsTraced p tower chosen closed) 0 (map of traces) logs) same
+          (subst (EachNumbered (IsTraced plan tower chosen closed) 0 (map of traces)) (sym logs_are) traced);
     }
 
-module _ (plan : Plan) (tower : Contents) (chosen : MomentField) where
-  as_many : (number : ℕ) (traces : List (Bor (List ℕ))) (feds : List Fed) → AreFed plan tower chosen (map (fresh plan) (range_with_len number (length traces))) traces feds → length feds ≡ length traces
+module _ {X : Type 0} (of : X → List ℕ) (plan : Plan) (tower : Contents) (chosen : MomentField) where
+  as_many : (number : ℕ) (traces : List X) (feds : List Fed) → AreFedBy (λ feeder trace fed. IsFed plan tower chosen feeder (of trace) fed) (map (fresh plan) (range_with_len number (length traces))) traces feds → length feds ≡ length traces
   as_many number [] [] are = refl
   as_many number [] (fed ∷ feds) are = absurd are
   as_many number (trace ∷ traces) [] are = absurd are
   as_many number (trace ∷ traces) (fed ∷ feds) are = ap suc (as_many (number + 1) traces feds are.1)
 
   -- each pass is the auditor's, and its feeder is its place
-  passed_at : (number : ℕ) (traces : List (Bor (List ℕ))) (feds : List Fed) → AreFed plan tower chosen (map (fresh plan) (range_with_len number (length traces))) traces feds
+  passed_at : (number : ℕ) (traces : List X) (feds : List Fed) → AreFedBy (λ feeder trace fed. IsFed plan tower chosen feeder (of trace) fed) (map (fresh plan) (range_with_len number (length traces))) traces feds
       → (i : ℕ) (d : Passed) → i < length (map (λ fed. fed.pass) feds) → IsPassOf plan (get_or (map (λ fed. fed.pass) feds) i d) × ((get_or (map (λ fed. fed.pass) feds) i d).feeder ≡ number + i)
   passed_at number [] [] are i d below = absurd (omega arith)
   passed_at number [] (fed ∷ feds) are i d below = absurd are
@@ -94,7 +94,7 @@ module _ (plan : Plan) (tower : Contents) (chosen : MomentField) where
       let rest : IsPassOf plan (get_or (map (λ (fed : Fed). fed.pass) feds) i d) × ((get_or (map (λ (fed : Fed). fed.pass) feds) i d).feeder ≡ number + 1 + i) = passed_at (number + 1) traces feds are.1 i d (omega arith) in
       (rest.0, rest.1 ∙ omega arith)
 
-  its_passes : (traces : List (Bor (List ℕ))) (feds : List Fed) → AreFed plan tower chosen (map (fresh plan) (range_with_len 0 (length traces))) traces feds → AreItsPasses plan (map (λ fed. fed.pass) feds)
+  its_passes : (traces : List X) (feds : List Fed) → AreFedBy (λ feeder trace fed. IsFed plan tower chosen feeder (of trace) fed) (map (fresh plan) (range_with_len 0 (length traces))) traces feds → AreItsPasses plan (map (λ fed. fed.pass) feds)
   its_passes traces feds are = record {
     each = λ k d below. (passed_at 0 traces feds are k d below).0;
     apart = λ i j d lesser below same.
@@ -103,7 +103,7 @@ module _ (plan : Plan) (tower : Contents) (chosen : MomentField) where
         omega (arith, first, second, same, lesser);
   }
 
-  complete : (traces : List (Bor (List ℕ))) (feds : List Fed) → plan.feeders ≡ length traces → AreFed plan tower chosen (map (fresh plan) (range_with_len 0 (length traces))) traces feds → AreComplete plan.feeders (map (λ fed. fed.pass) feds)
+  complete : (traces : List X) (feds : List Fed) → plan.feeders ≡ length traces → AreFedBy (λ feeder trace fed. IsFed plan tower chosen feeder (of trace) fed) (map (fresh plan) (range_with_len 0 (length traces))) traces feds → AreComplete plan.feeders (map (λ fed. fed.pass) feds)
   complete traces feds many are feeder below =
       let passes : List Passed = map (λ (fed : Fed). fed.pass) feds in
       let within : feeder < length passes = omega (arith, length-map feds (λ (fed : Fed). fed.pass), as_many 0 traces feds are) in
@@ -119,11 +119,31 @@ closing_ends plan passes shards (faults.Stranger at feeder number) its all is = 
 closing_ends plan passes shards faults.ForeignPass its all is = is its
 
 -- why a run ends where its auditor is not finished: the passes are the auditor's, one for each feeder
-pub may_end : (plan : Plan) (tower : Contents) (chosen : MomentField) (traces : List (Bor (List ℕ))) (opened : List Passed) (feds : List Fed) (passes : List Passed) (fault : ShardFault)
-    → plan.feeders ≡ length traces → opened ≡ map (fresh plan) (range_with_len 0 (length traces)) → AreFed plan tower chosen opened traces feds
+pub may_end : {X : Type 0} (of : X → List ℕ) (plan : Plan) (tower : Contents) (chosen : MomentField) (traces : List X) (opened : List Passed) (feds : List Fed) (passes : List Passed) (fault : ShardFault)
+    → plan.feeders ≡ length traces → opened ≡ map (fresh plan) (range_with_len 0 (length traces)) → AreFedBy (λ feeder trace fed. IsFed plan tower chosen feeder (of trace) fed) opened traces feds
     → passes ≡ map (λ fed. fed.pass) feds → IsUnfinished plan passes fault → MayEnd (ended_by fault)
-may_end plan tower chosen traces opened feds passes fault many fresh_ones fed passes_are unfinished =
-    let are : AreFed plan tower chosen (map (fresh plan) (range_with_len 0 (length traces))) traces feds = subst (λ (ps : List Passed). AreFed plan tower chosen ps traces feds) fresh_ones fed in
+may_end {X} of plan tower chosen traces opened feds passes fault many fresh_ones fed passes_are unfinished =
+    let are : AreFedBy (λ feeder trace fed. IsFed plan tower chosen feeder (of trace) fed) (map (fresh plan) (range_with_len 0 (length traces))) traces feds = subst (λ (ps : List Passed). AreFedBy (λ feeder trace fed. IsFed plan tower chosen feeder (of trace) fed) ps traces feds) fresh_ones fed in
     closing_ends plan passes unfinished.shards fault
-    (subst (AreItsPasses plan) (sym passes_are) (its_passes plan tower chosen traces feds are))
-    (subst (AreComplete plan.feeders) (sym passes_are) (complete plan tower chosen traces feds many are)) unfinished.fault_is
+    (subst (AreItsPasses plan) (sym passes_are) (its_passes of plan tower chosen traces feds are))
+    (subst (AreComplete plan.feeders) (sym passes_are) (complete of plan tower chosen traces feds many are)) unfinished.fault_is
+
+-- what was read of each reader, as traces that were fed
+pub record HasRead (plan : Plan) (tower : Contents) (chosen : MomentField) (passes : List Passed) (lefts : List (Option (List ℕ))) (feds : List Fed) : Type 0 where
+  pub traces : List (List ℕ)
+  pub are_read : AreReadOf lefts (map (λ fed. fed.log) feds) traces
+  pub are_fed : AreFedBy (λ feeder trace fed. IsFed plan tower chosen feeder trace fed) passes traces feds
+  pub many : length traces ≡ length lefts
+
+pub read_of : (plan : Plan) (tower : Contents) (chosen : MomentField) (passes : List Passed) (lefts : List (Option (List ℕ))) (feds : List Fed)
+    → AreReadAndFed plan tower chosen passes lefts feds → HasRead plan tower chosen passes lefts feds
+read_of plan tower chosen [] [] [] are = record { traces = []; are_read = tt; are_fed = tt; many = refl }
+read_of plan tower chosen (pass ∷ passes) (left ∷ lefts) (fed ∷ feds) are =
+    let rest = read_of plan tower chosen passes lefts feds are.1 in
+    record { traces = are.0.trace ∷ rest.traces; are_read = (are.0.of, rest.are_read); are_fed = (are.0.is_fed, rest.are_fed); many = ap suc rest.many }
+read_of plan tower chosen [] [] (fed ∷ feds) are = absurd are
+read_of plan tower chosen [] (left ∷ lefts) [] are = absurd are
+read_of plan tower chosen [] (left ∷ lefts) (fed ∷ feds) are = absurd are
+read_of plan tower chosen (pass ∷ passes) [] [] are = absurd are
+read_of plan tower chosen (pass ∷ passes) [] (fed ∷ feds) are = absurd are
+read_of plan tower chosen (pass ∷ passes) (left ∷ lefts) [] are = absurd are

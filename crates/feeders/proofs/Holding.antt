@@ -10,7 +10,7 @@ drop_none : (n : ℕ) → drop {A = ℕ} n [] ≡ []
 drop_none zero = refl
 drop_none (suc n) = refl
 
-drop_twice : (n m : ℕ) (xs : List ℕ) → drop n (drop m xs) ≡ drop (m + n) xs
+pub drop_twice : (n m : ℕ) (xs : List ℕ) → drop n (drop m xs) ≡ drop (m + n) xs
 drop_twice n zero xs = let same : n ≡ 0 + n = omega arith in ap (λ (k : ℕ). drop k xs) same
 drop_twice n (suc m) [] = ap (drop n) (drop_none (suc m)) ∙ drop_none n ∙ sym (drop_none (suc m + n))
 drop_twice n (suc m) (x ∷ xs) = let same : suc (m + n) ≡ suc m + n = omega arith in drop_twice n m xs ∙ ap (λ (k : ℕ). drop k (x ∷ xs)) same

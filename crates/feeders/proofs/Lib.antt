@@ -14,3 +14,7 @@ pub mod TextsLists
 pub mod TextsSteps
 pub mod TextsEntries
 pub mod TextsRun
+pub mod Sourcing
+pub mod Pieces
+pub mod Feeds
+pub mod Streaming

@@ -29,7 +29,7 @@ pub record HasRead (plan : Plan) (tower : Contents) (chosen : MomentField) (feed
   pub is_at : IsAt plan feeder items progress pass
 
 -- two lists that go together, with one more each
-zip_push : {A B : Type 0} (R : A → B → Type 0) (xs : List A) (ys : List B) (x : A) (y : B) → AllZip R xs ys → R x y → AllZip R (xs ++ x ∷ []) (ys ++ y ∷ [])
+pub zip_push : {A B : Type 0} (R : A → B → Type 0) (xs : List A) (ys : List B) (x : A) (y : B) → AllZip R xs ys → R x y → AllZip R (xs ++ x ∷ []) (ys ++ y ∷ [])
 zip_push R [] [] x y both is = (is, tt)
 zip_push R [] (first ∷ ys) x y both is = absurd both
 zip_push R (first ∷ xs) [] x y both is = absurd both
@@ -68,7 +68,7 @@ ends plan tower chosen feeder trace at progress before broken fed so_far element
       (subst (λ l. HasDone plan feeder before l.items (steps_of feeder so_far.items)) (sym lines) so_far.is_at.done);
 }
 
-no_memory : (fault : EdnFault) (broken : Broken) → broken_by fault ≡ Some broken → ¬ IsMemory fault
+pub no_memory : (fault : EdnFault) (broken : Broken) → broken_by fault ≡ Some broken → ¬ IsMemory fault
 no_memory (edn.Memory place) broken is memory = cc
 no_memory fault broken is memory = memory
 
@@ -77,4 +77,4 @@ pub broken_at : (trace : List ℕ) (at : ℕ) (fault : EdnFault) (broken : Broke
     → IsMemory fault ⊎ (FaultOf trace fault × ((pieces : List Piece) → IsFront trace pieces at → AreElementsBefore trace pieces))
     → (pieces : List Piece) → IsFront trace pieces at → AreElements trace (Some broken) pieces
 broken_at trace at fault broken is (inl memory) pieces front = absurd (no_memory fault broken is memory)
-broken_at trace at fault broken is (inr met) pieces front = (fault, met.0, met.1 pieces front, is)
+broken_at trace at fault broken is (inr met) pieces front = inl (fault, met.0, met.1 pieces front, is)

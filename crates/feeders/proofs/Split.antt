@@ -1,13 +1,10 @@
 -- Passes and traces in two parts.
 use Rattle.std.proofs.Common.{◌≡◌, ℕ, zero, suc, ◌+◌, ◌≤◌, List, [], ◌∷◌, ◌++◌, length, map, take, drop, Result, Ok, Err, OnOk, IfOk, refl, sym, ap, subst, ◌∙◌, arith}
-use Rattle.std.specs.Borrow.{Bor}
 use Rattle.std.specs.List.{range_with_len}
-use Rattle.tower_file.specs.Contents.{Contents}
-use Rattle.jepsen_form.specs.declared.item.MomentField.{MomentField}
 use Rattle.shards.specs.Plan.{Plan}
 use Rattle.shards.specs.Pass.{Passed, fresh}
 use Rattle.feeders.specs.declared.fed.Fed.{Fed}
-use Rattle.feeders.specs.Progress.{AreFed, AreFresh}
+use Rattle.feeders.specs.Progress.{AreFedBy, AreFresh}
 
 pub fresh_take : (plan : Plan) (n : ℕ) (passes : List Passed) → AreFresh plan passes → AreFresh plan (take n passes)
 fresh_take plan zero passes are = tt
@@ -33,11 +30,11 @@ pub fresh_all : (plan : Plan) (first n : ℕ) → first + n ≤ plan.feeders →
 fresh_all plan first zero within = tt
 fresh_all plan first (suc n) within = (refl, omega arith, fresh_all plan (first + 1) n (omega arith))
 
-module _ (plan : Plan) (tower : Contents) (chosen : MomentField) where
-  -- what the first traces gave, and then what the others gave
-  pub fed_halves : (n : ℕ) (passes : List Passed) (traces : List (Bor (List ℕ))) (front back : List Fed)
-      → AreFed plan tower chosen (take n passes) (take n traces) front → AreFed plan tower chosen (drop n passes) (drop n traces) back
-      → AreFed plan tower chosen passes traces (front ++ back)
+module _ {X : Type 0} (IsFedOf : ℕ → X → Fed → Type 0) where
+  -- what the first gave, and then what the others gave
+  fed_halves : (n : ℕ) (passes : List Passed) (traces : List X) (front back : List Fed)
+      → AreFedBy IsFedOf (take n passes) (take n traces) front → AreFedBy IsFedOf (drop n passes) (drop n traces) back
+      → AreFedBy IsFedOf passes traces (front ++ back)
   fed_halves zero passes traces [] back first rest = rest
   fed_halves zero passes traces (fed ∷ front) back first rest = absurd first
   fed_halves (suc n) [] [] [] back first rest = rest
@@ -50,17 +47,17 @@ module _ (plan : Plan) (tower : Contents) (chosen : MomentField) where
   fed_halves (suc n) (pass ∷ passes) (trace ∷ traces) (fed ∷ front) back first rest = (first.0, fed_halves n passes traces front back first.1 rest)
 
   -- the same, where the parts were made before
-  pub fed_parts : (n : ℕ) (passes front_passes back_passes : List Passed) (traces front_traces back_traces : List (Bor (List ℕ))) (front back all : List Fed)
+  pub fed_parts : (n : ℕ) (passes front_passes back_passes : List Passed) (traces front_traces back_traces : List X) (front back all : List Fed)
       → front_passes ≡ take (length front_traces) passes → back_passes ≡ drop (length front_traces) passes → length front_traces ≡ n
       → front_traces ≡ take n traces → back_traces ≡ drop n traces → all ≡ front ++ back
-      → AreFed plan tower chosen front_passes front_traces front → AreFed plan tower chosen back_passes back_traces back → AreFed plan tower chosen passes traces all
+      → AreFedBy IsFedOf front_passes front_traces front → AreFedBy IsFedOf back_passes back_traces back → AreFedBy IsFedOf passes traces all
   fed_parts n passes front_passes back_passes traces front_traces back_traces front back all is_front is_back long is_front_of is_back_of is first rest =
       let first_passes : front_passes ≡ take n passes = is_front ∙ ap (λ (k : ℕ). take k passes) long in
       let rest_passes : back_passes ≡ drop n passes = is_back ∙ ap (λ (k : ℕ). drop k passes) long in
-      let first_part : AreFed plan tower chosen (take n passes) (take n traces) front =
-      subst (λ (ps : List Passed). AreFed plan tower chosen ps (take n traces) front) first_passes
-      (subst (λ (ts : List (Bor (List ℕ))). AreFed plan tower chosen front_passes ts front) is_front_of first) in
-      let rest_part : AreFed plan tower chosen (drop n passes) (drop n traces) back =
-      subst (λ (ps : List Passed). AreFed plan tower chosen ps (drop n traces) back) rest_passes
-      (subst (λ (ts : List (Bor (List ℕ))). AreFed plan tower chosen back_passes ts back) is_back_of rest) in
-      subst (AreFed plan tower chosen passes traces) (sym is) (fed_halves n passes traces front back first_part rest_part)
+      let first_part : AreFedBy IsFedOf (take n passes) (take n traces) front =
+      subst (λ (ps : List Passed). AreFedBy IsFedOf ps (take n traces) front) first_passes
+      (subst (λ (ts : List X). AreFedBy IsFedOf front_passes ts front) is_front_of first) in
+      let rest_part : AreFedBy IsFedOf (drop n passes) (drop n traces) back =
+      subst (λ (ps : List Passed). AreFedBy IsFedOf ps (drop n traces) back) rest_passes
+      (subst (λ (ts : List X). AreFedBy IsFedOf back_passes ts back) is_back_of rest) in
+      subst (AreFedBy IsFedOf passes traces) (sym is) (fed_halves n passes traces front back first_part rest_part)

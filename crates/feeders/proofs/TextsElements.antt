@@ -1,8 +1,9 @@
 -- The elements of an input are slices of it.
-use Rattle.std.proofs.Common.{◌≡◌, ℕ, List, [], ◌++◌, length, take, drop, Option, Some, None, refl, sym, ap, ◌∙◌, append_assoc, arith, length-append}
+use Rattle.std.proofs.Common.{◌≡◌, inl, inr, ℕ, List, [], ◌++◌, length, take, drop, Option, Some, None, refl, sym, ap, subst, append-nil, ◌∙◌, append_assoc, arith, length-append}
 use Rattle.std.specs.List.{AllByRecursion}
 use Rattle.std.proofs.Math.Seq.{drop-append_seam, take-append_seam}
 use Rattle.edn_reader.specs.Grammar.{Piece, IsElements, none, next}
+use Rattle.edn_reader.specs.Text.{IsFront}
 use Rattle.edn_reader.proofs.Places.{moved_gap, moved_element}
 use Rattle.feeders.specs.declared.log.Broken.{Broken}
 use Rattle.feeders.specs.Broken.{AreElements}
@@ -28,6 +29,11 @@ slices {bytes = bytes} (next {left = left} {beyond = beyond} {piece = piece} gap
       slices els input ((front ++ g.front) ++ e.front) behind (omega (arith, e.place, start, length-append (front ++ g.front) e.front)),
     )
 
+-- the elements that have ended, whatever follows
+slices_so_far : (input : List ℕ) (pieces : List Piece) (at : ℕ) → IsFront (input ++ []) pieces at → AllByRecursion (IsSlice input) pieces
+slices_so_far input pieces at front = slices (subst (λ (bytes : List ℕ). IsFront bytes pieces at) (append-nil input) front) input [] refl refl
+
 pub slices_of : (input : List ℕ) (broken : Option Broken) (pieces : List Piece) → AreElements input broken pieces → AllByRecursion (IsSlice input) pieces
 slices_of input None pieces (at, after, front, gap) = slices front input [] refl refl
-slices_of input (Some broken) pieces (fault, is, before, code) = slices before.1 input [] refl refl
+slices_of input (Some broken) pieces (inl (fault, is, before, code)) = slices before.1 input [] refl refl
+slices_of input (Some broken) pieces (inr (reading, place, viable, so_far)) = slices_so_far input pieces so_far.0.0 (so_far.0.2 [])

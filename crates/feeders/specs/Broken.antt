@@ -1,12 +1,13 @@
 -- Where a trace broke.
-use Rattle.std.specs.Prelude.{◌≡◌, ℕ, List, Option, Some, None}
+use Rattle.std.specs.Prelude.{◌≡◌, ◌⊎◌, ℕ, Bool, true, false, IsTrue, List, length, Option, Some, None}
 use Rattle.edn_reader.specs.declared.fault.EdnFault.{EdnFault}
 use Rattle.edn_reader.specs.declared.fault.EdnFault.TheVariants as edn
 use Rattle.edn_reader.specs.Grammar.{Piece}
-use Rattle.edn_reader.specs.Text.{IsText}
-use Rattle.edn_reader.specs.Fault.{FaultOf, AreElementsBefore}
+use Rattle.edn_reader.specs.Text.{IsText, IsViable}
+use Rattle.edn_reader.specs.Fault.{FaultOf, AreElementsBefore, AreElementsSoFar}
 use Rattle.feeders.specs.declared.log.Broken.{Broken}
-use Rattle.feeders.specs.declared.log.BreakCode.TheVariants.{Truncated, StrayClose, WrongClose, TooDeep, OddMap, TagWithoutElement}
+use Rattle.feeders.specs.declared.log.BreakCode.{BreakCode}
+use Rattle.feeders.specs.declared.log.BreakCode.TheVariants.{Truncated, StrayClose, WrongClose, TooDeep, OddMap, TagWithoutElement, ReadFailed, TooLong}
 
 -- the first fault of a text as what broke the trace; want of memory is none
 abbrev pub broken_by : EdnFault → Option Broken
@@ -18,7 +19,27 @@ broken_by (edn.OddMap place) = Some (record { code = OddMap; place = place })
 broken_by (edn.TagWithoutElement place) = Some (record { code = TagWithoutElement; place = place })
 broken_by (edn.Memory place) = None
 
--- the elements of an input: those of a text, or those before its first fault
+-- it is the reading that broke off, and not the text
+abbrev pub is_of_reading : BreakCode → Bool
+is_of_reading Truncated = false
+is_of_reading StrayClose = false
+is_of_reading WrongClose = false
+is_of_reading TooDeep = false
+is_of_reading OddMap = false
+is_of_reading TagWithoutElement = false
+is_of_reading ReadFailed = true
+is_of_reading TooLong = true
+
+-- the trace broke at the first fault of its text: these are the elements before it
+abbrev pub BrokeByText : List ℕ → Broken → List Piece → Type 0
+BrokeByText input broken pieces = (fault : EdnFault) × FaultOf input fault × AreElementsBefore input pieces × (broken_by fault ≡ Some broken)
+
+-- its reading broke off at its end, where it could still go on: these are the elements that have ended, whatever
+-- would have followed
+abbrev pub BrokeByReading : List ℕ → Broken → List Piece → Type 0
+BrokeByReading input broken pieces = IsTrue (is_of_reading broken.code) × (broken.place ≡ length input) × IsViable input × AreElementsSoFar input pieces
+
+-- the elements of an input: those of a text, or those before it broke
 abbrev pub AreElements : List ℕ → Option Broken → List Piece → Type 0
 AreElements input None pieces = IsText input pieces
-AreElements input (Some broken) pieces = (fault : EdnFault) × FaultOf input fault × AreElementsBefore input pieces × (broken_by fault ≡ Some broken)
+AreElements input (Some broken) pieces = BrokeByText input broken pieces ⊎ BrokeByReading input broken pieces

@@ -1,5 +1,5 @@
 -- For private clauses alone: how far a feeder has come, and what it gives.
-use Rattle.std.specs.Prelude.{◌≡◌, ◌<◌, ℕ, List, [], ◌∷◌, ◌++◌, length, Result}
+use Rattle.std.specs.Prelude.{◌≡◌, ◌<◌, ℕ, List, [], ◌∷◌, ◌++◌, length, Option, Result}
 use Rattle.std.specs.Borrow.{Bor}
 use Rattle.std.specs.Option.{ForSome}
 use Rattle.tower_file.specs.Contents.{Contents}
@@ -13,6 +13,7 @@ use Rattle.feeders.specs.declared.fed.Fed.{Fed}
 use Rattle.feeders.specs.declared.log.Line.{Line}
 use Rattle.feeders.specs.declared.log.Log.{Log}
 use Rattle.feeders.specs.declared.progress.Progress.{Progress}
+use Rattle.feeders.specs.Readers.{IsReadOf}
 use Rattle.feeders.specs.Steps.{AreItems, Taken, placed, steps_of}
 use Rattle.feeders.specs.Doings.{Doing, AreDone, entered_in}
 
@@ -46,12 +47,25 @@ pub record IsFed (plan : Plan) (tower : Contents) (chosen : MomentField) (feeder
   pub are : AreItems tower chosen trace fed.log.broken items
   pub done : HasDone plan feeder fed.pass fed.log.lines.items (steps_of feeder items)
 
+-- a feeder has read a trace of a reader that had these bytes left, and has gone through it
+pub record IsReadAndFed (plan : Plan) (tower : Contents) (chosen : MomentField) (feeder : ℕ) (left : Option (List ℕ)) (fed : Fed) : Type 0 where
+  pub trace : List ℕ
+  pub of : IsReadOf left fed.log.broken trace
+  pub is_fed : IsFed plan tower chosen feeder trace fed
+
+-- each of these passes goes with what its feeder had and what it left
+abbrev pub AreFedBy : {X : Type 0} → (ℕ → X → Fed → Type 0) → List Passed → List X → List Fed → Type 0
+AreFedBy IsFedOf [] [] [] = Unit {0}
+AreFedBy IsFedOf (pass ∷ passes) (x ∷ xs) (fed ∷ feds) = IsFedOf pass.feeder x fed × AreFedBy IsFedOf passes xs feds
+AreFedBy IsFedOf passes xs feds = ⊥
+
 -- each of these passes has gone through its trace
 abbrev pub AreFed : Plan → Contents → MomentField → List Passed → List (Bor (List ℕ)) → List Fed → Type 0
-AreFed plan tower chosen [] [] [] = Unit {0}
-AreFed plan tower chosen (pass ∷ passes) (trace ∷ traces) (fed ∷ feds) =
-    IsFed plan tower chosen pass.feeder trace.now fed × AreFed plan tower chosen passes traces feds
-AreFed plan tower chosen passes traces feds = ⊥
+AreFed plan tower chosen passes traces feds = AreFedBy (λ feeder trace fed. IsFed plan tower chosen feeder trace.now fed) passes traces feds
+
+-- each of these passes has gone through what was read of its reader
+abbrev pub AreReadAndFed : Plan → Contents → MomentField → List Passed → List (Option (List ℕ)) → List Fed → Type 0
+AreReadAndFed plan tower chosen passes lefts feds = AreFedBy (IsReadAndFed plan tower chosen) passes lefts feds
 
 -- nothing was done with any of these passes, each of one of the feeders
 abbrev pub AreFresh : Plan → List Passed → Type 0

@@ -42,6 +42,7 @@ pub fn take_text<'t, O: Opening, R: Wait, G: Gate>(
     ensures ahead { OnOk result (IsAhead progress.new) }
     ensures taken { OnOk result ((piece : Piece) → IsElement piece → piece.start ≡ start → piece.text ≡ text.now
         → TakesOne O.plan tower.now field piece progress.old pass.old progress.new pass.new) }
+    ensures broken { OnOk result (progress.new.log.broken ≡ progress.old.log.broken) }
     ensures fault { IfErr result (λ fault. IsPassOf O.plan pass.old → MayEnd fault) }
 {
     let item = read_item(read_one(alloc, text, start)?, field, tower);

@@ -19,6 +19,23 @@ pub enum RunFault {
     Shard(ShardFault),
 }
 
+/// Why a piece of a trace was not taken whole.
+#[derive(Clone, Copy, Debug, PartialEq, Eq, Error)]
+#[error("{fault} behind {used} bytes")]
+pub struct FeedFault {
+    pub fault: RunFault,
+    /// How many bytes of the piece were taken.
+    pub used: usize,
+}
+
+impl From<FeedFault> for RunFault {
+    ghost from_gives = { λ failed fault. fault ≡ failed.fault };
+
+    fn from(failed: FeedFault) -> RunFault {
+        failed.fault
+    }
+}
+
 impl From<AllocError> for RunFault {
     ghost from_gives = { λ _ fault. fault ≡ NoMemory };
 

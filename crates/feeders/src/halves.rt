@@ -3,15 +3,18 @@
 ghost use Rattle.std.specs.Prelude.{◌≡◌, ◌≤◌, ◌<◌, IfErr, IfOk, length, map, take, drop, vec_len};
 ghost use Rattle.std.specs.Thread.{IsSync};
 ghost use Rattle.feeders.specs.Ending.{MayEnd};
-ghost use Rattle.feeders.specs.Progress.{AreFed, AreFresh};
+ghost use Rattle.feeders.specs.Progress.{AreFed, AreFresh, AreReadAndFed};
 
 use crate::fault::RunFault;
 use crate::fed::Fed;
 use crate::log::Log;
+use crate::pages::Pages;
+use crate::stream::feed_reader;
 use crate::trace::feed_trace;
 use jepsen_form::MomentField;
 use shards::{Auditor, Gate, Opening, Pass};
 use std::alloc::{AllocError, Global};
+use std::io::Read;
 use std::sync::Wait;
 use std::thread::{Threads, join};
 use tower_file::Tower;
@@ -85,6 +88,91 @@ fn feed_alone<'t, O: Opening, R: Wait, G: Gate>(
         return Ok(feds);
     };
     feds.push(feed_trace(rt, alloc, auditor, gate, tower, field, pass, trace)?)?;
+    Ok(feds)
+}
+
+/// The same of what readers give.
+pub fn read_all<
+    't,
+    O: Opening + Send + Sync,
+    R: Threads + Wait + Sync,
+    G: Gate,
+    S: Read + Drop + Send,
+>(
+    rt: &R,
+    alloc: Global,
+    auditor: &Auditor<'t, O>,
+    gate: &G,
+    tower: &'t Tower,
+    field: MomentField,
+    pages: &'t Pages,
+    mut passes: Vec<Pass<'t>>,
+    mut readers: Vec<S>,
+) -> Result<Vec<Fed<'t>>, RunFault>
+    requires some { 0 < O.plan.shards }
+    requires fresh { AreFresh O.plan passes.items }
+    requires each { vec_len passes ≡ vec_len readers }
+    ensures fed { IfOk result (λ feds. AreReadAndFed O.plan tower.now field passes.entry.items (map S.remaining readers.items) feds.items) }
+    ensures fault { IfErr result MayEnd }
+{
+    let half = readers.len() / 2;
+    if half == 0 {
+        return read_alone(
+            rt, alloc, auditor, gate, tower, field, pages, passes, readers,
+        );
+    }
+    let back = readers.split_off(half)?;
+    let rest = passes_from::<O>(&mut passes, half)?;
+    let (first, second) = join(
+        rt,
+        || -> Result<Vec<Fed>, RunFault>
+            requires { IsSync R.row × (0 < O.plan.shards) × AreFresh O.plan passes.items × (vec_len passes ≡ vec_len readers) }
+            ensures fed { IfOk result (λ feds. AreReadAndFed O.plan tower.entry.now field passes.entry.items (map S.remaining readers.items) feds.items) }
+            ensures fault { IfErr result MayEnd }
+        {
+            read_all(
+                rt, alloc, auditor, gate, tower, field, pages, passes, readers,
+            )
+        },
+        || -> Result<Vec<Fed>, RunFault>
+            requires { IsSync R.row × (0 < O.plan.shards) × AreFresh O.plan rest.items × (vec_len rest ≡ vec_len back) }
+            ensures fed { IfOk result (λ feds. AreReadAndFed O.plan tower.entry.now field rest.entry.items (map S.remaining back.items) feds.items) }
+            ensures fault { IfErr result MayEnd }
+        { read_all(rt, alloc, auditor, gate, tower, field, pages, rest, back) },
+    );
+    let mut feds = first?;
+    let mut more = second?;
+    feds.append(&mut more)?;
+    Ok(feds)
+}
+
+/// One reader with its pass, or none.
+fn read_alone<'t, O: Opening, R: Wait, G: Gate, S: Read + Drop>(
+    rt: &R,
+    alloc: Global,
+    auditor: &Auditor<'t, O>,
+    gate: &G,
+    tower: &'t Tower,
+    field: MomentField,
+    pages: &'t Pages,
+    mut passes: Vec<Pass<'t>>,
+    mut readers: Vec<S>,
+) -> Result<Vec<Fed<'t>>, RunFault>
+    requires some { 0 < O.plan.shards }
+    requires fresh { AreFresh O.plan passes.items }
+    requires each { vec_len passes ≡ vec_len readers }
+    requires few { vec_len readers < 2 }
+    ensures fed { IfOk result (λ feds. AreReadAndFed O.plan tower.now field passes.entry.items (map S.remaining readers.items) feds.items) }
+    ensures fault { IfErr result MayEnd }
+{
+    let mut feds = Vec::new(alloc);
+    let Some(reader) = readers.pop() else {
+        return Ok(feds);
+    };
+    let Some(pass) = passes.pop() else {
+        return Ok(feds);
+    };
+    feds.push(feed_reader(rt, alloc, auditor, gate, tower, field, pages, pass, reader)?)?;
     Ok(feds)
 }
 

@@ -11,19 +11,24 @@
 mod element;
 mod fault;
 mod fed;
+mod feeder;
 mod halves;
+mod intake;
 mod kept;
 pub mod laws;
 mod log;
 mod pages;
 mod progress;
 mod run;
+mod source;
+mod stream;
 mod trace;
 
-pub use fault::RunFault;
+pub use fault::{FeedFault, RunFault};
+pub use feeder::Feeder;
 pub use log::{BreakCode, Broken, Code, Line, Log, What};
 pub use pages::Pages;
-pub use run::{Run, run_traces};
+pub use run::{Run, run_readers, run_traces};
 
 #[cfg(test)]
 mod tests;

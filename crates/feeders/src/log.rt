@@ -40,7 +40,7 @@ pub struct Line<'t> {
     pub what: What<'t>,
 }
 
-/// Why the text of a trace breaks off.
+/// Why a trace breaks off: by a fault of its text, or because its reading ends before it does.
 #[derive(Clone, Copy, Debug, PartialEq, Eq)]
 pub enum BreakCode {
     /// E1: it ends inside an element or a discard.
@@ -55,6 +55,10 @@ pub enum BreakCode {
     OddMap,
     /// E6: a bracket closes while a tag or discard in it waits for its element.
     TagWithoutElement,
+    /// N1: a read call failed.
+    ReadFailed,
+    /// N2: more than 1,073,741,824 bytes, or more than 16,777,216 read calls.
+    TooLong,
 }
 
 /// Where a trace broke, as a byte place.
@@ -85,6 +89,7 @@ impl<'t> Log<'t> {
     ) -> Result<(), RunFault>
         requires some { 0 < O.plan.shards }
         ensures done { OnOk result (GoesOn O.plan pass.old self.old pass.new self.new place (by_pairing step.entry)) }
+        ensures broken { OnOk result (self.new.broken ≡ self.old.broken) }
         ensures fault { IfErr result (λ fault. IsPassOf O.plan pass.old → MayEnd fault) }
     {
         match step {
@@ -104,6 +109,7 @@ impl<'t> Log<'t> {
     ) -> Result<(), RunFault>
         requires some { 0 < O.plan.shards }
         ensures done { OnOk result (GoesOn O.plan pass.old self.old pass.new self.new place (Ok step.entry)) }
+        ensures broken { OnOk result (self.new.broken ≡ self.old.broken) }
         ensures fault { IfErr result (λ fault. IsPassOf O.plan pass.old → MayEnd fault) }
     {
         match step {
@@ -118,6 +124,7 @@ impl<'t> Log<'t> {
     /// Notes that the element at a place is refused before it reaches a register.
     pub fn refuse<O: Opening>(&mut self, place: u64, code: Code) -> Result<(), RunFault>
         ensures done { OnOk result ((pass : Passed) → GoesOn O.plan pass self.old pass self.new place (Err code)) }
+        ensures broken { OnOk result (self.new.broken ≡ self.old.broken) }
         ensures fault { IfErr result MayEnd }
     {
         self.lines.push(Line {
@@ -140,6 +147,7 @@ impl<'t> Log<'t> {
     ) -> Result<(), RunFault>
         requires some { 0 < O.plan.shards }
         ensures done { OnOk result (GoesOn O.plan pass.old self.old pass.new self.new place (Ok (Some (ToEdit register edit.entry)))) }
+        ensures broken { OnOk result (self.new.broken ≡ self.old.broken) }
         ensures fault { IfErr result (λ fault. IsPassOf O.plan pass.old → MayEnd fault) }
     {
         what_was_told_stays();
@@ -165,6 +173,7 @@ impl<'t> Log<'t> {
     ) -> Result<(), RunFault>
         requires some { 0 < O.plan.shards }
         ensures done { OnOk result (GoesOn O.plan pass.old self.old pass.new self.new place (Ok (Some (Ask register)))) }
+        ensures broken { OnOk result (self.new.broken ≡ self.old.broken) }
         ensures fault { IfErr result (λ fault. IsPassOf O.plan pass.old → MayEnd fault) }
     {
         what_was_told_stays();

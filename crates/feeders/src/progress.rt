@@ -65,6 +65,7 @@ impl<'t> Progress<'t> {
         ensures place { OnOk result (self.new.place ≡ self.old.place + 1) }
         ensures ahead { OnOk result (IsAhead self.new) }
         ensures taken { OnOk result ((feeder : ℕ) (items : List (Result AnItem AFormFault)) → IsAt O.plan feeder items self.old pass.old → IsAt O.plan feeder (items ++ item.entry ∷ []) self.new pass.new) }
+        ensures broken { OnOk result (self.new.log.broken ≡ self.old.log.broken) }
         ensures fault { IfErr result (λ fault. IsPassOf O.plan pass.old → MayEnd fault) }
     {
         match item {
@@ -91,6 +92,7 @@ impl<'t> Progress<'t> {
         ensures place { OnOk result (self.new.place ≡ self.old.place + 1) }
         ensures ahead { OnOk result (IsAhead self.new) }
         ensures taken { OnOk result ((feeder : ℕ) (items : List (Result AnItem AFormFault)) → IsAt O.plan feeder items self.old pass.old → IsAt O.plan feeder (items ++ item.entry ∷ []) self.new pass.new) }
+        ensures broken { OnOk result (self.new.log.broken ≡ self.old.log.broken) }
         ensures fault { IfErr result (λ fault. IsPassOf O.plan pass.old → MayEnd fault) }
     {
         match item {
@@ -115,6 +117,7 @@ impl<'t> Progress<'t> {
         ensures place { OnOk result (self.new.place ≡ self.old.place) }
         ensures last { OnOk result (self.new.pairing.last ≡ Some self.old.place) }
         ensures taken { OnOk result ((feeder : ℕ) (items : List (Result AnItem AFormFault)) → IsAt O.plan feeder items self.old pass.old → IsAt O.plan feeder (items ++ Ok item.entry ∷ []) (record self.new { place = self.new.place + 1 }) pass.new) }
+        ensures broken { OnOk result (self.new.log.broken ≡ self.old.log.broken) }
         ensures fault { IfErr result (λ fault. IsPassOf O.plan pass.old → MayEnd fault) }
     {
         let step = self.pairing.take(item, self.place);
@@ -138,6 +141,7 @@ impl<'t> Progress<'t> {
         ensures place { OnOk result (self.new.place ≡ self.old.place) }
         ensures last { OnOk result (self.new.pairing.last ≡ Some self.old.place) }
         ensures taken { OnOk result ((feeder : ℕ) (items : List (Result AnItem AFormFault)) → IsAt O.plan feeder items self.old pass.old → IsAt O.plan feeder (items ++ Ok item.entry ∷ []) (record self.new { place = self.new.place + 1 }) pass.new) }
+        ensures broken { OnOk result (self.new.log.broken ≡ self.old.log.broken) }
         ensures fault { IfErr result (λ fault. IsPassOf O.plan pass.old → MayEnd fault) }
     {
         let step = self.pairing.take(item, self.place);

@@ -1,16 +1,19 @@
 //! A run over several traces.
 
-ghost use Rattle.std.specs.Prelude.{◌≡◌, ◌≤◌, IfErr, IfOk, length, map};
+ghost use Rattle.std.specs.Prelude.{◌≡◌, ◌≤◌, ℕ, List, IfErr, IfOk, length, map, vec_len};
 ghost use Rattle.shards.specs.Plan.{plan_of};
 ghost use Rattle.feeders.specs.Ending.{MayEnd};
+ghost use Rattle.feeders.specs.Readers.{AreReadOf};
 ghost use Rattle.feeders.specs.Run.{IsRun};
 
 use crate::fault::RunFault;
-use crate::halves::{feed_all, taken_apart};
+use crate::halves::{feed_all, read_all, taken_apart};
 use crate::log::Log;
+use crate::pages::Pages;
 use jepsen_form::MomentField;
 use shards::{Auditor, Closed, Gate, Opening};
 use std::alloc::Global;
+use std::io::Read;
 use std::marker::Brand;
 use std::sync::Wait;
 use std::thread::Threads;
@@ -40,6 +43,56 @@ pub fn run_traces<'t, R: Threads + Wait + Sync, G: Gate>(
     ensures fault { IfErr result MayEnd }
 {
     run_in::<Brand, R, G>(rt, alloc, tower, traces, field, shards, gate)
+}
+
+/// Feeds what each reader gives, in pieces as they come, each by a thread of its own, this one among them: feeder `i` has
+/// reader `i`. The texts that steps lend go to the pages. A trace whose reading fails (N1), or takes more than
+/// 1,073,741,824 bytes or 16,777,216 read calls (N2), ends with the bytes that were read. A call that is interrupted is made
+/// again, and counts. It waits for the shards' locks and for other pushes to the pages.
+pub fn run_readers<'t, R: Threads + Wait + Sync, S: Read + Drop + Send, G: Gate>(
+    rt: &R,
+    alloc: Global,
+    tower: &'t Tower,
+    readers: Vec<S>,
+    pages: &'t Pages,
+    field: MomentField,
+    shards: u32,
+    gate: &G,
+) -> Result<Run<'t>, RunFault>
+    requires readers { (1 ≤ vec_len readers) × (vec_len readers ≤ 256) }
+    requires shards { (1 ≤ shards) × (shards ≤ 64) }
+    ensures run { IfOk result (λ run. (traces : List (List ℕ)) × AreReadOf (map S.remaining readers.items) run.logs.items traces × IsRun tower.now field shards traces run.closed run.logs.items) }
+    ensures fault { IfErr result MayEnd }
+{
+    read_in::<Brand, R, S, G>(rt, alloc, tower, readers, pages, field, shards, gate)
+}
+
+/// The same in an opening.
+fn read_in<'t, O: Opening + Send + Sync, R: Threads + Wait + Sync, S: Read + Drop + Send, G: Gate>(
+    rt: &R,
+    alloc: Global,
+    tower: &'t Tower,
+    readers: Vec<S>,
+    pages: &'t Pages,
+    field: MomentField,
+    shards: u32,
+    gate: &G,
+) -> Result<Run<'t>, RunFault>
+    requires opening { O.plan ≡ plan_of 0 tower.now shards (vec_len readers) }
+    requires readers { (1 ≤ vec_len readers) × (vec_len readers ≤ 256) }
+    requires shards { (1 ≤ shards) × (shards ≤ 64) }
+    ensures run { IfOk result (λ run. (traces : List (List ℕ)) × AreReadOf (map S.remaining readers.items) run.logs.items traces × IsRun tower.now field shards traces run.closed run.logs.items) }
+    ensures fault { IfErr result MayEnd }
+{
+    let (auditor, passes) = Auditor::<O>::open(alloc, 0, tower, shards, readers.len() as u32)?;
+    let feds = read_all(
+        rt, alloc, &auditor, gate, tower, field, pages, passes, readers,
+    )?;
+    let (passes, logs) = taken_apart(alloc, feds)?;
+    match auditor.finish(passes) {
+        Ok(closed) => Ok(Run { closed, logs }),
+        Err(unfinished) => Err(RunFault::from(unfinished.fault)),
+    }
 }
 
 /// The same in an opening.

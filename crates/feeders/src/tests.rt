@@ -3,13 +3,15 @@
 
 mod gates;
 mod pages;
+mod readers;
 
 ghost use Rattle.std.specs.Prelude.{◌≤◌};
 
-use crate::{Code, Line, Log, Run, RunFault, What, run_traces};
+use crate::{Code, Line, Log, Pages, Run, RunFault, What, run_readers, run_traces};
 use gates::Watch;
 use intervals::RegId;
 use jepsen_form::MomentField;
+use readers::{Endless, Given, Reader};
 use std::alloc::{AllocError, Global};
 use std::process::Abort;
 use std::sync::Wait;
@@ -89,12 +91,14 @@ fn tell_run(told: &mut String, registers: u32, run: &Run) -> Result<(), AllocErr
     Ok(())
 }
 
-/// Feeds the traces, and tells what is found and what the gate noted.
-fn tell_traces<R: Threads + Wait + AllocGlobal + Sync>(
+/// Feeds the traces as they are given, and tells what is found and what the gate noted.
+fn tell_traces<'x, R: Threads + Wait + AllocGlobal + Sync>(
     rt: &R,
     told: &mut String,
-    tower: &Tower,
-    texts: &[String],
+    tower: &'x Tower,
+    pages: &'x Pages,
+    texts: &'x [String],
+    given: Given,
     shards: u32,
     gate: &Watch,
 ) -> Result<(), RunFault>
@@ -102,13 +106,20 @@ fn tell_traces<R: Threads + Wait + AllocGlobal + Sync>(
 {
     let alloc = rt.alloc();
     let mut traces = Vec::new(alloc);
+    let mut readers = Vec::new(alloc);
     for text in texts {
         traces.push(text.as_bytes())?;
+        readers.push(Reader::new(text.as_bytes(), given))?;
     }
-    if traces.is_empty() || traces.len() > 256 {
+    if traces.is_empty() || traces.len() > 256 || readers.is_empty() || readers.len() > 256 {
         return Ok(());
     }
-    let run = run_traces(rt, alloc, tower, &traces, MomentField::Index, shards, gate)?;
+    let field = MomentField::Index;
+    let run = if given == Given::Whole {
+        run_traces(rt, alloc, tower, &traces, field, shards, gate)?
+    } else {
+        run_readers(rt, alloc, tower, readers, pages, field, shards, gate)?
+    };
     tell_run(told, tower.len() as u32, &run)?;
     if gate.failures.load(SeqCst) > 0 {
         told.push_str(", the gate failed")?;
@@ -116,52 +127,83 @@ fn tell_traces<R: Threads + Wait + AllocGlobal + Sync>(
     Ok(())
 }
 
-/// What a row comes to at a gate.
-fn told<R: Threads + Wait + AllocGlobal + Sync>(
-    rt: &R,
-    word: &'static str,
-    shards: &str,
-    tower: &str,
-    traces: &str,
-) -> Result<String, RunFault> {
-    let alloc = rt.alloc();
-    let mut told = String::new(alloc);
-    let texts = texts_of(alloc, traces)?;
-    let gate = Watch::new(word, texts.len() as u64);
-    let shards = shards.parse::<u32>().unwrap_or(1).clamp(1, 64);
-    match Tower::read(alloc, tower.as_bytes()) {
-        Ok(tower) => tell_traces(rt, &mut told, &tower, &texts, shards, &gate)?,
-        Err(TowerFault::Memory) => return Err(RunFault::Memory),
-        Err(fault) => write!(told, "{fault}")?,
-    }
-    Ok(told)
+/// A row: at which gates it is told, over how many shards of which tower, of which traces, and what it comes to.
+#[derive(Clone, Copy, Debug)]
+struct Row {
+    gates: &'static str,
+    shards: &'static str,
+    tower: &'static str,
+    traces: &'static str,
+    want: &'static str,
 }
 
-/// Where memory is refused a row is told once more.
-fn is_told<R: Threads + Wait + AllocGlobal + Abort + Sync>(
-    rt: &R,
-    row: &'static str,
-) -> Result<(), Fail> {
-    let (row, want) = row.split_once("\n=> ").unwrap_or((row, ""));
-    let (head, traces) = row.split_once('\n').unwrap_or((row, ""));
-    let (gates, head) = head.split_once(" in ").unwrap_or((head, ""));
-    let (shards, tower) = head.split_once(' ').unwrap_or((head, ""));
-    for word in gates.split(' ') {
-        let found = match told(rt, word, shards, tower, traces) {
-            Err(RunFault::Memory) => told(rt, word, shards, tower, traces)?,
+impl Row {
+    fn read(row: &'static str) -> Row {
+        let (row, want) = row.split_once("\n=> ").unwrap_or((row, ""));
+        let (head, traces) = row.split_once('\n').unwrap_or((row, ""));
+        let (gates, head) = head.split_once(" in ").unwrap_or((head, ""));
+        let (shards, tower) = head.split_once(' ').unwrap_or((head, ""));
+        Row {
+            gates,
+            shards,
+            tower,
+            traces,
+            want,
+        }
+    }
+
+    /// What it comes to at a gate, where its traces are given so.
+    fn told<R: Threads + Wait + AllocGlobal + Sync>(
+        &self,
+        rt: &R,
+        word: &'static str,
+        given: Given,
+    ) -> Result<String, RunFault> {
+        let alloc = rt.alloc();
+        let mut told = String::new(alloc);
+        let texts = texts_of(alloc, self.traces)?;
+        let gate = Watch::new(word, texts.len() as u64);
+        let shards = self.shards.parse::<u32>().unwrap_or(1).clamp(1, 64);
+        let pages = Pages::new(alloc)?;
+        match Tower::read(alloc, self.tower.as_bytes()) {
+            Ok(tower) => tell_traces(rt, &mut told, &tower, &pages, &texts, given, shards, &gate)?,
+            Err(TowerFault::Memory) => return Err(RunFault::Memory),
+            Err(fault) => write!(told, "{fault}")?,
+        }
+        Ok(told)
+    }
+
+    /// Where memory is refused a row is told once more.
+    fn is_told<R: Threads + Wait + AllocGlobal + Abort + Sync>(
+        &self,
+        rt: &R,
+        word: &'static str,
+        given: Given,
+    ) -> Result<(), Fail> {
+        let found = match self.told(rt, word, given) {
+            Err(RunFault::Memory) => self.told(rt, word, given)?,
             found => found?,
         };
-        assert!(rt; found.as_str() == want, "{word} in {head} => {found}");
+        assert!(rt;
+            found.as_str() == self.want,
+            "{word} {given:?} in {} => {found}",
+            self.shards
+        );
+        Ok(())
     }
-    Ok(())
 }
 
+/// Each row at each of its gates, from traces that lie whole and from readers that give them byte by byte.
 fn each_is_told<R: Threads + Wait + AllocGlobal + Abort + Sync>(
     rt: &R,
     rows: &'static str,
 ) -> Result<(), Fail> {
     for row in rows.split("\n\n") {
-        is_told(rt, row)?;
+        let row = Row::read(row);
+        for word in row.gates.split(' ') {
+            row.is_told(rt, word, Given::Whole)?;
+            row.is_told(rt, word, Given::Bytes)?;
+        }
     }
     Ok(())
 }
@@ -256,6 +298,82 @@ fn any_order_of_arrival_is_told_alike(rt: HostRuntime) -> Result<(), Fail> {
 #[test]
 fn each_of_many_traces_has_a_feeder(rt: HostRuntime) -> Result<(), Fail> {
     each_is_told(&rt, MANY)
+}
+
+/// Each trace cut in two at each place, and read with interruptions.
+#[test]
+fn traces_may_be_cut_anywhere(rt: HostRuntime) -> Result<(), Fail> {
+    for row in TRACES.split("\n\n") {
+        let row = Row::read(row);
+        for place in 0..row.traces.len() {
+            row.is_told(&rt, "open", Given::Cut(place))?;
+        }
+        row.is_told(&rt, "open", Given::Halting)?;
+    }
+    Ok(())
+}
+
+/// An element and the beginning of another, whose reading fails.
+const BROKEN: &str =
+    "open in 1 {:levels [{:name top :registers [{:name x :kind :atomic :writers :any}]}]}
+{:process 0 :type :invoke :f :write :value 1 :index 0} {:index 0";
+
+/// What has ended stands, wherever the reading fails.
+#[test]
+fn a_reading_may_fail_at_each_call(rt: HostRuntime) -> Result<(), Fail> {
+    let row = Row::read(BROKEN);
+    for place in 0..=64 {
+        let count = if place < 54 { 0 } else { 1 };
+        let mut want = String::new(rt.alloc());
+        write!(want, "holds {count}, 1 logs 0: ReadFailed at {place},")?;
+        let found = row.told(&rt, "open", Given::Failing(place))?;
+        assert!(rt; found.as_str() == want.as_str(), "{place} => {found}");
+    }
+    Ok(())
+}
+
+/// What is told of a reader without end.
+fn told_of_endless<R: Threads + Wait + AllocGlobal + Sync>(
+    rt: &R,
+    interrupted: bool,
+) -> Result<String, RunFault> {
+    let alloc = rt.alloc();
+    let row = Row::read(BROKEN);
+    let mut told = String::new(alloc);
+    let pages = Pages::new(alloc)?;
+    let Ok(tower) = Tower::read(alloc, row.tower.as_bytes()) else {
+        return Err(RunFault::Memory);
+    };
+    let readers = Vec::from_array(alloc, [Endless { interrupted }])?;
+    let gate = Watch::new("open", 1);
+    let run = run_readers(
+        rt,
+        alloc,
+        &tower,
+        readers,
+        &pages,
+        MomentField::Index,
+        1,
+        &gate,
+    )?;
+    tell_run(&mut told, 1, &run)?;
+    Ok(told)
+}
+
+/// A reader that is interrupted for ever, and one that gives one byte for ever.
+#[test]
+fn a_reading_ends_at_its_limit(rt: HostRuntime) -> Result<(), Fail> {
+    let halted = told_of_endless(&rt, true)?;
+    assert!(rt;
+        halted.as_str() == "holds 0, 1 logs 0: TooLong at 0,",
+        "{halted}"
+    );
+    let spaces = told_of_endless(&rt, false)?;
+    assert!(rt;
+        spaces.as_str() == "holds 0, 1 logs 0: TooLong at 16777216,",
+        "{spaces}"
+    );
+    Ok(())
 }
 
 /// To be run with each allocation refused in turn.

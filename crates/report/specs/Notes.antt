@@ -9,7 +9,7 @@ use Rattle.pairing.specs.declared.fault.PairFault.{PairFault}
 use Rattle.pairing.specs.declared.fault.PairFault.TheVariants.{ProcessBusy, NoInvocation, AnswerMismatch, Memory}
 use Rattle.tower_file.specs.Contents.{Register as Said}
 use Rattle.feeders.specs.declared.log.BreakCode.{BreakCode}
-use Rattle.feeders.specs.declared.log.BreakCode.TheVariants.{Truncated, StrayClose, WrongClose, TooDeep, OddMap, TagWithoutElement}
+use Rattle.feeders.specs.declared.log.BreakCode.TheVariants.{Truncated, StrayClose, WrongClose, TooDeep, OddMap, TagWithoutElement, ReadFailed, TooLong}
 use Rattle.feeders.specs.declared.log.Broken.{Broken}
 use Rattle.feeders.specs.declared.log.Code.{Code}
 use Rattle.feeders.specs.declared.log.Code.TheVariants.{Form, Pair, Register}
@@ -63,6 +63,8 @@ break_code WrongClose = codes "E3"
 break_code TooDeep = codes "E4"
 break_code OddMap = codes "E5"
 break_code TagWithoutElement = codes "E6"
+break_code ReadFailed = codes "N1"
+break_code TooLong = codes "N2"
 
 -- the line of what is noted of an element of a feeder's trace
 abbrev pub what_line : List Said → ℕ → ℕ → What → List ℕ

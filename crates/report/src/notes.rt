@@ -122,5 +122,7 @@ fn break_code(code: BreakCode) -> &'static str
         BreakCode::TooDeep => "E4",
         BreakCode::OddMap => "E5",
         BreakCode::TagWithoutElement => "E6",
+        BreakCode::ReadFailed => "N1",
+        BreakCode::TooLong => "N2",
     }
 }

@@ -12,7 +12,7 @@ use Rattle.jepsen_form.proofs.item.MomentField.TheSendSync as field
 use Rattle.shards.proofs.Crosses.{auditor_sync, closure_send}
 use Rattle.shards.proofs.pass.Pass.TheSendSync as pass
 use Rattle.tower_file.proofs.tower.Tower.TheSendSync as tower
-use Rattle.feeders.specs.Progress.{AreFed}
+use Rattle.feeders.specs.Progress.{AreFed, IsFed}
 use Rattle.std.specs.contracts.alloc.Global as Global
 use Rattle.std.specs.contracts.impls.GlobalAllocator.TheImpl as allocator
 use Rattle.std.specs.contracts.vec.Vec as Vec
@@ -32,7 +32,7 @@ returns-clause-fed g t c =
     let parts = c.split_at.result in
     let front : AreFed plan c.args.tower.now c.args.field c.passes_from.new.passes.items parts.0.now c.in_ok-feds.feds.items = search rules in
     let back : AreFed plan c.args.tower.now c.args.field c.in_ok-rest.rest.items parts.1.now c.in_ok-more.more.items = search rules in
-    fed_parts plan c.args.tower.now c.args.field (length traces / 2) passes c.passes_from.new.passes.items c.in_ok-rest.rest.items traces parts.0.now parts.1.now
+    fed_parts (λ feeder trace fed. IsFed plan c.args.tower.now c.args.field feeder trace.now fed) (length traces / 2) passes c.passes_from.new.passes.items c.in_ok-rest.rest.items traces parts.0.now parts.1.now
     c.in_ok-feds.feds.items c.in_ok-more.more.items c.append.new.self.items c.in_ok-rest.ensures.front c.in_ok-rest.ensures.rest c.split_at.ensures.front_len
     c.split_at.ensures.front c.split_at.ensures.back c.in_ok-append.ensures.items front back
 

@@ -16,11 +16,11 @@ feed_all-requires-clause-each g c κs within = c.in_ok-auditor.passes.ok.0 ∙ a
 
 pub returns-in-Ok-clause-run : goal.returns-in-Ok-clause-run
 returns-in-Ok-clause-run g c =
-    run_of g.O.Opening.plan c.args.tower.now c.args.field c.args.shards c.args.traces.now c.in_ok-auditor.passes.items c.in_ok-feds.feds.items c.in_ok-passes.passes.items
+    run_of (λ trace. trace.now) g.O.Opening.plan c.args.tower.now c.args.field c.args.shards c.args.traces.now c.in_ok-auditor.passes.items c.in_ok-feds.feds.items c.in_ok-passes.passes.items
     c.in_ok-passes.logs.items c.in-Ok.closed c.requires.opening c.in_ok-auditor.ensures.passes c.in_ok-feds.ensures.fed c.in_ok-passes.ensures.passes c.in_ok-passes.ensures.logs c.in-Ok.ensures.closed
 
 pub returns-clause-fault : goal.returns-clause-fault
 returns-clause-fault g c =
     subst MayEnd (sym c.from.ensures)
-    (may_end g.O.Opening.plan c.args.tower.now c.args.field c.args.traces.now c.in_ok-auditor.passes.items c.in_ok-feds.feds.items c.in_ok-passes.passes.items c.in-Err.unfinished.fault
+    (may_end (λ trace. trace.now) g.O.Opening.plan c.args.tower.now c.args.field c.args.traces.now c.in_ok-auditor.passes.items c.in_ok-feds.feds.items c.in_ok-passes.passes.items c.in-Err.unfinished.fault
     (ap (λ (plan : Plan). plan.feeders) c.requires.opening) c.in_ok-auditor.ensures.passes c.in_ok-feds.ensures.fed c.in_ok-passes.ensures.passes c.in-Err.ensures.unfinished)

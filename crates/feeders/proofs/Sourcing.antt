@@ -1,0 +1,27 @@
+-- What a source has given, where it gave a front of what was read.
+use Rattle.std.proofs.Common.{◌≡◌, ℕ, ◌<◌, ◌≤◌, Bool, true, false, List, ◌++◌, length, take, drop, Option, Some, None, sym, ap, ◌∙◌, arith, append_assoc, length-append, length-drop, take-append-drop, take-take}
+use Rattle.std.proofs.lemmas.Option.{none-some, same_Some}
+use Rattle.std.proofs.lemmas.List.{length-take-le, take-append-le}
+use Rattle.std.specs.Io.KnownBytes.{Keeps, Consumes}
+use Rattle.feeders.specs.Source.{IsGiven}
+
+-- the front of what a read gave, of a reader that kept its bytes until then
+pub front_given : (first before until after : Option (List ℕ)) (bytes read behind : List ℕ) (room count : ℕ) → IsGiven first bytes before false → Keeps before until → Consumes until after (take count read)
+    → room < count → count ≤ length read → IsGiven first (bytes ++ take room (read ++ behind)) after true
+front_given None before until after bytes read behind room count given kept more some there = tt
+front_given (Some all) None until after bytes read behind room count given kept more some there = absurd (none-some given.0 given.1)
+front_given (Some all) (Some left) None after bytes read behind room count given kept more some there = absurd kept
+front_given (Some all) (Some left) (Some still) None bytes read behind room count given kept more some there = absurd more
+front_given (Some all) (Some left) (Some still) (Some rest) bytes read behind room count given kept more some there =
+    let front = take room (read ++ behind) in
+    let others = drop room (take count read) in
+    let same : take room (take count read) ≡ front = take-take room count read (omega (arith, some)) ∙ sym (take-append-le room read behind (omega (arith, some, there))) in
+    let parted : take count read ≡ front ++ others = sym (take-append-drop room (take count read)) ∙ ap (λ (l : List ℕ). l ++ others) same in
+    let had : given.0 ≡ front ++ (others ++ rest) = sym (same_Some left given.0 given.1) ∙ sym kept ∙ more ∙ ap (λ (l : List ℕ). l ++ rest) parted ∙ append_assoc front others rest in
+    let whole : all ≡ (bytes ++ front) ++ (others ++ rest) = given.2 ∙ ap (λ (l : List ℕ). bytes ++ l) had ∙ sym (append_assoc bytes front (others ++ rest)) in
+    (others ++ rest, whole, omega (arith, some, length-append others rest, length-drop room (take count read), length-take-le count read there))
+
+-- the bytes that were given are a front of what the reader had
+pub given_front : (all bytes : List ℕ) (left : Option (List ℕ)) (past : Bool) → IsGiven (Some all) bytes left past → (rest : List ℕ) × (all ≡ bytes ++ rest)
+given_front all bytes left false given = (given.0, given.2)
+given_front all bytes left true given = (given.0, given.1)

@@ -1,0 +1,16 @@
+-- the piece is fed up to here
+use Rattle.std.proofs.Common.{length, take, drop, ◌-◌, ◌≡◌, ◌+◌, ◌≤◌, ◌++◌, [], ℕ, List}
+use Rattle.feeders.specs.Intake.{CanGoOn, HasFed}
+use Rattle.feeders.proofs.intake.Intake.take_piece.Given as goal
+
+abbrev pub invariant-loop-at : goal.invariant-loop-at
+invariant-loop-at g l = record {
+  within : l.at ≤ length l.fn.piece;
+  can : CanGoOn (drop l.at l.fn.piece) l.self;
+  taken : l.self.splitter.taken ≡ l.fn.self.splitter.taken + l.at;
+  so_far : (feeder : ℕ) (bytes : List ℕ) → HasFed g.O.Opening.plan l.fn.tower l.fn.field feeder bytes [] l.fn.self l.fn.pass
+      → HasFed g.O.Opening.plan l.fn.tower l.fn.field feeder (bytes ++ take l.at l.fn.piece) (drop l.at l.fn.piece) l.self l.pass;
+}
+
+abbrev pub decreases-loop-at : goal.decreases-loop-at
+decreases-loop-at g l = (l.fn.self.splitter.taken + length l.fn.piece - l.self.splitter.taken) + (l.fn.self.splitter.taken + length l.fn.piece - l.self.progress.place)

@@ -1,0 +1,7 @@
+-- the plan of the opening
+use Rattle.std.proofs.Common.{vec_len}
+use Rattle.shards.specs.Plan.{plan_of}
+use Rattle.feeders.proofs.run.run_readers.Given as goal
+
+abbrev pub ghosts-read_in : goal.ghosts-read_in
+ghosts-read_in g a = record { plan = plan_of 0 a.tower.now a.shards (vec_len a.readers) }

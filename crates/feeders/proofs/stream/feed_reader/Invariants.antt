@@ -1,0 +1,20 @@
+-- what the source gave is fed
+use Rattle.std.proofs.Common.{◌≡◌, ◌-◌, ◌≤◌, length}
+use Rattle.feeders.specs.declared.feeder.Course.TheVariants.{Open}
+use Rattle.feeders.specs.declared.source.TheConstants.{CALL_LIMIT}
+use Rattle.feeders.proofs.Streaming.{HasStreamed}
+use Rattle.feeders.proofs.stream.feed_reader.Given as goal
+
+abbrev pub invariant-loop-count : goal.invariant-loop-count
+invariant-loop-count g l = record {
+  room : length l.buffer ≡ 65536;
+  going : l.feeder.course ≡ Open;
+  chosen : l.feeder.chosen ≡ l.fn.field;
+  tower : l.feeder.tower ≡ l.fn.tower;
+  counted : l.feeder.intake.splitter.taken ≡ l.source.given;
+  limit : l.source.given ≤ 1073741824;
+  so_far : HasStreamed g.O.Opening.plan l.fn.pass.feeder (g.S.Read.remaining l.fn.reader) (g.S.Read.remaining l.source.reader) l.source.past l.feeder l.pass;
+}
+
+abbrev pub decreases-loop-count : goal.decreases-loop-count
+decreases-loop-count g l = CALL_LIMIT - l.source.calls

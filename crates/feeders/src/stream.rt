@@ -1,0 +1,65 @@
+//! A feeder's way through what a reader gives.
+
+ghost use Rattle.std.specs.Prelude.{◌≡◌, ◌<◌, IfErr, IfOk};
+ghost use Rattle.shards.specs.Pass.{fresh};
+ghost use Rattle.feeders.specs.Ending.{MayEnd};
+ghost use Rattle.feeders.specs.Progress.{IsReadAndFed};
+
+use crate::fault::RunFault;
+use crate::fed::Fed;
+use crate::feeder::Feeder;
+use crate::pages::Pages;
+use crate::source::Source;
+use jepsen_form::MomentField;
+use shards::{Auditor, Gate, Opening, Pass};
+use std::alloc::Global;
+use std::io::Read;
+use std::sync::Wait;
+use tower_file::Tower;
+
+/// How many bytes are asked for in one read call.
+const PIECE: usize = 65_536;
+
+/// Reads a trace up to its end, to where it breaks or to where its reading does, and carries its steps out in order, each as
+/// soon as its element has ended.
+pub fn feed_reader<'t, O: Opening, R: Wait, G: Gate, S: Read + Drop>(
+    rt: &R,
+    alloc: Global,
+    auditor: &Auditor<'t, O>,
+    gate: &G,
+    tower: &'t Tower,
+    field: MomentField,
+    pages: &'t Pages,
+    mut pass: Pass<'t>,
+    reader: S,
+) -> Result<Fed<'t>, RunFault>
+    requires some { 0 < O.plan.shards }
+    requires fresh { pass ≡ fresh O.plan pass.feeder }
+    requires known { pass.feeder < O.plan.feeders }
+    ensures fed { IfOk result (IsReadAndFed O.plan tower.now field pass.entry.feeder (S.remaining reader)) }
+    ensures fault { IfErr result MayEnd }
+{
+    let mut room = Vec::new(alloc);
+    room.resize(PIECE, 0)?;
+    let buffer = room.as_mut_slice();
+    let mut source = Source::new(reader);
+    let mut feeder = Feeder::new(alloc, pass.feeder(), field, tower, pages);
+    loop {
+        match source.next(buffer) {
+            Ok(count) => {
+                if count == 0 {
+                    feeder.end(rt, alloc, auditor, gate, &mut pass)?;
+                    return Ok(feeder.into_fed(pass));
+                }
+                feeder.feed(rt, alloc, auditor, gate, &mut pass, &buffer[..count])?;
+                if feeder.has_broken() {
+                    return Ok(feeder.into_fed(pass));
+                }
+            }
+            Err(code) => {
+                feeder.break_off(code);
+                return Ok(feeder.into_fed(pass));
+            }
+        }
+    }
+}
