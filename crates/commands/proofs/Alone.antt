@@ -19,11 +19,12 @@ use Rattle.feeders.specs.declared.log.Broken.{Broken}
 use Rattle.feeders.specs.declared.log.Log.{Log}
 use Rattle.feeders.specs.Steps.{AreItems, Taken, steps_of}
 use Rattle.feeders.specs.Doings.{taken_of, lines_from}
+use Rattle.feeders.specs.Readers.{AreReadOf, IsReadOf}
 use Rattle.feeders.specs.Run.{IsTraced, IsRun}
 use Rattle.commands.specs.declared.safe.Audit.{Audit}
 use Rattle.commands.specs.Status.{has_refused, is_refused_line}
 use Rattle.commands.specs.Verdict.{HasRefused, standing_after}
-use Rattle.commands.specs.Audit.{IsAudit}
+use Rattle.commands.specs.Audit.{IsAudit, IsAuditOf}
 use Rattle.commands.proofs.AloneRefusals.{refusals}
 use Rattle.commands.proofs.AloneJournal.{alone_plan, edits_after, Runs, runs_alone}
 
@@ -66,7 +67,7 @@ module _
   stands_alone journal legal = stands alone_plan 0 0 alone_claim journal legal refl
 
   audited_log : (trace : List ℕ) (passes : List Passed) (closed : List Ended) (log : Log) (audit : Audit) → IsClosed alone_plan passes closed → IsTraced alone_plan alone_tower Index closed 0 trace log
-      → Says closed (log ∷ []) audit → IsAudit trace audit
+      → Says closed (log ∷ []) audit → IsAuditOf trace audit
   audited_log trace passes closed log audit finished traced says =
       let journal : List Entry = journal_of closed 0 in
       let many : length closed ≡ 1 = finished.many in
@@ -93,7 +94,17 @@ module _
         },
       )
 
-  pub audited : (trace : List ℕ) (closed : List Ended) (logs : List Log) (audit : Audit) → IsRun alone_tower Index 1 (trace ∷ []) closed logs → Says closed logs audit → IsAudit trace audit
+  pub audited : (trace : List ℕ) (closed : List Ended) (logs : List Log) (audit : Audit) → IsRun alone_tower Index 1 (trace ∷ []) closed logs → Says closed logs audit → IsAuditOf trace audit
   audited trace closed [] audit run says = absurd run.traced
   audited trace closed (log ∷ []) audit run says = audited_log trace run.passes closed log audit run.finished run.traced.0 says
   audited trace closed (log ∷ other ∷ more) audit run says = absurd run.traced.1
+
+  pub audited_as_read : (left : Option (List ℕ)) (traces : List (List ℕ)) (closed : List Ended) (logs : List Log) (audit : Audit) → AreReadOf (left ∷ []) logs traces → IsRun alone_tower Index 1 traces closed logs → Says closed logs audit → IsAudit left audit
+  audited_as_read left [] closed [] audit read run says = absurd read
+  audited_as_read left [] closed (log ∷ logs) audit read run says = absurd read
+  audited_as_read left (trace ∷ traces) closed [] audit read run says = absurd read
+  audited_as_read left (trace ∷ []) closed (log ∷ []) audit read run says =
+      (trace, subst (λ (b : Option Broken). IsReadOf left b trace) (sym (says.broken log refl)) read.0, audited trace closed (log ∷ []) audit run says)
+  audited_as_read left (trace ∷ other ∷ more) closed (log ∷ []) audit read run says = absurd read.1
+  audited_as_read left (trace ∷ []) closed (log ∷ other ∷ more) audit read run says = absurd read.1
+  audited_as_read left (trace ∷ second ∷ traces) closed (log ∷ other ∷ more) audit read run says = absurd read.1

@@ -1,6 +1,6 @@
--- What a check that was not broken off has written, and its status.
-use Rattle.std.proofs.Common.{◌≡◌, ◌∙◌, ℕ, List, Option, Some, None, rules, subst}
-use Rattle.std.specs.Prelude.{IfSome}
+-- What a command that was not broken off has written, and its status.
+use Rattle.std.proofs.Common.{◌≡◌, ℕ, List, map, not, Option, Some, None, rules, subst}
+use Rattle.std.specs.Prelude.{IfSome, is_some}
 use Rattle.std.specs.Io.KnownBytes.{Appends}
 use Rattle.intervals.specs.declared.operation.RegId.{RegId}
 use Rattle.jepsen_form.specs.declared.item.MomentField.{MomentField}
@@ -8,24 +8,28 @@ use Rattle.tower_file.specs.Contents.{Contents}
 use Rattle.tower_file.specs.Tower.{IsTowerOf}
 use Rattle.shards.specs.Closing.{Ended}
 use Rattle.feeders.specs.declared.log.Log.{Log}
+use Rattle.feeders.specs.Readers.{AreReadOf}
 use Rattle.feeders.specs.Run.{IsRun}
 use Rattle.report.specs.Report.{IsReport}
 use Rattle.words.specs.Words.{AskedCheck}
+use Rattle.commands.specs.declared.safe.Audit.{Audit}
+use Rattle.commands.specs.Audit.{IsAudit}
+use Rattle.commands.specs.Status.{status_of}
+use Rattle.commands.specs.Verdict.{IsAudited, verdict_line}
 use Rattle.commands.specs.Checked.{IsChecked, IsNamed, IsStatus, field_of}
 
 -- `AreTheir known` says that the files hold these texts
-pub checked : (held : Option (List ℕ)) (asked : AskedCheck) (tower : Contents) (order : Option RegId) (closed : List Ended) (logs : List Log) (chosen : MomentField) (fed texts : List (List ℕ)) (AreTheir : List (List ℕ) → Type 0) (status : ℕ) (old new : Option (List ℕ))
+pub checked : (held : Option (List ℕ)) (asked : AskedCheck) (tower : Contents) (order : Option RegId) (closed : List Ended) (logs : List Log) (chosen : MomentField) (lefts : List (Option (List ℕ))) (AreTheir : List (List ℕ) → Type 0) (status : ℕ) (old new : Option (List ℕ))
     → IfSome held (λ file. IsTowerOf file tower)
     → IsNamed tower asked.order order
-    → ((known : List (List ℕ)) → AreTheir known → texts ≡ known)
+    → ((known : List (List ℕ)) → AreTheir known → lefts ≡ map (λ text. Some text) known)
     → chosen ≡ field_of asked.moments
-    → fed ≡ texts
-    → IsRun tower chosen asked.shards fed closed logs
+    → ((read : List (List ℕ)) × AreReadOf lefts logs read × IsRun tower chosen asked.shards read closed logs)
     → ((text : List ℕ) × IsReport tower closed logs order text × Appends old new text)
     → IsStatus tower closed logs status
     → IfSome held (λ file. (traces : List (List ℕ)) → AreTheir traces → IsChecked asked file traces status old new)
-checked None asked tower order closed logs chosen fed texts AreTheir status old new says named read field lent run report is = search rules
-checked (Some file) asked tower order closed logs chosen fed texts AreTheir status old new says named read field lent run report is =
+checked None asked tower order closed logs chosen lefts AreTheir status old new says named opened field run report is = search rules
+checked (Some file) asked tower order closed logs chosen lefts AreTheir status old new says named opened field run report is =
     λ traces are. record {
       tower = tower;
       says = says;
@@ -33,9 +37,31 @@ checked (Some file) asked tower order closed logs chosen fed texts AreTheir stat
       named = named;
       closed = closed;
       logs = logs;
-      run = subst (λ (f : MomentField). IsRun tower f asked.shards traces closed logs) field (subst (λ (t : List (List ℕ)). IsRun tower chosen asked.shards t closed logs) (lent ∙ read traces are) run);
+      read = run.0;
+      are_read = subst (λ (l : List (Option (List ℕ))). AreReadOf l logs run.0) (opened traces are) run.1;
+      run = subst (λ (f : MomentField). IsRun tower f asked.shards run.0 closed logs) field run.2;
       text = report.0;
       report = report.1;
       written = report.2;
       status_is = is;
     }
+
+pub audited : (left : Option (List ℕ)) (audit : Audit) (status : ℕ) (old new : Option (List ℕ))
+    → IsAudit left audit
+    → Appends old new (verdict_line audit.holds audit.operations)
+    → status ≡ status_of (is_some audit.broken) (not audit.holds) audit.refused
+    → IfSome left (λ bytes. IsAudited bytes status old new)
+audited None audit status old new is written status_is = search rules
+audited (Some input) audit status old new is written status_is = record {
+  broken = audit.broken;
+  read = is.0;
+  is_read = is.1;
+  items = is.2.0;
+  are = is.2.1;
+  holds = audit.holds;
+  refused = audit.refused;
+  operations = audit.operations;
+  verdict = is.2.2;
+  written = written;
+  status_is = status_is;
+}

@@ -5,3 +5,4 @@ mod AloneRefusals
 mod AloneJournal
 mod Alone
 mod Behind
+mod Whole

@@ -1,6 +1,6 @@
 -- What was read of files whose bytes are known.
 use Rattle.std.proofs.Common.{◌≡◌, ◌∙◌, ◌<◌, ℕ, zero, suc, ◌+◌, List, [], ◌∷◌, ◌++◌, map, length, get_or, take, Option, Some, None, sym, ap, subst, rules, arith}
-use Rattle.std.proofs.lemmas.List.{length-map, take_all, take_more}
+use Rattle.std.proofs.lemmas.List.{length-map, map_more, take_all}
 use Rattle.std.specs.Prelude.{IfSome}
 use Rattle.std.specs.Borrow.{Bor}
 use Rattle.tower_file.specs.Contents.{Contents}
@@ -26,16 +26,20 @@ as_many : (files : List ℕ → Option (List ℕ)) (names : List (Bor (List ℕ)
 as_many files names known held =
     sym (length-map known (λ text. Some text)) ∙ sym (ap length held) ∙ length-map (map (λ name. name.now) names) files ∙ length-map names (λ name. name.now)
 
-is_known : (found : Option (List ℕ)) (text known : List ℕ) → found ≡ Some known → IfSome found (λ bytes. text ≡ bytes) → text ≡ known
-is_known found text known is read = let P : Option (List ℕ) → Type 0 = λ o. IfSome o (λ bytes. text ≡ bytes) in subst P is read
+is_known : (found left : Option (List ℕ)) (known : List ℕ) → found ≡ Some known → IfSome found (λ bytes. left ≡ Some bytes) → left ≡ Some known
+is_known found left known is opened = let P : Option (List ℕ) → Type 0 = λ o. IfSome o (λ bytes. left ≡ Some bytes) in subst P is opened
 
--- one more file, behind those so far
-pub read_more : (files later : List ℕ → Option (List ℕ)) (names : List (Bor (List ℕ))) (texts known : List (List ℕ)) (text : List ℕ) (i : ℕ) (d : Bor (List ℕ)) → i < length names → later ≡ files → IfSome (later (get_or names i d).now) (λ bytes. text ≡ bytes) → (AreHeld files (map (λ name. name.now) names) known → texts ≡ take i known) → AreHeld files (map (λ name. name.now) names) known → texts ++ text ∷ [] ≡ take (i + 1) known
-read_more files later names texts known text i d within stays read so_far held =
+-- one more file, behind those that were opened
+pub open_more : (files later : List ℕ → Option (List ℕ)) (names : List (Bor (List ℕ))) (lefts : List (Option (List ℕ))) (known : List (List ℕ)) (left : Option (List ℕ)) (i : ℕ) (d : Bor (List ℕ)) → i < length names → later ≡ files → IfSome (later (get_or names i d).now) (λ bytes. left ≡ Some bytes) → (AreHeld files (map (λ name. name.now) names) known → lefts ≡ map (λ text. Some text) (take i known)) → AreHeld files (map (λ name. name.now) names) known → lefts ++ left ∷ [] ≡ map (λ text. Some text) (take (i + 1) known)
+open_more files later names lefts known left i d within stays opened so_far held =
     let many = as_many files names known held in
     let inside : i < length known = omega (arith, many, within) in
     let at : later (get_or names i d).now ≡ Some (get_or known i []) = ap (λ (f : List ℕ → Option (List ℕ)). f (get_or names i d).now) stays ∙ held_at files names known i d within held in
-    rw (so_far held, is_known _ text _ at read) (sym (take_more known i [] inside))
+    rw (so_far held, is_known _ left _ at opened) (sym (map_more (λ text. Some text) known i [] inside))
+
+-- all of them
+pub all_opened : (files : List ℕ → Option (List ℕ)) (names : List (Bor (List ℕ))) (known : List (List ℕ)) → AreHeld files (map (λ name. name.now) names) known → take (length names) known ≡ known
+all_opened files names known held = subst (λ (n : ℕ). take n known ≡ known) (as_many files names known held) (take_all (length known) known (omega arith))
 
 -- the same files hold the same
 pub held_later : (files later : List ℕ → Option (List ℕ)) (names others : List (Bor (List ℕ))) (known : List (List ℕ)) → later ≡ files → others ≡ names → AreHeld files (map (λ name. name.now) names) known → AreHeld later (map (λ name. name.now) others) known

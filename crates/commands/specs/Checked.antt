@@ -1,5 +1,5 @@
 -- What the command `check` prints of traces, and its status.
-use Rattle.std.specs.Prelude.{◌≡◌, ◌↔◌, ℕ, Bool, List, Option, Some, None, IsTrue}
+use Rattle.std.specs.Prelude.{◌≡◌, ◌↔◌, ℕ, Bool, List, map, Option, Some, None, IsTrue}
 use Rattle.std.specs.List.{list_any}
 use Rattle.std.specs.Io.KnownBytes.{Appends}
 use Rattle.clap.specs.Words.{Text}
@@ -10,6 +10,7 @@ use Rattle.tower_file.specs.Contents.{Contents, number_of}
 use Rattle.tower_file.specs.Tower.{IsTowerOf}
 use Rattle.shards.specs.Closing.{Ended}
 use Rattle.feeders.specs.declared.log.Log.{Log}
+use Rattle.feeders.specs.Readers.{AreReadOf}
 use Rattle.feeders.specs.Run.{IsRun}
 use Rattle.report.specs.Report.{IsReport}
 use Rattle.words.specs.declared.check.Moments.{Moments}
@@ -35,8 +36,8 @@ pub record IsStatus (tower : Contents) (closed : List Ended) (logs : List Log) (
   pub fails_is : IsTrue fails ↔ HasFailing tower closed
   pub status_is : status ≡ status_of (list_any is_broken logs) fails (list_any has_refused logs)
 
--- the traces were fed to the registers of the tower that the file says, by a feeder each, and the report of that
--- run was written
+-- the traces were fed to the registers of the tower that the file says, by a feeder each, as far as they were read:
+-- each whole, or a front of it where its reading broke off; and the report of that run was written
 pub record IsChecked (asked : AskedCheck) (file : List ℕ) (traces : List (List ℕ)) (status : ℕ) (old new : Option (List ℕ)) : Type 0 where
   pub tower : Contents
   pub says : IsTowerOf file tower
@@ -44,7 +45,9 @@ pub record IsChecked (asked : AskedCheck) (file : List ℕ) (traces : List (List
   pub named : IsNamed tower asked.order order
   pub closed : List Ended
   pub logs : List Log
-  pub run : IsRun tower (field_of asked.moments) asked.shards traces closed logs
+  pub read : List (List ℕ)
+  pub are_read : AreReadOf (map (λ trace. Some trace) traces) logs read
+  pub run : IsRun tower (field_of asked.moments) asked.shards read closed logs
   pub text : List ℕ
   pub report : IsReport tower closed logs order text
   pub written : Appends old new text

@@ -12,6 +12,7 @@ use Rattle.jepsen_form.specs.declared.item.MomentField.TheVariants.{Index}
 use Rattle.pairing.specs.declared.step.Step.TheVariants as steps
 use Rattle.tower_file.specs.Alone.{alone_claim, alone_tower}
 use Rattle.feeders.specs.declared.log.Broken.{Broken}
+use Rattle.feeders.specs.Readers.{IsReadOf}
 use Rattle.feeders.specs.Steps.{AreItems, Taken, steps_of}
 use Rattle.report.specs.Section.{register_line}
 use Rattle.commands.specs.Status.{status_of}
@@ -52,11 +53,14 @@ pub record IsVerdict (items : List (Result Item FormFault)) (holds refused : Boo
 abbrev pub verdict_line : Bool → ℕ → List ℕ
 verdict_line holds operations = register_line (codes "r") Safe holds operations
 
--- an input was audited up to its end or its first fault: the line was written, and the status says what it says
+-- an input was audited up to its end or its first fault, as far as it was read: whole, or a front of it where its
+-- reading broke off; the line was written, and the status says what it says
 pub record IsAudited (input : List ℕ) (status : ℕ) (old new : Option (List ℕ)) : Type 0 where
   pub broken : Option Broken
+  pub read : List ℕ
+  pub is_read : IsReadOf (Some input) broken read
   pub items : List (Result Item FormFault)
-  pub are : AreItems alone_tower Index input broken items
+  pub are : AreItems alone_tower Index read broken items
   pub holds : Bool
   pub refused : Bool
   pub operations : ℕ

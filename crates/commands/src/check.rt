@@ -7,15 +7,15 @@ ghost use Rattle.commands.specs.Checked.{IsChecked, IsNamed, IsStatus, field_of 
 ghost use Rattle.commands.specs.Run.{AreHeld};
 
 use crate::fault::CommandFault;
-use crate::files::{Files, read_file, read_files};
+use crate::files::{Files, open_files, read_file};
 use crate::status::{any_broken, any_fails, any_refused, status};
-use feeders::{Run, run_traces};
+use feeders::{Pages, Run, run_readers};
 use intervals::RegId;
 use jepsen_form::MomentField;
 use report::laws::a_run_is_of_its_tower;
 use report::report;
 use shards::NoGate;
-use std::alloc::{AllocError, Global};
+use std::alloc::Global;
 use std::io::Write;
 use std::sync::Wait;
 use std::thread::Threads;
@@ -25,8 +25,9 @@ use words::{Check, Moments};
 /// The most traces that a run may have.
 const TRACE_LIMIT: usize = 256;
 
-/// Audits the registers of a tower by traces, and writes the report. The faults come in this order: too many
-/// traces, the tower file, the register whose order is asked for, the traces in turn, the run, the writing.
+/// Audits the registers of a tower by traces as they are read, and writes the report, also where a trace or its
+/// reading breaks off. The faults come in this order: too many traces, the tower file, the register whose order is
+/// asked for, the traces that cannot be opened in turn, the run, the writing. All are opened before any is read.
 pub fn check<'a, A: AllocGlobal + Threads + Wait + Sync, F: Files, W: Write>(
     rt: &A,
     asked: &Check<'a>,
@@ -46,16 +47,17 @@ pub fn check<'a, A: AllocGlobal + Threads + Wait + Sync, F: Files, W: Write>(
     let alloc = rt.alloc();
     let tower = read_tower(alloc, files, asked.tower)?;
     let order = named(&tower, asked.order)?;
-    let texts = read_files(alloc, files, &asked.traces)?;
-    let Ok(traces) = lent(alloc, &texts) else {
+    let readers = open_files(alloc, files, &asked.traces)?;
+    let Ok(pages) = Pages::new(alloc) else {
         return Err(CommandFault::Memory);
     };
     a_run_is_of_its_tower();
-    let ran = run_traces(
+    let ran = run_readers(
         rt,
         alloc,
         &tower,
-        &traces,
+        readers,
+        &pages,
         field_of(asked.moments),
         asked.shards,
         &NoGate,
@@ -100,17 +102,6 @@ fn named<'a>(tower: &Tower, name: Option<&'a str>) -> Result<Option<RegId>, Comm
         Some(id) => Ok(Some(id)),
         None => Err(CommandFault::NoRegister(name)),
     }
-}
-
-/// The texts, lent.
-fn lent<'t>(alloc: Global, texts: &'t [Vec<u8>]) -> Result<Vec<&'t [u8]>, AllocError>
-    ensures { IfOk result (λ traces. map (λ trace. trace.now) traces.items ≡ map (λ text. text.items) texts.entry.now) }
-{
-    let mut traces = Vec::with_capacity(alloc, texts.len())?;
-    for text in texts {
-        traces.push_reserved(text.as_slice());
-    }
-    Ok(traces)
 }
 
 fn field_of(moments: Moments) -> MomentField

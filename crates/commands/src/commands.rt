@@ -9,8 +9,7 @@ ghost use Rattle.commands.specs.Run.{IsListed, IsCarriedOut, IsDone};
 
 use crate::check::{check, read_tower};
 use crate::fault::{CommandFault, say};
-use crate::files::{Files, read_file};
-use crate::input::read_whole;
+use crate::files::{Files, open_file};
 use crate::safe::judge;
 use crate::status::BROKEN;
 use crate::write::write_text;
@@ -25,15 +24,15 @@ use words::{Command, read_words};
 
 /// Carries out the command that the words ask for, as the system hands them over, of which the
 /// first is the program's name. What is found goes to `out`. The status is 1 where a register
-/// fails, else 3 where an element was refused, else 0. It is 2 where a trace broke, whose line or report
-/// is written all the same, and where the words ask for no command or are no text, a file or the input
-/// cannot be read, a tower file has a fault, memory was refused or `out` could not be written,
+/// fails, else 3 where an element was refused, else 0. It is 2 where a trace or its reading broke off, whose line or
+/// report is written all the same, and where the words ask for no command or are no text, a trace cannot be opened,
+/// a tower file cannot be read or has a fault, memory was refused or `out` could not be written,
 /// which is said on `err`.
 pub fn run<
     A: AllocGlobal + Threads + Wait + Sync,
     S: AsStr + Drop,
     F: Files,
-    R: Read,
+    R: Read + Send,
     W: Write,
     E: Write,
 >(rt: &A, words: io::Result<Vec<S>>, files: &mut F, input: &mut R, out: &mut W, err: &mut E) -> u8
@@ -52,7 +51,7 @@ pub fn run<
 }
 
 /// The command `safe` on standard input.
-pub fn run_safe<A: AllocGlobal + Threads + Wait + Sync, R: Read, W: Write, E: Write>(
+pub fn run_safe<A: AllocGlobal + Threads + Wait + Sync, R: Read + Send, W: Write, E: Write>(
     rt: &A,
     input: &mut R,
     out: &mut W,
@@ -61,7 +60,7 @@ pub fn run_safe<A: AllocGlobal + Threads + Wait + Sync, R: Read, W: Write, E: Wr
     ensures line { result ≢ BROKEN → IfSome (R.remaining input.old) (λ bytes. IsAudited bytes result (W.contents out.old) (W.contents out.new)) }
     ensures silent { result ≢ BROKEN → Keeps (E.contents err.old) (E.contents err.new) }
 {
-    let outcome = judge_input(rt, input, out);
+    let outcome = judge(rt, input, out);
     conclude(rt, outcome, err)
 }
 
@@ -84,13 +83,14 @@ pub fn conclude<'a, A: AllocGlobal, E: Write>(
 
 /// What the words ask for, or why the run broke off: then `out` is as it was, unless it was `out`
 /// that could not be written.
-pub fn run_words<'a, A: AllocGlobal + Threads + Wait + Sync, S: AsStr, F: Files, R: Read, W: Write>(
-    rt: &A,
-    words: &'a [S],
-    files: &mut F,
-    input: &mut R,
-    out: &mut W,
-) -> Result<u8, CommandFault<'a>>
+pub fn run_words<
+    'a,
+    A: AllocGlobal + Threads + Wait + Sync,
+    S: AsStr,
+    F: Files,
+    R: Read + Send,
+    W: Write,
+>(rt: &A, words: &'a [S], files: &mut F, input: &mut R, out: &mut W) -> Result<u8, CommandFault<'a>>
     ensures done { IfOk result (λ status. IsDone (map S.text words.entry.now) (F.held files.old) (R.remaining input.old) status (W.contents out.old) (W.contents out.new)) }
     ensures input { asked (map S.text words.entry.now) ≢ Some (Safe None) → input.new ≡ input.old }
     ensures quiet { IfErr result (λ fault. fault ≢ CommandFault.Unwritable → out.new ≡ out.old) }
@@ -101,7 +101,7 @@ pub fn run_words<'a, A: AllocGlobal + Threads + Wait + Sync, S: AsStr, F: Files,
     }
 }
 
-fn carry_out<'a, A: AllocGlobal + Threads + Wait + Sync, F: Files, R: Read, W: Write>(
+fn carry_out<'a, A: AllocGlobal + Threads + Wait + Sync, F: Files, R: Read + Send, W: Write>(
     rt: &A,
     command: Command<'a>,
     files: &mut F,
@@ -115,28 +115,10 @@ fn carry_out<'a, A: AllocGlobal + Threads + Wait + Sync, F: Files, R: Read, W: W
     ensures quiet { IfErr result (λ fault. fault ≢ CommandFault.Unwritable → out.new ≡ out.old) }
 {
     match command {
-        Command::Safe(None) => judge_input(rt, input, out),
-        Command::Safe(Some(name)) => {
-            let trace = read_file(rt.alloc(), files, name)?;
-            judge(rt, &trace, out)
-        }
+        Command::Safe(None) => judge(rt, input, out),
+        Command::Safe(Some(name)) => judge(rt, open_file(files, name)?, out),
         Command::Check(asked) => check(rt, &asked, files, out),
         Command::Tower(name) => list(rt, name, files, out),
-    }
-}
-
-/// Judges what is left of standard input.
-fn judge_input<'a, A: AllocGlobal + Threads + Wait + Sync, R: Read, W: Write>(
-    rt: &A,
-    input: &mut R,
-    out: &mut W,
-) -> Result<u8, CommandFault<'a>>
-    ensures audited { IfOk result (λ status. IfSome (R.remaining input.old) (λ bytes. IsAudited bytes status (W.contents out.old) (W.contents out.new))) }
-    ensures quiet { IfErr result (λ fault. fault ≢ CommandFault.Unwritable → out.new ≡ out.old) }
-{
-    match read_whole(rt.alloc(), input) {
-        Ok(trace) => judge(rt, &trace, out),
-        Err(fault) => Err(CommandFault::of_input(fault, "-")),
     }
 }
 

@@ -19,7 +19,7 @@ pub enum CommandFault<'a> {
     /// The words ask for no command, or for help.
     Usage(clap::Error),
     TooManyTraces,
-    /// A file that cannot be opened or read, or is too long.
+    /// A file that cannot be opened, or a tower file that cannot be read or is too long.
     Unreadable(&'a str),
     /// A tower file with a fault, by its code.
     Tower(&'static str),

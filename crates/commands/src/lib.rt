@@ -15,6 +15,7 @@ mod commands;
 mod fault;
 mod files;
 mod input;
+pub mod laws;
 mod safe;
 mod status;
 mod write;

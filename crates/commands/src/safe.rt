@@ -13,7 +13,7 @@ ghost use Rattle.commands.specs.Verdict.{IsAudited, verdict_line};
 use crate::fault::CommandFault;
 use crate::status::{is_refused, status};
 use crate::write::write_text;
-use feeders::{Broken, Run, run_traces};
+use feeders::{Broken, Pages, Run, run_readers};
 use intervals::laws::texts_decide_nothing;
 use intervals::{Kind, RegId};
 use jepsen_form::MomentField;
@@ -21,7 +21,7 @@ use report::push_register;
 use shards::NoGate;
 use shards::laws::what_stands_is_after_all_edits;
 use std::alloc::{AllocError, Global};
-use std::io::Write;
+use std::io::{Read, Write};
 use std::sync::Wait;
 use std::thread::Threads;
 use std::unreachable;
@@ -38,16 +38,16 @@ pub struct Audit {
     pub broken: Option<Broken>,
 }
 
-/// Judges a trace and writes the line of its register.
-pub fn judge<'a, A: AllocGlobal + Threads + Wait + Sync, W: Write>(
+/// Judges a trace as it is read, and writes the line of its register, also where the reading breaks off.
+pub fn judge<'a, A: AllocGlobal + Threads + Wait + Sync, S: Read + Drop + Send, W: Write>(
     rt: &A,
-    trace: &[u8],
+    reader: S,
     out: &mut W,
 ) -> Result<u8, CommandFault<'a>>
-    ensures audited { IfOk result (λ status. IsAudited trace.now status (W.contents out.old) (W.contents out.new)) }
+    ensures audited { IfOk result (λ status. IfSome (S.remaining reader) (λ bytes. IsAudited bytes status (W.contents out.old) (W.contents out.new))) }
     ensures quiet { IfErr result (λ fault. fault ≢ CommandFault.Unwritable → out.new ≡ out.old) }
 {
-    let audit = audit_trace(rt, trace)?;
+    let audit = audit_trace(rt, reader)?;
     let Ok(line) = verdict_text(rt.alloc(), &audit) else {
         return Err(CommandFault::Memory);
     };
@@ -57,25 +57,34 @@ pub fn judge<'a, A: AllocGlobal + Threads + Wait + Sync, W: Write>(
     }
 }
 
-/// Reads a trace up to its end or its first fault, as the only feeder of the register, in one shard, and judges
+/// Reads a trace up to its end or to where it breaks, as the only feeder of the register, in one shard, and judges
 /// what stands then.
-fn audit_trace<'a, A: AllocGlobal + Threads + Wait + Sync>(
+fn audit_trace<'a, A: AllocGlobal + Threads + Wait + Sync, S: Read + Drop + Send>(
     rt: &A,
-    trace: &[u8],
+    reader: S,
 ) -> Result<Audit, CommandFault<'a>>
-    ensures audit { IfOk result (IsAudit trace.now) }
+    ensures audit { IfOk result (IsAudit (S.remaining reader)) }
     ensures quiet { IfErr result (λ fault. fault ≢ CommandFault.Unwritable) }
 {
     what_stands_is_after_all_edits();
     texts_decide_nothing();
-    let Some(tower) = the_tower(rt.alloc()) else {
+    let alloc = rt.alloc();
+    let Some(tower) = the_tower(alloc) else {
         return Err(CommandFault::Memory);
     };
-    let ran = run_traces(
+    let Ok(pages) = Pages::new(alloc) else {
+        return Err(CommandFault::Memory);
+    };
+    let Ok(mut readers) = Vec::with_capacity(alloc, 1) else {
+        return Err(CommandFault::Memory);
+    };
+    readers.push_reserved(reader);
+    let ran = run_readers(
         rt,
-        rt.alloc(),
+        alloc,
         &tower,
-        &[trace],
+        readers,
+        &pages,
         MomentField::Index,
         1,
         &NoGate,

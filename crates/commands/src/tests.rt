@@ -24,9 +24,13 @@ const TRACE: &[u8] = b"{:process 0 :type :invoke :f :write :value 1 :index 0}
 
 const TOWER: &[u8] = b"{:levels [{:name top :registers [{:name x :kind :atomic :writers :any}]}]}";
 
+/// A trace that breaks off in its second element, at byte 64.
+const UNFINISHED: &[u8] = b"{:process 0 :type :invoke :f :write :value 1 :index 0}
+{:index 0";
+
 /// A reader of some bytes, in pieces of a size. Its first calls are interrupted, or each second one,
 /// or one call fails.
-#[derive(Drop)]
+#[derive(Clone, Copy)]
 struct Source<'t> {
     bytes: &'t [u8],
     piece: usize,
@@ -46,6 +50,19 @@ impl<'t> Source<'t> {
             fails_at: 0,
             calls: 0,
         }
+    }
+
+    fn failing(bytes: &'t [u8], piece: usize, call: u32) -> Self {
+        let mut source = Source::new(bytes);
+        source.piece = piece;
+        source.fails_at = call;
+        source
+    }
+
+    fn halting(bytes: &'t [u8], halts: u32) -> Self {
+        let mut source = Source::new(bytes);
+        source.halts = halts;
+        source
     }
 }
 
@@ -67,14 +84,18 @@ impl Read for Source<'_> {
 
 /// What the command `safe` writes to its outputs, and its status.
 fn told<A: AllocGlobal + Threads + Wait + Sync>(
-    alloc: Global,
     rt: &A,
     mut input: Source<'_>,
 ) -> Result<String, Fail> {
-    let mut out = Vec::new(alloc);
-    let mut err = Vec::new(alloc);
+    let mut out = Vec::new(rt.alloc());
+    let mut err = Vec::new(rt.alloc());
     let status = run_safe(rt, &mut input, &mut out, &mut err);
-    out.extend_from_slice(&err)?;
+    joined(out, &err, status)
+}
+
+/// Two outputs and a status.
+fn joined(mut out: Vec<u8>, err: &[u8], status: u8) -> Result<String, Fail> {
+    out.extend_from_slice(err)?;
     let mut text = String::from_utf8(out)?;
     write!(text, "{status}")?;
     Ok(text)
@@ -82,34 +103,47 @@ fn told<A: AllocGlobal + Threads + Wait + Sync>(
 
 #[test]
 fn pieces_and_interruptions_change_nothing(rt: HostRuntime) -> Result<(), Fail> {
-    let mut bytes = Source::new(TRACE);
-    bytes.piece = 1;
-    let found = told(rt.alloc(), &rt, bytes)?;
+    let found = told(&rt, Source::failing(TRACE, 1, 0))?;
     assert!(rt; found.as_str() == "register r safe fails 2\n1");
     let mut halting = Source::new(TRACE);
     halting.piece = 7;
     halting.halts_each_second = true;
-    let found = told(rt.alloc(), &rt, halting)?;
+    let found = told(&rt, halting)?;
     assert!(rt; found.as_str() == "register r safe fails 2\n1");
     Ok(())
 }
 
+/// What was read before the reading broke off is judged.
 #[test]
-fn a_reading_that_fails_is_told(rt: HostRuntime) -> Result<(), Fail> {
-    let mut failing = Source::new(TRACE);
-    failing.piece = 9;
-    failing.fails_at = 3;
-    let found = told(rt.alloc(), &rt, failing)?;
-    assert!(rt; found.as_str() == "regaudit: cannot read -\n2");
+fn a_reading_that_breaks_off_has_its_line(rt: HostRuntime) -> Result<(), Fail> {
+    for (input, wanted) in [
+        (Source::failing(TRACE, 9, 3), "register r safe holds 0\n2"),
+        (
+            Source::failing(UNFINISHED, 64, 2),
+            "register r safe holds 1\n2",
+        ),
+        (
+            Source::failing(UNFINISHED, 1, 65),
+            "register r safe holds 1\n2",
+        ),
+        (
+            Source::halting(TRACE, u32::MAX),
+            "register r safe holds 0\n2",
+        ),
+    ] {
+        let found = told(&rt, input)?;
+        assert!(rt; found.as_str() == wanted, "{found}");
+    }
     Ok(())
 }
 
-/// A tower file, then traces, whatever their names. One of them fails at one read call.
+/// A tower file, and then empty traces, whatever their names. The file of a place, from 1, is another one, or
+/// cannot be opened.
 #[derive(Drop)]
 struct InTurn {
     opened: u32,
-    fails_in: u32,
-    fails_at: u32,
+    place: u32,
+    other: Option<Source<'static>>,
 }
 
 impl Files for InTurn {
@@ -117,52 +151,87 @@ impl Files for InTurn {
 
     fn open(&mut self, _name: &str) -> Result<Source<'static>, Missing> {
         self.opened = self.opened.saturating_add(1);
-        let mut file = Source::new(if self.opened == 1 { TOWER } else { TRACE });
-        file.piece = 90;
-        if self.opened == self.fails_in {
-            file.fails_at = self.fails_at;
+        if self.opened == self.place {
+            return self.other.ok_or(Missing);
         }
-        Ok(file)
+        Ok(Source::new(if self.opened == 1 { TOWER } else { b"" }))
     }
 }
 
-/// What `check` says on standard error, and its status, where that file fails at that call.
-fn said_of_a_failing_file<A: AllocGlobal + Threads + Wait + Sync>(
+/// What `check` writes to its outputs of two traces, and its status, where the file of a place is another one.
+fn checked<A: AllocGlobal + Threads + Wait + Sync>(
     rt: &A,
-    fails_in: u32,
-    fails_at: u32,
+    place: u32,
+    other: Option<Source<'static>>,
 ) -> Result<String, Fail> {
     let files = &mut InTurn {
         opened: 0,
-        fails_in,
-        fails_at,
+        place,
+        other,
     };
     let mut out = Vec::new(rt.alloc());
     let mut err = Vec::new(rt.alloc());
     let words = ["regaudit", "check", "--tower", "tower", "first", "second"];
     let outcome = run_words(rt, &words, files, &mut Source::new(b""), &mut out);
     let status = conclude(rt, outcome, &mut err);
-    let mut text = String::from_utf8(err)?;
-    write!(text, "{status} {}", out.len())?;
-    Ok(text)
+    joined(out, &err, status)
 }
 
-/// The file of a place among those that are opened takes so many calls, the one that finds its end
-/// among them. Where one of them fails nothing is written.
+/// A tower file that fails at one of its calls leaves nothing to be judged, and so does a trace that cannot be opened.
 #[test]
-fn a_file_that_fails_at_any_call_is_told(rt: HostRuntime) -> Result<(), Fail> {
-    for (place, calls, wanted) in [
-        (1, 2, "regaudit: cannot read tower\n2 0"),
-        (2, 4, "regaudit: cannot read first\n2 0"),
-        (3, 4, "regaudit: cannot read second\n2 0"),
+fn nothing_is_written_of_what_cannot_be_judged(rt: HostRuntime) -> Result<(), Fail> {
+    for (place, other, wanted) in [
+        (
+            1,
+            Some(Source::failing(TOWER, 90, 1)),
+            "regaudit: cannot read tower\n2",
+        ),
+        (
+            1,
+            Some(Source::failing(TOWER, 90, 2)),
+            "regaudit: cannot read tower\n2",
+        ),
+        (
+            1,
+            Some(Source::failing(TOWER, 90, 3)),
+            "register x atomic holds 0\n0",
+        ),
+        (2, None, "regaudit: cannot read first\n2"),
+        (3, None, "regaudit: cannot read second\n2"),
     ] {
-        for call in 1..=calls + 1 {
-            let found = said_of_a_failing_file(&rt, place, call)?;
-            assert!(rt;
-                (found.as_str() == wanted) == (call <= calls),
-                "{place} {call} {found}"
-            );
-        }
+        let found = checked(&rt, place, other)?;
+        assert!(rt; found.as_str() == wanted, "{place} {found}");
+    }
+    Ok(())
+}
+
+/// A reading of a trace that breaks off at any of its calls is told in the report, and what was read is judged.
+#[test]
+fn a_trace_that_fails_at_any_call_is_told(rt: HostRuntime) -> Result<(), Fail> {
+    for (call, wanted) in [
+        (1, "register x atomic holds 0\nbroken 0 N1 at 0\n2"),
+        (2, "register x atomic holds 0\nbroken 0 N1 at 30\n2"),
+        (3, "register x atomic holds 1\nbroken 0 N1 at 60\n2"),
+        (4, "register x atomic holds 1\nbroken 0 N1 at 64\n2"),
+        (5, "register x atomic holds 1\nbroken 0 E1 at 64\n2"),
+    ] {
+        let found = checked(&rt, 2, Some(Source::failing(UNFINISHED, 30, call)))?;
+        assert!(rt; found.as_str() == wanted, "{call} {found}");
+    }
+    let found = checked(&rt, 3, Some(Source::failing(UNFINISHED, 64, 2)))?;
+    assert!(rt; found.as_str() == "register x atomic holds 1\nbroken 1 N1 at 64\n2");
+    Ok(())
+}
+
+/// Interrupted calls are made again as often as calls may be made, and then the reading breaks off.
+#[test]
+fn a_reading_that_is_always_interrupted_is_told(rt: HostRuntime) -> Result<(), Fail> {
+    for (halts, wanted) in [
+        (1_000, "register x atomic holds 1\nbroken 0 E1 at 64\n2"),
+        (u32::MAX, "register x atomic holds 0\nbroken 0 N2 at 0\n2"),
+    ] {
+        let found = checked(&rt, 2, Some(Source::halting(UNFINISHED, halts)))?;
+        assert!(rt; found.as_str() == wanted, "{halts} {found}");
     }
     Ok(())
 }
@@ -171,14 +240,10 @@ fn a_file_that_fails_at_any_call_is_told(rt: HostRuntime) -> Result<(), Fail> {
 #[test]
 fn the_call_that_finds_the_end_counts(rt: HostRuntime) -> Result<(), Fail> {
     for (halts, wanted) in [(99, true), (100, false)] {
-        let mut halting = Source::new(b"");
-        halting.halts = halts;
-        let found = read_within(rt.alloc(), &mut halting, 100);
+        let found = read_within(rt.alloc(), &mut Source::halting(b"", halts), 100);
         assert!(rt; found.is_ok() == wanted, "{halts}");
     }
-    let mut halting = Source::new(b"");
-    halting.halts = 1_000;
-    assert!(rt; read_whole(rt.alloc(), &mut halting).is_ok());
+    assert!(rt; read_whole(rt.alloc(), &mut Source::halting(b"", 1_000)).is_ok());
     Ok(())
 }
 

@@ -53,7 +53,10 @@ fn main(rt: HostRuntime) -> ExitCode {
 fn is_all_as_said<R: Env + Files + Print + AllocGlobal + Threads + Wait + Sync, E: Write>(
     rt: &R,
     err: &mut E,
-) -> io::Result<bool> {
+) -> io::Result<bool>
+where
+    R::File: Send,
+{
     for word in words_of(rt)?.iter().skip(1) {
         println!(rt; "word [{word}]")?;
     }
@@ -69,7 +72,10 @@ fn is_subject_as_said<R: Files + Print + AllocGlobal + Threads + Wait + Sync, E:
     rt: &R,
     subject: &str,
     err: &mut E,
-) -> io::Result<bool> {
+) -> io::Result<bool>
+where
+    R::File: Send,
+{
     let text = fs::read_to_string(rt, subject)?;
     let mut same = true;
     for text in text.split("\n=== ").skip(1) {
@@ -88,7 +94,10 @@ fn is_row_as_said<R: Files + Print + AllocGlobal + Threads + Wait + Sync, E: Wri
     rt: &R,
     row: &Row,
     err: &mut E,
-) -> io::Result<bool> {
+) -> io::Result<bool>
+where
+    R::File: Send,
+{
     for input in &row.inputs {
         if !is_run_as_said(rt, row, input.as_slice(), err)? {
             return Ok(false);
@@ -103,7 +112,10 @@ fn is_run_as_said<R: Files + AllocGlobal + Threads + Wait + Sync, E: Write>(
     row: &Row,
     mut input: &[u8],
     err: &mut E,
-) -> io::Result<bool> {
+) -> io::Result<bool>
+where
+    R::File: Send,
+{
     let mut room = vec![in rt.alloc(); 0u8; row.room]?;
     let mut out = room.as_mut_slice();
     let mut said = Vec::new(rt.alloc());

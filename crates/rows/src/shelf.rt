@@ -20,7 +20,10 @@ impl<'t, R: rt::Files> Shelf<'t, R> {
     }
 }
 
-impl<'t, R: rt::Files> Files for Shelf<'t, R> {
+impl<'t, R: rt::Files> Files for Shelf<'t, R>
+where
+    R::File: Send,
+{
     type Reader = Opened<'t, R::File>;
 
     fn open(&mut self, name: &str) -> Result<Opened<'t, R::File>, Missing> {

@@ -1,4 +1,4 @@
-use Rattle.std.proofs.Common.{◌∙◌, ap, map}
+use Rattle.std.proofs.Common.{map}
 use Rattle.words.specs.Words.{asked_check}
 use Rattle.commands.specs.Run.{AreHeld}
 use Rattle.commands.proofs.Endings.{checked}
@@ -9,14 +9,12 @@ pub returns-in-Ok-report-clause-checked : goal.returns-in-Ok-report-clause-check
 returns-in-Ok-report-clause-checked g c =
     let asked = c.args.asked.now in
     let files = g.F.Files.held c.args.files.now in
-    let texts = c.in_ok-texts.texts.items in
     let run = c.in-Ok-ran.run' in
-    checked (files asked.tower.now) (asked_check asked) c.in_ok-tower.tower c.in_ok-order.order run.closed run.logs.items c.field_of.result (map (λ trace. trace.now) c.deref-3.result.now) (map (λ text. text.items) texts) (AreHeld files (map (λ name. name.now) asked.traces.items)) _ _ _
+    checked (files asked.tower.now) (asked_check asked) c.in_ok-tower.tower c.in_ok-order.order run.closed run.logs.items c.field_of.result (map g.F.Reader.Read.remaining c.in_ok-readers.readers.items) (AreHeld files (map (λ name. name.now) asked.traces.items)) _ _ _
     c.in_ok-tower.ensures.tower
     c.in_ok-order.ensures.named
-    (λ known held. c.in_ok-texts.ensures.held known (held_later files (g.F.Files.held c.read_tower.new.files) asked.traces.items c.deref.result.now known c.read_tower.ensures.stays c.deref.ensures.value held))
+    (λ known held. c.in_ok-readers.ensures.held known (held_later files (g.F.Files.held c.read_tower.new.files) asked.traces.items c.deref.result.now known c.read_tower.ensures.stays c.deref.ensures.value held))
     c.field_of.ensures
-    (ap (map (λ trace. trace.now)) c.deref-3.ensures.value ∙ c.in-Ok.ensures ∙ ap (map (λ text. text.items)) c.deref-2.ensures.value)
     c.in-Ok-ran.ensures.run
     c.in-Ok-report.ensures.report
     c.status_after.ensures
