@@ -1,4 +1,4 @@
--- For private clauses alone: what was taken of a trace that comes in pieces.
+-- What was taken of a trace that comes in pieces.
 use Rattle.std.specs.Prelude.{◌≡◌, ◌≤◌, ◌<◌, ◌+◌, ◌^◌, ℕ, Bool, true, false, List, [], ◌++◌, length, take, drop, Option, Some, None, Result}
 use Rattle.std.specs.List.{AllZip}
 use Rattle.edn_reader.specs.Grammar.{Piece}

@@ -5,11 +5,11 @@ pub mod Doings
 pub mod Run
 pub mod Readers
 pub mod Feeding
+pub mod Intake
 pub mod Ending
 pub mod Texts
 -- words of private clauses
 pub mod Progress
 pub mod Kept
 pub mod Lending
-pub mod Intake
 pub mod Source

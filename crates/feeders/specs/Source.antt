@@ -1,4 +1,4 @@
--- What a source has given of what its reader had.
+-- For private clauses alone: what a source has given of what its reader had.
 use Rattle.std.specs.Prelude.{◌≡◌, ◌<◌, ℕ, List, ◌++◌, length, Option, Some, None, Bool, true, false}
 
 -- What a reader had at first is these bytes, which it gave, and what it has left; or the bytes are a front of it and not all, where it

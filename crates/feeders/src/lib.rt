@@ -3,8 +3,11 @@
 //!     let run = run_traces(rt, alloc, &tower, &[first, second], MomentField::Index, 2, &NoGate)?;
 //!     // run.closed.book(register), run.closed.journal(shard), run.logs[0].lines, run.logs[1].broken
 //!
-//! Begin with `trace`: an element becomes an item, an item a step, and a step an entry of a journal or a question.
-//! `specs/Steps.antt` says which steps a trace has, `specs/Doings.antt` what is done for them and noted, and
+//!     let pages = Pages::new(alloc)?;
+//!     let run = run_readers(rt, alloc, &tower, readers, &pages, MomentField::Index, 2, &NoGate)?;
+//!
+//! Begin with `trace`, and with `feeder` for a trace that comes in pieces: an element becomes an item, an item a step,
+//! and a step an entry of a journal or a question. `specs/Steps.antt` says which steps a trace has, `specs/Doings.antt` what is done for them and noted, and
 //! `specs/Run.antt` what a run leaves. `laws` says what these words come to.
 #![tactic(auto)]
 
