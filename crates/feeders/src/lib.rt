@@ -7,8 +7,8 @@
 //!     let run = run_readers(rt, alloc, &tower, readers, &pages, MomentField::Index, 2, &NoGate)?;
 //!
 //! Begin with `trace`, and with `feeder` for a trace that comes in pieces: an element becomes an item, an item a step,
-//! and a step an entry of a journal or a question. `specs/Steps.antt` says which steps a trace has, `specs/Doings.antt` what is done for them and noted, and
-//! `specs/Run.antt` what a run leaves. `laws` says what these words come to.
+//! and a step an entry of a journal or a question. `specs/Steps.antt` says which steps a trace has, `specs/Doings.antt`
+//! what is done for them and noted, and `specs/Run.antt` what a run leaves. `laws` says what these words come to.
 #![tactic(auto)]
 
 mod element;
