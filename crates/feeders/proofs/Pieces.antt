@@ -220,7 +220,7 @@ module _ (plan : Plan) (tower : Contents) (chosen : MomentField) where
     unbroken = fed.unbroken;
   }
 
-  -- A piece is fed up to a place, before its first byte, behind some more of it and at its end.
+  -- A piece is fed up to a place: before its first byte, and behind some more of it.
   pub fed_first : (feeder : ℕ) (bytes piece : List ℕ) (intake : Intake) (pass : Passed) → HasFed plan tower chosen feeder bytes [] intake pass → HasFed plan tower chosen feeder (bytes ++ []) piece intake pass
   fed_first feeder bytes piece intake pass fed = subst (λ (xs : List ℕ). HasFed plan tower chosen feeder xs piece intake pass) (sym (append-nil bytes)) (fed_more feeder bytes [] piece intake pass fed)
 
@@ -233,12 +233,6 @@ module _ (plan : Plan) (tower : Contents) (chosen : MomentField) where
       let back : drop used (drop at piece) ++ [] ≡ drop (at + used) piece = append-nil (drop used (drop at piece)) ∙ drop_twice used at piece in
       subst (λ (xs : List ℕ). HasFed plan tower chosen feeder xs (drop (at + used) piece) intake pass) front
       (subst (λ (xs : List ℕ). HasFed plan tower chosen feeder ((bytes ++ take at piece) ++ take used (drop at piece)) xs intake pass) back fed)
-
-  pub fed_last : (feeder : ℕ) (bytes piece : List ℕ) (at : ℕ) (intake : Intake) (pass : Passed) → at ≡ length piece → HasFed plan tower chosen feeder (bytes ++ take at piece) (drop at piece) intake pass
-      → HasFed plan tower chosen feeder (bytes ++ piece) [] intake pass
-  fed_last feeder bytes piece at intake pass end fed =
-      subst (λ (xs : List ℕ). HasFed plan tower chosen feeder (bytes ++ xs) [] intake pass) (ap (λ (n : ℕ). take n piece) end ∙ take-length piece)
-      (subst (λ (xs : List ℕ). HasFed plan tower chosen feeder (bytes ++ take at piece) xs intake pass) (ap (λ (n : ℕ). drop n piece) end ∙ drop-length piece) fed)
 
   pub broke_in : (feeder : ℕ) (bytes piece : List ℕ) (at : ℕ) (intake : Intake) (pass : Passed) → HasBroken plan tower chosen feeder ((bytes ++ take at piece) ++ (drop at piece ++ [])) intake pass
       → HasBroken plan tower chosen feeder (bytes ++ piece) intake pass

@@ -1,5 +1,5 @@
 -- What was read of a reader, and fed.
-use Rattle.std.proofs.Common.{◌≡◌, ◌⊎◌, inl, inr, ℕ, Bool, true, false, List, [], ◌++◌, Option, Some, None, IfSome, refl, sym, subst, ap, ◌∙◌, append-nil}
+use Rattle.std.proofs.Common.{◌≡◌, ◌⊎◌, inl, inr, ℕ, Bool, true, false, List, [], Option, Some, None, IfSome, refl, sym, subst, ap, ◌∙◌, append-nil}
 use Rattle.tower_file.specs.Contents.{Contents}
 use Rattle.jepsen_form.specs.declared.item.MomentField.{MomentField}
 use Rattle.shards.specs.Plan.{Plan}
@@ -24,16 +24,6 @@ pub record HasStreamed (plan : Plan) (feeder : ℕ) (first left : Option (List �
   pub bytes : List ℕ
   pub given : IsGiven first bytes left past
   pub fed : IsFedUpTo plan feeder bytes feeding pass
-
-pub streamed_on : (plan : Plan) (feeder : ℕ) (first left after : Option (List ℕ)) (past later : Bool) (piece : List ℕ) (old new : Feeding) (pass pass' : Passed)
-    → ((first : Option (List ℕ)) (bytes : List ℕ) → IsGiven first bytes left past → IsGiven first (bytes ++ piece) after later)
-    → ((feeder : ℕ) (bytes : List ℕ) → IsFedUpTo plan feeder bytes old pass → IsFedUpTo plan feeder (bytes ++ piece) new pass')
-    → HasStreamed plan feeder first left past old pass → HasStreamed plan feeder first after later new pass'
-streamed_on plan feeder first left after past later piece old new pass pass' gives feeds so_far = record {
-  bytes = so_far.bytes ++ piece;
-  given = gives first so_far.bytes so_far.given;
-  fed = feeds feeder so_far.bytes so_far.fed;
-}
 
 -- all that there was
 whole_of : (first : Option (List ℕ)) (bytes : List ℕ) (broken : Option Broken) → IfSome first (λ all. all ≡ bytes) → IsReadOf first broken bytes
