@@ -129,14 +129,14 @@ may_end {X} of plan tower chosen traces opened feds passes fault many fresh_ones
     (subst (AreComplete plan.feeders) (sym passes_are) (complete of plan tower chosen traces feds many are)) unfinished.fault_is
 
 -- what was read of each reader, as traces that were fed
-pub record HasRead (plan : Plan) (tower : Contents) (chosen : MomentField) (passes : List Passed) (lefts : List (Option (List ℕ))) (feds : List Fed) : Type 0 where
+pub record WereRead (plan : Plan) (tower : Contents) (chosen : MomentField) (passes : List Passed) (lefts : List (Option (List ℕ))) (feds : List Fed) : Type 0 where
   pub traces : List (List ℕ)
   pub are_read : AreReadOf lefts (map (λ fed. fed.log) feds) traces
   pub are_fed : AreFedBy (λ feeder trace fed. IsFed plan tower chosen feeder trace fed) passes traces feds
   pub many : length traces ≡ length lefts
 
 pub read_of : (plan : Plan) (tower : Contents) (chosen : MomentField) (passes : List Passed) (lefts : List (Option (List ℕ))) (feds : List Fed)
-    → AreReadAndFed plan tower chosen passes lefts feds → HasRead plan tower chosen passes lefts feds
+    → AreReadAndFed plan tower chosen passes lefts feds → WereRead plan tower chosen passes lefts feds
 read_of plan tower chosen [] [] [] are = record { traces = []; are_read = tt; are_fed = tt; many = refl }
 read_of plan tower chosen (pass ∷ passes) (left ∷ lefts) (fed ∷ feds) are =
     let rest = read_of plan tower chosen passes lefts feds are.1 in

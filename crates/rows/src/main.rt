@@ -23,11 +23,16 @@
 //! each; `= out` and `= err` what the two outputs are to get; `= room N` an output that takes N bytes
 //! alone. What is left out is empty. `= status N` is the last section, since a line behind it is none of a text.
 //! `%` and two hexadecimal digits are a byte, and a `%` at the end of a text takes its last line end away.
+//!
+//! Each run is made with texts that come whole and with texts that come byte by byte, and, where the row has a line
+//! `= cut`, with texts that are cut in two, at each place in turn: what is written is to be the same.
 #![tactic(auto)]
 
+mod pieces;
 mod row;
 mod shelf;
 
+use crate::pieces::{Cut, Pieces};
 use crate::row::{Row, row_of};
 use crate::shelf::Shelf;
 use commands::{run, words_of};
@@ -99,7 +104,7 @@ where
     R::File: Send,
 {
     for input in &row.inputs {
-        if !is_run_as_said(rt, row, input.as_slice(), err)? {
+        if !is_input_as_said(rt, row, input, err)? {
             return Ok(false);
         }
     }
@@ -107,10 +112,31 @@ where
     Ok(true)
 }
 
+/// A run of texts that come whole, one of texts that come byte by byte, and for a row that is cut one for each place.
+fn is_input_as_said<R: Files + AllocGlobal + Threads + Wait + Sync, E: Write>(
+    rt: &R,
+    row: &Row,
+    input: &[u8],
+    err: &mut E,
+) -> io::Result<bool>
+where
+    R::File: Send,
+{
+    let mut same = is_run_as_said(rt, row, input, Cut::WHOLE, err)?
+        && is_run_as_said(rt, row, input, Cut::BYTES, err)?;
+    if row.is_cut {
+        for place in 1..row.longest(input) {
+            same = same && is_run_as_said(rt, row, input, Cut::at(place), err)?;
+        }
+    }
+    Ok(same)
+}
+
 fn is_run_as_said<R: Files + AllocGlobal + Threads + Wait + Sync, E: Write>(
     rt: &R,
     row: &Row,
-    mut input: &[u8],
+    input: &[u8],
+    cut: Cut,
     err: &mut E,
 ) -> io::Result<bool>
 where
@@ -122,8 +148,8 @@ where
     let status = run(
         rt,
         row.handed_over(rt.alloc()),
-        &mut Shelf::new(rt, row),
-        &mut input,
+        &mut Shelf::new(rt, row, cut),
+        &mut Pieces::new(input, cut),
         &mut out,
         &mut said,
     );

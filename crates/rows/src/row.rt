@@ -17,6 +17,8 @@ pub struct Row {
     pub status: Vec<u8>,
     /// How many bytes the output takes.
     pub room: usize,
+    /// Whether its texts are cut in two at each place too.
+    pub is_cut: bool,
 }
 
 #[derive(Drop)]
@@ -37,6 +39,7 @@ pub fn row_of(alloc: Global, text: &str) -> io::Result<Row> {
         err: Vec::new(alloc),
         status: Vec::new(alloc),
         room: 65_536,
+        is_cut: false,
     };
     row.words.push(decoded(alloc, "regaudit")?)?;
     for section in sections {
@@ -62,6 +65,7 @@ fn take_section(alloc: Global, row: &mut Row, section: &str) -> io::Result<()> {
         ("err", _) => row.err = text_of(alloc, body)?,
         ("status", number) => row.status = decoded(alloc, number)?,
         ("room", number) => row.room = number.parse().unwrap_or(0),
+        ("cut", _) => row.is_cut = true,
         _ => return Err(Error::from(ErrorKind::InvalidData)),
     }
     Ok(())
@@ -93,6 +97,15 @@ fn decoded(alloc: Global, text: &str) -> Result<Vec<u8>, AllocError> {
 }
 
 impl Row {
+    /// How long the longest of its files and an input is.
+    pub fn longest(&self, input: &[u8]) -> usize {
+        let mut longest = input.len();
+        for file in &self.files {
+            longest = longest.max(file.bytes.len());
+        }
+        longest
+    }
+
     /// The words as the system hands them over.
     pub fn handed_over(&self, alloc: Global) -> io::Result<Vec<String>> {
         let mut words = Vec::new(alloc);

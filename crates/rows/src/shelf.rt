@@ -1,5 +1,6 @@
 //! The files of a row, and those of the folder that the program runs in.
 
+use crate::pieces::{Cut, Pieces};
 use crate::row::Row;
 use commands::{Files, HostFiles, Missing};
 use std::io::Read;
@@ -8,13 +9,15 @@ use std::{io, rt};
 #[derive(Drop)]
 pub struct Shelf<'t, R: rt::Files> {
     row: &'t Row,
+    cut: Cut,
     host: HostFiles<'t, R>,
 }
 
 impl<'t, R: rt::Files> Shelf<'t, R> {
-    pub fn new(rt: &'t R, row: &'t Row) -> Self {
+    pub fn new(rt: &'t R, row: &'t Row, cut: Cut) -> Self {
         Shelf {
             row,
+            cut,
             host: HostFiles::new(rt),
         }
     }
@@ -29,7 +32,7 @@ where
     fn open(&mut self, name: &str) -> Result<Opened<'t, R::File>, Missing> {
         for file in &self.row.files {
             if file.name.as_slice() == name.as_bytes() {
-                return Ok(Opened::OfRow(file.bytes.as_slice()));
+                return Ok(Opened::OfRow(Pieces::new(&file.bytes, self.cut)));
             }
         }
         Ok(Opened::OfHost(self.host.open(name)?))
@@ -38,14 +41,14 @@ where
 
 #[derive(Drop)]
 pub enum Opened<'t, F> {
-    OfRow(&'t [u8]),
+    OfRow(Pieces<'t>),
     OfHost(F),
 }
 
 impl<F: Read> Read for Opened<'_, F> {
     fn read(&mut self, buf: &mut [u8]) -> io::Result<usize> {
         match self {
-            Opened::OfRow(bytes) => bytes.read(buf),
+            Opened::OfRow(pieces) => pieces.read(buf),
             Opened::OfHost(file) => file.read(buf),
         }
     }
