@@ -16,6 +16,5 @@ pub mod Splitting
 pub mod SoFar
 pub mod Skipping
 pub mod Views
-pub mod Apart
 pub mod Integers
 pub mod Lent

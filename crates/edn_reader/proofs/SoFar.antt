@@ -1,5 +1,5 @@
 -- What a splitter has told are the elements that have ended in the bytes that it has taken, whatever follows them.
-use Rattle.std.proofs.Common.{◌≡◌, ◌⊎◌, inl, inr, ℕ, ◌+◌, ◌-◌, ◌<◌, ◌≤◌, List, [], ◌∷◌, ◌++◌, length, drop, refl, sym, ap, subst, ◌∙◌, arith, length-append, length-drop}
+use Rattle.std.proofs.Common.{◌≡◌, ◌⊎◌, inl, inr, ℕ, ◌+◌, ◌-◌, ◌<◌, ◌≤◌, List, [], ◌∷◌, ◌++◌, length, drop, refl, sym, ap, subst, ◌∙◌, arith, append-nil, length-append, length-drop}
 use Rattle.std.proofs.Math.Seq.{drop-append_seam}
 use Rattle.std.proofs.lemmas.Bool.{cases_lt}
 use Rattle.edn_reader.specs.declared.element.ElementKind.{ElementKind}
@@ -9,14 +9,14 @@ use Rattle.edn_reader.specs.declared.resume.Part.{Part}
 use Rattle.edn_reader.specs.declared.resume.Part.TheVariants as parts
 use Rattle.edn_reader.specs.declared.token.Token.{Token}
 use Rattle.edn_reader.specs.Bytes.{class_of, stretch}
-use Rattle.edn_reader.specs.Grammar.{Piece, IsElementAt, IsElements, none, next}
+use Rattle.edn_reader.specs.Grammar.{Piece, IsElement, IsElementAt, IsElements, none, next}
 use Rattle.edn_reader.specs.Text.{IsFront, StandsOpen}
 use Rattle.edn_reader.specs.Fault.{IsBeginning, AreElementsSoFar}
 use Rattle.edn_reader.specs.Token.{lexed, quoted_length, after_hash}
 use Rattle.edn_reader.specs.Resuming.{resumed}
 use Rattle.edn_reader.specs.Taking.{Taken, on, ends, fails, piece_in}
 use Rattle.edn_reader.specs.Splitting.{Splitting, IsAfter, StandsAfter}
-use Rattle.edn_reader.proofs.Places.{cancel_end, moved_element, moved_elements}
+use Rattle.edn_reader.proofs.Places.{cancel_end, core_within, moved_element, moved_elements}
 use Rattle.edn_reader.proofs.Runs.{goes, front_taken}
 use Rattle.edn_reader.proofs.Unique.{ending_stands, ending_end, front_fewer, agree}
 use Rattle.edn_reader.proofs.Ended.{stands_end}
@@ -34,6 +34,12 @@ one_ends {b = b} text element whole =
     let m = (moved_element element b (λ h. h)).place in
     let same : m.front ≡ text = cancel_end m.front text b (sym m.here ∙ whole) in
     omega (arith, m.place, ap length same)
+
+-- The core of an element stands within it.
+pub core_inside : (piece : Piece) → IsElement piece → (piece.start ≤ piece.core.start) × (piece.core.start ≤ piece.start + length piece.text)
+core_inside piece (after, element) =
+    let within = core_within element in
+    (within.0, omega (arith, within.1, one_ends piece.text element (sym (append-nil piece.text))))
 
 elements_end : {room p q : ℕ} {a b : List ℕ} (pieces : List Piece) → IsElements room p a pieces q b → q ≡ place_behind p pieces
 elements_end [] none = refl

@@ -83,8 +83,8 @@ stands_anew input at end pieces opens same empty s =
 none_full : (opens : List Open) (at : ℕ) → IsFull false (record { start = at; part = parts.Nothing }) opens
 none_full opens at opener e = absurd cc
 
-pub after_nothing : (next : List ℕ) → StandsAfter [] next [] (record { taken = 0; begun = record { start = 0; part = parts.Nothing }; opens = []; fault = None })
-after_nothing next input more e = record { no_fault = refl; taken = refl; stands = stands_anew input 0 0 [] [] refl refl (outermost none nothing); not_full = none_full [] 0 }
+pub after_nothing : (next : List ℕ) (ended : Span) → StandsAfter [] next [] (record { taken = 0; begun = record { start = 0; part = parts.Nothing }; opens = []; fault = None; ended = ended })
+after_nothing next ended input more e = record { no_fault = refl; taken = refl; stands = stands_anew input 0 0 [] [] refl refl (outermost none nothing); not_full = none_full [] 0 }
 
 -- ---- a piece
 
@@ -102,7 +102,7 @@ abbrev some_input : List ℕ → List ℕ → List ℕ → List ℕ
 some_input bytes piece next = bytes ++ ((piece ++ next) ++ [])
 
 pub takes_within : (piece : List ℕ) (old : Splitting) (later : Begun) (after : List Open) → IsFull false later after → ReadsPiece piece old.taken old.begun old.opens (Ok (Within later)) after
-    → TakesOn piece old (Ok (record { used = length piece; whole = None })) (record { taken = old.taken + length piece; begun = later; opens = after; fault = old.fault })
+    → TakesOn piece old (Ok (record { used = length piece; whole = None })) (record { taken = old.taken + length piece; begun = later; opens = after; fault = old.fault; ended = old.ended })
 takes_within piece old later after few reads bytes next pieces stands =
     let known = read_at piece old (Ok (Within later)) after reads bytes next pieces stands in (
       refl,
@@ -141,7 +141,7 @@ takes_full piece old later after new same full reads bytes next pieces stands =
 pub takes_element : (piece : List ℕ) (old : Splitting) (span : Span) (after : List Open) → ReadsPiece piece old.taken old.begun old.opens (Ok (Ended span)) after
     → EndsBetween old.taken (old.taken + length piece) (Ended span) after
     → TakesOn piece old (Ok (record { used = span.end - old.taken; whole = Some (span.start, span.end) }))
-    (record { taken = span.end; begun = record { start = span.end; part = parts.Nothing }; opens = after; fault = old.fault })
+    (record { taken = span.end; begun = record { start = span.end; part = parts.Nothing }; opens = after; fault = old.fault; ended = span })
 takes_element piece old span after reads (empty, low, high) bytes next pieces stands =
     let known = read_at piece old (Ok (Ended span)) after reads bytes next pieces stands in
     let one = known (some_input bytes piece next) [] refl in
@@ -155,7 +155,7 @@ takes_element piece old span after reads (empty, low, high) bytes next pieces st
     let whole : input ≡ (bytes ++ piece) ++ (next ++ more) = regroup bytes piece next more input e ∙ sym (append_assoc bytes piece (next ++ more)) in
     let same : piece_in input span ≡ piece_in (bytes ++ piece) span = ap (λ (xs : List ℕ). piece_in xs span) whole ∙ piece_front (bytes ++ piece) (next ++ more) span (omega (arith, begins)) within in
     subst (λ (x : Piece). IsFront input (pieces ++ x ∷ []) span.end) same (known input more e).0.3 in
-    let ends : keep (record { taken = span.end; begun = record { start = span.end; part = parts.Nothing }; opens = after; fault = old.fault }) ≡ span.end =
+    let ends : keep (record { taken = span.end; begun = record { start = span.end; part = parts.Nothing }; opens = after; fault = old.fault; ended = span }) ≡ span.end =
     ap (λ (o : List Open). outer o span.end) empty in (
       size,
       place,
@@ -170,6 +170,7 @@ takes_element piece old span after reads (empty, low, high) bytes next pieces st
             let long : span.end ≡ length (bytes ++ take used piece) = omega (arith, place, length-append bytes (take used piece), length-take-le used piece size) in
             record { no_fault = s.no_fault; taken = long; stands = stands_anew input span.end (length (bytes ++ take used piece)) (pieces ++ piece_in (bytes ++ piece) span ∷ []) after long empty (outermost (front input more f) nothing); not_full = none_full after span.end }),
         front,
+        (refl, refl, refl),
       ),
     )
 
@@ -182,7 +183,7 @@ end_at old result reads input pieces s =
     reads input pieces (sym s.taken) (subst (λ (n : ℕ). StandsWithin input n pieces old.opens old.begun) (sym s.taken) s.stands)
 
 pub ends_element : (old : Splitting) (span : Span) (after : List Open) → ReadsEnd old.taken old.begun old.opens (Ok (Some span)) → EndsAt old.begun.start old.taken (Some span) after
-    → EndsOn old (Ok (Some (span.start, span.end))) (record { taken = old.taken; begun = record { start = old.taken; part = parts.Nothing }; opens = after; fault = old.fault })
+    → EndsOn old (Ok (Some (span.start, span.end))) (record { taken = old.taken; begun = record { start = old.taken; part = parts.Nothing }; opens = after; fault = old.fault; ended = span })
 ends_element old span after reads (empty, some, place) input pieces s =
     let known = end_at old (Ok (Some span)) reads input pieces s in
     let front = subst (IsFront input (pieces ++ piece_in input span ∷ [])) place known.0.3 in (
@@ -193,6 +194,7 @@ ends_element old span after reads (empty, some, place) input pieces s =
         (refl, omega (arith, known.0.0, known.0.1), refl),
         known.1,
         record { no_fault = s.no_fault; taken = s.taken; stands = stands_anew input old.taken (length input) (pieces ++ piece_in input span ∷ []) after s.taken empty (outermost front nothing); not_full = none_full after old.taken },
+        (refl, refl, refl),
       ),
     )
 
@@ -204,7 +206,7 @@ text_stands input pieces at same (begins, after, front, gap) =
     subst (StandsAt input pieces []) place (subst (λ (rest : List ℕ). StandsOpen input pieces [] after rest) (stands_left here) here)
 
 pub ends_text : (old : Splitting) (after : List Open) → ReadsEnd old.taken old.begun old.opens (Ok None) → after ≡ []
-    → EndsOn old (Ok None) (record { taken = old.taken; begun = record { start = old.taken; part = parts.Nothing }; opens = after; fault = old.fault })
+    → EndsOn old (Ok None) (record { taken = old.taken; begun = record { start = old.taken; part = parts.Nothing }; opens = after; fault = old.fault; ended = old.ended })
 ends_text old after reads empty input pieces s =
     let text = end_at old (Ok None) reads input pieces s in
     (text, record { no_fault = s.no_fault; taken = s.taken; stands = stands_anew input old.taken (length input) pieces after s.taken empty (text_stands input pieces old.taken s.taken text); not_full = none_full after old.taken })

@@ -1,25 +1,17 @@
 -- What the program lends: elements, and what a view of a map or a vector has left.
-use Rattle.std.specs.Prelude.{◌≡◌, ℕ, List, [], ◌∷◌, length, Option, Some, None, Result, Ok, Err}
+use Rattle.std.specs.Prelude.{◌≡◌, ℕ, List, [], ◌∷◌, length, Option, Some, None}
 use Rattle.edn_reader.specs.declared.element.Element.{Element}
-use Rattle.edn_reader.specs.declared.fault.EdnFault.{EdnFault}
 use Rattle.edn_reader.specs.declared.parts.Parts.{Parts}
 use Rattle.edn_reader.specs.declared.token.Opener.{Opener}
 use Rattle.edn_reader.specs.declared.token.Opener.TheVariants as openers
 use Rattle.edn_reader.specs.declared.view.MapView.{MapView}
 use Rattle.edn_reader.specs.declared.view.VectorView.{VectorView}
 use Rattle.edn_reader.specs.Grammar.{Piece}
-use Rattle.edn_reader.specs.Fault.{IsMemory}
 use Rattle.edn_reader.specs.Pairs.{PartsFrom, in_turn}
 
 -- What an element of the program is.
 abbrev pub piece_of : Element → Piece
 piece_of element = record { kind = element.kind; start = element.start; text = element.text.now; core = element.core }
-
--- An element of the program is this one, or memory was wanted.
-abbrev pub IsReadAs : Piece → Result (Option Element) EdnFault → Type 0
-IsReadAs piece (Ok None) = ⊥
-IsReadAs piece (Ok (Some element)) = piece_of element ≡ piece
-IsReadAs piece (Err fault) = IsMemory fault
 
 -- The elements that are left.
 abbrev pub PartsLeft : Opener → Parts → List Piece → Type 0

@@ -12,6 +12,5 @@ pub mod Resuming
 pub mod Taking
 pub mod Within
 pub mod Splitting
-pub mod Apart
 pub mod Skipping
 pub mod Standing

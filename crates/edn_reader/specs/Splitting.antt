@@ -3,6 +3,7 @@ use Rattle.std.specs.Prelude.{◌≡◌, ◌≢◌, ◌≤◌, ◌<◌, ◌+◌,
 use Rattle.edn_reader.specs.declared.fault.EdnFault.{EdnFault}
 use Rattle.edn_reader.specs.declared.nesting.Open.{Open}
 use Rattle.edn_reader.specs.declared.splitter.Taken.{Taken}
+use Rattle.edn_reader.specs.declared.step.Span.{Span}
 use Rattle.edn_reader.specs.declared.token.Opener.{Opener}
 use Rattle.edn_reader.specs.declared.token.Token.TheVariants.{Opens}
 use Rattle.edn_reader.specs.declared.tokens.Begun.{Begun}
@@ -12,12 +13,17 @@ use Rattle.edn_reader.specs.Resuming.{last}
 use Rattle.edn_reader.specs.Within.{StandsWithin, FaultBehind, kept}
 
 -- A splitter: how many bytes it has taken, what has begun among them and has not ended, what stands open before that,
--- and the fault that was met.
+-- the fault that was met, and the outermost element that ended last.
 pub record Splitting : Type 0 where
   pub taken : ℕ
   pub begun : Begun
   pub opens : List Open
   pub fault : Option EdnFault
+  pub ended : Span
+
+-- This element is the one that ended last, by its kind and its places.
+abbrev pub IsLast : Splitting → Piece → Type 0
+IsLast splitting piece = (piece.kind ≡ splitting.ended.kind) × (piece.start ≡ splitting.ended.start) × (piece.core ≡ splitting.ended.core)
 
 -- The first place that an element which is given later may begin at.
 abbrev pub keep : Splitting → ℕ
@@ -52,7 +58,8 @@ TakesUpTo bytes piece next pieces old used None new = (used ≡ length piece) ×
 TakesUpTo bytes piece next pieces old used (Some span) new =
     (used ≤ length piece) × (span.1 ≡ length bytes + used) × (keep old ≤ span.0) × (keep new ≡ span.1)
     × ((last : Piece) × IsSpan (bytes ++ piece) span.0 span.1 last × StandsAfter (bytes ++ take used piece) (drop used piece ++ next) (pieces ++ last ∷ []) new
-    × ((input more : List ℕ) → input ≡ bytes ++ ((piece ++ next) ++ more) → IsFront input (pieces ++ last ∷ []) span.1))
+    × ((input more : List ℕ) → input ≡ bytes ++ ((piece ++ next) ++ more) → IsFront input (pieces ++ last ∷ []) span.1)
+    × IsLast new last)
 
 -- The same of what taking the piece answered; or each input that goes on so has the fault, or memory was wanted.
 abbrev pub Takes : List ℕ → List ℕ → List ℕ → List Piece → Splitting → Result Taken EdnFault → Splitting → Type 0
@@ -70,7 +77,7 @@ abbrev pub Finishes : List ℕ → List Piece → Splitting → Result (Option (
 Finishes input pieces old (Ok None) new = IsText input pieces × IsAfter input input pieces new
 Finishes input pieces old (Ok (Some span)) new =
     (span.1 ≡ length input) × (keep old ≤ span.0)
-    × ((last : Piece) × IsSpan input span.0 span.1 last × IsText input (pieces ++ last ∷ []) × IsAfter input input (pieces ++ last ∷ []) new)
+    × ((last : Piece) × IsSpan input span.0 span.1 last × IsText input (pieces ++ last ∷ []) × IsAfter input input (pieces ++ last ∷ []) new × IsLast new last)
 Finishes input pieces old (Err fault) new = (new.fault ≡ Some fault) × FaultBehind input pieces fault
 
 -- The same of whatever input ends there.

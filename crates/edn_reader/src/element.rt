@@ -4,12 +4,9 @@ ghost use Rattle.std.specs.Prelude.{◌≡◌, ◌+◌, ◌≤◌, ◌<◌, ◌^
 ghost use Rattle.std.specs.Option.{option_map};
 ghost use Rattle.edn_reader.specs.Grammar.{IsElement};
 
-use crate::alone::read_span;
-use crate::fault::EdnFault;
 use crate::integer;
 use crate::parts::Parts;
 use crate::view::{MapView, VectorView};
-use std::alloc::Global;
 
 #[derive(Clone, Copy, Debug, PartialEq, Eq)]
 pub enum ElementKind {
@@ -47,7 +44,7 @@ pub struct Element<'t> {
 
 impl<'t> Element<'t> {
     ghost use Rattle.edn_reader.specs.Grammar.{Piece, untagged, IsElement};
-    ghost use Rattle.edn_reader.specs.Lent.{piece_of, IsReadAs, PairsLeft, MembersLeft};
+    ghost use Rattle.edn_reader.specs.Lent.{piece_of, PairsLeft, MembersLeft};
     ghost use Rattle.edn_reader.specs.Integer.{int_of};
     ghost use Rattle.edn_reader.specs.Skipping.{IsInside};
     ghost use Rattle.edn_reader.specs.Pairs.{keyword_of, is_nil, is_word, HasPairs, HasMembers};
@@ -65,26 +62,6 @@ impl<'t> Element<'t> {
             start,
             kind,
             core,
-        }
-    }
-
-    /// The element that bytes are which begin at a place: it is lent from them as a reader lends it that finds them
-    /// there. So one that was kept elsewhere has the same place again.
-    pub fn read(
-        alloc: Global,
-        text: &'t [u8],
-        start: usize,
-    ) -> Result<Option<Element<'t>>, EdnFault>
-        requires { start + length text.now < 2 ^ 64 }
-        ensures { (piece : Piece) → IsElement piece → piece.start ≡ start → piece.text ≡ text.entry.now → IsReadAs piece result }
-    {
-        match read_span(alloc, text, start) {
-            Ok(Some(span)) => {
-                let bytes = &text[span.start - start..span.end - start];
-                Ok(Some(Element::new(bytes, span.start, span.kind, span.core)))
-            }
-            Ok(None) => Ok(None),
-            Err(fault) => Err(fault),
         }
     }
 

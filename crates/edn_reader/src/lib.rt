@@ -19,6 +19,7 @@
 //! let mut splitter = Splitter::new(alloc);
 //! let taken = splitter.take(b"{:f :wri")?;      // all 8 bytes used, and no element has ended
 //! let taken = splitter.take(b"te :k 7} a")?;    // 8 of them used: an element from 0 to 16
+//! let element = splitter.lend(b"{:f :write :k 7}"); // that element, from its bytes
 //! let kept = splitter.keep_from();              // 16: no later element begins before it
 //! let taken = splitter.take(b" a")?;            // all used; the Atom may go on
 //! let last = splitter.end()?;                   // an element from 17 to 18
@@ -30,7 +31,6 @@
 //! `laws` has what follows: one division into elements, one fault, a text or a fault.
 #![tactic(auto)]
 
-mod alone;
 mod bytes;
 mod element;
 mod fault;

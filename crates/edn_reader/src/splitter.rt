@@ -3,10 +3,11 @@
 ghost use Rattle.std.specs.Prelude.{◌≡◌, ◌+◌, ◌≤◌, ◌<◌, ◌^◌, List, [], length, Some, Err, IfOk, IfSome, ℕ};
 ghost use Rattle.edn_reader.specs.Splitting.{IsFull};
 
+use crate::element::{Element, ElementKind};
 use crate::fault::EdnFault;
 use crate::nesting::Nesting;
 use crate::resume::Part;
-use crate::step::ROOM;
+use crate::step::{ROOM, Span, plain_span};
 use crate::token::Token;
 use crate::tokens::{Begun, Reached, read_end, read_piece};
 use std::alloc::Global;
@@ -20,6 +21,8 @@ pub struct Splitter {
     begun: Begun,
     taken: usize,
     fault: Option<EdnFault>,
+    /// The outermost element that ended last.
+    ended: Span,
 }
 
 /// How much of a piece was taken.
@@ -36,7 +39,7 @@ impl Model for Splitter {
 
     ghost Value = { Splitting };
 
-    ghost view = { λ a. record { taken = a.taken; begun = a.begun; opens = a.nesting; fault = a.fault } };
+    ghost view = { λ a. record { taken = a.taken; begun = a.begun; opens = a.nesting; fault = a.fault; ended = a.ended } };
 }
 
 /// Whether a bracket, a tag or a discard begins that is one too many, as is told once nothing else can come of it.
@@ -50,7 +53,9 @@ fn is_full(begun: Begun, nesting: &Nesting) -> bool
 }
 
 impl Splitter {
-    ghost use Rattle.edn_reader.specs.Splitting.{StandsAfter, TakesOn, EndsOn, keep};
+    ghost use Rattle.edn_reader.specs.Grammar.{Piece, IsElement};
+    ghost use Rattle.edn_reader.specs.Lent.{piece_of};
+    ghost use Rattle.edn_reader.specs.Splitting.{StandsAfter, TakesOn, EndsOn, IsLast, keep};
 
     /// Takes no memory.
     pub fn new(alloc: Global) -> Splitter
@@ -64,6 +69,7 @@ impl Splitter {
             },
             taken: 0,
             fault: None,
+            ended: plain_span(ElementKind::Atom, 0, 0),
         }
     }
 
@@ -86,6 +92,15 @@ impl Splitter {
         self.nesting.outer(place) as u64
     }
 
+    /// The outermost element that ended last, lent from its bytes, wherever they lie.
+    pub fn lend<'a>(&self, text: &'a [u8]) -> Element<'a>
+        requires fits { self.now.ended.start + length text.now < 2 ^ 64 }
+        requires element { (piece : Piece) × IsLast self.now piece × IsElement piece × (piece.text ≡ text.now) }
+        ensures { (piece : Piece) → IsLast self.now piece → piece.text ≡ text.entry.now → piece_of result ≡ piece }
+    {
+        Element::new(text, self.ended.start, self.ended.kind, self.ended.core)
+    }
+
     /// Takes a piece, up to the end of the next outermost element or to its own. An element that needs no closing byte
     /// ends with the byte behind it, which is not used.
     pub fn take(&mut self, piece: &[u8]) -> Result<Taken, EdnFault>
@@ -101,6 +116,7 @@ impl Splitter {
         match read_piece(piece, base, self.begun, &mut self.nesting) {
             Ok(Reached::Ended(span)) => {
                 self.taken = span.end;
+                self.ended = span;
                 self.begun = Begun {
                     start: span.end,
                     part: Part::Nothing,
@@ -139,15 +155,20 @@ impl Splitter {
             return Err(fault);
         }
         match read_end(self.taken, self.begun, &mut self.nesting) {
-            Ok(whole) => {
+            Ok(Some(span)) => {
+                self.ended = span;
                 self.begun = Begun {
                     start: self.taken,
                     part: Part::Nothing,
                 };
-                match whole {
-                    Some(span) => Ok(Some((span.start as u64, span.end as u64))),
-                    None => Ok(None),
-                }
+                Ok(Some((span.start as u64, span.end as u64)))
+            }
+            Ok(None) => {
+                self.begun = Begun {
+                    start: self.taken,
+                    part: Part::Nothing,
+                };
+                Ok(None)
             }
             Err(fault) => {
                 self.fault = Some(fault);

@@ -24,7 +24,7 @@ pub struct Span {
     pub core: Core,
 }
 
-fn plain_span(kind: ElementKind, start: usize, end: usize) -> Span
+pub fn plain_span(kind: ElementKind, start: usize, end: usize) -> Span
     ensures { result ≡ plain_span kind start end }
 {
     let core = Core { kind, start };

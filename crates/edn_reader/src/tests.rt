@@ -133,15 +133,6 @@ fn told(alloc: Global, input: &[u8]) -> Result<String, AllocError> {
     Ok(told)
 }
 
-/// Whether an element is lent again from its bytes at its place.
-fn is_read_again(alloc: Global, element: Element) -> Result<bool, EdnFault> {
-    let (start, end) = element.span();
-    match Element::read(alloc, element.text(), start)? {
-        Some(again) => Ok(again.span() == (start, end) && again.kind() == element.kind()),
-        None => Ok(false),
-    }
-}
-
 /// The places of each element of an input, and its fault or its end.
 fn spans_told(alloc: Global, input: &[u8]) -> Result<String, AllocError> {
     let mut told = String::new(alloc);
@@ -151,9 +142,6 @@ fn spans_told(alloc: Global, input: &[u8]) -> Result<String, AllocError> {
             Ok(Some(element)) => {
                 let (start, end) = element.span();
                 write!(told, "{start} {end}, ")?;
-                if is_read_again(alloc, element) != Ok(true) {
-                    told.push_str("not read again, ")?;
-                }
             }
             Ok(None) => break,
             Err(fault) => {

@@ -1,7 +1,7 @@
 -- Steps that lend no text.
 use Rattle.std.proofs.Common.{◌≡◌, ◌≢◌, ℕ, ◌+◌, List, [], ◌∷◌, ◌++◌, Option, Some, None, Result, Ok, Err, OnOk, sym, subst}
 use Rattle.std.specs.Prelude.{is_some, false}
-use Rattle.edn_reader.specs.Grammar.{Piece, IsElement}
+use Rattle.edn_reader.specs.Grammar.{Piece}
 use Rattle.tower_file.specs.Contents.{Contents}
 use Rattle.jepsen_form.specs.declared.item.MomentField.{MomentField}
 use Rattle.jepsen_form.specs.Item.{IsItem}
@@ -74,12 +74,10 @@ paired_unlent plan old pairing pass new log item step told (Ok done) other gives
     paired plan old pairing pass new log item step (Ok done) other gives stands same
     (subst (λ (s : Result (Option Step) PairFault). GoesOn plan pass old.log new log old.place (by_pairing s)) (unlent lends) followed) feeder items at
 
--- an element that was read and taken
-pub takes_one : (plan : Plan) (tower : Contents) (chosen : MomentField) (old new : Progress) (pass pass' : Passed) (read : Piece) (start : ℕ) (text : List ℕ) (item : Result Item FormFault) (result : Result (Unit {0}) RunFault)
-    → ((piece : Piece) → IsElement piece → piece.start ≡ start → piece.text ≡ text → read ≡ piece)
-    → IsItem tower chosen read item
+-- an element that was taken
+pub takes_one : (plan : Plan) (tower : Contents) (chosen : MomentField) (piece : Piece) (old new : Progress) (pass pass' : Passed) (item : Result Item FormFault) (result : Result (Unit {0}) RunFault)
+    → IsItem tower chosen piece item
     → OnOk result ((feeder : ℕ) (items : List (Result Item FormFault)) → IsAt plan feeder items old pass → IsAt plan feeder (items ++ item ∷ []) new pass')
-    → OnOk result ((piece : Piece) → IsElement piece → piece.start ≡ start → piece.text ≡ text → TakesOne plan tower chosen piece old pass new pass')
-takes_one plan tower chosen old new pass pass' read start text item (Err fault) same is taken = tt
-takes_one plan tower chosen old new pass pass' read start text item (Ok done) same is taken = λ piece element from there.
-    (item, subst (λ (p : Piece). IsItem tower chosen p item) (same piece element from there) is, taken)
+    → OnOk result (TakesOne plan tower chosen piece old pass new pass')
+takes_one plan tower chosen piece old new pass pass' item (Err fault) is taken = tt
+takes_one plan tower chosen piece old new pass pass' item (Ok done) is taken = (item, is, taken)

@@ -1,5 +1,5 @@
 -- A trace in pieces: one element more, its end, and where it breaks.
-use Rattle.std.proofs.Common.{◌≡◌, ◌⊎◌, inl, inr, ℕ, ◌+◌, ◌-◌, ◌≤◌, ◌<◌, ◌^◌, List, [], ◌∷◌, ◌++◌, length, take, drop, Option, Some, None, refl, sym, ap, subst, ◌∙◌, arith, append_assoc, append-nil, length-append, length-drop}
+use Rattle.std.proofs.Common.{◌≡◌, ◌⊎◌, inl, inr, ℕ, ◌+◌, ◌-◌, ◌≤◌, ◌<◌, ◌^◌, List, [], ◌∷◌, ◌++◌, length, take, drop, Option, Some, None, Ok, refl, sym, ap, subst, ◌∙◌, arith, append_assoc, append-nil, length-append, length-drop}
 use Rattle.std.specs.List.{AllByRecursion}
 use Rattle.std.proofs.Math.Seq.{take-length, drop-length, take-add, take-append-add}
 use Rattle.std.proofs.lemmas.List.{drop-take, length-take-le, take-append-drop}
@@ -8,7 +8,7 @@ use Rattle.edn_reader.specs.Grammar.{Piece, IsElement}
 use Rattle.edn_reader.specs.Text.{IsFront, IsText}
 use Rattle.edn_reader.specs.Fault.{IsMemory, FaultOf, AreElementsBefore}
 use Rattle.edn_reader.specs.Within.{FaultBehind}
-use Rattle.edn_reader.specs.Splitting.{IsSpan, Splitting, StandsAfter, TakesUpTo, keep, IsAfter as IsSplitUpTo}
+use Rattle.edn_reader.specs.Splitting.{Finishes, IsLast, IsSpan, Splitting, StandsAfter, TakesUpTo, keep, IsAfter as IsSplitUpTo}
 use Rattle.tower_file.specs.Contents.{Contents}
 use Rattle.jepsen_form.specs.declared.item.MomentField.{MomentField}
 use Rattle.jepsen_form.specs.Item.{IsItem}
@@ -148,6 +148,33 @@ last_of : {A : Type 0} (P : A → Type 0) (xs : List A) (x : A) → AllByRecursi
 last_of P [] x all = all.0
 last_of P (first ∷ xs) x all = last_of P xs x all.1
 
+abbrev AllElements : Type 0
+AllElements = (input : List ℕ) (pieces : List Piece) (at : ℕ) → IsFront input pieces at → AllByRecursion IsElement pieces
+
+-- The element that was told, whose bytes are kept.
+told_text : (bytes piece next text : List ℕ) (pieces : List Piece) (used : ℕ) (span : ℕ × ℕ) (old new : Splitting) → (goes : TakesUpTo bytes piece next pieces old used (Some span) new)
+    → text ≡ drop span.0 (bytes ++ take used piece) → goes.4.0.text ≡ text
+told_text bytes piece next text pieces used span old new goes is =
+    goes.4.1.2 ∙ span_text bytes piece used span.0 span.1 goes.1 (omega (arith, goes.4.1.1)) ∙ sym is
+
+pub can_lend : (bytes piece next text : List ℕ) (pieces : List Piece) (used : ℕ) (span : ℕ × ℕ) (old new : Splitting) → TakesUpTo bytes piece next pieces old used (Some span) new → AllElements
+    → text ≡ drop span.0 (bytes ++ take used piece) → (last : Piece) × IsLast new last × IsElement last × (last.text ≡ text)
+can_lend bytes piece next text pieces used span old new goes elements is =
+    let last = goes.4.0 in
+    let input = bytes ++ ((piece ++ next) ++ []) in
+    (last, goes.4.4, last_of IsElement pieces last (elements input (pieces ++ last ∷ []) span.1 (goes.4.3 input [] refl)), told_text bytes piece next text pieces used span old new goes is)
+
+-- The same of the one that ended with the bytes.
+last_text : (bytes text : List ℕ) (start end : ℕ) (last : Piece) → end ≡ length bytes → IsSpan bytes start end last → text ≡ drop start (bytes ++ []) → last.text ≡ text
+last_text bytes text start end last all spans is = spans.2 ∙ take_rest start end bytes all ∙ ap (drop start) (sym (append-nil bytes)) ∙ sym is
+
+pub can_lend_last : (bytes text : List ℕ) (pieces : List Piece) (span : ℕ × ℕ) (old new : Splitting) → Finishes bytes pieces old (Ok (Some span)) new → AllElements
+    → text ≡ drop span.0 (bytes ++ []) → (last : Piece) × IsLast new last × IsElement last × (last.text ≡ text)
+can_lend_last bytes text pieces span old new ends elements is =
+    let last = ends.2.0 in
+    let text_of = ends.2.2 in
+    (last, ends.2.4, last_of IsElement pieces last (elements bytes (pieces ++ last ∷ []) text_of.0 text_of.2), last_text bytes text span.0 span.1 last ends.0 ends.2.1 is)
+
 broke_by : (trace : List ℕ) (fault : EdnFault) (broken : Broken) (pieces : List Piece) → broken_by fault ≡ Some broken → IsMemory fault ⊎ (FaultOf trace fault × AreElementsBefore trace pieces)
     → AreElements trace (Some broken) pieces
 broke_by trace fault broken pieces is (inl memory) = absurd (no_memory fault broken is memory)
@@ -169,20 +196,15 @@ module _ (plan : Plan) (tower : Contents) (chosen : MomentField) where
 
   pub fed_one : (feeder : ℕ) (bytes piece next text : List ℕ) (used : ℕ) (span : ℕ × ℕ) (old new : Intake) (pass after : Passed)
       → ((pieces : List Piece) → StandsAfter bytes (piece ++ next) pieces old.splitter → TakesUpTo bytes piece next pieces old.splitter used (Some span) new.splitter)
-      → ((input : List ℕ) (pieces : List Piece) (at : ℕ) → IsFront input pieces at → AllByRecursion IsElement pieces)
       → ((taken : List ℕ) → Holds taken old.kept → text ≡ drop span.0 (taken ++ take used piece))
-      → ((last : Piece) → IsElement last → last.start ≡ span.0 → last.text ≡ text → TakesOne plan tower chosen last old.progress pass new.progress after)
+      → ((last : Piece) → IsLast new.splitter last → last.text ≡ text → TakesOne plan tower chosen last old.progress pass new.progress after)
       → ((taken : List ℕ) → length taken ≡ span.1 → Holds taken new.kept) → new.kept.from ≡ span.1 → new.progress.place ≡ old.progress.place + 1
       → new.progress.log.broken ≡ old.progress.log.broken
       → HasFed plan tower chosen feeder bytes (piece ++ next) old pass → HasFed plan tower chosen feeder (bytes ++ take used piece) (drop used piece ++ next) new after
-  fed_one feeder bytes piece next text used span old new pass after takes elements text_is one holds from place broken fed =
+  fed_one feeder bytes piece next text used span old new pass after takes text_is one holds from place broken fed =
       let goes = takes fed.pieces fed.taken.stands in
       let last = goes.4.0 in
-      let spans = goes.4.1 in
-      let element : IsElement last =
-      last_of IsElement fed.pieces last (elements (bytes ++ ((piece ++ next) ++ [])) (fed.pieces ++ last ∷ []) span.1 (goes.4.3 (bytes ++ ((piece ++ next) ++ [])) [] refl)) in
-      let same : last.text ≡ text = spans.2 ∙ span_text bytes piece used span.0 span.1 goes.1 (omega (arith, spans.1)) ∙ sym (text_is bytes fed.taken.holds) in
-      let took = one last element spans.0 same in
+      let took = one last goes.4.4 (told_text bytes piece next text fed.pieces used span old.splitter new.splitter goes (text_is bytes fed.taken.holds)) in
       record {
         pieces = fed.pieces ++ last ∷ [];
         items = fed.items ++ took.0 ∷ [];
@@ -258,21 +280,16 @@ module _ (plan : Plan) (tower : Contents) (chosen : MomentField) where
 
   -- It ends with its last element.
   pub ended_one : (feeder : ℕ) (bytes text : List ℕ) (start end : ℕ) (old new : Intake) (pass after : Passed)
-      → ((pieces : List Piece) → IsSplitUpTo bytes bytes pieces old.splitter → (end ≡ length bytes) × ((last : Piece) × IsSpan bytes start end last × IsText bytes (pieces ++ last ∷ [])))
-      → ((input : List ℕ) (pieces : List Piece) (at : ℕ) → IsFront input pieces at → AllByRecursion IsElement pieces)
+      → ((pieces : List Piece) → IsSplitUpTo bytes bytes pieces old.splitter → (end ≡ length bytes) × ((last : Piece) × IsSpan bytes start end last × IsText bytes (pieces ++ last ∷ []) × IsLast new.splitter last))
       → ((taken : List ℕ) → Holds taken old.kept → text ≡ drop start (taken ++ []))
-      → ((last : Piece) → IsElement last → last.start ≡ start → last.text ≡ text → TakesOne plan tower chosen last old.progress pass new.progress after)
+      → ((last : Piece) → IsLast new.splitter last → last.text ≡ text → TakesOne plan tower chosen last old.progress pass new.progress after)
       → new.progress.log.broken ≡ old.progress.log.broken
       → HasFed plan tower chosen feeder bytes [] old pass → HasEnded plan tower chosen feeder bytes new after
-  ended_one feeder bytes text start end old new pass after ends elements text_is one broken fed =
+  ended_one feeder bytes text start end old new pass after ends text_is one broken fed =
       let goes = ends fed.pieces (fed.taken.stands bytes [] (sym (append-nil bytes))) in
       let last = goes.1.0 in
-      let spans = goes.1.1 in
       let text_of = goes.1.2 in
-      let element : IsElement last = last_of IsElement fed.pieces last (elements bytes (fed.pieces ++ last ∷ []) text_of.0 text_of.2) in
-      let same : last.text ≡ text =
-      spans.2 ∙ take_rest start end bytes goes.0 ∙ ap (drop start) (sym (append-nil bytes)) ∙ sym (text_is bytes fed.taken.holds) in
-      let took = one last element spans.0 same in
+      let took = one last goes.1.3 (last_text bytes text start end last goes.0 goes.1.1 (text_is bytes fed.taken.holds)) in
       record {
         items = fed.items ++ took.0 ∷ [];
         are = record {

@@ -5,7 +5,7 @@ ghost use Rattle.shards.specs.Pass.{IsPassOf};
 ghost use Rattle.feeders.specs.Ending.{MayEnd};
 ghost use Rattle.feeders.specs.Intake.{CanGoOn, GoesOver, GoesTo, HasEnded, HasFed, HasUsed};
 
-use crate::element::take_text;
+use crate::element::take_element;
 use crate::fault::{FeedFault, RunFault};
 use crate::kept::Kept;
 use crate::log::broken_by;
@@ -60,7 +60,8 @@ impl<'t> Intake<'t> {
                     }
                     Some((start, end)) => {
                         let text = self.kept.text(start as usize, &piece[..taken.used])?;
-                        take_text(
+                        let element = self.splitter.lend(text);
+                        take_element(
                             rt,
                             alloc,
                             auditor,
@@ -70,8 +71,7 @@ impl<'t> Intake<'t> {
                             pages,
                             pass,
                             &mut self.progress,
-                            text,
-                            start as usize,
+                            element,
                         )?;
                         self.kept.restart(end as usize);
                     }
@@ -157,9 +157,9 @@ impl<'t> Intake<'t> {
             Ok(whole) => match whole {
                 None => Ok(()),
                 Some(span) => {
-                    let start = span.0 as usize;
-                    let text = self.kept.text(start, &[])?;
-                    take_text(
+                    let text = self.kept.text(span.0 as usize, &[])?;
+                    let element = self.splitter.lend(text);
+                    take_element(
                         rt,
                         alloc,
                         auditor,
@@ -169,8 +169,7 @@ impl<'t> Intake<'t> {
                         pages,
                         pass,
                         &mut self.progress,
-                        text,
-                        start,
+                        element,
                     )?;
                     Ok(())
                 }

@@ -25,7 +25,7 @@ use Rattle.jepsen_form.specs.declared.fault.FormField.TheVariants as fields
 use Rattle.jepsen_form.specs.declared.fault.FormFault.{FormFault}
 use Rattle.jepsen_form.specs.declared.fault.FormFault.TheVariants.{BadType, NotAMap}
 use Rattle.jepsen_form.specs.Fields.{UnderValue, NoValue, AValue, ManyValues, IsUnderValue, missing, plain, vector, repeated, Fields, fields_of, two_of, by_two}
-use Rattle.jepsen_form.specs.Item.{the_one, at_most_one, is_there, value_stated, moment_of, end_of, the_stage, the_action, the_register, the_moment, if_told, value_told, by_process, change_of, edited_place, edit_by, question_of, item_of, IsItem, no_map, of_map, lying_at}
+use Rattle.jepsen_form.specs.Item.{the_one, at_most_one, is_there, value_stated, moment_of, end_of, the_stage, the_action, the_register, the_moment, if_told, value_told, by_process, change_of, edited_place, edit_by, question_of, register_named, item_of, IsItem, no_map, of_map, text_at, lying_at, answer_with}
 
 -- what is known of vectors and maps
 abbrev pub SomeMembers : Type 0
@@ -60,27 +60,43 @@ one_under_value one found first second (vector {piece = piece} members has is) (
     sym is ∙ ap (λ (list : List Piece). by_two piece (two_of list)) (one piece members others has other_has) ∙ other_is
 one_under_value one found first second repeated repeated = refl
 
--- two answers that are the same but for the place of a text
-abbrev Alike : ℕ × ℕ → Result Item FormFault → Result Item FormFault → Type 0
-Alike place first second = lying_at place first ≡ lying_at place second
+-- an event of these parts and this text
+abbrev event_with : ℤ → Stage → Action → Option RegId → Value → Option Moment → Bor (List ℕ) → Result Item FormFault
+event_with process stage action register value moment text =
+    Ok (items.Event (record { process = process; answer = stage; action = action; register = register; value = value; moment = moment; text = text }))
 
-through : {A : Type 0} (place : ℕ × ℕ) (answer : Result A FormFault) (f g : A → Result Item FormFault) → ((x : A) → Alike place (f x) (g x)) → Alike place (answer >>= f) (answer >>= g)
-through place (Ok x) f g each = each x
-through place (Err fault) f g each = refl
+-- an amendment of these parts and this text
+abbrev amend_with : ℕ → Option Value → Option Moment → Option (Option Moment) → Bor (List ℕ) → Result Item FormFault
+amend_with of value begin end text = Ok (items.Amend of (record { value = value; begin = begin; end = end; lent = Amendment text }))
 
-through_inner : {A B : Type 0} (place : ℕ × ℕ) (answer : Result A FormFault) (f g : A → Result B FormFault) (k : B → Result Item FormFault) → ((x : A) → Alike place (f x >>= k) (g x >>= k)) → Alike place ((answer >>= f) >>= k) ((answer >>= g) >>= k)
-through_inner place (Ok x) f g k each = each x
-through_inner place (Err fault) f g k each = refl
+-- what puts one text in the place of another, and changes nothing else of an answer
+record Retells (told : Result Item FormFault → Result Item FormFault) (old new : Bor (List ℕ)) : Type 0 where
+  pub fault : (fault : FormFault) → told (Err fault) ≡ Err fault
+  pub event : (process : ℤ) (stage : Stage) (action : Action) (register : Option RegId) (value : Value) (moment : Option Moment)
+      → told (event_with process stage action register value moment old) ≡ event_with process stage action register value moment new
+  pub amend : (of : ℕ) (value : Option Value) (begin : Option Moment) (end : Option (Option Moment)) → told (amend_with of value begin end old) ≡ amend_with of value begin end new
+  pub withdraw : (of : ℕ) → told (Ok (items.Withdraw of)) ≡ Ok (items.Withdraw of)
+  pub ask : (id : RegId) → told (Ok (items.Ask id)) ≡ Ok (items.Ask id)
+  pub skipped : told (Ok items.Skipped) ≡ Ok items.Skipped
 
--- an event of these parts, whose text has these bytes and lies there
-abbrev event_at : ℕ × ℕ → ℤ → Stage → Action → Option RegId → Value → Option Moment → List ℕ → Result Item FormFault
-event_at place process stage action register value moment bytes =
-    Ok (items.Event (record { process = process; answer = stage; action = action; register = register; value = value; moment = moment; text = record { ref_ptr = place; now = bytes } }))
+through : {A : Type 0} {told : Result Item FormFault → Result Item FormFault} {old new : Bor (List ℕ)} → Retells told old new → (answer : Result A FormFault) (f g : A → Result Item FormFault)
+    → ((x : A) → told (f x) ≡ g x) → told (answer >>= f) ≡ (answer >>= g)
+through retells (Ok x) f g each = each x
+through retells (Err fault) f g each = retells.fault fault
+
+through_inner : {A B : Type 0} {told : Result Item FormFault → Result Item FormFault} {old new : Bor (List ℕ)} → Retells told old new → (answer : Result A FormFault) (f g : A → Result B FormFault) (k : B → Result Item FormFault)
+    → ((x : A) → told (f x >>= k) ≡ (g x >>= k)) → told ((answer >>= f) >>= k) ≡ ((answer >>= g) >>= k)
+through_inner retells (Ok x) f g k each = each x
+through_inner retells (Err fault) f g k each = retells.fault fault
+
+-- a choice of answers
+one_of : (told : Result Item FormFault → Result Item FormFault) (test : Bool) (first second third fourth : Result Item FormFault) → told first ≡ second → told third ≡ fourth → told (if test then first else third) ≡ (if test then second else fourth)
+one_of told true first second third fourth same other = same
+one_of told false first second third fourth same other = other
 
 -- the event of what was read so far, and what is read after it
 abbrev with_moment : ℤ → Bor (List ℕ) → Stage → Action → Option RegId → Value → Option Moment → Result Item FormFault
-with_moment process text stage action register value moment =
-    Ok (items.Event (record { process = process; answer = stage; action = action; register = register; value = value; moment = moment; text = text }))
+with_moment process text stage action register value moment = event_with process stage action register value moment text
 
 abbrev with_value : Fields → ℤ → Bor (List ℕ) → Stage → Action → Option RegId → Value → Result Item FormFault
 with_value found process text stage action register value = if_told stage (the_moment found.moment) >>= with_moment process text stage action register value
@@ -94,67 +110,92 @@ with_action tower found said process text stage action = if_told stage (the_regi
 abbrev with_stage : Contents → Fields → UnderValue → ℤ → Bor (List ℕ) → Stage → Result Item FormFault
 with_stage tower found said process text stage = the_action found.action >>= with_action tower found said process text stage
 
-same_process : (place : ℕ × ℕ) (tower : Contents) (found : Fields) (said : UnderValue) (first second : Bor (List ℕ)) (process : Option ℤ) → first.now ≡ second.now
-    → Alike place (by_process tower found said first process) (by_process tower found said second process)
-same_process place tower found said first second None same = refl
-same_process place tower found said first second (Some process) same =
-    through place (the_stage found.stage) (with_stage tower found said process first) (with_stage tower found said process second) (λ stage.
-    through place (the_action found.action) (with_action tower found said process first stage) (with_action tower found said process second stage) (λ action.
-    through place (if_told stage (the_register tower said)) (with_register found said process first stage action) (with_register found said process second stage action) (λ register.
-    through place (value_told stage action said) (with_value found process first stage action register) (with_value found process second stage action register) (λ value.
-    through place (if_told stage (the_moment found.moment)) (with_moment process first stage action register value) (with_moment process second stage action register value) (λ moment.
-    ap (event_at place process stage action register value moment) same)))))
-
--- an amendment of these parts, whose text has these bytes and lies there
-abbrev amend_at : ℕ × ℕ → ℕ → Option Value → Option Moment → Option (Option Moment) → List ℕ → Result Item FormFault
-amend_at place of value begin end bytes =
-    Ok (items.Amend of (record { value = value; begin = begin; end = end; lent = Amendment (record { ref_ptr = place; now = bytes }) }))
+retold_process : (told : Result Item FormFault → Result Item FormFault) (old new : Bor (List ℕ)) → Retells told old new → (tower : Contents) (found : Fields) (said : UnderValue) (process : Option ℤ)
+    → told (by_process tower found said old process) ≡ by_process tower found said new process
+retold_process told old new retells tower found said None = retells.skipped
+retold_process told old new retells tower found said (Some process) =
+    through retells (the_stage found.stage) (with_stage tower found said process old) (with_stage tower found said process new) (λ stage.
+    through retells (the_action found.action) (with_action tower found said process old stage) (with_action tower found said process new stage) (λ action.
+    through retells (if_told stage (the_register tower said)) (with_register found said process old stage action) (with_register found said process new stage action) (λ register.
+    through retells (value_told stage action said) (with_value found process old stage action register) (with_value found process new stage action register) (λ value.
+    through retells (if_told stage (the_moment found.moment)) (with_moment process old stage action register value) (with_moment process new stage action register value) (λ moment.
+    retells.event process stage action register value moment)))))
 
 abbrev as_amend : ℕ → Change → Result Item FormFault
 as_amend of change = Ok (items.Amend of change)
 
+abbrev with_end : Bor (List ℕ) → Option Value → Option Moment → Option (Option Moment) → Result Change FormFault
+with_end text value begin end = Ok (record { value = value; begin = begin; end = end; lent = Amendment text })
+
 abbrev with_begin : Fields → Bor (List ℕ) → Option Value → Option Moment → Result Change FormFault
-with_begin found text value begin = at_most_one fields.End end_of found.end >>= (λ end. Ok (record { value = value; begin = begin; end = end; lent = Amendment text }))
+with_begin found text value begin = at_most_one fields.End end_of found.end >>= with_end text value begin
 
 abbrev with_new : Fields → Bor (List ℕ) → Option Value → Result Change FormFault
 with_new found text value = at_most_one fields.Begin moment_of found.begin >>= with_begin found text value
 
-same_change : (place : ℕ × ℕ) (found : Fields) (of : ℕ) (first second : Bor (List ℕ)) → first.now ≡ second.now → Alike place (change_of found first >>= as_amend of) (change_of found second >>= as_amend of)
-same_change place found of first second same =
-    through_inner place (at_most_one fields.Value value_stated found.value) (with_new found first) (with_new found second) (as_amend of) (λ value.
-    through_inner place (at_most_one fields.Begin moment_of found.begin) (with_begin found first value) (with_begin found second value) (as_amend of) (λ begin.
-    through_inner place (at_most_one fields.End end_of found.end) (λ end. Ok (record { value = value; begin = begin; end = end; lent = Amendment first })) (λ end. Ok (record { value = value; begin = begin; end = end; lent = Amendment second })) (as_amend of) (λ end.
-    ap (amend_at place of value begin end) same)))
-
--- a choice of answers that are alike
-one_of : (place : ℕ × ℕ) (test : Bool) (first second third fourth : Result Item FormFault) → Alike place first second → Alike place third fourth → Alike place (if test then first else third) (if test then second else fourth)
-one_of place true first second third fourth same other = same
-one_of place false first second third fourth same other = other
+retold_change : (told : Result Item FormFault → Result Item FormFault) (old new : Bor (List ℕ)) → Retells told old new → (found : Fields) (of : ℕ)
+    → told (change_of found old >>= as_amend of) ≡ (change_of found new >>= as_amend of)
+retold_change told old new retells found of =
+    through_inner retells (at_most_one fields.Value value_stated found.value) (with_new found old) (with_new found new) (as_amend of) (λ value.
+    through_inner retells (at_most_one fields.Begin moment_of found.begin) (with_begin found old value) (with_begin found new value) (as_amend of) (λ begin.
+    through_inner retells (at_most_one fields.End end_of found.end) (with_end old value begin) (with_end new value begin) (as_amend of) (λ end.
+    retells.amend of value begin end)))
 
 abbrev amendment : Fields → Bor (List ℕ) → Result Item FormFault
 amendment found text = edited_place found >>= (λ of. change_of found text >>= as_amend of)
 
-abbrev no_amendment : Fields → Piece → Result Item FormFault
-no_amendment found keyword = if is_word (codes ":withdraw") keyword then edited_place found >>= (λ of. Ok (items.Withdraw of)) else Err BadType
+abbrev withdrawal : Fields → Result Item FormFault
+withdrawal found = edited_place found >>= (λ of. Ok (items.Withdraw of))
 
-same_edit : (place : ℕ × ℕ) (found : Fields) (first second : Bor (List ℕ)) (keyword : Piece) → first.now ≡ second.now → Alike place (edit_by found first keyword) (edit_by found second keyword)
-same_edit place found first second keyword same =
-    one_of place (is_word (codes ":amend") keyword) (amendment found first) (amendment found second) (no_amendment found keyword) (no_amendment found keyword)
-    (through place (edited_place found) (λ of. change_of found first >>= as_amend of) (λ of. change_of found second >>= as_amend of) (λ of. same_change place found of first second same)) refl
+abbrev no_amendment : Fields → Piece → Result Item FormFault
+no_amendment found keyword = if is_word (codes ":withdraw") keyword then withdrawal found else Err BadType
+
+retold_edit : (told : Result Item FormFault → Result Item FormFault) (old new : Bor (List ℕ)) → Retells told old new → (found : Fields) (keyword : Piece)
+    → told (edit_by found old keyword) ≡ edit_by found new keyword
+retold_edit told old new retells found keyword =
+    one_of told (is_word (codes ":amend") keyword) (amendment found old) (amendment found new) (no_amendment found keyword) (no_amendment found keyword)
+    (through retells (edited_place found) (λ of. change_of found old >>= as_amend of) (λ of. change_of found new >>= as_amend of) (retold_change told old new retells found))
+    (one_of told (is_word (codes ":withdraw") keyword) (withdrawal found) (withdrawal found) (Err BadType) (Err BadType)
+    (through retells (edited_place found) (λ of. Ok (items.Withdraw of)) (λ of. Ok (items.Withdraw of)) retells.withdraw) (retells.fault BadType))
+
+abbrev question_part : Contents → Fields → Result Item FormFault
+question_part tower found = the_one fields.Ask found.ask >>= question_of tower
 
 abbrev event_part : Contents → Fields → UnderValue → Bor (List ℕ) → Result Item FormFault
 event_part tower found said text = the_one fields.Process found.process >>= (λ piece. by_process tower found said text (int_of piece))
 
 abbrev no_edit : Contents → Fields → UnderValue → Bor (List ℕ) → Result Item FormFault
-no_edit tower found said text = if is_there found.ask then the_one fields.Ask found.ask >>= question_of tower else event_part tower found said text
+no_edit tower found said text = if is_there found.ask then question_part tower found else event_part tower found said text
+
+retold : (told : Result Item FormFault → Result Item FormFault) (old new : Bor (List ℕ)) → Retells told old new → (tower : Contents) (found : Fields) (said : UnderValue)
+    → told (item_of tower found said old) ≡ item_of tower found said new
+retold told old new retells tower found said =
+    one_of told (is_there found.edit) (the_one fields.Edit found.edit >>= edit_by found old) (the_one fields.Edit found.edit >>= edit_by found new) (no_edit tower found said old) (no_edit tower found said new)
+    (through retells (the_one fields.Edit found.edit) (edit_by found old) (edit_by found new) (retold_edit told old new retells found))
+    (one_of told (is_there found.ask) (question_part tower found) (question_part tower found) (event_part tower found said old) (event_part tower found said new)
+    (through retells (the_one fields.Ask found.ask) (question_of tower) (question_of tower) (λ name. through retells (register_named tower name) (λ id. Ok (items.Ask id)) (λ id. Ok (items.Ask id)) retells.ask))
+    (through retells (the_one fields.Process found.process) (λ piece. by_process tower found said old (int_of piece)) (λ piece. by_process tower found said new (int_of piece)) (λ piece.
+    retold_process told old new retells tower found said (int_of piece))))
+
+-- two answers that are the same but for the place of a text
+abbrev Alike : ℕ × ℕ → Result Item FormFault → Result Item FormFault → Type 0
+Alike place first second = lying_at place first ≡ lying_at place second
+
+lies : (place : ℕ × ℕ) (text : Bor (List ℕ)) → Retells (lying_at place) text (text_at place text)
+lies place text = record {
+  fault = λ fault. refl;
+  event = λ process stage action register value moment. refl;
+  amend = λ of value begin end. refl;
+  withdraw = λ of. refl;
+  ask = λ id. refl;
+  skipped = refl;
+}
 
 same_item : (place : ℕ × ℕ) (tower : Contents) (found : Fields) (said : UnderValue) (first second : Bor (List ℕ)) → first.now ≡ second.now → Alike place (item_of tower found said first) (item_of tower found said second)
 same_item place tower found said first second same =
-    one_of place (is_there found.edit) (the_one fields.Edit found.edit >>= edit_by found first) (the_one fields.Edit found.edit >>= edit_by found second) (no_edit tower found said first) (no_edit tower found said second)
-    (through place (the_one fields.Edit found.edit) (edit_by found first) (edit_by found second) (λ keyword. same_edit place found first second keyword same))
-    (one_of place (is_there found.ask) (the_one fields.Ask found.ask >>= question_of tower) (the_one fields.Ask found.ask >>= question_of tower) (event_part tower found said first) (event_part tower found said second) refl
-    (through place (the_one fields.Process found.process) (λ piece. by_process tower found said first (int_of piece)) (λ piece. by_process tower found said second (int_of piece)) (λ piece.
-    same_process place tower found said first second (int_of piece) same)))
+    retold (lying_at place) first (text_at place first) (lies place first) tower found said
+    ∙ ap (λ (bytes : List ℕ). item_of tower found said (record { ref_ptr = place; now = bytes })) same
+    ∙ sym (retold (lying_at place) second (text_at place second) (lies place second) tower found said)
 
 -- what the value of these pairs says
 abbrev Says : List (Piece × Piece) → UnderValue → Type 0
@@ -174,6 +215,23 @@ at_most_one_item members pairs tower chosen piece first second place (no_map non
 at_most_one_item members pairs tower chosen piece first second place (of_map found said text has says same) (no_map none) = absurd (none found has)
 at_most_one_item members pairs tower chosen piece first second place (of_map found said text has says same) (of_map others other_said other_text has_others other_says other_same) =
     same_parts members place tower chosen found others said other_said text other_text (pairs piece found others has has_others) says other_says (same ∙ sym other_same)
+
+-- ---- an item whose text is lent from another place
+
+is_of : (text old : Bor (List ℕ)) → Retells (answer_with text) old text
+is_of text old = record {
+  fault = λ fault. refl;
+  event = λ process stage action register value moment. refl;
+  amend = λ of value begin end. refl;
+  withdraw = λ of. refl;
+  ask = λ id. refl;
+  skipped = refl;
+}
+
+pub elsewhere : (tower : Contents) (chosen : MomentField) (piece : Piece) (item : Result Item FormFault) (text : Bor (List ℕ)) → IsItem tower chosen piece item → text.now ≡ piece.text → IsItem tower chosen piece (answer_with text item)
+elsewhere tower chosen piece item text (no_map none) same = no_map none
+elsewhere tower chosen piece item text (of_map pairs said old has says was) same =
+    subst (IsItem tower chosen piece) (sym (retold (answer_with text) old text (is_of text old) tower (fields_of chosen pairs) said)) (of_map pairs said text has says same)
 
 -- ---- one item at least
 

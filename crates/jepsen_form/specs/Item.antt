@@ -213,3 +213,23 @@ lying_at place (Ok (items.Amend of change)) = Ok (items.Amend of (record change 
 lying_at place (Ok (items.Withdraw of)) = Ok (items.Withdraw of)
 lying_at place (Ok (items.Ask id)) = Ok (items.Ask id)
 lying_at place (Ok items.Skipped) = Ok items.Skipped
+
+-- ---- an item of another text
+
+-- This text, lent for the same part.
+abbrev pub lent_with : Bor (List ℕ) → Lent → Lent
+lent_with text (Answer other) = Answer text
+lent_with text (Amendment other) = Amendment text
+
+-- The same item, of this text.
+abbrev pub item_with : Bor (List ℕ) → Item → Item
+item_with text (items.Event event) = items.Event (record event { text = text })
+item_with text (items.Amend of change) = items.Amend of (record change { lent = lent_with text change.lent })
+item_with text (items.Withdraw of) = items.Withdraw of
+item_with text (items.Ask id) = items.Ask id
+item_with text items.Skipped = items.Skipped
+
+-- What an element came to, of this text.
+abbrev pub answer_with : Bor (List ℕ) → Result Item FormFault → Result Item FormFault
+answer_with text (Err fault) = Err fault
+answer_with text (Ok item) = Ok (item_with text item)

@@ -1,6 +1,9 @@
 //! What the elements of a trace are.
 
-use intervals::{Change, Moment, RegId, Value};
+ghost use Rattle.std.specs.Prelude.{◌≡◌};
+ghost use Rattle.jepsen_form.specs.Item.{item_with, lent_with};
+
+use intervals::{Change, Lent, Moment, RegId, Value};
 
 /// What an operation does to its register.
 #[derive(Clone, Copy, Debug, PartialEq, Eq)]
@@ -40,6 +43,46 @@ pub enum Item<'t> {
     Withdraw { of: u64 },
     Ask(RegId),
     Skipped,
+}
+
+impl Item<'_> {
+    /// The same item, which lends its text from another place.
+    pub fn with_text<'p>(self, text: &'p [u8]) -> Item<'p>
+        ensures { result ≡ item_with text.entry self.entry }
+    {
+        match self {
+            Item::Event(event) => Item::Event(Event {
+                process: event.process,
+                answer: event.answer,
+                action: event.action,
+                register: event.register,
+                value: event.value,
+                moment: event.moment,
+                text,
+            }),
+            Item::Amend { of, change } => Item::Amend {
+                of,
+                change: Change {
+                    value: change.value,
+                    begin: change.begin,
+                    end: change.end,
+                    lent: part_with(change.lent, text),
+                },
+            },
+            Item::Withdraw { of } => Item::Withdraw { of },
+            Item::Ask(register) => Item::Ask(register),
+            Item::Skipped => Item::Skipped,
+        }
+    }
+}
+
+fn part_with<'p>(lent: Lent, text: &'p [u8]) -> Lent<'p>
+    ensures { result ≡ lent_with text.entry lent.entry }
+{
+    match lent {
+        Lent::Answer(_) => Lent::Answer(text),
+        Lent::Amendment(_) => Lent::Amendment(text),
+    }
 }
 
 /// The field that an event's moment stands under: `:index` or `:time`.

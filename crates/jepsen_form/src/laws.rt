@@ -1,12 +1,13 @@
 //! Laws of the elements of a trace. Each is proved, and does nothing.
 
-ghost use Rattle.std.specs.Prelude.{◌≡◌, ℕ, Result};
+ghost use Rattle.std.specs.Prelude.{◌≡◌, ℕ, List, Result};
+ghost use Rattle.std.specs.Borrow.{Bor};
 ghost use Rattle.edn_reader.specs.Grammar.{Piece, IsElement};
 ghost use Rattle.tower_file.specs.Contents.{Contents};
 ghost use Rattle.jepsen_form.specs.declared.item.Item.{Item};
 ghost use Rattle.jepsen_form.specs.declared.item.MomentField.{MomentField};
 ghost use Rattle.jepsen_form.specs.declared.fault.FormFault.{FormFault};
-ghost use Rattle.jepsen_form.specs.Item.{IsItem, lying_at};
+ghost use Rattle.jepsen_form.specs.Item.{IsItem, answer_with, lying_at};
 
 use edn_reader::laws::{members_of_vector, pairs_of_map};
 
@@ -14,6 +15,7 @@ use edn_reader::laws::{members_of_vector, pairs_of_map};
 pub fn one_item()
     ensures some { (tower : Contents) (chosen : MomentField) (piece : Piece) → IsElement piece → (item : Result Item FormFault) × IsItem tower chosen piece item }
     ensures one { (tower : Contents) (chosen : MomentField) (piece : Piece) (first second : Result Item FormFault) (place : ℕ × ℕ) → IsItem tower chosen piece first → IsItem tower chosen piece second → lying_at place first ≡ lying_at place second }
+    ensures elsewhere { (tower : Contents) (chosen : MomentField) (piece : Piece) (item : Result Item FormFault) (text : Bor (List ℕ)) → IsItem tower chosen piece item → text.now ≡ piece.text → IsItem tower chosen piece (answer_with text item) }
 {
     pairs_of_map();
     members_of_vector();
