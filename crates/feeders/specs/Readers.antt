@@ -9,6 +9,10 @@ abbrev pub broke_reading : Option Broken → Bool
 broke_reading None = false
 broke_reading (Some broken) = is_of_reading broken.code
 
+-- where the trace of the log broke, it is its text that broke off, and not its reading
+abbrev pub IsNotOfReading : Log → Type 0
+IsNotOfReading log = broke_reading log.broken ≡ false
+
 -- all of these bytes, or a front of them where the reading broke off
 abbrev pub IsReadUpTo : Bool → List ℕ → List ℕ → Type 0
 IsReadUpTo false all trace = trace ≡ all

@@ -24,7 +24,7 @@ pub enum RunFault {
 #[error("{fault} behind {used} bytes")]
 pub struct FeedFault {
     pub fault: RunFault,
-    /// How many bytes of the piece were taken.
+    /// How many bytes of the piece lie before the element whose step was not carried out, or that was not kept.
     pub used: usize,
 }
 

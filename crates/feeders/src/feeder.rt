@@ -8,6 +8,7 @@ ghost use Rattle.feeders.specs.Broken.{is_of_reading};
 ghost use Rattle.feeders.specs.Ending.{MayEnd};
 ghost use Rattle.feeders.specs.Feeding.{IsFedUpTo};
 ghost use Rattle.feeders.specs.Intake.{HasEnded};
+ghost use Rattle.feeders.specs.Readers.{IsNotOfReading};
 
 use crate::fault::{FeedFault, RunFault};
 use crate::fed::Fed;
@@ -142,7 +143,9 @@ impl<'t> Feeder<'t> {
         requires some { 0 < O.plan.shards }
         ensures fed { OnOk result ((feeder : ℕ) (bytes : List ℕ) → IsFedUpTo O.plan feeder bytes self.old pass.old → HasEnded O.plan self.old.tower self.old.chosen feeder bytes self.new.intake pass.new) }
         ensures read { (self.new.chosen ≡ self.old.chosen) × (self.new.tower ≡ self.old.tower) }
+        ensures by_text { OnOk result ((feeder : ℕ) (bytes : List ℕ) → IsFedUpTo O.plan feeder bytes self.old pass.old → IsNotOfReading self.new.intake.progress.log) }
         ensures closed { OnOk result (self.new.course ≢ Course.Open) }
+        ensures closes { OnOk result (self.old.course ≡ Course.Open → self.new.course ≡ Course.Ended) }
         ensures over { self.old.course ≡ Course.Broke → (result ≡ Ok tt) × (self.new ≡ self.old) × (pass.new ≡ pass.old) }
         ensures ended { self.old.course ≡ Course.Ended → (result ≡ Ok tt) × (self.new ≡ self.old) × (pass.new ≡ pass.old) }
         ensures failed { (fault : ARunFault) → self.old.course ≡ Course.Failed fault → (result ≡ Err (record { fault = fault; used = 0 })) × (self.new ≡ self.old) × (pass.new ≡ pass.old) }
@@ -192,6 +195,8 @@ impl<'t> Feeder<'t> {
         requires reading { IsTrue (is_of_reading code) }
         ensures fed { (plan : Plan) (feeder : ℕ) (bytes : List ℕ) (pass : Passed) → IsFedUpTo plan feeder bytes self.old pass → HasEnded plan self.old.tower self.old.chosen feeder bytes self.new.intake pass }
         ensures broken { self.new.intake.progress.log.broken ≡ Some (record { code = code; place = self.old.intake.splitter.taken }) }
+        ensures read { (self.new.chosen ≡ self.old.chosen) × (self.new.tower ≡ self.old.tower) }
+        ensures closes { self.new.course ≡ Course.Ended }
     {
         no_fault_so_far();
         told_so_far();

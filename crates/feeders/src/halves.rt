@@ -1,9 +1,10 @@
 //! Feeders in threads, by halves.
 
-ghost use Rattle.std.specs.Prelude.{◌≡◌, ◌≤◌, ◌<◌, IfErr, IfOk, length, map, take, drop, vec_len};
+ghost use Rattle.std.specs.Prelude.{◌≡◌, ◌≤◌, ◌<◌, All, IfErr, IfOk, length, map, take, drop, vec_len};
 ghost use Rattle.std.specs.Thread.{IsSync};
 ghost use Rattle.feeders.specs.Ending.{MayEnd};
 ghost use Rattle.feeders.specs.Progress.{AreFed, AreFresh, AreReadAndFed};
+ghost use Rattle.feeders.specs.Readers.{IsNotOfReading};
 
 use crate::fault::RunFault;
 use crate::fed::Fed;
@@ -36,6 +37,7 @@ pub fn feed_all<'t, O: Opening + Send + Sync, R: Threads + Wait + Sync, G: Gate>
     requires fresh { AreFresh O.plan passes.items }
     requires each { vec_len passes ≡ length traces.now }
     ensures fed { IfOk result (λ feds. AreFed O.plan tower.now field passes.entry.items traces.entry.now feds.items) }
+    ensures by_text { IfOk result (λ feds. All (λ fed. IsNotOfReading fed.log) feds.items) }
     ensures fault { IfErr result MayEnd }
 {
     if traces.len() < 2 {
@@ -48,11 +50,13 @@ pub fn feed_all<'t, O: Opening + Send + Sync, R: Threads + Wait + Sync, G: Gate>
         || -> Result<Vec<Fed>, RunFault>
             requires { IsSync R.row × (0 < O.plan.shards) × AreFresh O.plan passes.items × (vec_len passes ≡ length front.now) }
             ensures fed { IfOk result (λ feds. AreFed O.plan tower.entry.now field passes.entry.items front.entry.now feds.items) }
+            ensures by_text { IfOk result (λ feds. All (λ fed. IsNotOfReading fed.log) feds.items) }
             ensures fault { IfErr result MayEnd }
         { feed_all(rt, alloc, auditor, gate, tower, field, passes, front) },
         || -> Result<Vec<Fed>, RunFault>
             requires { IsSync R.row × (0 < O.plan.shards) × AreFresh O.plan rest.items × (vec_len rest ≡ length back.now) }
             ensures fed { IfOk result (λ feds. AreFed O.plan tower.entry.now field rest.entry.items back.entry.now feds.items) }
+            ensures by_text { IfOk result (λ feds. All (λ fed. IsNotOfReading fed.log) feds.items) }
             ensures fault { IfErr result MayEnd }
         { feed_all(rt, alloc, auditor, gate, tower, field, rest, back) },
     );
@@ -78,6 +82,7 @@ fn feed_alone<'t, O: Opening, R: Wait, G: Gate>(
     requires each { vec_len passes ≡ length traces.now }
     requires few { length traces.now < 2 }
     ensures fed { IfOk result (λ feds. AreFed O.plan tower.now field passes.entry.items traces.entry.now feds.items) }
+    ensures by_text { IfOk result (λ feds. All (λ fed. IsNotOfReading fed.log) feds.items) }
     ensures fault { IfErr result MayEnd }
 {
     let mut feds = Vec::new(alloc);

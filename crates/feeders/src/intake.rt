@@ -1,9 +1,10 @@
 //! What was taken of a trace that comes in pieces.
 
-ghost use Rattle.std.specs.Prelude.{◌≡◌, ◌+◌, ◌≤◌, ◌<◌, ◌^◌, ◌++◌, [], ℕ, List, length, Ok, true, IfErr, IfOk, OnOk};
+ghost use Rattle.std.specs.Prelude.{◌≡◌, ◌+◌, ◌≤◌, ◌<◌, ◌^◌, ◌++◌, [], ℕ, List, length, None, Ok, true, IfErr, IfOk, OnOk};
 ghost use Rattle.shards.specs.Pass.{IsPassOf};
 ghost use Rattle.feeders.specs.Ending.{MayEnd};
 ghost use Rattle.feeders.specs.Intake.{CanGoOn, GoesOver, GoesTo, HasEnded, HasFed, HasUsed};
+ghost use Rattle.feeders.specs.Readers.{IsNotOfReading};
 
 use crate::element::take_element;
 use crate::fault::{FeedFault, RunFault};
@@ -150,6 +151,7 @@ impl<'t> Intake<'t> {
         requires some { 0 < O.plan.shards }
         requires can { CanGoOn [] self.old }
         ensures ends { OnOk result ((feeder : ℕ) (bytes : List ℕ) → HasFed O.plan tower.now field feeder bytes [] self.old pass.old → HasEnded O.plan tower.now field feeder bytes self.new pass.new) }
+        ensures by_text { OnOk result (self.old.progress.log.broken ≡ None → IsNotOfReading self.new.progress.log) }
         ensures fault { IfErr result (λ fault. IsPassOf O.plan pass.old → MayEnd fault) }
     {
         each_is_element();

@@ -44,6 +44,7 @@ impl Kept {
         requires fits { self.old.from + vec_len self.old.bytes + length piece.now < 2 ^ 64 }
         ensures holds { OnOk result ((taken : List ℕ) → Holds taken self.old → Holds (taken ++ piece.now) self.new) }
         ensures low { OnOk result (self.old.from ≤ keep → self.new.from ≤ keep) }
+        ensures let_go { OnOk result (self.old.from + vec_len self.old.bytes < keep → keep ≤ self.old.from + vec_len self.old.bytes + length piece.now → self.new.from ≡ keep) }
     {
         let end = self.from + self.bytes.len();
         if keep <= end {

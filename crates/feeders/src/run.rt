@@ -1,9 +1,9 @@
 //! A run over several traces.
 
-ghost use Rattle.std.specs.Prelude.{◌≡◌, ◌≤◌, ℕ, List, IfErr, IfOk, length, map, vec_len};
+ghost use Rattle.std.specs.Prelude.{◌≡◌, ◌≤◌, ℕ, List, All, IfErr, IfOk, length, map, vec_len};
 ghost use Rattle.shards.specs.Plan.{plan_of};
 ghost use Rattle.feeders.specs.Ending.{MayEnd};
-ghost use Rattle.feeders.specs.Readers.{AreReadOf};
+ghost use Rattle.feeders.specs.Readers.{AreReadOf, IsNotOfReading};
 ghost use Rattle.feeders.specs.Run.{IsRun};
 
 use crate::fault::RunFault;
@@ -40,6 +40,7 @@ pub fn run_traces<'t, R: Threads + Wait + Sync, G: Gate>(
     requires traces { (1 ≤ length traces.now) × (length traces.now ≤ 256) }
     requires shards { (1 ≤ shards) × (shards ≤ 64) }
     ensures run { IfOk result (λ run. IsRun tower.now field shards (map (λ trace. trace.now) traces.entry.now) run.closed run.logs.items) }
+    ensures by_text { IfOk result (λ run. All IsNotOfReading run.logs.items) }
     ensures fault { IfErr result MayEnd }
 {
     run_in::<Brand, R, G>(rt, alloc, tower, traces, field, shards, gate)
@@ -109,6 +110,7 @@ fn run_in<'t, O: Opening + Send + Sync, R: Threads + Wait + Sync, G: Gate>(
     requires traces { (1 ≤ length traces.now) × (length traces.now ≤ 256) }
     requires shards { (1 ≤ shards) × (shards ≤ 64) }
     ensures run { IfOk result (λ run. IsRun tower.now field shards (map (λ trace. trace.now) traces.entry.now) run.closed run.logs.items) }
+    ensures by_text { IfOk result (λ run. All IsNotOfReading run.logs.items) }
     ensures fault { IfErr result MayEnd }
 {
     let (auditor, passes) = Auditor::<O>::open(alloc, 0, tower, shards, traces.len() as u32)?;

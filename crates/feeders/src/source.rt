@@ -51,6 +51,8 @@ impl<R: Read> Source<R> {
         ensures count { IfOk result (λ count. (count ≤ length buffer.old) × (self.new.given ≡ self.old.given + count)) }
         ensures no_count { IfErr result (λ _. self.new.given ≡ self.old.given) }
         ensures code { IfErr result (λ code. (code ≡ BreakCode.ReadFailed) ⊎ (code ≡ BreakCode.TooLong)) }
+        ensures past { self.old.past ≡ true → result ≡ Err BreakCode.TooLong }
+        ensures not_past { result ≡ Err BreakCode.ReadFailed → self.new.past ≡ self.old.past }
         ensures too_long { result ≡ Err BreakCode.TooLong → (self.new.calls ≡ CALL_LIMIT) ⊎ ((self.new.past ≡ true) × (self.new.given ≡ BYTE_LIMIT)) }
         ensures length { length buffer.new ≡ length buffer.old }
         ensures limit { self.new.given ≤ BYTE_LIMIT }

@@ -4,6 +4,7 @@ ghost use Rattle.std.specs.Prelude.{◌≡◌, ◌<◌, IfErr, IfOk};
 ghost use Rattle.shards.specs.Pass.{fresh};
 ghost use Rattle.feeders.specs.Ending.{MayEnd};
 ghost use Rattle.feeders.specs.Progress.{IsFed};
+ghost use Rattle.feeders.specs.Readers.{IsNotOfReading};
 
 use crate::fault::RunFault;
 use crate::fed::Fed;
@@ -32,6 +33,7 @@ pub fn feed_trace<'t, O: Opening, R: Wait, G: Gate>(
     requires fresh { pass ≡ fresh O.plan pass.feeder }
     requires known { pass.feeder < O.plan.feeders }
     ensures fed { IfOk result (IsFed O.plan tower.now field pass.entry.feeder trace.entry.now) }
+    ensures by_text { IfOk result (λ fed. IsNotOfReading fed.log) }
     ensures fault { IfErr result MayEnd }
 {
     let mut reader = Reader::new(alloc, trace);

@@ -8,7 +8,7 @@ use intervals::{Kind, OpId, RegId};
 use std::alloc::AllocError;
 use tower_file::Tower;
 
-/// A name or a lent text as it is printed.
+/// A name or a lent text as it is printed. Where memory is refused a front of it may stand in the text.
 pub fn push_printed(text: &mut String, name: &[u8]) -> Result<(), AllocError>
     ensures { OnOk result (string_bytes text.new ≡ string_bytes text.old ++ printed_as name.now) }
 {

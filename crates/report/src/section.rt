@@ -40,7 +40,7 @@ pub fn push_section(
     }
 }
 
-/// The line of a register.
+/// The line of a register. Where memory is refused a front of it may stand in the text.
 pub fn push_register(
     text: &mut String,
     name: &[u8],
