@@ -1,11 +1,11 @@
 //! The program's commands, over files, a standard input and two outputs.
 
-ghost use Rattle.std.specs.Prelude.{◌≡◌, ◌≢◌, IsErr, IfOk, IfErr, IfSome, MatchResult, Some, None, map};
+ghost use Rattle.std.specs.Prelude.{◌≡◌, ◌≢◌, IsErr, IfOk, IfErr, IfSome, MatchResult, None, map};
 ghost use Rattle.std.specs.Result.{IsOkAnd};
 ghost use Rattle.std.specs.Io.KnownBytes.{Appends, Keeps};
-ghost use Rattle.words.specs.Words.{HasShards, HasTraces, Safe, asked, asked_of};
+ghost use Rattle.words.specs.Words.{HasShards, HasTraces, Safe, asked_of};
 ghost use Rattle.commands.specs.Verdict.{IsAudited};
-ghost use Rattle.commands.specs.Run.{IsListed, IsCarriedOut, IsDone};
+ghost use Rattle.commands.specs.Run.{IsListed, IsCarriedOut, IsDone, WantInput};
 
 use crate::check::{check, read_tower};
 use crate::fault::{CommandFault, say};
@@ -38,7 +38,7 @@ pub fn run<
 >(rt: &A, words: io::Result<Vec<S>>, files: &mut F, input: &mut R, out: &mut W, err: &mut E) -> u8
     ensures done { result ≢ BROKEN → IsOkAnd words (λ words. IsDone (map S.text words.items) (F.held files.old) (R.remaining input.old) result (W.contents out.old) (W.contents out.new)) }
     ensures silent { result ≢ BROKEN → Keeps (E.contents err.old) (E.contents err.new) }
-    ensures input { IfOk words (λ words. asked (map S.text words.items) ≢ Some (Safe None) → input.new ≡ input.old) }
+    ensures input { IfOk words (λ words. ¬ WantInput (map S.text words.items) → input.new ≡ input.old) }
     ensures unread { IsErr words → (out.new ≡ out.old) × (input.new ≡ input.old) }
 {
     match words {
@@ -92,7 +92,7 @@ pub fn run_words<
     W: Write,
 >(rt: &A, words: &'a [S], files: &mut F, input: &mut R, out: &mut W) -> Result<u8, CommandFault<'a>>
     ensures done { IfOk result (λ status. IsDone (map S.text words.entry.now) (F.held files.old) (R.remaining input.old) status (W.contents out.old) (W.contents out.new)) }
-    ensures input { asked (map S.text words.entry.now) ≢ Some (Safe None) → input.new ≡ input.old }
+    ensures input { ¬ WantInput (map S.text words.entry.now) → input.new ≡ input.old }
     ensures quiet { IfErr result (λ fault. fault ≢ CommandFault.Unwritable → out.new ≡ out.old) }
 {
     match read_words(rt.alloc(), words) {
