@@ -445,12 +445,12 @@ fn rows_are_told_in_pieces(rt: HostRuntime) -> Result<(), Fail> {
     Ok(())
 }
 
-/// Forty vectors, one in the other, between two atoms: what stands open has to grow twice.
+/// Forty vectors, one in the other, between two atoms: what stands open has to grow.
 const DEEP: &[u8] =
     b"a [[[[[[[[[[[[[[[[[[[[[[[[[[[[[[[[[[[[[[[[1]]]]]]]]]]]]]]]]]]]]]]]]]]]]]]]]]]]]]]]] b";
 
 /// Whether the elements of the deep text are given. Where they are not a growth was refused, at the 17th
-/// bracket or at the 33rd, which is then answered for good.
+/// bracket or behind it, which is then answered for good.
 fn gives_deep_elements(rt: &impl Abort, alloc: Global) -> Result<bool, Fail> {
     let mut reader = Reader::new(alloc, DEEP);
     assert!(rt; reader.next()?.is_some());
@@ -460,7 +460,11 @@ fn gives_deep_elements(rt: &impl Abort, alloc: Global) -> Result<bool, Fail> {
             Ok(true)
         }
         Err(fault) => {
-            assert!(rt; fault == EdnFault::Memory(18) || fault == EdnFault::Memory(34));
+            let is_of_a_bracket = match fault {
+                EdnFault::Memory(place) => 18 <= place && place < 42,
+                _ => false,
+            };
+            assert!(rt; is_of_a_bracket);
             assert!(rt; is_again(reader.next(), Some(fault)));
             Ok(false)
         }
