@@ -1,54 +1,70 @@
--- How many reads there are after an insertion, a removal and a judgement.
-use Rattle.std.proofs.Common.{◌≡◌, ◌+◌, ◌<◌, ◌^◌, Bool, true, false, not, cond, ◌==◌, List, [], ◌∷◌, length, Some, None, ◌⊎◌, inl, inr, ℕ, refl, sym, ap, map, arith, length-append}
-use Rattle.std.proofs.lemmas.Bool.{lt-ltb, le-ltb, eqb-true, eq-eqb, ne_eqb, cases_order}
-use Rattle.intervals.specs.declared.operation.Moment.{Moment}
-use Rattle.read_tree.specs.declared.mark.Mark.{Mark}
-use Rattle.read_tree.specs.Reads.{IsByEnd, below, above, with_read, read_at, without_read_at, judged_in}
+-- How many items there are after an insertion and a removal.
+use Rattle.std.proofs.Common.{◌≡◌, ◌+◌, ◌<◌, ◌^◌, Bool, true, false, not, cond, List, [], ◌∷◌, length, Some, None, ◌⊎◌, inl, inr, ℕ, refl, subst, ap, arith, length-append, filter}
+use Rattle.std.specs.List.{AllByRecursion}
+use Rattle.intervals.specs.declared.shelf.Spot.{Spot}
+use Rattle.intervals.specs.Shelf.{same_spot}
+use Rattle.read_tree.specs.declared.item.Item.{Item}
+use Rattle.read_tree.specs.Items.{AreInOrder, StandsBefore, place_of, stands_before, stands_behind, with_item, item_at, without_item, renewed}
 use Rattle.read_tree.specs.Layers.{IsLow}
-use Rattle.read_tree.proofs.Sides.{all_left_before}
+use Rattle.read_tree.proofs.Order.{trichotomy, same_true, true_same, before_true, before_false}
+use Rattle.read_tree.proofs.Sides.{all_left_before, below, above}
 
--- the reads of another end, where none has that end, are all
-pub none_removed : (end : Moment) (reads : List Mark) → read_at end reads ≡ None → without_read_at end reads ≡ reads
-none_removed end [] none = refl
-none_removed end (m ∷ reads) none =
-    elim (m.end.0 == end.0) as (λ b. cond b (Some m) (read_at end reads) ≡ None → cond (not b) (m ∷ without_read_at end reads) (without_read_at end reads) ≡ m ∷ reads) [
-      | true ↦ λ some. cc
-      | false ↦ λ rest. ap (λ ms. m ∷ ms) (none_removed end reads rest)
-    ] none
+-- the items at other spots, where none has that spot, are all
+none_removed_at : (b : Bool) (spot : Spot) (m : Item) (items : List Item) → (item_at spot items ≡ None → without_item spot items ≡ items)
+    → cond b (Some m) (item_at spot items) ≡ None → cond (not b) (m ∷ without_item spot items) (without_item spot items) ≡ m ∷ items
+none_removed_at true spot m items rest some = absurd (cc)
+none_removed_at false spot m items rest none = ap (λ ms. m ∷ ms) (rest none)
 
-one_removed_at : (end : Moment) (x m : Mark) (reads : List Mark) → IsByEnd (x ∷ reads) → (read_at end reads ≡ Some m → length (without_read_at end reads) + 1 ≡ length reads)
-    → (b : Bool) → (x.end.0 == end.0) ≡ b → cond b (Some x) (read_at end reads) ≡ Some m → length (cond (not b) (x ∷ without_read_at end reads) (without_read_at end reads)) + 1 ≡ length (x ∷ reads)
-one_removed_at end x m reads order rest true is found =
-    let same : x.end.0 ≡ end.0 = eqb-true x.end.0 end.0 is in
-    let left : without_read_at end reads ≡ reads = all_left_before end reads (rw (sym same) order.0) in
-    rw left (omega arith)
-one_removed_at end x m reads order rest false is found = omega (arith, rest found)
+pub none_removed : (spot : Spot) (items : List Item) → item_at spot items ≡ None → without_item spot items ≡ items
+none_removed spot [] none = refl
+none_removed spot (m ∷ items) none = none_removed_at (same_spot (place_of m) spot) spot m items (none_removed spot items) none
 
-pub one_removed : (end : Moment) (reads : List Mark) (m : Mark) → IsByEnd reads → read_at end reads ≡ Some m → length (without_read_at end reads) + 1 ≡ length reads
-one_removed end [] m order found = cc
-one_removed end (x ∷ reads) m order found = one_removed_at end x m reads order (one_removed end reads m order.1) (x.end.0 == end.0) refl found
+one_removed_at : (spot : Spot) (x m : Item) (items : List Item) → AreInOrder (x ∷ items) → (item_at spot items ≡ Some m → length (without_item spot items) + 1 ≡ length items)
+    → (b : Bool) → same_spot (place_of x) spot ≡ b → cond b (Some x) (item_at spot items) ≡ Some m → length (cond (not b) (x ∷ without_item spot items) (without_item spot items)) + 1 ≡ length (x ∷ items)
+one_removed_at spot x m items order rest true is found =
+    let same = same_true (place_of x) spot is in
+    let later : AllByRecursion (λ y. StandsBefore spot (place_of y)) items = subst (λ s. AllByRecursion (λ y. StandsBefore s (place_of y)) items) same order.0 in
+    let left : without_item spot items ≡ items = all_left_before spot items later in
+    let long = ap (λ (xs : List Item). length xs) left in
+    omega (arith, long)
+one_removed_at spot x m items order rest false is found = omega (arith, rest found)
 
-split_at : (end : Moment) (m : Mark) (reads : List Mark) → read_at end (m ∷ reads) ≡ None → (read_at end reads ≡ None → length (below end reads) + length (above end reads) ≡ length reads)
-    → (m.end.0 ≡ end.0) ⊎ ((m.end.0 < end.0) ⊎ (end.0 < m.end.0)) → length (below end (m ∷ reads)) + length (above end (m ∷ reads)) ≡ length (m ∷ reads)
-split_at end m reads none rest (inl same) = let is = rw (eq-eqb m.end.0 end.0 same) at none in cc
-split_at end m reads none rest (inr (inl before)) =
-    let others : read_at end reads ≡ None = rw (ne_eqb m.end.0 end.0 (omega (arith, before))) at none in
-    rw (lt-ltb m.end.0 end.0 before, le-ltb end.0 m.end.0 (omega (arith, before))) (omega (arith, rest others))
-split_at end m reads none rest (inr (inr after)) =
-    let others : read_at end reads ≡ None = rw (ne_eqb m.end.0 end.0 (omega (arith, after))) at none in
-    rw (lt-ltb end.0 m.end.0 after, le-ltb m.end.0 end.0 (omega (arith, after))) (omega (arith, rest others))
+pub one_removed : (spot : Spot) (items : List Item) (m : Item) → AreInOrder items → item_at spot items ≡ Some m → length (without_item spot items) + 1 ≡ length items
+one_removed spot [] m order found = absurd (cc)
+one_removed spot (x ∷ items) m order found = one_removed_at spot x m items order (one_removed spot items m order.1) (same_spot (place_of x) spot) refl found
 
-split_by_end : (end : Moment) (reads : List Mark) → read_at end reads ≡ None → length (below end reads) + length (above end reads) ≡ length reads
-split_by_end end [] none = refl
-split_by_end end (m ∷ reads) none = split_at end m reads none (split_by_end end reads) (cases_order m.end.0 end.0)
+-- each item of another spot is on one of its sides
+kept_long : (p : Item → Bool) (m : Item) (items : List Item) → p m ≡ true → length (filter p (m ∷ items)) ≡ length (filter p items) + 1
+kept_long p m items h = rw h (omega arith)
 
-pub one_more : (new : Mark) (reads : List Mark) → read_at new.end reads ≡ None → length (with_read new reads) ≡ length reads + 1
-one_more new reads none = omega (arith, length-append (below new.end reads) (new ∷ above new.end reads), split_by_end new.end reads none)
+left_long : (p : Item → Bool) (m : Item) (items : List Item) → p m ≡ false → length (filter p (m ∷ items)) ≡ length (filter p items)
+left_long p m items h = rw h refl
 
-pub as_many_judged : (says : Mark → Bool) (from upto : Moment) (reads : List Mark) → length (map (judged_in says from upto) reads) ≡ length reads
-as_many_judged says from upto [] = refl
-as_many_judged says from upto (m ∷ reads) = omega (arith, as_many_judged says from upto reads)
+none_here : (spot : Spot) (m : Item) (items : List Item) (b : Bool) → cond b (Some m) (item_at spot items) ≡ None → (b ≡ false) × (item_at spot items ≡ None)
+none_here spot m items true h = absurd (cc)
+none_here spot m items false h = (refl, h)
+
+split_at : (spot : Spot) (m : Item) (items : List Item) → same_spot (place_of m) spot ≡ false → length (below spot items) + length (above spot items) ≡ length items
+    → (place_of m ≡ spot) ⊎ (StandsBefore (place_of m) spot ⊎ StandsBefore spot (place_of m)) → length (below spot (m ∷ items)) + length (above spot (m ∷ items)) ≡ length (m ∷ items)
+split_at spot m items other rest (inl same) = let is = true_same (place_of m) spot same in absurd (cc)
+split_at spot m items other rest (inr (inl before)) =
+    omega (arith, rest, kept_long (stands_before spot) m items (before_true (place_of m) spot before), left_long (stands_behind spot) m items (before_false (place_of m) spot before))
+split_at spot m items other rest (inr (inr behind)) =
+    omega (arith, rest, left_long (stands_before spot) m items (before_false spot (place_of m) behind), kept_long (stands_behind spot) m items (before_true spot (place_of m) behind))
+
+split_by_spot : (spot : Spot) (items : List Item) → item_at spot items ≡ None → length (below spot items) + length (above spot items) ≡ length items
+split_by_spot spot [] none = refl
+split_by_spot spot (m ∷ items) none =
+    let here = none_here spot m items (same_spot (place_of m) spot) none in
+    split_at spot m items here.0 (split_by_spot spot items here.1) (trichotomy (place_of m) spot)
+
+pub one_more : (new : Item) (items : List Item) → item_at (place_of new) items ≡ None → length (with_item new items) ≡ length items + 1
+one_more new items none = omega (arith, length-append (below (place_of new) items) (new ∷ above (place_of new) items), split_by_spot (place_of new) items none)
 
 -- no more than the numbers of 64 bits, and so not high
-pub height_of_kept : {reads : List Mark} {height taken : ℕ} → IsLow reads height → taken ≡ length reads → taken < 2 ^ 64 → height < 250
-height_of_kept {reads} {height} {taken} low kept range = omega (arith, low.bound 64 (omega (arith, kept, range)))
+pub height_of_kept : {items : List Item} {height taken : ℕ} → IsLow items height → taken ≡ length items → taken < 2 ^ 64 → height < 250
+height_of_kept {items} {height} {taken} low kept range = omega (arith, low.bound 64 (omega (arith, kept, range)))
+
+pub as_many_renewed : (new : Item) (items : List Item) → length (renewed new items) ≡ length items
+as_many_renewed new [] = refl
+as_many_renewed new (m ∷ items) = omega (arith, as_many_renewed new items)

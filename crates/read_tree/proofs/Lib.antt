@@ -1,9 +1,10 @@
-pub mod Least
+pub mod Order
+pub mod Joins
 pub mod Low
-pub mod Windows
 pub mod Sides
-pub mod Wrongs
 pub mod Tops
 pub mod Counts
+pub mod Firsts
 pub mod Members
+pub mod Told
 pub mod Crosses

@@ -1,152 +1,170 @@
--- Which reads stand in a list: those that a filter keeps, the one that a search finds.
-use Rattle.std.proofs.Common.{◌≡◌, ◌<◌, ◌≤◌, ◌⊎◌, inl, inr, zero, suc, Bool, true, false, ◌||◌, cond, ◌==◌, nat_lt, List, [], ◌∷◌, Some, None, refl, sym, subst, ap, ◌∙◌, filter, map, arith}
+-- Which items stand in a list: those that a filter keeps, the one that a search finds.
+use Rattle.std.proofs.Common.{◌≡◌, ◌⊎◌, inl, inr, zero, suc, Bool, true, false, cond, List, [], ◌∷◌, Some, None, refl, sym, subst, ap, ◌∙◌, filter, arith}
 use Rattle.std.specs.Prelude.{Contains}
 use Rattle.std.specs.List.{AllByRecursion, find}
 use Rattle.std.proofs.lemmas.List.Elements.{Contains-append_left, Contains-append_right, Contains-append_cases}
-use Rattle.std.proofs.lemmas.Bool.{lt-ltb, eqb-false, eq-eqb, ne_eqb, cases_order}
-use Rattle.intervals.specs.declared.operation.Moment.{Moment}
-use Rattle.read_tree.specs.declared.mark.Mark.{Mark}
-use Rattle.read_tree.specs.Reads.{IsByEnd, below, above, with_read, read_at, first_wrong, has_wrong}
+use Rattle.intervals.specs.declared.shelf.Spot.{Spot}
+use Rattle.intervals.specs.Shelf.{same_spot}
+use Rattle.read_tree.specs.declared.item.Item.{Item}
+use Rattle.read_tree.specs.Items.{AreInOrder, StandsBefore, place_of, stands_before, stands_behind, with_item, item_at, in_place_of, renewed}
+use Rattle.read_tree.proofs.Order.{trichotomy, same_true, true_same, before_true, apart}
+use Rattle.read_tree.proofs.Sides.{below, above}
 
-at_first : (m : Mark) (reads : List Mark) → Contains (m ∷ reads) m
-at_first m reads = (0, omega arith, refl)
+pub at_first : (m : Item) (items : List Item) → Contains (m ∷ items) m
+at_first m items = (0, omega arith, refl)
 
-later : (x : Mark) (reads : List Mark) (m : Mark) → Contains reads m → Contains (x ∷ reads) m
-later x reads m c = (suc c.0, omega (arith, c.1), c.2)
+pub later : (x : Item) (items : List Item) (m : Item) → Contains items m → Contains (x ∷ items) m
+later x items m c = (suc c.0, omega (arith, c.1), c.2)
 
-first_or_later : (x : Mark) (reads : List Mark) (m : Mark) → Contains (x ∷ reads) m → (x ≡ m) ⊎ Contains reads m
-first_or_later x reads m (zero, within, is) = inl is
-first_or_later x reads m (suc k, within, is) = inr (k, omega (arith, within), is)
+pub first_or_later : (x : Item) (items : List Item) (m : Item) → Contains (x ∷ items) m → (x ≡ m) ⊎ Contains items m
+first_or_later x items m (zero, within, is) = inl is
+first_or_later x items m (suc k, within, is) = inr (k, omega (arith, within), is)
 
-none_in : (m : Mark) → ¬ Contains [] m
+pub none_in : (m : Item) → ¬ Contains [] m
 none_in m c = omega (arith, c.1)
 
 -- what holds of each holds of one
-each_holds : (P : Mark → Type 0) (reads : List Mark) (m : Mark) → AllByRecursion P reads → Contains reads m → P m
+pub each_holds : (P : Item → Type 0) (items : List Item) (m : Item) → AllByRecursion P items → Contains items m → P m
 each_holds P [] m a c = absurd (none_in m c)
-each_holds P (x ∷ reads) m a c = elim (first_or_later x reads m c) [ inl same ↦ subst P same a.0 | inr behind ↦ each_holds P reads m a.1 behind ]
+each_holds P (x ∷ items) m a c = elim (first_or_later x items m c) [ inl same ↦ subst P same a.0 | inr behind ↦ each_holds P items m a.1 behind ]
 
-module _ (p : Mark → Bool) where
-  kept_at : (x : Mark) (reads : List Mark) (m : Mark) (b : Bool) → p x ≡ b → Contains (cond b (x ∷ filter p reads) (filter p reads)) m
-      → (Contains (filter p reads) m → Contains reads m × (p m ≡ true)) → Contains (x ∷ reads) m × (p m ≡ true)
-  kept_at x reads m true is c rest = elim (first_or_later x (filter p reads) m c) [
-    | inl same ↦ (subst (Contains (x ∷ reads)) same (at_first x reads), ap p (sym same) ∙ is)
-    | inr behind ↦ let kept = rest behind in (later x reads m kept.0, kept.1)
+module _ (p : Item → Bool) where
+  kept_at : (x : Item) (items : List Item) (m : Item) (b : Bool) → p x ≡ b → Contains (cond b (x ∷ filter p items) (filter p items)) m
+      → (Contains (filter p items) m → Contains items m × (p m ≡ true)) → Contains (x ∷ items) m × (p m ≡ true)
+  kept_at x items m true is c rest = elim (first_or_later x (filter p items) m c) [
+    | inl same ↦ (subst (Contains (x ∷ items)) same (at_first x items), ap p (sym same) ∙ is)
+    | inr behind ↦ let kept = rest behind in (later x items m kept.0, kept.1)
   ]
-  kept_at x reads m false is c rest = let kept = rest c in (later x reads m kept.0, kept.1)
+  kept_at x items m false is c rest = let kept = rest c in (later x items m kept.0, kept.1)
 
-  pub kept_from : (reads : List Mark) (m : Mark) → Contains (filter p reads) m → Contains reads m × (p m ≡ true)
+  pub kept_from : (items : List Item) (m : Item) → Contains (filter p items) m → Contains items m × (p m ≡ true)
   kept_from [] m c = absurd (none_in m c)
-  kept_from (x ∷ reads) m c = kept_at x reads m (p x) refl c (kept_from reads m)
+  kept_from (x ∷ items) m c = kept_at x items m (p x) refl c (kept_from items m)
 
-  stays_kept : (x : Mark) (reads : List Mark) (m : Mark) → Contains (filter p reads) m → Contains (filter p (x ∷ reads)) m
-  stays_kept x reads m c = elim (p x) as (λ b. Contains (cond b (x ∷ filter p reads) (filter p reads)) m) [ true ↦ later x (filter p reads) m c | false ↦ c ]
+  stays_kept : (x : Item) (items : List Item) (m : Item) → Contains (filter p items) m → Contains (filter p (x ∷ items)) m
+  stays_kept x items m c = elim (p x) as (λ b. Contains (cond b (x ∷ filter p items) (filter p items)) m) [ true ↦ later x (filter p items) m c | false ↦ c ]
 
-  pub kept_in : (reads : List Mark) (m : Mark) → Contains reads m → p m ≡ true → Contains (filter p reads) m
+  pub kept_in : (items : List Item) (m : Item) → Contains items m → p m ≡ true → Contains (filter p items) m
   kept_in [] m c pass = absurd (none_in m c)
-  kept_in (x ∷ reads) m c pass = elim (first_or_later x reads m c) [
-    | inl same ↦ let passes : p x ≡ true = ap p same ∙ pass in rw passes (subst (Contains (x ∷ filter p reads)) same (at_first x (filter p reads)))
-    | inr behind ↦ stays_kept x reads m (kept_in reads m behind pass)
+  kept_in (x ∷ items) m c pass = elim (first_or_later x items m c) [
+    | inl same ↦ let passes : p x ≡ true = ap p same ∙ pass in rw passes (subst (Contains (x ∷ filter p items)) same (at_first x (filter p items)))
+    | inr behind ↦ stays_kept x items m (kept_in items m behind pass)
   ]
 
-  found_at : (x : Mark) (reads : List Mark) (m : Mark) (b : Bool) → p x ≡ b → cond b (Some x) (find p reads) ≡ Some m
-      → (find p reads ≡ Some m → Contains reads m × (p m ≡ true)) → Contains (x ∷ reads) m × (p m ≡ true)
-  found_at x reads m true is found rest = let same : x ≡ m = cc in (subst (Contains (x ∷ reads)) same (at_first x reads), ap p (sym same) ∙ is)
-  found_at x reads m false is found rest = let kept = rest found in (later x reads m kept.0, kept.1)
+  found_at : (x : Item) (items : List Item) (m : Item) (b : Bool) → p x ≡ b → cond b (Some x) (find p items) ≡ Some m
+      → (find p items ≡ Some m → Contains items m × (p m ≡ true)) → Contains (x ∷ items) m × (p m ≡ true)
+  found_at x items m true is found rest = let same : x ≡ m = cc in (subst (Contains (x ∷ items)) same (at_first x items), ap p (sym same) ∙ is)
+  found_at x items m false is found rest = let kept = rest found in (later x items m kept.0, kept.1)
 
-  pub found_stands : (reads : List Mark) (m : Mark) → find p reads ≡ Some m → Contains reads m × (p m ≡ true)
+  pub found_stands : (items : List Item) (m : Item) → find p items ≡ Some m → Contains items m × (p m ≡ true)
   found_stands [] m found = absurd (cc)
-  found_stands (x ∷ reads) m found = found_at x reads m (p x) refl found (found_stands reads m)
+  found_stands (x ∷ items) m found = found_at x items m (p x) refl found (found_stands items m)
 
-  passes_not : (x : Mark) (reads : List Mark) (b : Bool) → cond b (Some x) (find p reads) ≡ None → (b ≡ false) × (find p reads ≡ None)
-  passes_not x reads true none = absurd (cc)
-  passes_not x reads false none = (refl, none)
+  passes_not : (x : Item) (items : List Item) (b : Bool) → cond b (Some x) (find p items) ≡ None → (b ≡ false) × (find p items ≡ None)
+  passes_not x items true none = absurd (cc)
+  passes_not x items false none = (refl, none)
 
-  pub none_stands : (reads : List Mark) → find p reads ≡ None → (m : Mark) → Contains reads m → p m ≡ false
+  pub none_stands : (items : List Item) → find p items ≡ None → (m : Item) → Contains items m → p m ≡ false
   none_stands [] none m c = absurd (none_in m c)
-  none_stands (x ∷ reads) none m c = elim (first_or_later x reads m c) [
-    | inl same ↦ ap p (sym same) ∙ (passes_not x reads (p x) none).0
-    | inr behind ↦ none_stands reads (passes_not x reads (p x) none).1 m behind
+  none_stands (x ∷ items) none m c = elim (first_or_later x items m c) [
+    | inl same ↦ ap p (sym same) ∙ (passes_not x items (p x) none).0
+    | inr behind ↦ none_stands items (passes_not x items (p x) none).1 m behind
   ]
 
-  pub none_found_where : (reads : List Mark) → ((m : Mark) → Contains reads m → p m ≡ false) → find p reads ≡ None
+  pub none_found_where : (items : List Item) → ((m : Item) → Contains items m → p m ≡ false) → find p items ≡ None
   none_found_where [] none = refl
-  none_found_where (x ∷ reads) none = rw (none x (at_first x reads)) (none_found_where reads (λ m c. none m (later x reads m c)))
+  none_found_where (x ∷ items) none = rw (none x (at_first x items)) (none_found_where items (λ m c. none m (later x items m c)))
 
--- the new read, or an old one
-module _ (new : Mark) (reads : List Mark) where
-  pub new_or_old : (m : Mark) → Contains (with_read new reads) m → (m ≡ new) ⊎ Contains reads m
-  new_or_old m c = elim (Contains-append_cases (below new.end reads) (new ∷ above new.end reads) m c) [
-    | inl before ↦ inr (kept_from (λ x. nat_lt x.end.0 new.end.0) reads m before).0
-    | inr behind ↦ elim (first_or_later new (above new.end reads) m behind) [
+  found_here : (x : Item) (items : List Item) (m : Item) → x ≡ m → p m ≡ true → find p (x ∷ items) ≡ Some m
+  found_here x items m is h = let passes : p x ≡ true = ap p is ∙ h in rw passes (ap (λ (y : Item). Some y) is)
+
+  found_behind : (x : Item) (items : List Item) (m : Item) → p x ≡ false → find p items ≡ Some m → find p (x ∷ items) ≡ Some m
+  found_behind x items m h rest = rw h rest
+
+some_one : (m n : Item) → Some m ≡ Some n → m ≡ n
+some_one m n h = cc
+
+-- the new item, or an old one
+module _ (new : Item) (items : List Item) where
+  pub new_or_old : (m : Item) → Contains (with_item new items) m → (m ≡ new) ⊎ Contains items m
+  new_or_old m c = elim (Contains-append_cases (below (place_of new) items) (new ∷ above (place_of new) items) m c) [
+    | inl before ↦ inr (kept_from (stands_before (place_of new)) items m before).0
+    | inr behind ↦ elim (first_or_later new (above (place_of new) items) m behind) [
       | inl same ↦ inl (sym same)
-      | inr after ↦ inr (kept_from (λ x. nat_lt new.end.0 x.end.0) reads m after).0
+      | inr after ↦ inr (kept_from (stands_behind (place_of new)) items m after).0
     ]
   ]
 
-  pub new_stands : Contains (with_read new reads) new
-  new_stands = Contains-append_right (below new.end reads) (new ∷ above new.end reads) new (at_first new (above new.end reads))
+  pub new_stands : Contains (with_item new items) new
+  new_stands = Contains-append_right (below (place_of new) items) (new ∷ above (place_of new) items) new (at_first new (above (place_of new) items))
 
-  pub old_stands : read_at new.end reads ≡ None → (m : Mark) → Contains reads m → Contains (with_read new reads) m
-  old_stands none m c = elim (cases_order m.end.0 new.end.0) [
-    | inl same ↦ let other = none_stands (λ x. x.end.0 == new.end.0) reads none m c in absurd (eqb-false m.end.0 new.end.0 other same)
-    | inr (inl before) ↦ Contains-append_left (below new.end reads) (new ∷ above new.end reads) m (kept_in (λ x. nat_lt x.end.0 new.end.0) reads m c (lt-ltb m.end.0 new.end.0 before))
-    | inr (inr after) ↦ Contains-append_right (below new.end reads) (new ∷ above new.end reads) m (later new (above new.end reads) m (kept_in (λ x. nat_lt new.end.0 x.end.0) reads m c (lt-ltb new.end.0 m.end.0 after)))
+  pub old_stands : item_at (place_of new) items ≡ None → (m : Item) → Contains items m → Contains (with_item new items) m
+  old_stands none m c = elim (trichotomy (place_of m) (place_of new)) [
+    | inl same ↦
+        let is = true_same (place_of m) (place_of new) same in
+        let other = none_stands (λ y. same_spot (place_of y) (place_of new)) items none m c in
+        absurd (cc)
+    | inr either ↦ elim either [
+      | inl before ↦ Contains-append_left (below (place_of new) items) (new ∷ above (place_of new) items) m
+          (kept_in (stands_before (place_of new)) items m c (before_true (place_of m) (place_of new) before))
+      | inr behind ↦ Contains-append_right (below (place_of new) items) (new ∷ above (place_of new) items) m
+          (later new (above (place_of new) items) m (kept_in (stands_behind (place_of new)) items m c (before_true (place_of new) (place_of m) behind)))
+    ]
   ]
 
--- a read is found by its end
-pub found_by_end : (end : Moment) (reads : List Mark) (m : Mark) → IsByEnd reads → Contains reads m → m.end.0 ≡ end.0 → read_at end reads ≡ Some m
-found_by_end end [] m order c same = absurd (none_in m c)
-found_by_end end (x ∷ reads) m order c same = elim (first_or_later x reads m c) [
-  | inl is ↦ let ends : x.end.0 ≡ end.0 = ap (λ (y : Mark). y.end.0) is ∙ same in rw (eq-eqb x.end.0 end.0 ends) (ap (λ (y : Mark). Some y) is)
+-- an item is found by its spot
+pub found_by_spot : (spot : Spot) (items : List Item) (m : Item) → AreInOrder items → Contains items m → same_spot (place_of m) spot ≡ true → item_at spot items ≡ Some m
+found_by_spot spot [] m order c same = absurd (none_in m c)
+found_by_spot spot (x ∷ items) m order c same = elim (first_or_later x items m c) [
+  | inl is ↦ found_here (λ y. same_spot (place_of y) spot) x items m is same
   | inr behind ↦
-      let before : x.end.0 < m.end.0 = each_holds (λ y. x.end.0 < y.end.0) reads m order.0 behind in
-      rw (ne_eqb x.end.0 end.0 (omega (arith, before, same))) (found_by_end end reads m order.1 behind same)
+      let before : StandsBefore (place_of x) (place_of m) = each_holds (λ y. StandsBefore (place_of x) (place_of y)) items m order.0 behind in
+      found_behind (λ y. same_spot (place_of y) spot) x items m
+      (apart (place_of x) spot (subst (λ s. StandsBefore (place_of x) s) (same_true (place_of m) spot same) before))
+      (found_by_spot spot items m order.1 behind same)
 ]
 
--- no wrong read ended before the first one
-first_at : (x : Mark) (reads : List Mark) (m other : Mark) (b : Bool) → x.wrong ≡ b → IsByEnd (x ∷ reads) → cond b (Some x) (first_wrong reads) ≡ Some m
-    → Contains (x ∷ reads) other → other.wrong ≡ true → (first_wrong reads ≡ Some m → Contains reads other → m.end.0 ≤ other.end.0) → m.end.0 ≤ other.end.0
-first_at x reads m other true is order found c wrong rest =
-    let same : x ≡ m = cc in
-    let ends : x.end.0 ≡ m.end.0 = ap (λ (y : Mark). y.end.0) same in
-    elim (first_or_later x reads other c) [
-      | inl this ↦ let end : x.end.0 ≡ other.end.0 = ap (λ (y : Mark). y.end.0) this in omega (arith, end, ends)
-      | inr behind ↦ let after : x.end.0 < other.end.0 = each_holds (λ y. x.end.0 < y.end.0) reads other order.0 behind in omega (arith, after, ends)
-    ]
-first_at x reads m other false is order found c wrong rest = elim (first_or_later x reads other c) [
-  | inl this ↦ let right : other.wrong ≡ false = ap (λ (y : Mark). y.wrong) (sym this) ∙ is in absurd (cc)
-  | inr behind ↦ rest found behind
-]
+-- of two items of one spot there is one
+pub one_of_a_spot : (items : List Item) (m n : Item) → AreInOrder items → Contains items m → Contains items n → place_of m ≡ place_of n → m ≡ n
+one_of_a_spot items m n order c d same =
+    let first = found_by_spot (place_of n) items m order c (true_same (place_of m) (place_of n) same) in
+    let second = found_by_spot (place_of n) items n order d (true_same (place_of n) (place_of n) refl) in
+    some_one m n (sym first ∙ second)
 
-pub ended_first : (reads : List Mark) (m other : Mark) → IsByEnd reads → first_wrong reads ≡ Some m → Contains reads other → other.wrong ≡ true → m.end.0 ≤ other.end.0
-ended_first [] m other order found c wrong = absurd (none_in other c)
-ended_first (x ∷ reads) m other order found c wrong =
-    first_at x reads m other x.wrong refl order found c wrong (λ found behind. ended_first reads m other order.1 found behind wrong)
+-- who stands in a list with a renewed item
+module _ (new : Item) where
+  renewed_at : (y : Item) (x : Item) → in_place_of new y ≡ x → (b : Bool) → same_spot (place_of y) (place_of new) ≡ b → cond b new y ≡ x
+  renewed_at y x e true t = sym (ap (λ b. cond b new y) t) ∙ e
+  renewed_at y x e false f = sym (ap (λ b. cond b new y) f) ∙ e
 
-some_wrong_at : (x : Mark) (reads : List Mark) (b : Bool) → (has_wrong reads ≡ false → first_wrong reads ≡ None) → (b || has_wrong reads) ≡ false → cond b (Some x) (first_wrong reads) ≡ None
-some_wrong_at x reads true rest h = absurd (cc)
-some_wrong_at x reads false rest h = rest h
+  abbrev pub IsRenewedIn : List Item → Item → Type 0
+  IsRenewedIn items x = (Contains items x × (same_spot (place_of x) (place_of new) ≡ false)) ⊎ ((x ≡ new) × ((old : Item) × Contains items old × (same_spot (place_of old) (place_of new) ≡ true)))
 
-pub none_first : (reads : List Mark) → has_wrong reads ≡ false → first_wrong reads ≡ None
-none_first [] h = refl
-none_first (x ∷ reads) h = some_wrong_at x reads x.wrong (none_first reads) h
+  more : (y : Item) (items : List Item) (x : Item) → IsRenewedIn items x → IsRenewedIn (y ∷ items) x
+  more y items x (inl (h, f)) = inl (later y items x h, f)
+  more y items x (inr (e, was)) = let (old, h, t) = was in inr (e, (old, later y items old h, t))
 
-pub none_wrong : (reads : List Mark) → first_wrong reads ≡ None → has_wrong reads ≡ false
-none_wrong [] h = refl
-none_wrong (x ∷ reads) h = let parts = passes_not (λ y. y.wrong) x reads x.wrong h in rw parts.0 (none_wrong reads parts.1)
+  pub renewed_from : (items : List Item) (x : Item) → Contains (renewed new items) x → IsRenewedIn items x
+  renewed_from [] x c = absurd (none_in x c)
+  renewed_from (y ∷ items) x c = elim (first_or_later (in_place_of new y) (renewed new items) x c) [
+    | inl same ↦ by_spot (same_spot (place_of y) (place_of new)) refl same
+    | inr behind ↦ more y items x (renewed_from items x behind)
+  ]
+    where
+      by_spot : (b : Bool) → same_spot (place_of y) (place_of new) ≡ b → in_place_of new y ≡ x → IsRenewedIn (y ∷ items) x
+      by_spot true t e = inr (sym (renewed_at y x e true t), (y, at_first y items, t))
+      by_spot false f e = let is : y ≡ x = renewed_at y x e false f in inl (subst (λ z. Contains (y ∷ items) z × (same_spot (place_of z) (place_of new) ≡ false)) is (at_first y items, f))
 
--- what stands in a list stands changed in the changed list, and nothing else does
-pub changed_stands : (f : Mark → Mark) (reads : List Mark) (m : Mark) → Contains reads m → Contains (map f reads) (f m)
-changed_stands f [] m c = absurd (none_in m c)
-changed_stands f (x ∷ reads) m c = elim (first_or_later x reads m c) [
-  | inl same ↦ subst (λ y. Contains (f x ∷ map f reads) (f y)) same (at_first (f x) (map f reads))
-  | inr behind ↦ later (f x) (map f reads) (f m) (changed_stands f reads m behind)
-]
+  pub stays_in : (items : List Item) (x : Item) → Contains items x → same_spot (place_of x) (place_of new) ≡ false → Contains (renewed new items) x
+  stays_in [] x c f = absurd (none_in x c)
+  stays_in (y ∷ items) x c f = elim (first_or_later y items x c) [
+    | inl same ↦ subst (λ z. Contains (in_place_of new y ∷ renewed new items) z) (ap (in_place_of new) same ∙ ap (λ b. cond b new x) f) (at_first (in_place_of new y) (renewed new items))
+    | inr behind ↦ later (in_place_of new y) (renewed new items) x (stays_in items x behind f)
+  ]
 
-pub changed_from : (f : Mark → Mark) (reads : List Mark) (m : Mark) → Contains (map f reads) m → (old : Mark) × Contains reads old × (m ≡ f old)
-changed_from f [] m c = absurd (none_in m c)
-changed_from f (x ∷ reads) m c = elim (first_or_later (f x) (map f reads) m c) [
-  | inl same ↦ (x, at_first x reads, sym same)
-  | inr behind ↦ let (old, stands, is) = changed_from f reads m behind in (old, later x reads old stands, is)
-]
+  pub renewed_in : (items : List Item) (old : Item) → Contains items old → same_spot (place_of old) (place_of new) ≡ true → Contains (renewed new items) new
+  renewed_in [] old c t = absurd (none_in old c)
+  renewed_in (y ∷ items) old c t = elim (first_or_later y items old c) [
+    | inl same ↦ subst (λ z. Contains (in_place_of new y ∷ renewed new items) z) (ap (in_place_of new) same ∙ ap (λ b. cond b new old) t) (at_first (in_place_of new y) (renewed new items))
+    | inr behind ↦ later (in_place_of new y) (renewed new items) new (renewed_in items old behind t)
+  ]

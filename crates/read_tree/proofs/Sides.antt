@@ -1,175 +1,258 @@
--- Reads by end, and the sides of one of them.
-use Rattle.std.proofs.Common.{◌≡◌, ◌<◌, Bool, true, false, List, [], ◌∷◌, ◌++◌, Option, Some, None, ◌==◌, nat_lt, refl, sym, ap, ◌∙◌, append_assoc, append-nil, not, cond, arith, filter}
+-- Items in order, and the sides of one of them.
+use Rattle.std.proofs.Common.{◌≡◌, Bool, true, false, List, [], ◌∷◌, ◌++◌, Option, Some, None, refl, sym, ap, ◌∙◌, subst, append_assoc, append-nil, not, cond, filter}
 use Rattle.std.specs.List.{AllByRecursion, find}
 use Rattle.std.specs.Option.{option_or}
+use Rattle.std.proofs.lemmas.List.{map-append}
 use Rattle.std.proofs.lemmas.List.Folds.{find-append}
 use Rattle.std.proofs.lemmas.List.Elements.{filter-append}
-use Rattle.std.proofs.lemmas.Bool.{lt-ltb, le-ltb, ltb-true, eq-eqb, ne_eqb}
-use Rattle.intervals.specs.declared.operation.Moment.{Moment}
-use Rattle.read_tree.specs.declared.mark.Mark.{Mark}
-use Rattle.read_tree.specs.Reads.{IsByEnd, below, above, with_read, read_at, without_read_at}
+use Rattle.intervals.specs.declared.shelf.Spot.{Spot}
+use Rattle.intervals.specs.Shelf.{same_spot}
+use Rattle.read_tree.specs.declared.item.Item.{Item}
+use Rattle.read_tree.specs.Items.{AreInOrder, StandsBefore, place_of, stands_before, stands_behind, with_item, item_at, without_item, in_place_of, renewed}
 use Rattle.read_tree.specs.Layers.{IsParted}
+use Rattle.read_tree.proofs.Order.{transitive, apart, apart_back, before_true, before_false, true_before, same_true, true_same}
 
-or_none : (o : Option Mark) → option_or o None ≡ o
+abbrev pub below : Spot → List Item → List Item
+below spot items = filter (stands_before spot) items
+
+abbrev pub above : Spot → List Item → List Item
+above spot items = filter (stands_behind spot) items
+
+or_none : (o : Option Item) → option_or o None ≡ o
 or_none None = refl
 or_none (Some m) = refl
 
--- what holds of each read
-pub each_so : (P Q : Mark → Type 0) → ((m : Mark) → P m → Q m) → (reads : List Mark) → AllByRecursion P reads → AllByRecursion Q reads
+-- what holds of each item
+pub each_so : (P Q : Item → Type 0) → ((m : Item) → P m → Q m) → (items : List Item) → AllByRecursion P items → AllByRecursion Q items
 each_so P Q f [] a = tt
-each_so P Q f (m ∷ reads) a = (f m a.0, each_so P Q f reads a.1)
+each_so P Q f (m ∷ items) a = (f m a.0, each_so P Q f items a.1)
 
-each_front : (P : Mark → Type 0) (left right : List Mark) → AllByRecursion P (left ++ right) → AllByRecursion P left
+each_front : (P : Item → Type 0) (left right : List Item) → AllByRecursion P (left ++ right) → AllByRecursion P left
 each_front P [] right a = tt
 each_front P (m ∷ left) right a = (a.0, each_front P left right a.1)
 
-each_back : (P : Mark → Type 0) (left right : List Mark) → AllByRecursion P (left ++ right) → AllByRecursion P right
+each_back : (P : Item → Type 0) (left right : List Item) → AllByRecursion P (left ++ right) → AllByRecursion P right
 each_back P [] right a = a
 each_back P (m ∷ left) right a = each_back P left right a.1
 
-each_of_both : (P : Mark → Type 0) (left right : List Mark) → AllByRecursion P left → AllByRecursion P right → AllByRecursion P (left ++ right)
+each_of_both : (P : Item → Type 0) (left right : List Item) → AllByRecursion P left → AllByRecursion P right → AllByRecursion P (left ++ right)
 each_of_both P [] right a b = b
 each_of_both P (m ∷ left) right a b = (a.0, each_of_both P left right a.1 b)
 
-each_kept : (P : Mark → Type 0) (p : Mark → Bool) (reads : List Mark) → AllByRecursion P reads → AllByRecursion P (filter p reads)
+each_kept : (P : Item → Type 0) (p : Item → Bool) (items : List Item) → AllByRecursion P items → AllByRecursion P (filter p items)
 each_kept P p [] a = tt
-each_kept P p (m ∷ reads) a = elim (p m) as (λ b. AllByRecursion P (cond b (m ∷ filter p reads) (filter p reads))) [ true ↦ (a.0, each_kept P p reads a.1) | false ↦ each_kept P p reads a.1 ]
+each_kept P p (m ∷ items) a = elim (p m) as (λ b. AllByRecursion P (cond b (m ∷ filter p items) (filter p items))) [ true ↦ (a.0, each_kept P p items a.1) | false ↦ each_kept P p items a.1 ]
 
 -- a filter that all pass, that none passes, a search that finds none
-all_pass : (p : Mark → Bool) (reads : List Mark) → AllByRecursion (λ m. p m ≡ true) reads → filter p reads ≡ reads
+all_pass : (p : Item → Bool) (items : List Item) → AllByRecursion (λ m. p m ≡ true) items → filter p items ≡ items
 all_pass p [] a = refl
-all_pass p (m ∷ reads) a = rw a.0 (ap (λ ms. m ∷ ms) (all_pass p reads a.1))
+all_pass p (m ∷ items) a = rw a.0 (ap (λ ms. m ∷ ms) (all_pass p items a.1))
 
-none_passes : (p : Mark → Bool) (reads : List Mark) → AllByRecursion (λ m. p m ≡ false) reads → filter p reads ≡ []
+none_passes : (p : Item → Bool) (items : List Item) → AllByRecursion (λ m. p m ≡ false) items → filter p items ≡ []
 none_passes p [] a = refl
-none_passes p (m ∷ reads) a = rw a.0 (none_passes p reads a.1)
+none_passes p (m ∷ items) a = rw a.0 (none_passes p items a.1)
 
-none_found : (p : Mark → Bool) (reads : List Mark) → AllByRecursion (λ m. p m ≡ false) reads → find p reads ≡ None
+none_found : (p : Item → Bool) (items : List Item) → AllByRecursion (λ m. p m ≡ false) items → find p items ≡ None
 none_found p [] a = refl
-none_found p (m ∷ reads) a = rw a.0 (none_found p reads a.1)
+none_found p (m ∷ items) a = rw a.0 (none_found p items a.1)
 
--- a read parts those that stand by end
-pub parted : (left : List Mark) (m : Mark) (right : List Mark) → IsByEnd (left ++ m ∷ right) → IsParted left m right
+passed_first : (p : Item → Bool) (m : Item) (items rest : List Item) → p m ≡ true → filter p items ≡ rest → filter p (m ∷ items) ≡ m ∷ rest
+passed_first p m items rest h same = rw h (ap (λ ms. m ∷ ms) same)
+
+left_first : (p : Item → Bool) (m : Item) (items rest : List Item) → p m ≡ false → filter p items ≡ rest → filter p (m ∷ items) ≡ rest
+left_first p m items rest h same = rw h same
+
+found_first : (p : Item → Bool) (m : Item) (items : List Item) → p m ≡ true → find p (m ∷ items) ≡ Some m
+found_first p m items h = rw h refl
+
+passed_by : (p : Item → Bool) (m : Item) (items : List Item) → p m ≡ false → find p (m ∷ items) ≡ find p items
+passed_by p m items h = rw h refl
+
+-- an item parts those that stand in order
+pub parted : (left : List Item) (m : Item) (right : List Item) → AreInOrder (left ++ m ∷ right) → IsParted left m right
 parted [] m right order = record { left_order = tt; right_order = order.1; before = tt; after = order.0 }
 parted (x ∷ left) m right order =
     let rest = parted left m right order.1 in
-    let later = each_back (λ y. x.end.0 < y.end.0) left (m ∷ right) order.0 in
+    let later = each_back (λ y. StandsBefore (place_of x) (place_of y)) left (m ∷ right) order.0 in
     record {
-      left_order = (each_front (λ y. x.end.0 < y.end.0) left (m ∷ right) order.0, rest.left_order);
+      left_order = (each_front (λ y. StandsBefore (place_of x) (place_of y)) left (m ∷ right) order.0, rest.left_order);
       right_order = rest.right_order;
       before = (later.0, rest.before);
       after = rest.after;
     }
 
-pub put_together : (left : List Mark) (m : Mark) (right : List Mark) → IsParted left m right → IsByEnd (left ++ m ∷ right)
+-- what stands behind one spot stands behind those before it
+later_so : (a b : Spot) (items : List Item) → StandsBefore a b → AllByRecursion (λ y. StandsBefore b (place_of y)) items → AllByRecursion (λ y. StandsBefore a (place_of y)) items
+later_so a b items h all = each_so (λ y. StandsBefore b (place_of y)) (λ y. StandsBefore a (place_of y)) (λ y g. transitive a b (place_of y) h g) items all
+
+earlier_so : (a b : Spot) (items : List Item) → StandsBefore a b → AllByRecursion (λ y. StandsBefore (place_of y) a) items → AllByRecursion (λ y. StandsBefore (place_of y) b) items
+earlier_so a b items h all = each_so (λ y. StandsBefore (place_of y) a) (λ y. StandsBefore (place_of y) b) (λ y g. transitive (place_of y) a b g h) items all
+
+pub put_together : (left : List Item) (m : Item) (right : List Item) → IsParted left m right → AreInOrder (left ++ m ∷ right)
 put_together [] m right p = (p.after, p.right_order)
 put_together (x ∷ left) m right p =
-    let first : x.end.0 < m.end.0 = p.before.0 in
-    let later = each_so (λ y. m.end.0 < y.end.0) (λ y. x.end.0 < y.end.0) (λ y h. omega (arith, first, h)) right p.after in
+    let later = later_so (place_of x) (place_of m) right p.before.0 p.after in
     let rest : IsParted left m right = record { left_order = p.left_order.1; right_order = p.right_order; before = p.before.1; after = p.after } in
-    (each_of_both (λ y. x.end.0 < y.end.0) left (m ∷ right) p.left_order.0 (first, later), put_together left m right rest)
+    (each_of_both (λ y. StandsBefore (place_of x) (place_of y)) left (m ∷ right) p.left_order.0 (p.before.0, later), put_together left m right rest)
 
--- reads that all ended after a moment
-module _ (end : Moment) (reads : List Mark) (after : AllByRecursion (λ m. end.0 < m.end.0) reads) where
-  none_at_before : read_at end reads ≡ None
-  none_at_before = none_found _ reads (each_so (λ m. end.0 < m.end.0) _ (λ m h. ne_eqb m.end.0 end.0 (omega (arith, h))) reads after)
+-- items that all stand behind a spot
+module _ (spot : Spot) (items : List Item) (after : AllByRecursion (λ m. StandsBefore spot (place_of m)) items) where
+  none_at_before : item_at spot items ≡ None
+  none_at_before = none_found _ items (each_so (λ m. StandsBefore spot (place_of m)) (λ m. same_spot (place_of m) spot ≡ false) (λ m h. apart_back spot (place_of m) h) items after)
 
-  pub all_left_before : without_read_at end reads ≡ reads
-  all_left_before = all_pass _ reads (each_so (λ m. end.0 < m.end.0) _ (λ m h. ap not (ne_eqb m.end.0 end.0 (omega (arith, h)))) reads after)
+  pub all_left_before : without_item spot items ≡ items
+  all_left_before = all_pass _ items (each_so (λ m. StandsBefore spot (place_of m)) (λ m. not (same_spot (place_of m) spot) ≡ true) (λ m h. ap not (apart_back spot (place_of m) h)) items after)
 
-  none_below : below end reads ≡ []
-  none_below = none_passes _ reads (each_so (λ m. end.0 < m.end.0) _ (λ m h. le-ltb m.end.0 end.0 (omega (arith, h))) reads after)
+  none_below : below spot items ≡ []
+  none_below = none_passes _ items (each_so (λ m. StandsBefore spot (place_of m)) (λ m. stands_before spot m ≡ false) (λ m h. before_false spot (place_of m) h) items after)
 
-  all_above : above end reads ≡ reads
-  all_above = all_pass _ reads (each_so (λ m. end.0 < m.end.0) _ (λ m h. lt-ltb end.0 m.end.0 h) reads after)
+  all_above : above spot items ≡ items
+  all_above = all_pass _ items (each_so (λ m. StandsBefore spot (place_of m)) (λ m. stands_behind spot m ≡ true) (λ m h. before_true spot (place_of m) h) items after)
 
--- reads that all ended before a moment
-module _ (end : Moment) (reads : List Mark) (before : AllByRecursion (λ m. m.end.0 < end.0) reads) where
-  none_at_after : read_at end reads ≡ None
-  none_at_after = none_found _ reads (each_so (λ m. m.end.0 < end.0) _ (λ m h. ne_eqb m.end.0 end.0 (omega (arith, h))) reads before)
+-- items that all stand before a spot
+module _ (spot : Spot) (items : List Item) (before : AllByRecursion (λ m. StandsBefore (place_of m) spot) items) where
+  none_at_after : item_at spot items ≡ None
+  none_at_after = none_found _ items (each_so (λ m. StandsBefore (place_of m) spot) (λ m. same_spot (place_of m) spot ≡ false) (λ m h. apart (place_of m) spot h) items before)
 
-  all_left_after : without_read_at end reads ≡ reads
-  all_left_after = all_pass _ reads (each_so (λ m. m.end.0 < end.0) _ (λ m h. ap not (ne_eqb m.end.0 end.0 (omega (arith, h)))) reads before)
+  pub all_left_after : without_item spot items ≡ items
+  all_left_after = all_pass _ items (each_so (λ m. StandsBefore (place_of m) spot) (λ m. not (same_spot (place_of m) spot) ≡ true) (λ m h. ap not (apart (place_of m) spot h)) items before)
 
-  all_below : below end reads ≡ reads
-  all_below = all_pass _ reads (each_so (λ m. m.end.0 < end.0) _ (λ m h. lt-ltb m.end.0 end.0 h) reads before)
+  all_below : below spot items ≡ items
+  all_below = all_pass _ items (each_so (λ m. StandsBefore (place_of m) spot) (λ m. stands_before spot m ≡ true) (λ m h. before_true (place_of m) spot h) items before)
 
-  none_above : above end reads ≡ []
-  none_above = none_passes _ reads (each_so (λ m. m.end.0 < end.0) _ (λ m h. le-ltb end.0 m.end.0 (omega (arith, h))) reads before)
+  none_above : above spot items ≡ []
+  none_above = none_passes _ items (each_so (λ m. StandsBefore (place_of m) spot) (λ m. stands_behind spot m ≡ false) (λ m h. before_false (place_of m) spot h) items before)
 
--- a moment before the middle read
-module _ (end : Moment) (left : List Mark) (m : Mark) (right : List Mark) (p : IsParted left m right) (h : end.0 < m.end.0) where
-  later : AllByRecursion (λ y. end.0 < y.end.0) (m ∷ right)
-  later = (h, each_so (λ y. m.end.0 < y.end.0) (λ y. end.0 < y.end.0) (λ y g. omega (arith, h, g)) right p.after)
+abbrev is_at : Spot → Item → Bool
+is_at spot y = same_spot (place_of y) spot
 
-  pub found_on_left : read_at end (left ++ m ∷ right) ≡ read_at end left
-  found_on_left = find-append (λ y. y.end.0 == end.0) left (m ∷ right) ∙ ap (option_or (read_at end left)) (none_at_before end (m ∷ right) later) ∙ or_none (read_at end left)
+abbrev is_elsewhere : Spot → Item → Bool
+is_elsewhere spot y = not (same_spot (place_of y) spot)
 
-  pub removed_on_left : without_read_at end (left ++ m ∷ right) ≡ without_read_at end left ++ m ∷ right
-  removed_on_left = filter-append (λ y. not (y.end.0 == end.0)) left (m ∷ right) ∙ ap (λ ys. without_read_at end left ++ ys) (all_left_before end (m ∷ right) later)
+-- a spot before the middle item
+module _ (spot : Spot) (left : List Item) (m : Item) (right : List Item) (p : IsParted left m right) (h : StandsBefore spot (place_of m)) where
+  later : AllByRecursion (λ y. StandsBefore spot (place_of y)) (m ∷ right)
+  later = (h, later_so spot (place_of m) right h p.after)
 
-  pub below_on_left : below end (left ++ m ∷ right) ≡ below end left
-  below_on_left = filter-append (λ y. nat_lt y.end.0 end.0) left (m ∷ right) ∙ ap (λ ys. below end left ++ ys) (none_below end (m ∷ right) later) ∙ append-nil (below end left)
+  pub found_on_left : item_at spot (left ++ m ∷ right) ≡ item_at spot left
+  found_on_left = find-append (is_at spot) left (m ∷ right) ∙ ap (option_or (item_at spot left)) (none_at_before spot (m ∷ right) later) ∙ or_none (item_at spot left)
 
-  pub above_on_left : above end (left ++ m ∷ right) ≡ above end left ++ m ∷ right
-  above_on_left = filter-append (λ y. nat_lt end.0 y.end.0) left (m ∷ right) ∙ ap (λ ys. above end left ++ ys) (all_above end (m ∷ right) later)
+  pub removed_on_left : without_item spot (left ++ m ∷ right) ≡ without_item spot left ++ m ∷ right
+  removed_on_left = filter-append (is_elsewhere spot) left (m ∷ right) ∙ ap (λ ys. without_item spot left ++ ys) (all_left_before spot (m ∷ right) later)
 
--- a moment after the middle read
-module _ (end : Moment) (left : List Mark) (m : Mark) (right : List Mark) (p : IsParted left m right) (h : m.end.0 < end.0) where
-  earlier : AllByRecursion (λ y. y.end.0 < end.0) left
-  earlier = each_so (λ y. y.end.0 < m.end.0) (λ y. y.end.0 < end.0) (λ y g. omega (arith, h, g)) left p.before
+  below_on_left : below spot (left ++ m ∷ right) ≡ below spot left
+  below_on_left = filter-append (stands_before spot) left (m ∷ right) ∙ ap (λ ys. below spot left ++ ys) (none_below spot (m ∷ right) later) ∙ append-nil (below spot left)
 
-  pub found_on_right : read_at end (left ++ m ∷ right) ≡ read_at end right
-  found_on_right = find-append (λ y. y.end.0 == end.0) left (m ∷ right) ∙ rw (none_at_after end left earlier, ne_eqb m.end.0 end.0 (omega (arith, h))) refl
+  above_on_left : above spot (left ++ m ∷ right) ≡ above spot left ++ m ∷ right
+  above_on_left = filter-append (stands_behind spot) left (m ∷ right) ∙ ap (λ ys. above spot left ++ ys) (all_above spot (m ∷ right) later)
 
-  pub removed_on_right : without_read_at end (left ++ m ∷ right) ≡ left ++ m ∷ without_read_at end right
-  removed_on_right = filter-append (λ y. not (y.end.0 == end.0)) left (m ∷ right) ∙ rw (all_left_after end left earlier, ne_eqb m.end.0 end.0 (omega (arith, h))) refl
+-- a spot behind the middle item
+module _ (spot : Spot) (left : List Item) (m : Item) (right : List Item) (p : IsParted left m right) (h : StandsBefore (place_of m) spot) where
+  earlier : AllByRecursion (λ y. StandsBefore (place_of y) spot) left
+  earlier = earlier_so (place_of m) spot left h p.before
 
-  pub below_on_right : below end (left ++ m ∷ right) ≡ left ++ m ∷ below end right
-  below_on_right = filter-append (λ y. nat_lt y.end.0 end.0) left (m ∷ right) ∙ rw (all_below end left earlier, lt-ltb m.end.0 end.0 h) refl
+  pub found_on_right : item_at spot (left ++ m ∷ right) ≡ item_at spot right
+  found_on_right = find-append (is_at spot) left (m ∷ right) ∙ ap (λ o. option_or o (item_at spot (m ∷ right))) (none_at_after spot left earlier) ∙ passed_by (is_at spot) m right (apart (place_of m) spot h)
 
-  pub above_on_right : above end (left ++ m ∷ right) ≡ above end right
-  above_on_right = filter-append (λ y. nat_lt end.0 y.end.0) left (m ∷ right) ∙ rw (none_above end left earlier, le-ltb end.0 m.end.0 (omega (arith, h))) refl
+  pub removed_on_right : without_item spot (left ++ m ∷ right) ≡ left ++ m ∷ without_item spot right
+  removed_on_right = filter-append (is_elsewhere spot) left (m ∷ right) ∙ ap (λ ys. ys ++ without_item spot (m ∷ right)) (all_left_after spot left earlier)
+      ∙ ap (λ ys. left ++ ys) (passed_first (is_elsewhere spot) m right (without_item spot right) (ap not (apart (place_of m) spot h)) refl)
 
--- the new read goes to the side where its end belongs
-pub put_on_left : (new : Mark) (left : List Mark) (m : Mark) (right : List Mark) → IsParted left m right → new.end.0 < m.end.0 → with_read new (left ++ m ∷ right) ≡ with_read new left ++ m ∷ right
+  below_on_right : below spot (left ++ m ∷ right) ≡ left ++ m ∷ below spot right
+  below_on_right = filter-append (stands_before spot) left (m ∷ right) ∙ ap (λ ys. ys ++ below spot (m ∷ right)) (all_below spot left earlier)
+      ∙ ap (λ ys. left ++ ys) (passed_first (stands_before spot) m right (below spot right) (before_true (place_of m) spot h) refl)
+
+  above_on_right : above spot (left ++ m ∷ right) ≡ above spot right
+  above_on_right = filter-append (stands_behind spot) left (m ∷ right) ∙ ap (λ ys. ys ++ above spot (m ∷ right)) (none_above spot left earlier)
+      ∙ left_first (stands_behind spot) m right (above spot right) (before_false (place_of m) spot h) refl
+
+-- the new item goes to the side where its spot belongs
+pub put_on_left : (new : Item) (left : List Item) (m : Item) (right : List Item) → IsParted left m right → StandsBefore (place_of new) (place_of m) → with_item new (left ++ m ∷ right) ≡ with_item new left ++ m ∷ right
 put_on_left new left m right p h =
-    (rw (below_on_left new.end left m right p h, above_on_left new.end left m right p h) (sym (append_assoc (below new.end left) (new ∷ above new.end left) (m ∷ right))))
+    ap (λ ys. ys ++ new ∷ above (place_of new) (left ++ m ∷ right)) (below_on_left (place_of new) left m right p h)
+    ∙ ap (λ ys. below (place_of new) left ++ new ∷ ys) (above_on_left (place_of new) left m right p h)
+    ∙ sym (append_assoc (below (place_of new) left) (new ∷ above (place_of new) left) (m ∷ right))
 
-pub put_on_right : (new : Mark) (left : List Mark) (m : Mark) (right : List Mark) → IsParted left m right → m.end.0 < new.end.0 → with_read new (left ++ m ∷ right) ≡ left ++ m ∷ with_read new right
+pub put_on_right : (new : Item) (left : List Item) (m : Item) (right : List Item) → IsParted left m right → StandsBefore (place_of m) (place_of new) → with_item new (left ++ m ∷ right) ≡ left ++ m ∷ with_item new right
 put_on_right new left m right p h =
-    (rw (below_on_right new.end left m right p h, above_on_right new.end left m right p h) (append_assoc left (m ∷ below new.end right) (new ∷ above new.end right)))
+    ap (λ ys. ys ++ new ∷ above (place_of new) (left ++ m ∷ right)) (below_on_right (place_of new) left m right p h)
+    ∙ ap (λ ys. (left ++ m ∷ below (place_of new) right) ++ new ∷ ys) (above_on_right (place_of new) left m right p h)
+    ∙ append_assoc left (m ∷ below (place_of new) right) (new ∷ above (place_of new) right)
 
--- the middle read itself
-pub found_between : (end : Moment) (left : List Mark) (m : Mark) (right : List Mark) → IsParted left m right → end.0 ≡ m.end.0 → read_at end (left ++ m ∷ right) ≡ Some m
-found_between end left m right p h =
-    let before = each_so (λ y. y.end.0 < m.end.0) (λ y. y.end.0 < end.0) (λ y g. omega (arith, h, g)) left p.before in
-    find-append (λ y. y.end.0 == end.0) left (m ∷ right) ∙ rw (none_at_after end left before, eq-eqb m.end.0 end.0 (sym h)) refl
+-- the middle item itself
+module _ (left : List Item) (m : Item) (right : List Item) (p : IsParted left m right) where
+  pub found_between : item_at (place_of m) (left ++ m ∷ right) ≡ Some m
+  found_between = find-append (is_at (place_of m)) left (m ∷ right) ∙ ap (λ o. option_or o (item_at (place_of m) (m ∷ right))) (none_at_after (place_of m) left p.before)
+      ∙ found_first (is_at (place_of m)) m right (true_same (place_of m) (place_of m) refl)
 
-pub removed_between : (end : Moment) (left : List Mark) (m : Mark) (right : List Mark) → IsParted left m right → end.0 ≡ m.end.0 → without_read_at end (left ++ m ∷ right) ≡ left ++ right
-removed_between end left m right p h =
-    let before = each_so (λ y. y.end.0 < m.end.0) (λ y. y.end.0 < end.0) (λ y g. omega (arith, h, g)) left p.before in
-    let after = each_so (λ y. m.end.0 < y.end.0) (λ y. end.0 < y.end.0) (λ y g. omega (arith, h, g)) right p.after in
-    filter-append (λ y. not (y.end.0 == end.0)) left (m ∷ right)
-    ∙ rw (all_left_after end left before, eq-eqb m.end.0 end.0 (sym h), all_left_before end right after) refl
+  pub removed_between : without_item (place_of m) (left ++ m ∷ right) ≡ left ++ right
+  removed_between = filter-append (is_elsewhere (place_of m)) left (m ∷ right) ∙ ap (λ ys. ys ++ without_item (place_of m) (m ∷ right)) (all_left_after (place_of m) left p.before)
+      ∙ ap (λ ys. left ++ ys) (left_first (is_elsewhere (place_of m)) m right right (ap not (true_same (place_of m) (place_of m) refl)) (all_left_before (place_of m) right p.after))
+
+-- an item is put in the place of one
+module _ (new : Item) where
+  stays : (x : Item) → same_spot (place_of x) (place_of new) ≡ false → in_place_of new x ≡ x
+  stays x h = rw h refl
+
+  all_stay : (items : List Item) → AllByRecursion (λ m. same_spot (place_of m) (place_of new) ≡ false) items → renewed new items ≡ items
+  all_stay [] a = refl
+  all_stay (m ∷ items) a = ap (λ x. x ∷ renewed new items) (stays m a.0) ∙ ap (λ xs. m ∷ xs) (all_stay items a.1)
+
+  all_stay_behind : (items : List Item) → AllByRecursion (λ m. StandsBefore (place_of new) (place_of m)) items → renewed new items ≡ items
+  all_stay_behind items a = all_stay items (each_so (λ m. StandsBefore (place_of new) (place_of m)) (λ m. same_spot (place_of m) (place_of new) ≡ false) (λ m h. apart_back (place_of new) (place_of m) h) items a)
+
+  all_stay_before : (items : List Item) → AllByRecursion (λ m. StandsBefore (place_of m) (place_of new)) items → renewed new items ≡ items
+  all_stay_before items a = all_stay items (each_so (λ m. StandsBefore (place_of m) (place_of new)) (λ m. same_spot (place_of m) (place_of new) ≡ false) (λ m h. apart (place_of m) (place_of new) h) items a)
+
+  module _ (left : List Item) (m : Item) (right : List Item) (p : IsParted left m right) where
+    pub renewed_on_left : StandsBefore (place_of new) (place_of m) → renewed new (left ++ m ∷ right) ≡ renewed new left ++ m ∷ right
+    renewed_on_left h = map-append (in_place_of new) left (m ∷ right) ∙ ap (λ ys. renewed new left ++ ys) (all_stay_behind (m ∷ right) (later (place_of new) left m right p h))
+
+    pub renewed_on_right : StandsBefore (place_of m) (place_of new) → renewed new (left ++ m ∷ right) ≡ left ++ m ∷ renewed new right
+    renewed_on_right h = map-append (in_place_of new) left (m ∷ right) ∙ ap (λ ys. ys ++ renewed new (m ∷ right)) (all_stay_before left (earlier (place_of new) left m right p h))
+        ∙ ap (λ x. left ++ x ∷ renewed new right) (stays m (apart (place_of m) (place_of new) h))
+
+    pub renewed_between : place_of new ≡ place_of m → renewed new (left ++ m ∷ right) ≡ left ++ new ∷ right
+    renewed_between e =
+        let at : in_place_of new m ≡ new = rw (true_same (place_of m) (place_of new) (sym e)) refl in
+        map-append (in_place_of new) left (m ∷ right)
+        ∙ ap (λ ys. ys ++ renewed new (m ∷ right)) (all_stay_before left (subst (λ s. AllByRecursion (λ y. StandsBefore (place_of y) s) left) (sym e) p.before))
+        ∙ ap (λ x. left ++ x ∷ renewed new right) at
+        ∙ ap (λ ys. left ++ new ∷ ys) (all_stay_behind right (subst (λ s. AllByRecursion (λ y. StandsBefore s (place_of y)) right) (sym e) p.after))
+
+  place_stays : (x : Item) → place_of (in_place_of new x) ≡ place_of x
+  place_stays x = by_cases (same_spot (place_of x) (place_of new)) refl
+    where
+      by_cases : (b : Bool) → same_spot (place_of x) (place_of new) ≡ b → place_of (cond b new x) ≡ place_of x
+      by_cases true t = sym (same_true (place_of x) (place_of new) t)
+      by_cases false t = refl
+
+  each_behind : (spot : Spot) (items : List Item) → AllByRecursion (λ m. StandsBefore spot (place_of m)) items → AllByRecursion (λ m. StandsBefore spot (place_of m)) (renewed new items)
+  each_behind spot [] a = tt
+  each_behind spot (m ∷ items) a = (subst (StandsBefore spot) (sym (place_stays m)) a.0, each_behind spot items a.1)
+
+  pub order_renewed : (items : List Item) → AreInOrder items → AreInOrder (renewed new items)
+  order_renewed [] order = tt
+  order_renewed (m ∷ items) order =
+      (subst (λ s. AllByRecursion (λ x. StandsBefore s (place_of x)) (renewed new items)) (sym (place_stays m)) (each_behind (place_of m) items order.0), order_renewed items order.1)
 
 -- the order is kept
-pub by_end_kept : (p : Mark → Bool) (reads : List Mark) → IsByEnd reads → IsByEnd (filter p reads)
-by_end_kept p [] order = tt
-by_end_kept p (m ∷ reads) order = elim (p m) as (λ b. IsByEnd (cond b (m ∷ filter p reads) (filter p reads))) [ true ↦ (each_kept _ p reads order.0, by_end_kept p reads order.1) | false ↦ by_end_kept p reads order.1 ]
+pub order_kept : (p : Item → Bool) (items : List Item) → AreInOrder items → AreInOrder (filter p items)
+order_kept p [] order = tt
+order_kept p (m ∷ items) order = elim (p m) as (λ b. AreInOrder (cond b (m ∷ filter p items) (filter p items))) [ true ↦ (each_kept _ p items order.0, order_kept p items order.1) | false ↦ order_kept p items order.1 ]
 
-passes_first : (P : Mark → Type 0) (m : Mark) (reads : List Mark) (b : Bool) → (b ≡ true → P m) → AllByRecursion P reads → AllByRecursion P (cond b (m ∷ reads) reads)
-passes_first P m reads true so rest = (so refl, rest)
-passes_first P m reads false so rest = rest
+passes_first : (P : Item → Type 0) (m : Item) (items : List Item) (b : Bool) → (b ≡ true → P m) → AllByRecursion P items → AllByRecursion P (cond b (m ∷ items) items)
+passes_first P m items true so rest = (so refl, rest)
+passes_first P m items false so rest = rest
 
-each_passes : (P : Mark → Type 0) (p : Mark → Bool) → ((m : Mark) → p m ≡ true → P m) → (reads : List Mark) → AllByRecursion P (filter p reads)
+each_passes : (P : Item → Type 0) (p : Item → Bool) → ((m : Item) → p m ≡ true → P m) → (items : List Item) → AllByRecursion P (filter p items)
 each_passes P p so [] = tt
-each_passes P p so (m ∷ reads) = passes_first P m (filter p reads) (p m) (so m) (each_passes P p so reads)
+each_passes P p so (m ∷ items) = passes_first P m (filter p items) (p m) (so m) (each_passes P p so items)
 
-pub by_end_with : (new : Mark) (reads : List Mark) → IsByEnd reads → IsByEnd (with_read new reads)
-by_end_with new reads order = put_together (below new.end reads) new (above new.end reads) record {
-  left_order = by_end_kept (λ m. nat_lt m.end.0 new.end.0) reads order;
-  right_order = by_end_kept (λ m. nat_lt new.end.0 m.end.0) reads order;
-  before = each_passes (λ m. m.end.0 < new.end.0) (λ m. nat_lt m.end.0 new.end.0) (λ m h. ltb-true m.end.0 new.end.0 h) reads;
-  after = each_passes (λ m. new.end.0 < m.end.0) (λ m. nat_lt new.end.0 m.end.0) (λ m h. ltb-true new.end.0 m.end.0 h) reads;
+pub order_with : (new : Item) (items : List Item) → AreInOrder items → AreInOrder (with_item new items)
+order_with new items order = put_together (below (place_of new) items) new (above (place_of new) items) record {
+  left_order = order_kept (stands_before (place_of new)) items order;
+  right_order = order_kept (stands_behind (place_of new)) items order;
+  before = each_passes (λ m. StandsBefore (place_of m) (place_of new)) (stands_before (place_of new)) (λ m h. true_before (place_of m) (place_of new) h) items;
+  after = each_passes (λ m. StandsBefore (place_of new) (place_of m)) (stands_behind (place_of new)) (λ m h. true_before (place_of new) (place_of m) h) items;
 }

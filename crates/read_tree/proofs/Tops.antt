@@ -1,66 +1,71 @@
--- The reads of a tree, seen from the node at its top.
-use Rattle.std.proofs.Common.{◌≡◌, ◌<◌, ◌≤◌, Bool, true, false, ◌∷◌, ◌++◌, length, Some, None, inl, inr, refl, ap, ◌∙◌, map, arith, length-append}
-use Rattle.std.proofs.lemmas.Bool.{cases_lt}
-use Rattle.std.proofs.lemmas.List.{map-append}
-use Rattle.intervals.specs.declared.operation.Moment.{Moment}
-use Rattle.read_tree.specs.declared.mark.Mark.{Mark}
+-- The items of a tree, seen from the node at its top.
+use Rattle.std.proofs.Common.{◌≡◌, ◌<◌, Bool, true, false, ◌∷◌, ◌++◌, length, Some, None, refl, sym, subst, ap, ◌∙◌, arith, length-append}
+use Rattle.intervals.specs.declared.shelf.Spot.{Spot}
+use Rattle.read_tree.specs.declared.item.Item.{Item}
 use Rattle.read_tree.specs.declared.tree.Node.{Node}
-use Rattle.read_tree.specs.Reads.{IsByEnd, with_read, read_at, without_read_at, first_wrong, has_wrong, judged_in}
-use Rattle.read_tree.specs.Layers.{Layers}
+use Rattle.read_tree.specs.Items.{AreInOrder, place_of, with_item, item_at, without_item, renewed}
+use Rattle.read_tree.specs.Layers.{Layers, comes_before}
 use Rattle.read_tree.specs.Node.{IsTop}
-use Rattle.read_tree.proofs.Sides.{found_on_left, found_on_right, found_between, removed_on_left, removed_on_right, removed_between, put_on_left, put_on_right}
-use Rattle.read_tree.proofs.Wrongs.{wrong_on_left, wrong_between, wrong_on_right}
-use Rattle.read_tree.proofs.Windows.{stays_before, all_stay_before}
+use Rattle.read_tree.proofs.Order.{comes_true, comes_neither}
+use Rattle.read_tree.proofs.Sides.{found_on_left, found_on_right, found_between, removed_on_left, removed_on_right, removed_between, put_on_left, put_on_right, renewed_on_left, renewed_on_right, renewed_between}
 
-pub sides_are_shorter : {n : Node} {tree : Layers} → IsTop n tree → (length n.left.reads < length tree.reads) × (length n.right.reads < length tree.reads)
-sides_are_shorter {n} top = rw top.reads (omega (arith, length-append n.left.reads (n.mark ∷ n.right.reads)), omega (arith, length-append n.left.reads (n.mark ∷ n.right.reads)))
+pub sides_are_shorter : {n : Node} {tree : Layers} → IsTop n tree → (length n.left.items < length tree.items) × (length n.right.items < length tree.items)
+sides_are_shorter {n} top = rw top.items (omega (arith, length-append n.left.items (n.item ∷ n.right.items)), omega (arith, length-append n.left.items (n.item ∷ n.right.items)))
 
-pub first_on_left : {n : Node} {tree : Layers} → IsTop n tree → has_wrong n.left.reads ≡ true → first_wrong tree.reads ≡ first_wrong n.left.reads
-first_on_left {n} top h = ap first_wrong top.reads ∙ wrong_on_left n.left.reads n.mark n.right.reads h
+none_is_none : {m : Item} → ¬ (None ≡ Some m)
+none_is_none h = cc
 
-pub first_at_top : {n : Node} {tree : Layers} → IsTop n tree → has_wrong n.left.reads ≡ false → n.mark.wrong ≡ true → first_wrong tree.reads ≡ Some n.mark
-first_at_top {n} top h wrong = ap first_wrong top.reads ∙ wrong_between n.left.reads n.mark n.right.reads h wrong
+module _ {n : Node} {tree : Layers} (top : IsTop n tree) (order : AreInOrder tree.items) (spot : Spot) where
+  pub found_left : comes_before spot (place_of n.item) ≡ true → item_at spot tree.items ≡ item_at spot n.left.items
+  found_left h = ap (item_at spot) top.items ∙ found_on_left spot n.left.items n.item n.right.items (top.parted order) (comes_true spot (place_of n.item) h)
 
-pub first_on_right : {n : Node} {tree : Layers} → IsTop n tree → has_wrong n.left.reads ≡ false → n.mark.wrong ≡ false → first_wrong tree.reads ≡ first_wrong n.right.reads
-first_on_right {n} top h right = ap first_wrong top.reads ∙ wrong_on_right n.left.reads n.mark n.right.reads h right
+  pub found_right : comes_before (place_of n.item) spot ≡ true → item_at spot tree.items ≡ item_at spot n.right.items
+  found_right h = ap (item_at spot) top.items ∙ found_on_right spot n.left.items n.item n.right.items (top.parted order) (comes_true (place_of n.item) spot h)
 
-module _ {n : Node} {tree : Layers} (top : IsTop n tree) (order : IsByEnd tree.reads) (end : Moment) where
-  pub found_left : end.0 < n.mark.end.0 → read_at end tree.reads ≡ read_at end n.left.reads
-  found_left h = ap (read_at end) top.reads ∙ found_on_left end n.left.reads n.mark n.right.reads (top.parted order) h
+  pub found_top : comes_before spot (place_of n.item) ≡ false → comes_before (place_of n.item) spot ≡ false → item_at spot tree.items ≡ Some n.item
+  found_top h k =
+      let same = comes_neither spot (place_of n.item) h k in
+      ap (item_at spot) top.items ∙ subst (λ s. item_at s (n.left.items ++ n.item ∷ n.right.items) ≡ Some n.item) (sym same) (found_between n.left.items n.item n.right.items (top.parted order))
 
-  pub found_right : n.mark.end.0 < end.0 → read_at end tree.reads ≡ read_at end n.right.reads
-  found_right h = ap (read_at end) top.reads ∙ found_on_right end n.left.reads n.mark n.right.reads (top.parted order) h
+  pub removed_left : comes_before spot (place_of n.item) ≡ true → without_item spot tree.items ≡ without_item spot n.left.items ++ n.item ∷ n.right.items
+  removed_left h = ap (without_item spot) top.items ∙ removed_on_left spot n.left.items n.item n.right.items (top.parted order) (comes_true spot (place_of n.item) h)
 
-  pub found_top : end.0 ≤ n.mark.end.0 → n.mark.end.0 ≤ end.0 → read_at end tree.reads ≡ Some n.mark
-  found_top h k = ap (read_at end) top.reads ∙ found_between end n.left.reads n.mark n.right.reads (top.parted order) (omega (arith, h, k))
+  pub removed_right : comes_before (place_of n.item) spot ≡ true → without_item spot tree.items ≡ n.left.items ++ n.item ∷ without_item spot n.right.items
+  removed_right h = ap (without_item spot) top.items ∙ removed_on_right spot n.left.items n.item n.right.items (top.parted order) (comes_true (place_of n.item) spot h)
 
-  pub removed_left : end.0 < n.mark.end.0 → without_read_at end tree.reads ≡ without_read_at end n.left.reads ++ n.mark ∷ n.right.reads
-  removed_left h = ap (without_read_at end) top.reads ∙ removed_on_left end n.left.reads n.mark n.right.reads (top.parted order) h
+  pub removed_top : comes_before spot (place_of n.item) ≡ false → comes_before (place_of n.item) spot ≡ false → without_item spot tree.items ≡ n.left.items ++ n.right.items
+  removed_top h k =
+      let same = comes_neither spot (place_of n.item) h k in
+      ap (without_item spot) top.items ∙ subst (λ s. without_item s (n.left.items ++ n.item ∷ n.right.items) ≡ n.left.items ++ n.right.items) (sym same) (removed_between n.left.items n.item n.right.items (top.parted order))
 
-  pub removed_right : n.mark.end.0 < end.0 → without_read_at end tree.reads ≡ n.left.reads ++ n.mark ∷ without_read_at end n.right.reads
-  removed_right h = ap (without_read_at end) top.reads ∙ removed_on_right end n.left.reads n.mark n.right.reads (top.parted order) h
+-- an item goes in the place of the one at its spot
+module _ {n : Node} {tree : Layers} (top : IsTop n tree) (order : AreInOrder tree.items) (new : Item) where
+  pub renewed_left : comes_before (place_of new) (place_of n.item) ≡ true → renewed new tree.items ≡ renewed new n.left.items ++ n.item ∷ n.right.items
+  renewed_left h = ap (renewed new) top.items ∙ renewed_on_left new n.left.items n.item n.right.items (top.parted order) (comes_true (place_of new) (place_of n.item) h)
 
-  pub removed_top : end.0 ≤ n.mark.end.0 → n.mark.end.0 ≤ end.0 → without_read_at end tree.reads ≡ n.left.reads ++ n.right.reads
-  removed_top h k = ap (without_read_at end) top.reads ∙ removed_between end n.left.reads n.mark n.right.reads (top.parted order) (omega (arith, h, k))
+  pub renewed_right : comes_before (place_of n.item) (place_of new) ≡ true → renewed new tree.items ≡ n.left.items ++ n.item ∷ renewed new n.right.items
+  renewed_right h = ap (renewed new) top.items ∙ renewed_on_right new n.left.items n.item n.right.items (top.parted order) (comes_true (place_of n.item) (place_of new) h)
 
-  -- where no read has that end, the top has another one
-  pub ends_later : read_at end tree.reads ≡ None → n.mark.end.0 ≤ end.0 → n.mark.end.0 < end.0
-  ends_later none h = elim (cases_lt n.mark.end.0 end.0) [
-    | inl p ↦ p
-    | inr q ↦ let found : read_at end tree.reads ≡ Some n.mark = found_top q h in cc (found, none)
-  ]
+  pub renewed_top : comes_before (place_of new) (place_of n.item) ≡ false → comes_before (place_of n.item) (place_of new) ≡ false → renewed new tree.items ≡ n.left.items ++ new ∷ n.right.items
+  renewed_top h k = ap (renewed new) top.items ∙ renewed_between new n.left.items n.item n.right.items (top.parted order) (comes_neither (place_of new) (place_of n.item) h k)
 
-module _ {n : Node} {tree : Layers} (top : IsTop n tree) (order : IsByEnd tree.reads) (new : Mark) where
-  pub put_left : new.end.0 < n.mark.end.0 → with_read new tree.reads ≡ with_read new n.left.reads ++ n.mark ∷ n.right.reads
-  put_left h = ap (with_read new) top.reads ∙ put_on_left new n.left.reads n.mark n.right.reads (top.parted order) h
+-- where no item has that spot, the top has another one
+module _ {n : Node} {tree : Layers} (top : IsTop n tree) (order : AreInOrder tree.items) (new : Item) (none : item_at (place_of new) tree.items ≡ None) where
+  pub stands_later : comes_before (place_of new) (place_of n.item) ≡ false → comes_before (place_of n.item) (place_of new) ≡ true
+  stands_later h = behind (comes_before (place_of n.item) (place_of new)) refl
+    where
+      behind : (b : Bool) → comes_before (place_of n.item) (place_of new) ≡ b → b ≡ true
+      behind true k = refl
+      behind false k = let found = found_top top order (place_of new) h k in absurd (none_is_none (sym none ∙ found))
 
-  pub put_right : n.mark.end.0 < new.end.0 → with_read new tree.reads ≡ n.left.reads ++ n.mark ∷ with_read new n.right.reads
-  put_right h = ap (with_read new) top.reads ∙ put_on_right new n.left.reads n.mark n.right.reads (top.parted order) h
+  pub none_on_left : comes_before (place_of new) (place_of n.item) ≡ true → item_at (place_of new) n.left.items ≡ None
+  none_on_left h = sym (found_left top order (place_of new) h) ∙ none
 
-module _ {n : Node} {tree : Layers} (top : IsTop n tree) (says : Mark → Bool) (from upto : Moment) where
-  pub judged_around : map (judged_in says from upto) tree.reads ≡ map (judged_in says from upto) n.left.reads ++ judged_in says from upto n.mark ∷ map (judged_in says from upto) n.right.reads
-  judged_around = ap (map (judged_in says from upto)) top.reads ∙ map-append (judged_in says from upto) n.left.reads (n.mark ∷ n.right.reads)
+  pub none_on_right : comes_before (place_of new) (place_of n.item) ≡ false → item_at (place_of new) n.right.items ≡ None
+  none_on_right h = sym (found_right top order (place_of new) (stands_later h)) ∙ none
 
-  -- a window behind the top has nothing on the left
-  pub judged_on_right : IsByEnd tree.reads → n.mark.end.0 < from.0 → map (judged_in says from upto) tree.reads ≡ n.left.reads ++ n.mark ∷ map (judged_in says from upto) n.right.reads
-  judged_on_right order h = judged_around ∙ rw (all_stay_before says from upto n.mark n.left.reads (top.parted order).before h, stays_before says from upto n.mark h) refl
+  pub put_left : comes_before (place_of new) (place_of n.item) ≡ true → with_item new tree.items ≡ with_item new n.left.items ++ n.item ∷ n.right.items
+  put_left h = ap (with_item new) top.items ∙ put_on_left new n.left.items n.item n.right.items (top.parted order) (comes_true (place_of new) (place_of n.item) h)
+
+  pub put_right : comes_before (place_of new) (place_of n.item) ≡ false → with_item new tree.items ≡ n.left.items ++ n.item ∷ with_item new n.right.items
+  put_right h = ap (with_item new) top.items ∙ put_on_right new n.left.items n.item n.right.items (top.parted order) (comes_true (place_of n.item) (place_of new) (stands_later h))

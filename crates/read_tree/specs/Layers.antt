@@ -1,25 +1,28 @@
--- What a tree of boxes is seen as, and how its heights stand to one another and to its reads.
-use Rattle.std.specs.Prelude.{◌≡◌, ℕ, ◌+◌, ◌-◌, ◌*◌, ◌^◌, ◌<◌, ◌≤◌, max, min, List, [], ◌∷◌, length}
+-- What a tree of boxes is seen as, and how its heights stand to one another and to its items.
+use Rattle.std.specs.Prelude.{◌≡◌, ℕ, ◌+◌, ◌*◌, ◌^◌, ◌<◌, ◌≤◌, max, Bool, List, [], length}
 use Rattle.std.specs.List.{AllByRecursion}
-use Rattle.read_tree.specs.declared.mark.Mark.{Mark}
-use Rattle.read_tree.specs.Reads.{IsByEnd}
+use Rattle.std.specs.Ordering.{is_lt}
+use Rattle.intervals.specs.declared.shelf.Spot.{Spot}
+use Rattle.intervals.specs.Shelf.{spot_cmp}
+use Rattle.read_tree.specs.declared.item.Item.{Item}
+use Rattle.read_tree.specs.Items.{AreInOrder, StandsBefore, place_of}
 
--- the reads by end, and how many nodes the longest way down has
+-- the items in order, and how many nodes the longest way down has
 pub record Layers : Type 0 where
-  pub reads : List Mark
+  pub items : List Item
   pub height : ℕ
 
 -- no node
 abbrev pub no_layers : Layers
-no_layers = record { reads = []; height = 0 }
+no_layers = record { items = []; height = 0 }
 
 -- neither height is more than this above the other
 abbrev pub DifferByAtMost : ℕ → ℕ → ℕ → Type 0
 DifferByAtMost by l r = (l ≤ r + by) × (r ≤ l + by)
 
--- a tree of fewer reads than a power of two is at most twice as high as that power's exponent
-pub record IsLow (reads : List Mark) (height : ℕ) : Type 0 where
-  pub bound : (d : ℕ) → length reads < 2 ^ d → height ≤ 2 * d
+-- a tree of fewer items than a power of two is at most twice as high as that power's exponent
+pub record IsLow (items : List Item) (height : ℕ) : Type 0 where
+  pub bound : (d : ℕ) → length items < 2 ^ d → height ≤ 2 * d
 
 -- the height that a node with sides of these heights has once it is balanced
 pub record IsSettled (left right height : ℕ) : Type 0 where
@@ -27,14 +30,13 @@ pub record IsSettled (left right height : ℕ) : Type 0 where
   pub most : height ≤ max left right + 1
   pub near : DifferByAtMost 1 left right → height ≡ max left right + 1
 
--- the least beginning, and the greatest number of 64 bits where there is no read
-unfoldable pub least_begin : List Mark → ℕ
-least_begin [] = 2 ^ 64 - 1
-least_begin (m ∷ reads) = min m.begin.0 (least_begin reads)
+-- the first spot stands before the second
+unfoldable pub comes_before : Spot → Spot → Bool
+comes_before a b = is_lt (spot_cmp b a)
 
--- the sides of a read, when all stand by end
-pub record IsParted (left : List Mark) (mark : Mark) (right : List Mark) : Type 0 where
-  pub left_order : IsByEnd left
-  pub right_order : IsByEnd right
-  pub before : AllByRecursion (λ m. m.end.0 < mark.end.0) left
-  pub after : AllByRecursion (λ m. mark.end.0 < m.end.0) right
+-- the sides of an item, when all stand in order
+pub record IsParted (left : List Item) (item : Item) (right : List Item) : Type 0 where
+  pub left_order : AreInOrder left
+  pub right_order : AreInOrder right
+  pub before : AllByRecursion (λ x. StandsBefore (place_of x) (place_of item)) left
+  pub after : AllByRecursion (λ x. StandsBefore (place_of item) (place_of x)) right

@@ -1,28 +1,28 @@
 -- What a node is seen as, and what holds of each.
 use Rattle.std.specs.Prelude.{◌≡◌, ◌+◌, max, List, ◌∷◌, ◌++◌, Option, Some, None, Box}
 use Rattle.std.specs.declared.alloc.Global.{Global}
-use Rattle.read_tree.specs.declared.mark.Mark.{Mark}
+use Rattle.read_tree.specs.declared.item.Item.{Item}
 use Rattle.read_tree.specs.declared.tree.Node.{Node}
-use Rattle.read_tree.specs.Reads.{IsByEnd, has_wrong}
-use Rattle.read_tree.specs.Layers.{Layers, no_layers, DifferByAtMost, IsLow, least_begin, IsParted}
+use Rattle.read_tree.specs.Items.{AreInOrder}
+use Rattle.read_tree.specs.Layers.{Layers, no_layers, DifferByAtMost, IsLow, IsParted}
+use Rattle.read_tree.specs.Summary.{IsSummary}
 
--- the reads of a node and its sides
-abbrev pub reads_of : Node → List Mark
-reads_of n = n.left.reads ++ n.mark ∷ n.right.reads
+-- the items of a node and its sides
+abbrev pub items_of : Node → List Item
+items_of n = n.left.items ++ n.item ∷ n.right.items
 
 -- what a tree with this node at its top is seen as
 abbrev pub layers_of : Option (Box Node Global) → Layers
 layers_of None = no_layers
-layers_of (Some top) = record { reads = reads_of top.value; height = top.value.height }
+layers_of (Some top) = record { items = items_of top.value; height = top.value.height }
 
 -- the height is one more than that of the higher side, the sides differ by at most one, and what the
--- node keeps of its reads is right
+-- node keeps of its items is right
 pub record IsBalancedNode (n : Node) : Type 0 where
   pub height : n.height ≡ max n.left.height n.right.height + 1
   pub near : DifferByAtMost 1 n.left.height n.right.height
-  pub low : IsLow (reads_of n) n.height
-  pub least : n.least ≡ least_begin (reads_of n)
-  pub wrong : n.wrong ≡ has_wrong (reads_of n)
+  pub low : IsLow (items_of n) n.height
+  pub summary : IsSummary n.summary (items_of n)
 
 -- the top, where there is one, is balanced
 abbrev pub IsBalanced : Option (Box Node Global) → Type 0
@@ -36,7 +36,7 @@ pub record IsAlone (n : Node) : Type 0 where
 
 -- the node at the top of a tree
 pub record IsTop (n : Node) (tree : Layers) : Type 0 where
-  pub reads : tree.reads ≡ reads_of n
+  pub items : tree.items ≡ items_of n
   pub height : tree.height ≡ max n.left.height n.right.height + 1
   pub near : DifferByAtMost 1 n.left.height n.right.height
-  pub parted : IsByEnd tree.reads → IsParted n.left.reads n.mark n.right.reads
+  pub parted : AreInOrder tree.items → IsParted n.left.items n.item n.right.items

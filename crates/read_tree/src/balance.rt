@@ -2,7 +2,7 @@
 
 ghost use Rattle.std.specs.Prelude.{◌≡◌, ◌+◌, ◌<◌, max};
 ghost use Rattle.read_tree.specs.Layers.{DifferByAtMost, IsSettled};
-ghost use Rattle.read_tree.specs.Node.{reads_of};
+ghost use Rattle.read_tree.specs.Node.{items_of};
 
 use crate::tree::{Node, Tree, close};
 use std::mem;
@@ -11,7 +11,7 @@ use std::mem;
 pub fn balanced(node: Box<Node>) -> Tree
     requires near { DifferByAtMost 2 node.value.left.height node.value.right.height }
     requires room { max node.value.left.height node.value.right.height < 254 }
-    ensures reads { result.reads ≡ reads_of node.value }
+    ensures items { result.items ≡ items_of node.value }
     ensures height { IsSettled node.value.left.height node.value.right.height result.height }
 {
     let (left, right) = (node.left.height(), node.right.height());
@@ -28,7 +28,7 @@ pub fn balanced(node: Box<Node>) -> Tree
 fn lean_right(mut top: Box<Node>) -> Tree
     requires two_higher { top.value.left.height ≡ top.value.right.height + 2 }
     requires room { top.value.left.height < 254 }
-    ensures reads { result.reads ≡ reads_of top.value }
+    ensures items { result.items ≡ items_of top.value }
     ensures height { IsSettled top.value.left.height top.value.right.height result.height }
 {
     let Some(mut side) = top.left.take() else {
@@ -53,7 +53,7 @@ fn lean_right(mut top: Box<Node>) -> Tree
 fn lean_left(mut top: Box<Node>) -> Tree
     requires two_higher { top.value.right.height ≡ top.value.left.height + 2 }
     requires room { top.value.right.height < 254 }
-    ensures reads { result.reads ≡ reads_of top.value }
+    ensures items { result.items ≡ items_of top.value }
     ensures height { IsSettled top.value.left.height top.value.right.height result.height }
 {
     let Some(mut side) = top.right.take() else {

@@ -1,46 +1,55 @@
 //! Laws of the definitions. Each is the contract of a function that does nothing.
 
-ghost use Rattle.std.specs.Prelude.{◌≡◌, ◌≢◌, ◌↔◌, ◌⊎◌, ◌≤◌, Bool, false, Contains, List, Some, None, IsTrue, map};
-ghost use Rattle.intervals.specs.declared.operation.Moment.{Moment};
-ghost use Rattle.read_tree.specs.declared.mark.Mark.{Mark};
-ghost use Rattle.read_tree.specs.Reads.{IsByEnd, with_read, without_read_at, read_at, first_wrong, has_wrong, judged_in};
+ghost use Rattle.std.specs.Prelude.{◌≡◌, ◌↔◌, ◌⊎◌, ◌≤◌, true, false, Contains, List, Option, Some, None, option_map};
+ghost use Rattle.intervals.specs.declared.shelf.Spot.{Spot};
+ghost use Rattle.intervals.specs.Shelf.{same_spot};
+ghost use Rattle.read_tree.specs.declared.item.Item.{Item};
+ghost use Rattle.read_tree.specs.Items.{AreInOrder, IsCoverAt, place_of, with_item, without_item, renewed, item_at, cover_of, is_short, is_some_short, first_short};
 
-/// A read of a new end comes to those that stand, and none is lost; all still stand by end.
-pub fn a_new_read_has_one_place()
-    ensures reads { (new : Mark) (reads : List Mark) → read_at new.end reads ≡ None
-        → (m : Mark) → Contains (with_read new reads) m ↔ ((m ≡ new) ⊎ Contains reads m) }
-    ensures order { (new : Mark) (reads : List Mark) → IsByEnd reads → IsByEnd (with_read new reads) }
+/// An item of a new spot comes to those that stand, and none is lost; all still stand in order.
+pub fn a_new_item_has_one_place()
+    ensures items { (new : Item) (items : List Item) → item_at (place_of new) items ≡ None
+        → (x : Item) → Contains (with_item new items) x ↔ ((x ≡ new) ⊎ Contains items x) }
+    ensures order { (new : Item) (items : List Item) → AreInOrder items → AreInOrder (with_item new items) }
 {}
 
-/// Without the read of an end the others stand as they stood.
-pub fn a_removed_read_leaves_the_others()
-    ensures reads { (end : Moment) (reads : List Mark) (m : Mark)
-        → Contains (without_read_at end reads) m ↔ (Contains reads m × (m.end.0 ≢ end.0)) }
-    ensures order { (end : Moment) (reads : List Mark) → IsByEnd reads → IsByEnd (without_read_at end reads) }
+/// Without the item at a spot the others stand as they stood.
+pub fn a_removed_item_leaves_the_others()
+    ensures items { (spot : Spot) (items : List Item) (x : Item)
+        → Contains (without_item spot items) x ↔ (Contains items x × (same_spot (place_of x) spot ≡ false)) }
+    ensures order { (spot : Spot) (items : List Item) → AreInOrder items → AreInOrder (without_item spot items) }
 {}
 
-/// A read is found by its end, which no other has.
-pub fn reads_are_found_by_their_ends()
-    ensures found { (end : Moment) (reads : List Mark) (m : Mark) → IsByEnd reads
-        → (read_at end reads ≡ Some m) ↔ (Contains reads m × (m.end.0 ≡ end.0)) }
-    ensures none { (end : Moment) (reads : List Mark)
-        → (read_at end reads ≡ None) ↔ ((m : Mark) → Contains reads m → m.end.0 ≢ end.0) }
+/// A renewed item stands where one stood, and the others stand as they stood.
+pub fn a_renewed_item_stands_where_one_stood()
+    ensures items { (new : Item) (items : List Item) (x : Item)
+        → Contains (renewed new items) x ↔ ((Contains items x × (same_spot (place_of x) (place_of new) ≡ false)) ⊎ ((x ≡ new) × ((old : Item) × Contains items old × (same_spot (place_of old) (place_of new) ≡ true)))) }
+    ensures order { (new : Item) (items : List Item) → AreInOrder items → AreInOrder (renewed new items) }
 {}
 
-/// The first wrong read is wrong, and no wrong one ended before it. Where there is none, all are right.
-pub fn the_first_wrong_read_ended_first()
-    ensures found { (reads : List Mark) (m : Mark) → IsByEnd reads → first_wrong reads ≡ Some m
-        → Contains reads m × IsTrue m.wrong × ((other : Mark) → Contains reads other → IsTrue other.wrong → m.end.0 ≤ other.end.0) }
-    ensures none { (reads : List Mark) → (first_wrong reads ≡ None) ↔ ((m : Mark) → Contains reads m → m.wrong ≡ false) }
-    ensures some { (reads : List Mark) → (has_wrong reads ≡ false) ↔ (first_wrong reads ≡ None) }
+/// An item is found by its spot, which no other has.
+pub fn items_are_found_by_their_spots()
+    ensures found { (spot : Spot) (items : List Item) (x : Item) → AreInOrder items
+        → (item_at spot items ≡ Some x) ↔ (Contains items x × (same_spot (place_of x) spot ≡ true)) }
+    ensures none { (spot : Spot) (items : List Item)
+        → (item_at spot items ≡ None) ↔ ((x : Item) → Contains items x → same_spot (place_of x) spot ≡ false) }
 {}
 
-/// Each read is judged for itself, and keeps its end.
-pub fn reads_are_judged_one_by_one()
-    ensures to { (says : Mark → Bool) (from upto : Moment) (reads : List Mark) (m : Mark)
-        → Contains reads m → Contains (map (judged_in says from upto) reads) (judged_in says from upto m) }
-    ensures only { (says : Mark → Bool) (from upto : Moment) (reads : List Mark) (m : Mark)
-        → Contains (map (judged_in says from upto) reads) m → (old : Mark) × Contains reads old × (m ≡ judged_in says from upto old) }
-    ensures order { (says : Mark → Bool) (from upto : Moment) (reads : List Mark)
-        → IsByEnd reads → IsByEnd (map (judged_in says from upto) reads) }
+/// Before each spot there is a last cover, or there is none.
+pub fn each_spot_has_a_last_cover()
+    ensures { (items : List Item) (spot : Spot) → AreInOrder items → (c : Option Item) × IsCoverAt items spot c }
+{}
+
+/// Where no read is short, each is covered by the last cover before it. The first short one is not, and
+/// no other that is not ended before it.
+pub fn short_reads_are_told()
+    ensures none { (items : List Item) → AreInOrder items → is_some_short None items ≡ false
+        → (r : Item) (c : Option Item) → Contains items r → r.covers ≡ false → IsCoverAt items (place_of r) c
+        → is_short (option_map cover_of c) r ≡ false }
+    ensures found { (items : List Item) (r : Item) → AreInOrder items → first_short None items ≡ Some r
+        → Contains items r × (r.covers ≡ false)
+        × ((c : Option Item) → IsCoverAt items (place_of r) c → is_short (option_map cover_of c) r ≡ true)
+        × ((other : Item) (c : Option Item) → Contains items other → other.covers ≡ false → IsCoverAt items (place_of other) c
+        → is_short (option_map cover_of c) other ≡ true → r.moment.0 ≤ other.moment.0) }
+    ensures some { (items : List Item) → (is_some_short None items ≡ false) ↔ (first_short None items ≡ None) }
 {}

@@ -1,42 +1,42 @@
-//! The judged reads of one register, by the moments at which they ended, each with a mark that says
-//! whether it is wrong.
+//! The reads of one register in rows, and between them covers, which say how far back a read behind them
+//! may reach.
 //!
-//! A tree is given places first and then reads, which takes no memory. A write that comes or goes can
-//! change the verdict of the reads of one window alone; those are judged anew, and the others keep
-//! their marks:
+//! A tree is given places first and then items, which takes no memory. Each item stands at a spot: a row
+//! and a moment. Whether a read is right is decided by the last cover before it, so a write that comes or
+//! goes changes a cover or two, and no read:
 //!
 //! ```text
 //! let mut tree = ReadTree::new(alloc);
-//! tree.reserve(2)?;
-//! tree.insert(early);                 // from 1 to 3, right
-//! tree.insert(late);                  // from 5 to 9, wrong
-//! tree.first_wrong()                  // Some(late)
-//! tree.judge(&judge, Moment(4), Moment(6));   // asks the judge for the late read alone
-//! tree.remove(Moment(3))              // Some(early)
+//! tree.reserve(3)?;
+//! tree.insert(early);                 // ended at 3, reaches to 1
+//! tree.insert(late);                  // ended at 9, reaches to 5
+//! tree.first_short()                  // Some(early)
+//! tree.insert(cover);                 // from 2 on, for what reaches to 6 or less
+//! tree.has_short()                    // false
+//! tree.remove(cover.spot())           // Some(cover)
 //! ```
 //!
-//! Read `specs/Reads.antt` first, then the calls in `reads.rt`: their clauses are the whole promise, and
-//! `laws.rt` has what the definitions come to. Who judges is in `judge.rt`. The rows of `tests.rt` run
-//! these calls.
+//! Read `specs/Items.antt` first, then the calls in `reads.rt`: their clauses are the whole promise, and
+//! `laws.rt` has what the definitions come to. The rows of `tests.rt` run these calls.
 //!
-//! Inside, the reads stand in a tree of boxes whose sides differ in height by at most one: its parts are
-//! in `tree.rt`, its rotations in `balance.rt`, insertion and removal in `edit.rt`, look-ups in `look.rt`,
-//! the window in `window.rt`, and the reserved nodes in `stock.rt`.
+//! Inside, the items stand in a tree of boxes whose sides differ in height by at most one: its parts are
+//! in `tree.rt`, what each keeps of its items in `summary.rt`, on which side of an item a spot is in
+//! `place.rt`, rotations in `balance.rt`, insertion and removal in `edit.rt`, look-ups in `look.rt`, and
+//! the reserved nodes in `stock.rt`.
 #![tactic(auto)]
 
 mod balance;
 mod edit;
-mod judge;
+mod item;
 pub mod laws;
 mod look;
-mod mark;
+mod place;
 mod reads;
 mod stock;
+mod summary;
 mod tree;
-mod window;
 
-pub use judge::Judge;
-pub use mark::Mark;
+pub use item::{Cover, Item};
 pub use reads::ReadTree;
 
 #[cfg(test)]

@@ -1,14 +1,14 @@
-ghost use Rattle.std.specs.Prelude.{◌≡◌, ◌+◌, ◌<◌, ◌≤◌, [], map, length, is_some, if◌then◌else◌, None, OnOk, OnErr};
-ghost use Rattle.read_tree.specs.Reads.{IsByEnd, with_read, read_at, without_read_at, first_wrong as first_wrong_of, has_wrong as some_wrong, judged_in};
+ghost use Rattle.std.specs.Prelude.{◌≡◌, ◌+◌, ◌<◌, ◌≤◌, [], length, is_some, if◌then◌else◌, None, OnOk, OnErr};
+ghost use Rattle.read_tree.specs.Items.{AreInOrder, place_of, with_item, item_at, without_item, renewed, is_some_short, first_short as first_short_of};
 
+use crate::Item;
 use crate::stock::Stock;
 use crate::tree::Tree;
-use crate::{Judge, Mark};
-use intervals::{Memory, Moment};
+use intervals::{Memory, Spot};
 use std::alloc::Global;
 use std::marker::Model;
 
-/// Reads of different ends, each with its mark, and reserved places for more.
+/// Items at different spots, and reserved places for more.
 #[derive(Drop)]
 pub struct ReadTree {
     tree: Tree,
@@ -17,19 +17,19 @@ pub struct ReadTree {
 
 impl Model for ReadTree {
     ghost use Rattle.std.specs.Prelude.{◌≡◌, length};
-    ghost use Rattle.read_tree.specs.Reads.{Contents, IsByEnd};
+    ghost use Rattle.read_tree.specs.Items.{Contents, AreInOrder};
 
     ghost Value = { Contents };
 
-    ghost view = { λ t. record { reads = t.tree.reads; free = t.places.free } };
+    ghost view = { λ t. record { items = t.tree.items; free = t.places.free } };
 
-    ghost invariant = { λ t. IsByEnd t.tree.reads × (t.places.taken ≡ length t.tree.reads) };
+    ghost invariant = { λ t. AreInOrder t.tree.items × (t.places.taken ≡ length t.tree.items) };
 }
 
 impl ReadTree {
-    /// A tree of no reads and no places.
+    /// A tree of no items and no places.
     pub fn new(alloc: Global) -> Self
-        ensures reads { result.reads ≡ [] }
+        ensures items { result.items ≡ [] }
         ensures free { result.free ≡ 0 }
     {
         ReadTree {
@@ -38,16 +38,16 @@ impl ReadTree {
         }
     }
 
-    /// How many reads can be inserted without memory.
+    /// How many items can be inserted without memory.
     pub fn free(&self) -> usize
         ensures { result ≡ self.now.free }
     {
         self.places.free()
     }
 
-    /// Makes room for that many more reads.
+    /// Makes room for that many more items.
     pub fn reserve(&mut self, places: usize) -> Result<(), Memory>
-        ensures reads { self.new.reads ≡ self.old.reads }
+        ensures items { self.new.items ≡ self.old.items }
         ensures ok { OnOk result (places ≤ self.new.free) }
         ensures kept { self.old.free ≤ self.new.free }
         ensures err { OnErr result (self.new ≡ self.old) }
@@ -56,67 +56,68 @@ impl ReadTree {
         self.places.reserve(places)
     }
 
-    /// Puts a read of a new end into a reserved place, with the mark that it brings.
-    pub fn insert(&mut self, mark: Mark)
+    /// Puts an item of a new spot into a reserved place.
+    pub fn insert(&mut self, item: Item)
         requires room { 0 < self.old.free }
-        requires new_end { read_at mark.end self.old.reads ≡ None }
-        ensures reads { self.new.reads ≡ with_read mark self.old.reads }
+        requires new_spot { item_at (place_of item) self.old.items ≡ None }
+        ensures items { self.new.items ≡ with_item item self.old.items }
         ensures free { self.new.free + 1 ≡ self.old.free }
     {
         stays_low(&self.tree, &self.places);
-        let place = self.places.take(mark);
+        let place = self.places.take(item);
         self.tree.insert(place);
     }
 
-    /// Takes the read of that end out. Its place stays reserved.
-    pub fn remove(&mut self, end: Moment) -> Option<Mark>
-        ensures mark { result ≡ read_at end self.old.reads }
-        ensures reads { self.new.reads ≡ without_read_at end self.old.reads }
+    /// Takes the item at the spot out. Its place stays reserved.
+    pub fn remove(&mut self, spot: Spot) -> Option<Item>
+        ensures item { result ≡ item_at spot self.old.items }
+        ensures items { self.new.items ≡ without_item spot self.old.items }
         ensures free { self.new.free ≡ (if is_some result then self.old.free + 1 else self.old.free) }
     {
         stays_low(&self.tree, &self.places);
-        let place = self.tree.remove(end)?;
-        let mark = place.mark;
+        let place = self.tree.remove(spot)?;
+        let item = place.item;
         self.places.give(place);
-        Some(mark)
+        Some(item)
     }
 
-    /// The read of that end.
-    pub fn get(&self, end: Moment) -> Option<Mark>
-        ensures { result ≡ read_at end self.now.reads }
-    {
-        self.tree.get(end)
-    }
-
-    /// The wrong read that ended first.
-    pub fn first_wrong(&self) -> Option<Mark>
-        ensures first { result ≡ first_wrong_of self.now.reads }
-        ensures order { IsByEnd self.now.reads }
-    {
-        self.tree.first_wrong()
-    }
-
-    pub fn has_wrong(&self) -> bool
-        ensures { result ≡ some_wrong self.now.reads }
-    {
-        self.tree.has_wrong()
-    }
-
-    /// Judges the reads of a window anew: those that ended at `from` or later and began at `upto` or
-    /// earlier. It asks for no others.
-    pub fn judge<J: Judge>(&mut self, judge: &J, from: Moment, upto: Moment)
-        ensures reads { self.new.reads ≡ map (judged_in (J.says judge.now) from upto) self.old.reads }
+    /// Puts the item in the place of the one at its spot, where there is one.
+    pub fn renew(&mut self, item: Item)
+        ensures items { self.new.items ≡ renewed item self.old.items }
         ensures free { self.new.free ≡ self.old.free }
     {
         stays_low(&self.tree, &self.places);
-        self.tree.judge(judge, from, upto);
+        self.tree.renew(item);
+    }
+
+    /// The item at the spot.
+    pub fn get(&self, spot: Spot) -> Option<Item>
+        ensures { result ≡ item_at spot self.now.items }
+    {
+        self.tree.get(spot)
+    }
+
+    /// Some read is not covered.
+    pub fn has_short(&self) -> bool
+        ensures short { result ≡ is_some_short None self.now.items }
+        ensures order { AreInOrder self.now.items }
+    {
+        self.tree.has_short(None)
+    }
+
+    /// Of the reads that are not covered the one that ended first.
+    pub fn first_short(&self) -> Option<Item>
+        ensures first { result ≡ first_short_of None self.now.items }
+        ensures order { AreInOrder self.now.items }
+    {
+        self.tree.earliest(None, None)
     }
 }
 
-/// There are no more reads than places were taken, so the tree is low enough to be edited.
+/// There are no more items than places were taken, so the tree is low enough to be edited.
 #[tactic(auto, using(crate::proofs::Counts::height_of_kept))]
 fn stays_low(tree: &Tree, places: &Stock)
-    requires { places.now.taken ≡ length tree.now.reads }
+    requires { places.now.taken ≡ length tree.now.items }
     ensures { tree.now.height < 250 }
 {
     let _ = (tree.height(), places.taken());

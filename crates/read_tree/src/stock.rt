@@ -3,9 +3,10 @@
 ghost use Rattle.std.specs.Prelude.{◌≡◌, ◌+◌, ◌<◌, ◌≤◌, vec_len, vec_capacity, All, OnOk, OnErr, IfOk};
 ghost use Rattle.read_tree.specs.Node.{IsAlone};
 
-use crate::Mark;
+use crate::Item;
+use crate::summary::Summary;
 use crate::tree::{Node, Tree};
-use intervals::{Memory, Moment, OpId};
+use intervals::{Memory, Moment, OpId, Value};
 use std::alloc::Global;
 use std::marker::Model;
 
@@ -75,11 +76,11 @@ impl Stock {
         filled
     }
 
-    /// A spare node with that mark.
-    pub fn take(&mut self, mark: Mark) -> Box<Node>
+    /// A spare node with that item.
+    pub fn take(&mut self, item: Item) -> Box<Node>
         requires { 0 < self.old.free }
         ensures alone { IsAlone result.value }
-        ensures mark { result.value.mark ≡ mark }
+        ensures item { result.value.item ≡ item }
         ensures free { self.new.free + 1 ≡ self.old.free }
         ensures taken { self.new.taken ≡ self.old.taken + 1 }
     {
@@ -87,7 +88,7 @@ impl Stock {
             unreachable!()
         };
         self.taken += 1;
-        place.mark = mark;
+        place.item = item;
         place
     }
 
@@ -124,24 +125,25 @@ fn fill(alloc: Global, spare: &mut Vec<Box<Node>>, places: usize) -> Result<(), 
 fn spare_node(alloc: Global) -> Result<Box<Node>, Memory>
     ensures { IfOk result (λ node. IsAlone node.value) }
 {
-    let mark = Mark {
-        begin: Moment(0),
-        end: Moment(0),
+    let item = Item {
+        value: Value::Nil,
+        moment: Moment(0),
+        reach: 0,
         id: OpId {
             feeder: 0,
             event: 0,
         },
-        wrong: false,
+        covers: false,
+        by_value: false,
     };
     Ok(Box::new(
         alloc,
         Node {
             left: Tree::new(),
-            mark,
+            item,
             right: Tree::new(),
-            least: 0,
+            summary: Summary::none(),
             height: 0,
-            wrong: false,
         },
     )?)
 }

@@ -1,107 +1,105 @@
-//! Rows of reads, as calls of a tree, and a long run beside a plain list.
-
-ghost use Rattle.std.specs.Prelude.{nat_le};
+//! Rows of items, as calls of a tree, and a long run beside a plain list.
 
 use super::*;
-use intervals::{Memory, Moment, OpId};
+use intervals::{Memory, Moment, OpId, Spot, Value, is_same_value};
 use std::alloc::Global;
 use std::fmt::Write;
 use std::process::Abort;
 use std::test::Fail;
 
-/// Calls the reads wrong that began then or later.
-#[derive(Clone, Copy)]
-struct WrongFrom(u64);
-
-impl Judge for WrongFrom {
-    ghost says = { λ j m. nat_le j.0 m.begin.0 };
-
-    fn is_wrong(&self, read: &Mark) -> bool {
-        self.0 <= read.begin.0
-    }
-}
-
 fn number(word: &str) -> u64 {
     word.parse::<u64>().unwrap_or(0)
 }
 
-fn two_numbers(word: &str) -> (u64, u64) {
-    let (first, second) = word.split_once('-').unwrap_or((word, ""));
-    (number(first), number(second))
-}
-
-fn mark(begin: u64, end: u64, wrong: bool) -> Mark {
-    Mark {
-        begin: Moment(begin),
-        end: Moment(end),
+fn item(covers: bool, by_value: bool, value: i64, moment: u64, reach: u64) -> Item {
+    Item {
+        value: Value::Int(value),
+        moment: Moment(moment),
+        reach,
         id: OpId {
             feeder: 0,
-            event: end,
+            event: moment,
         },
-        wrong,
+        covers,
+        by_value,
     }
 }
 
-fn put(tree: &mut ReadTree, mark: Mark) -> Result<(), Memory> {
+/// `r5:3-1` is a read of 5 that ended at 3 and reaches to 1, `c5:2-6` a cover of 5 from 2 on, for what
+/// reaches to 6. They stand in the row of their value, `R5:3-1` and `C5:2-6` in the one row.
+fn item_of(word: &str) -> Item {
+    let (value, rest) = word.split_once(':').unwrap_or((word, ""));
+    let (moment, reach) = rest.split_once('-').unwrap_or((rest, ""));
+    let covers = value.starts_with('c') || value.starts_with('C');
+    let by_value = value.starts_with('c') || value.starts_with('r');
+    let value = value.trim_start_matches(|c: char| !c.is_ascii_digit());
+    item(
+        covers,
+        by_value,
+        value.parse::<i64>().unwrap_or(0),
+        number(moment),
+        number(reach),
+    )
+}
+
+fn put(tree: &mut ReadTree, item: Item) -> Result<(), Memory> {
     tree.reserve(1)?;
-    if tree.get(mark.end).is_none() {
-        tree.insert(mark);
+    if tree.get(item.spot()).is_none() {
+        tree.insert(item);
     }
     Ok(())
 }
 
-/// `1-3` puts in a right read from 1 to 3, `1-3!` a wrong one, `~3` takes the read out that ended at 3,
-/// and `?4-6:5` judges the window from 4 to 6 anew: the reads from 5 on are wrong.
-fn edit(tree: &mut ReadTree, word: &str) -> Result<(), Memory> {
-    if let Some(end) = word.strip_prefix('~') {
-        let _ = tree.remove(Moment(number(end)));
-        return Ok(());
-    }
-    if let Some(window) = word.strip_prefix('?') {
-        let (window, first) = window.split_once(':').unwrap_or((window, ""));
-        let (from, upto) = two_numbers(window);
-        tree.judge(&WrongFrom(number(first)), Moment(from), Moment(upto));
-        return Ok(());
-    }
-    let (word, wrong) = word.strip_suffix('!').map_or((word, false), |w| (w, true));
-    let (begin, end) = two_numbers(word);
-    put(tree, mark(begin, end, wrong))
-}
-
-/// The reads, the end of the first wrong one, and the free places.
+/// The first short read, the moments of what is in the one row, and the free places. A word behind `~`
+/// takes out what stands at its spot.
 fn told(alloc: Global, words: &str) -> Result<String, Memory> {
     let mut tree = ReadTree::new(alloc);
     for word in words.split(' ') {
-        edit(&mut tree, word)?;
-    }
-    let mut told = String::new(alloc);
-    for end in 0..20 {
-        if let Some(read) = tree.get(Moment(end)) {
-            let _ = write!(told, "{}-{}", read.begin.0, read.end.0);
-            let _ = write!(told, "{}", if read.wrong { "! " } else { " " });
+        match word.strip_prefix('~') {
+            Some(gone) => {
+                let _ = tree.remove(item_of(gone).spot());
+            }
+            None => put(&mut tree, item_of(word))?,
         }
     }
-    let _ = match tree.first_wrong() {
-        Some(first) => write!(told, "first {}", first.end.0),
-        None => write!(told, "none"),
+    let mut told = String::new(alloc);
+    let _ = match tree.first_short() {
+        Some(first) => write!(told, "{}:", first.moment.0),
+        None => write!(told, "none:"),
     };
+    for moment in 0..20 {
+        let spot = Spot {
+            value: Value::Nil,
+            moment: Moment(moment),
+        };
+        if tree.get(spot).is_some() {
+            let _ = write!(told, " {moment}");
+        }
+    }
     let _ = write!(told, ", {} free", tree.free());
     Ok(told)
 }
 
-const ROWS: &str = "1-3 5-9! => 1-3 5-9! first 9, 0 free
-5-9! 1-3 ~9 => 1-3 none, 1 free
-5-9! 1-3 ~9 4-6! => 1-3 4-6! first 6, 0 free
-5-9! 1-3 ~4 => 1-3 5-9! first 9, 0 free
-5-9! 1-3! 2-6! => 1-3! 2-6! 5-9! first 3, 0 free
-0-1 0-2 0-3 0-4 0-5 0-6 0-7 ~4 ~2 ~1 => 0-3 0-5 0-6 0-7 none, 3 free
-0-7 0-6 0-5 0-4 0-3 0-2 0-1 ~7 ~6 ~5 => 0-1 0-2 0-3 0-4 none, 3 free
-0-1 0-9! 0-2 0-8 0-3! 0-7 0-4 ~3 => 0-1 0-2 0-4 0-7 0-8 0-9! first 9, 1 free
-1-3 7-9 2-12 ?4-6:0 => 1-3 7-9 2-12! first 12, 0 free
-1-4 6-9 ?4-6:0 => 1-4! 6-9! first 4, 0 free
-1-3! 5-9! 7-11! ?4-6:6 => 1-3! 5-9 7-11! first 3, 0 free
-5-9! ?4-6:6 => 5-9 none, 0 free
-5-9! 1-3 ?6-4:0 => 1-3 5-9! first 9, 0 free";
+const ROWS: &str = "r5:3-1 => 3:, 0 free
+r5:3-0 => none:, 0 free
+c5:2-6 r5:3-1 => none:, 0 free
+c5:2-6 r5:3-6 r5:4-7 => 4:, 0 free
+c5:4-6 r5:3-1 => 3:, 0 free
+c4:2-6 r5:3-1 => 3:, 0 free
+c5:2-6 r5:3-1 ~c5:2 => 3:, 1 free
+r2:9-1 r7:3-1 => 3:, 0 free
+r2:3-1 r7:9-1 => 3:, 0 free
+R5:3-1 => 3: 3, 0 free
+C5:2-6 R5:3-9 => none: 2 3, 0 free
+C5:2-6 R4:3-6 => none: 2 3, 0 free
+C5:2-6 R4:3-7 R5:4-9 => 3: 2 3 4, 0 free
+C5:2-6 C4:4-0 R5:5-1 => 5: 2 4 5, 0 free
+C5:2-6 C4:4-0 R5:3-9 => none: 2 3 4, 0 free
+C5:2-6 C4:4-0 R5:5-1 ~R4:4 => none: 2 5, 1 free
+C5:2-6 R4:3-7 R4:3-1 => 3: 2 3, 1 free
+R1:1-0 R1:2-0 R1:3-0 R1:4-0 R1:5-0 R1:6-0 R1:7-0 ~R1:4 ~R1:2 ~R1:1 => none: 3 5 6 7, 3 free
+R1:7-0 R1:6-0 R1:5-0 R1:4-0 R1:3-0 R1:2-0 R1:1-0 ~R1:7 ~R1:6 ~R1:5 => none: 1 2 3 4, 3 free
+R1:1-0 R1:9-5 R1:2-0 R1:8-4 R1:3-3 R1:7-0 R1:4-0 ~R1:3 => 8: 1 2 4 7 8 9, 1 free";
 
 #[test]
 fn rows_are_told(rt: HostRuntime) -> Result<(), Fail> {
@@ -113,48 +111,68 @@ fn rows_are_told(rt: HostRuntime) -> Result<(), Fail> {
     Ok(())
 }
 
-fn first_end(tree: &ReadTree) -> Option<u64> {
-    tree.first_wrong().map(|read| read.end.0)
+/// The last cover in the read's row that is before it.
+fn plain_cover(items: &[Item], read: &Item) -> Option<Item> {
+    let mut last: Option<Item> = None;
+    for item in items {
+        let nearer = last.is_none_or(|last| last.moment.0 < item.moment.0);
+        let in_row = !read.by_value || is_same_value(item.value, read.value);
+        if item.covers && in_row && item.moment.0 < read.moment.0 && nearer {
+            last = Some(*item);
+        }
+    }
+    last
 }
 
-fn plain_first_end(reads: &[Mark]) -> Option<u64> {
-    reads
+/// How far the read may reach.
+fn plain_limit(items: &[Item], read: &Item) -> u64 {
+    match plain_cover(items, read) {
+        None => 0,
+        Some(cover) if cover.by_value || !is_same_value(read.value, cover.value) => cover.reach,
+        Some(_) => u64::MAX,
+    }
+}
+
+fn plain_first(items: &[Item]) -> Option<u64> {
+    items
         .iter()
-        .filter(|read| read.wrong)
-        .map(|read| read.end.0)
+        .filter(|item| !item.covers && plain_limit(items, item) < item.reach)
+        .map(|item| item.moment.0)
         .min()
 }
 
-fn judge_plain(reads: &mut [Mark], from: u64, upto: u64) {
-    for read in reads {
-        if from <= read.end.0 && read.begin.0 <= upto {
-            read.wrong = WrongFrom(90).is_wrong(read);
+fn agrees(tree: &ReadTree, plain: &[Item]) -> bool {
+    let first = tree.first_short().map(|read| read.moment.0);
+    first == plain_first(plain) && first.is_some() == tree.has_short()
+}
+
+/// The step at which the tree and the list come to say different things.
+fn first_difference(alloc: Global, by_value: bool) -> Result<Option<u64>, Memory> {
+    let mut tree = ReadTree::new(alloc);
+    let mut plain = Vec::new(alloc);
+    for i in 0..80u64 {
+        let moment = i.wrapping_mul(37) % 83;
+        let value = i64::try_from(i % 3).unwrap_or(0);
+        let new = item(i % 4 == 1, by_value, value, moment, i.wrapping_mul(29) % 41);
+        put(&mut tree, new)?;
+        plain.push(new)?;
+        if i % 3 == 0 {
+            let gone = i.wrapping_mul(53) % 83;
+            for value in 0..3 {
+                let _ = tree.remove(item(false, by_value, value, gone, 0).spot());
+            }
+            plain.retain(|other| other.moment.0 != gone);
+        }
+        if !agrees(&tree, plain.as_slice()) {
+            return Ok(Some(i));
         }
     }
+    Ok(None)
 }
 
 #[test]
 fn a_long_run_agrees_with_a_plain_list(rt: HostRuntime) -> Result<(), Fail> {
-    let mut tree = ReadTree::new(rt.alloc());
-    let mut plain = Vec::new(rt.alloc());
-    for i in 0..150u64 {
-        let read = mark(i, 200u64.wrapping_add(i.wrapping_mul(97) % 151), i % 4 == 1);
-        put(&mut tree, read)?;
-        plain.push(read)?;
-        if i % 3 == 0 {
-            let gone = 200u64.wrapping_add(i.wrapping_mul(53) % 151);
-            let _ = tree.remove(Moment(gone));
-            plain.retain(|other| other.end.0 != gone);
-        }
-        if i % 5 == 0 {
-            let from = 200u64.wrapping_add(i);
-            tree.judge(&WrongFrom(90), Moment(from), Moment(i));
-            judge_plain(plain.as_mut_slice(), from, i);
-        }
-        assert!(rt;
-            first_end(&tree) == plain_first_end(plain.as_slice()),
-            "{i}"
-        );
-    }
+    assert!(rt; first_difference(rt.alloc(), true)?.is_none());
+    assert!(rt; first_difference(rt.alloc(), false)?.is_none());
     Ok(())
 }

@@ -1,11 +1,13 @@
-//! A tree of boxes, seen as its reads by end and its height, and the one function that makes trees.
+//! A tree of boxes, seen as its items in order and its height, and the one function that makes trees.
 
-ghost use Rattle.std.specs.Prelude.{◌≡◌, ◌+◌, ◌<◌, max, [], MatchOption};
-ghost use Rattle.read_tree.specs.Reads.{has_wrong as some_wrong};
-ghost use Rattle.read_tree.specs.Layers.{DifferByAtMost, IsLow, least_begin, no_layers};
-ghost use Rattle.read_tree.specs.Node.{IsTop, reads_of};
+ghost use Rattle.std.specs.Prelude.{◌≡◌, ◌+◌, ◌<◌, max, MatchOption, ◌∷◌, ◌++◌};
+ghost use Rattle.read_tree.specs.Items.{is_some_short};
+ghost use Rattle.read_tree.specs.Layers.{DifferByAtMost, IsLow, no_layers};
+ghost use Rattle.read_tree.specs.Summary.{IsSummary};
+ghost use Rattle.read_tree.specs.Node.{IsTop, items_of};
 
-use crate::Mark;
+use crate::summary::Summary;
+use crate::{Cover, Item};
 use std::marker::Model;
 
 #[cycle(tree)]
@@ -14,17 +16,15 @@ pub struct Tree {
     top: Option<Box<Node>>,
 }
 
-/// A read between the reads of its sides. It keeps the least beginning of all of them, and whether
-/// some of them is wrong.
+/// An item between the items of its sides, and a summary of all of them.
 #[cycle(tree)]
 #[derive(Drop)]
 pub struct Node {
     pub left: Tree,
-    pub mark: Mark,
+    pub item: Item,
     pub right: Tree,
-    pub least: u64,
+    pub summary: Summary,
     pub height: u8,
-    pub wrong: bool,
 }
 
 impl Model for Tree {
@@ -39,7 +39,7 @@ impl Model for Tree {
 
     ghost invariant = { λ t. IsBalanced t.top };
 
-    ghost size = { λ d. length d.reads };
+    ghost size = { λ d. length d.items };
 
     ghost use Rattle.std.proofs.Common.{arith, length-append};
 
@@ -55,7 +55,7 @@ impl Tree {
 
     pub fn height(&self) -> u8
         ensures value { result ≡ self.now.height }
-        ensures low { IsLow self.now.reads self.now.height }
+        ensures low { IsLow self.now.items self.now.height }
     {
         match &self.top {
             Some(top) => top.height,
@@ -63,24 +63,21 @@ impl Tree {
         }
     }
 
-    /// The least beginning, and the greatest number where there is no read.
-    #[tactic(auto, using(crate::proofs::Least::least_of_none))]
-    pub fn least(&self) -> u64
-        ensures { result ≡ least_begin self.now.reads }
+    #[tactic(auto, using(crate::proofs::Joins::summary_of_none))]
+    pub fn summary(&self) -> Summary
+        ensures { IsSummary result self.now.items }
     {
         match &self.top {
-            Some(top) => top.least,
-            None => u64::MAX,
+            Some(top) => top.summary,
+            None => Summary::none(),
         }
     }
 
-    pub fn has_wrong(&self) -> bool
-        ensures { result ≡ some_wrong self.now.reads }
+    /// Some read is short, where that cover stands before all.
+    pub fn has_short(&self, before: Option<Cover>) -> bool
+        ensures { result ≡ is_some_short before self.now.items }
     {
-        match &self.top {
-            Some(top) => top.wrong,
-            None => false,
-        }
+        self.summary().is_short(before)
     }
 
     #[tactic(auto, using(crate::proofs::Sides::parted))]
@@ -104,18 +101,22 @@ impl Tree {
 }
 
 /// The tree with that node at its top.
-#[tactic(auto, using(crate::proofs::Least::least_around, crate::proofs::Least::wrong_around, crate::proofs::Low::low_node))]
+#[tactic(auto, using(crate::proofs::Low::low_node))]
 pub fn close(mut node: Box<Node>) -> Tree
     requires near { DifferByAtMost 1 node.value.left.height node.value.right.height }
     requires room { max node.value.left.height node.value.right.height < 255 }
-    ensures reads { result.reads ≡ reads_of node.value }
+    ensures items { result.items ≡ items_of node.value }
     ensures height { result.height ≡ max node.value.left.height node.value.right.height + 1 }
 {
     node.height = node.left.height().max(node.right.height()) + 1;
-    node.least = node
-        .left
-        .least()
-        .min(node.mark.begin.0.min(node.right.least()));
-    node.wrong = node.left.has_wrong() | (node.mark.wrong | node.right.has_wrong());
+    node.summary = summary_around(&node.left, node.item, &node.right);
     Tree { top: Some(node) }
+}
+
+/// Of an item between two sides.
+fn summary_around(left: &Tree, item: Item, right: &Tree) -> Summary
+    ensures { IsSummary result (left.now.items ++ item ∷ right.now.items) }
+{
+    let behind = Summary::of_one(item).join(right.summary());
+    left.summary().join(behind)
 }

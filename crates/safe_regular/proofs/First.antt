@@ -11,7 +11,7 @@ use Rattle.intervals.specs.Judging.{is_wrong_read, end_number, first_wrong}
 use Rattle.intervals.proofs.LeastOf.{least_by-IsLeast, least_from-None, least_from-none}
 use Rattle.safe_regular.specs.Apart.{HasDistinctEnds}
 use Rattle.safe_regular.specs.First.{IsFirstWrong}
-use Rattle.safe_regular.proofs.Alike.{all_from}
+use Rattle.safe_regular.proofs.Lists.{all_from}
 
 module _ (key : Op → ℕ) (test : Op → Bool) where
   -- no two that pass have one key

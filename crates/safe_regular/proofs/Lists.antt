@@ -1,11 +1,15 @@
 -- Which operations stand in a list without some.
 use Rattle.std.proofs.Common.{◌≡◌, zero, suc, Bool, true, false, List, [], ◌∷◌, filter, refl, ap, arith, cond}
-use Rattle.std.specs.Prelude.{Contains}
-use Rattle.std.proofs.lemmas.List.Elements.{All-contains, All-contains_itself, All-filter}
+use Rattle.std.specs.Prelude.{All, Contains, slice_index_or}
+use Rattle.std.proofs.lemmas.List.Elements.{All-contains, All-contains_itself, All-filter, Contains-get_or}
 use Rattle.intervals.specs.declared.operation.Op.{Op}
 use Rattle.intervals.specs.Edit.{op_of}
 use Rattle.intervals.specs.Standing.{HasDistinctIds}
 use Rattle.intervals.proofs.Ids.{found_by_id}
+
+-- of all and of those that stand
+pub all_from : (P : Op → Type 0) (ops : List Op) → ((op : Op) → Contains ops op → P op) → All P ops
+all_from P ops each k d lt = each (slice_index_or ops k d) (Contains-get_or ops k d lt)
 
 -- what a filter keeps
 pub kept : (test : Op → Bool) (ops : List Op) (op : Op) → Contains ops op → test op ≡ true → Contains (filter test ops) op

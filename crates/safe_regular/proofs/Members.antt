@@ -34,7 +34,7 @@ pub same_moment : (m n : Moment) → m.0 ≡ n.0 → m ≡ n
 same_moment m n e = ap (λ (k : ℕ). let moment : Moment = record { 0 = k } in moment) e
 
 -- an end that is there is the one of its number
-end_is : (end : Option Moment) → is_some end ≡ true → end ≡ Some (record { 0 = option_map_or (λ (e : Moment). e.0) end 0 })
+pub end_is : (end : Option Moment) → is_some end ≡ true → end ≡ Some (record { 0 = option_map_or (λ (e : Moment). e.0) end 0 })
 end_is None e = absurd (cc)
 end_is (Some end) e = refl
 

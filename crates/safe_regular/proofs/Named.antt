@@ -1,6 +1,6 @@
--- The first wrong mark names the first wrong read, and a list without the operation of an id.
+-- The first read that is short names the first wrong read, and a list without the operation of an id.
 use Rattle.std.proofs.Common.{◌≡◌, ◌↔◌, ◌≢◌, ◌⊎◌, inl, inr, suc, Bool, true, false, not, ◌&&◌, ◌≤◌, List, [], ◌∷◌, Option, Some, None, refl, sym, ap, ◌∙◌, subst, filter, arith}
-use Rattle.std.specs.Prelude.{Contains, IsTrue, IsSomeAnd}
+use Rattle.std.specs.Prelude.{Contains, IsTrue, IsSomeAnd, option_map}
 use Rattle.std.proofs.lemmas.List.Elements.{All-contains}
 use Rattle.std.proofs.lemmas.Bool.{and_parts, and_right, both_ways, cases_Bool, not-true, not_from_false, false_from_ne_true}
 use Rattle.intervals.specs.declared.operation.Op.{Op}
@@ -14,50 +14,90 @@ use Rattle.intervals.specs.Operation.{IsJudgedRead, is_judged_read, same_id}
 use Rattle.intervals.specs.Standing.{HasDistinctIds}
 use Rattle.intervals.specs.Terms.{Terms}
 use Rattle.intervals.proofs.Ids.{found_by_id}
-use Rattle.intervals.proofs.LeastOf.{least_from-None}
-use Rattle.read_tree.specs.declared.mark.Mark.{Mark}
-use Rattle.read_tree.specs.Reads.{IsByEnd, has_wrong, first_wrong as first_mark}
-use Rattle.read_tree.proofs.Members.{found_stands, none_stands, ended_first, none_first, none_wrong}
-use Rattle.safe_regular.specs.Held.{StandApart, AreMarks, mark_of}
+use Rattle.intervals.specs.declared.shelf.Spot.{Spot}
+use Rattle.read_tree.specs.declared.item.Item.{Item}
+use Rattle.read_tree.specs.Items.{IsCoverAt, cover_of, first_short, is_short, is_some_short, place_of}
+use Rattle.safe_regular.specs.Held.{IsLow, StandApart}
+use Rattle.safe_regular.specs.Line.{AreItems, read_item}
+use Rattle.safe_regular.proofs.Covered.{covered}
 use Rattle.safe_regular.proofs.Edited.{one_at}
 use Rattle.safe_regular.proofs.First.{first_wrong_is}
 use Rattle.safe_regular.proofs.Members.{distinct_ends}
 
-module _ (claim : Terms) (ops : List Op) (apart : StandApart claim ops) (marks : List Mark) (are : AreMarks (is_wrong_read claim ops) ops marks) where
+-- what the tree's laws say of its items
+pub record AreToldOf (items : List Item) : Type 0 where
+  pub none : is_some_short None items ≡ false → (r : Item) (c : Option Item) → Contains items r → r.covers ≡ false → IsCoverAt items (place_of r) c → is_short (option_map cover_of c) r ≡ false
+  pub found : (r : Item) → first_short None items ≡ Some r → Contains items r × (r.covers ≡ false)
+      × ((c : Option Item) → IsCoverAt items (place_of r) c → is_short (option_map cover_of c) r ≡ true)
+      × ((other : Item) (c : Option Item) → Contains items other → other.covers ≡ false → IsCoverAt items (place_of other) c
+      → is_short (option_map cover_of c) other ≡ true → r.moment.0 ≤ other.moment.0)
+  pub some : (is_some_short None items ≡ false) ↔ (first_short None items ≡ None)
+  pub cover : (spot : Spot) → (c : Option Item) × IsCoverAt items spot c
+
+module _ (claim : Terms) (ops : List Op) (apart : StandApart claim ops) (items : List Item) (are : AreItems claim ops items) (told : AreToldOf items) where
   judged_of : (r : Op) → IsTrue (is_wrong_read claim ops r) → IsJudgedRead r
   judged_of r wrong = (and_parts (is_judged_read r) _ wrong).0
 
-  pub none_named : first_mark marks ≡ None → first_wrong claim ops ≡ None
-  none_named e = first_wrong_is claim ops (distinct_ends ops apart.moments) None
-      (λ r h wrong. both_ways (is_wrong_read claim ops r) (none_stands (λ m. m.wrong) marks e (mark_of (is_wrong_read claim ops) r) (are.each r h (judged_of r wrong))) wrong)
+  -- whether the item of a read is short of the last cover before it
+  at_cover : (r : Op) → Contains ops r → IsJudgedRead r → (c : Option Item) × IsCoverAt items (place_of (read_item claim r)) c × (is_short (option_map cover_of c) (read_item claim r) ≡ is_wrong_read claim ops r)
+  at_cover r stands judged = let (c, c_is) = told.cover (place_of (read_item claim r)) in (c, c_is, covered claim ops apart items are r stands judged c c_is)
 
-  one_named : (m : Mark) → IsByEnd marks → first_mark marks ≡ Some m → (r : Op) × (op_of ops m.id ≡ Some r) × (first_wrong claim ops ≡ Some r)
-  one_named m order e =
-      let found = found_stands (λ x. x.wrong) marks m e in
-      let (r, h, j, is) = are.only m found.0 in (
+  item_stands : (r : Op) → Contains ops r → IsJudgedRead r → Contains items (read_item claim r)
+  item_stands r stands judged = are.each (read_item claim r) (inl (record { read = r; stands = stands; judged = judged; is = refl }))
+
+  none_wrong : is_some_short None items ≡ false → (r : Op) → Contains ops r → ¬ IsTrue (is_wrong_read claim ops r)
+  none_wrong none r stands wrong =
+      let judged = judged_of r wrong in
+      let (c, c_is, e) = at_cover r stands judged in
+      both_ways (is_wrong_read claim ops r) (sym e ∙ told.none none (read_item claim r) c (item_stands r stands judged) refl c_is) wrong
+
+  pub none_named : is_some_short None items ≡ false → first_wrong claim ops ≡ None
+  none_named none = first_wrong_is claim ops (distinct_ends ops apart.moments) None (none_wrong none)
+
+  -- a read of the tree is one of the operations
+  which_read : (x : Item) → Contains items x → x.covers ≡ false → (r : Op) × Contains ops r × IsJudgedRead r × (x ≡ read_item claim r)
+  which_read x stands reads = elim (are.only x stands) [
+    | inl is ↦ (is.read, is.stands, is.judged, is.is)
+    | inr cover ↦ elim cover [
+      | inl is ↦ absurd (let e : x.covers ≡ true = ap (λ (y : Item). y.covers) is.is in cc)
+      | inr is ↦ absurd (let e : x.covers ≡ true = ap (λ (y : Item). y.covers) is.is in cc)
+    ]
+  ]
+
+  earlier_end : (a b : Op) → Contains ops a → Contains ops b → (read_item claim a).moment.0 ≤ (read_item claim b).moment.0 → end_number a ≤ end_number b
+  earlier_end a b sa sb le =
+      let low_a = (All-contains IsLow ops a apart.low sa).end in
+      let low_b = (All-contains IsLow ops b apart.low sb).end in
+      omega (arith, le, low_a, low_b)
+
+  one_named : (x : Item) → first_short None items ≡ Some x → (r : Op) × (op_of ops x.id ≡ Some r) × (first_wrong claim ops ≡ Some r)
+  one_named x found =
+      let (stands, reads, short, first) = told.found x found in
+      let (r, h, j, is) = which_read x stands reads in
+      let (c, c_is, e) = at_cover r h j in
+      let at : place_of (read_item claim r) ≡ place_of x = ap place_of (sym is) in (
         r,
-        ap (λ (x : Mark). op_of ops x.id) is ∙ found_by_id ops r apart.ids h,
+        ap (λ (y : Item). op_of ops y.id) is ∙ found_by_id ops r apart.ids h,
         first_wrong_is claim ops (distinct_ends ops apart.moments) (Some r) (record {
           stands = h;
-          wrong = sym (ap (λ (x : Mark). x.wrong) is) ∙ found.1;
+          wrong = sym e ∙ ap (is_short (option_map cover_of c)) (sym is) ∙ short c (subst (λ (s : Spot). IsCoverAt items s c) at c_is);
           first = λ other k wrong.
-              subst (λ (x : Mark). x.end.0 ≤ end_number other) is
-              (ended_first marks m (mark_of (is_wrong_read claim ops) other) order e (are.each other k (judged_of other wrong)) wrong);
+              let judged = judged_of other wrong in
+              let (d, d_is, f) = at_cover other k judged in
+              let le = first (read_item claim other) d (item_stands other k judged) refl d_is (f ∙ wrong) in
+              earlier_end r other h k (subst (λ (y : Item). y.moment.0 ≤ (read_item claim other).moment.0) is le);
         }),
       )
 
-  pub named : (m : Mark) → IsByEnd marks → first_mark marks ≡ Some m → op_of ops m.id ≡ first_wrong claim ops
-  named m order e = let (r, f, g) = one_named m order e in f ∙ sym g
+  pub named : (x : Item) → first_short None items ≡ Some x → op_of ops x.id ≡ first_wrong claim ops
+  named x found = let (r, f, g) = one_named x found in f ∙ sym g
 
-  none_marked : first_wrong claim ops ≡ None → first_mark marks ≡ None
-  none_marked none = by_cases (first_mark marks) refl
+  none_found : first_wrong claim ops ≡ None → first_short None items ≡ None
+  none_found none = by_cases (first_short None items) refl
     where
-      by_cases : (o : Option Mark) → first_mark marks ≡ o → first_mark marks ≡ None
+      by_cases : (o : Option Item) → first_short None items ≡ o → first_short None items ≡ None
       by_cases None e = e
-      by_cases (Some m) e =
-          let found = found_stands (λ x. x.wrong) marks m e in
-          let (r, h, j, is) = are.only m found.0 in
-          absurd (All-contains (λ o. ¬ IsTrue (is_wrong_read claim ops o)) ops r (least_from-None end_number (is_wrong_read claim ops) None ops none).1 h (sym (ap (λ (x : Mark). x.wrong) is) ∙ found.1))
+      by_cases (Some x) e = absurd (let (r, f, g) = one_named x e in cc)
 
   by_kind : (kind : Kind) → claim.kind ≡ kind → kind ≢ Atomic
       → (claim.kind ≡ Safe → (first_wrong claim ops ≡ None) ↔ IsSafe claim ops) → (claim.kind ≡ Regular → (first_wrong claim ops ≡ None) ↔ IsRegular claim ops)
@@ -66,13 +106,13 @@ module _ (claim : Terms) (ops : List Op) (apart : StandApart claim ops) (marks :
   by_kind Regular e one_writer safe regular = regular e
   by_kind Atomic e one_writer safe regular = absurd (one_writer refl)
 
-  -- no mark is wrong exactly where the register keeps what it claims
+  -- no read is short exactly where the register keeps what it claims
   pub holds_where_none : (claim.kind ≡ Safe → (first_wrong claim ops ≡ None) ↔ IsSafe claim ops) → (claim.kind ≡ Regular → (first_wrong claim ops ≡ None) ↔ IsRegular claim ops)
-      → (some : Bool) → some ≡ has_wrong marks → IsTrue (not some) ↔ Holds claim ops
+      → (some : Bool) → some ≡ is_some_short None items → IsTrue (not some) ↔ Holds claim ops
   holds_where_none safe regular some is =
       let kind = by_kind claim.kind refl apart.one_writer safe regular in (
-        λ t. kind.0 (none_named (none_first marks (sym is ∙ not-true some t))),
-        λ holds. not_from_false some (is ∙ none_wrong marks (none_marked (kind.1 holds))),
+        λ t. kind.0 (none_named (sym is ∙ not-true some t)),
+        λ holds. not_from_false some (is ∙ told.some.1 (none_found (kind.1 holds))),
       )
 
 -- tests that agree on the operations of a list leave the same

@@ -1,59 +1,107 @@
 -- What the parts of a judge are to each other after an edit.
-use Rattle.std.proofs.Common.{◌≡◌, ◌≤◌, List, Option, Some, None, refl, sym, subst, arith}
-use Rattle.std.specs.Prelude.{IfSome}
+use Rattle.std.proofs.Common.{◌≡◌, ◌≤◌, inl, inr, true, List, Option, Some, None, refl, sym, ◌∙◌, subst, arith}
+use Rattle.std.specs.Prelude.{◌<◌, Contains, IfSome, IsSome}
+use Rattle.std.proofs.lemmas.Bool.{both_ways}
 use Rattle.intervals.specs.declared.operation.Op.{Op}
-use Rattle.intervals.specs.declared.operation.Moment.{Moment}
 use Rattle.intervals.specs.declared.edit.Edit.{Edit}
 use Rattle.intervals.specs.Edit.{op_of, edited, new_op, edit_id}
-use Rattle.intervals.specs.Judging.{is_wrong_read}
+use Rattle.intervals.specs.Operation.{same_id}
 use Rattle.intervals.specs.Refusal.{reply_to}
 use Rattle.intervals.specs.Table.{prepared_after}
 use Rattle.intervals.specs.Terms.{Terms}
 use Rattle.intervals.proofs.Accepted.{edit_accepted}
-use Rattle.read_tree.specs.declared.mark.Mark.{Mark}
-use Rattle.read_tree.specs.Reads.{Contents, read_at}
+use Rattle.read_tree.specs.declared.item.Item.{Item}
+use Rattle.read_tree.specs.Items.{AreInOrder, Contents}
 use Rattle.safe_regular.specs.declared.writes.Writes.{Writes}
-use Rattle.safe_regular.specs.Held.{StandApart, AreMarks, CanJudge, HasRoomFor, IsWindowOf, end_at, judged_over, marks_with, marks_without, read_in, says_of}
-use Rattle.safe_regular.specs.Writes.{AreWrites, HasPlacesOf, IsAddedOf}
-use Rattle.safe_regular.proofs.Changed.{others_of, goes, comes}
+use Rattle.safe_regular.specs.Held.{StandApart, CanJudge, HasRoomFor}
+use Rattle.safe_regular.specs.Line.{AreItems, IsCoverBefore, IsExchanged, IsFreeFor, IsItemOf, IsRenewed, IsTaken, spot_in}
+use Rattle.safe_regular.specs.Writes.{AreWrites, HasPlaceIn, IsAddedOf}
+use Rattle.safe_regular.proofs.Changed.{others_of, IsAmong, other_stands, other_apart, old_stands, before_cases, other_after, new_stands, after_cases, goes, comes}
 use Rattle.safe_regular.proofs.Edited.{apart_kept}
-use Rattle.safe_regular.proofs.Members.{are_apart}
-use Rattle.safe_regular.proofs.Marked.{marked_after, new_end, writes_apart}
+use Rattle.safe_regular.proofs.Laid.{items_after, place_is_free, place_is_taken}
+use Rattle.safe_regular.proofs.Told.{writes_apart}
 
 -- the room for the prepared operation is used by the new one, or stays
-pub room_after : (writes writes' : Writes) (reads reads' : Contents) (prepared new after : Option Op) → IfSome prepared (HasRoomFor writes reads) → HasPlacesOf prepared writes'
-    → (new ≡ None → reads.free ≤ reads'.free) → after ≡ prepared_after new prepared → IfSome after (HasRoomFor writes' reads')
-room_after writes writes' reads reads' prepared (Some op) after room places free e = rw e tt
-room_after writes writes' reads reads' None None after room places free e = rw e tt
-room_after writes writes' reads reads' (Some op) None after room places free e = rw e (record { places = places; free = let le = free refl in let one = room.free in omega arith })
+pub room_after : (writes writes' : Writes) (line line' : Contents) (prepared new after : Option Op) → IfSome prepared (HasRoomFor writes line) → HasPlaceIn prepared writes'
+    → (new ≡ None → line.free ≤ line'.free) → after ≡ prepared_after new prepared → IfSome after (HasRoomFor writes' line')
+room_after writes writes' line line' prepared (Some op) after room place free e = rw e tt
+room_after writes writes' line line' None None after room place free e = rw e tt
+room_after writes writes' line line' (Some op) None after room place free e = rw e (record { place = place; free = let le = free refl in let one = room.free in omega arith })
+
+-- where no operation comes, no item does
+pub no_item : (new : Option Op) (item : Option Item) → new ≡ None → ((x : Item) → item ≡ Some x → (o : Op) × (new ≡ Some o)) → item ≡ None
+no_item new None none of_new = refl
+no_item new (Some x) none of_new = absurd (let (o, is) = of_new x refl in cc)
+
+-- where the new operation has an item, there is room for it
+pub room_for_new : (writes : Writes) (line : Contents) (prepared new : Option Op) → IfSome prepared (HasRoomFor writes line) → IfSome new (λ op. prepared ≡ Some op)
+    → (item : Option Item) → ((x : Item) → item ≡ Some x → (o : Op) × (new ≡ Some o)) → IsSome item → 0 < line.free
+room_for_new writes line prepared new room is None of_new some = absurd (cc)
+room_for_new writes line prepared new room is (Some x) of_new some =
+    let (o, new_is) = of_new x refl in
+    let prepared_is : prepared ≡ Some o = subst (λ (p : Option Op). IfSome p (λ op. prepared ≡ Some op)) new_is is in
+    let there : HasRoomFor writes line o = subst (λ (p : Option Op). IfSome p (HasRoomFor writes line)) prepared_is room in
+    let one = there.free in omega (arith, one)
 
 module _ (claim : Terms) (ops : List Op) (edit : Edit) (apart : StandApart claim ops) (accepted : reply_to claim ops edit ≡ None)
     (old new : Option Op) (old_is : old ≡ op_of ops (edit_id edit)) (new_is : new ≡ new_op ops edit) (listed : List Op) (listed_is : listed ≡ edited ops edit) where
-  -- the shelves are those of the operations afterwards
+  later : StandApart claim (edited ops edit)
+  later = apart_kept claim ops edit apart accepted
+
+  pub later_listed : StandApart claim listed
+  later_listed = subst (StandApart claim) (sym listed_is) later
+
+  -- the shelf is that of the operations afterwards
   pub can_judge : (writes writes' : Writes) → AreWrites ops writes
       → ((before others after : List Op) → AreWrites before writes → IsAddedOf others old before → IsAddedOf others new after → AreWrites after writes') → CanJudge listed writes'
   can_judge writes writes' are change =
-      let later = apart_kept claim ops edit apart accepted in
-      let among : IsAddedOf (others_of ops (edit_id edit)) old ops = rw old_is (goes ops (edit_id edit) apart.ids (are_apart ops apart.moments apart.ends apart.writes)) in
-      let now : IsAddedOf (others_of ops (edit_id edit)) new (edited ops edit) = rw new_is (comes ops edit apart.ids (edit_accepted claim ops edit accepted) (writes_apart claim ops edit apart accepted)) in
-      let both : CanJudge (edited ops edit) writes' = record {
-        shelved = change ops (others_of ops (edit_id edit)) (edited ops edit) are among now;
-        apart = writes_apart claim ops edit apart accepted;
-        ids = later.ids;
-      } in
+      let among : IsAddedOf (others_of ops (edit_id edit)) old ops = rw old_is (goes ops (edit_id edit) apart.ids (writes_apart claim ops apart)) in
+      let now : IsAddedOf (others_of ops (edit_id edit)) new (edited ops edit) = rw new_is (comes ops edit apart.ids (edit_accepted claim ops edit accepted) (writes_apart claim (edited ops edit) later)) in
+      let both : CanJudge (edited ops edit) writes' = record { shelved = change ops (others_of ops (edit_id edit)) (edited ops edit) are among now; ids = later.ids } in
       subst (λ (l : List Op). CanJudge l writes') (sym listed_is) both
 
-  module _ (left come : Option (Moment × Moment)) (left_is : IsWindowOf ops old left) (come_is : IsWindowOf listed new come)
-      (marks one two three : List Mark) (are : AreMarks (is_wrong_read claim ops) ops marks) (read : Option Op) (read_is : read ≡ read_in new)
-      (one_is : one ≡ marks_without (read_in old) marks) (two_is : two ≡ judged_over (says_of claim listed) left one) (three_is : three ≡ judged_over (says_of claim listed) come two) where
-    left_at : IsWindowOf ops (op_of ops (edit_id edit)) left
-    left_at = subst (λ (o : Option Op). IsWindowOf ops o left) old_is left_is
+  abbrev others : List Op
+  others = others_of ops (edit_id edit)
 
-    come_at : IsWindowOf (edited ops edit) (new_op ops edit) come
-    come_at = subst (λ (o : Option Op). IsWindowOf (edited ops edit) o come) new_is (subst (λ (l : List Op). IsWindowOf l new come) listed_is come_is)
+  was_among : (x : Op) → Contains ops x → IsAmong others old x
+  was_among x h = subst (λ (o : Option Op). IsAmong others o x) (sym old_is) (before_cases ops (edit_id edit) apart.ids x h)
 
-    pub new_end_in : IfSome read (λ r. read_at (end_at r) three ≡ None)
-    new_end_in = rw (read_is, three_is, two_is, one_is, listed_is, old_is, new_is) (new_end claim ops edit apart accepted marks are left come left_at come_at)
+  in_before : (x : Op) → IsAmong others old x → Contains ops x
+  in_before x (inl h) = other_stands ops (edit_id edit) x h
+  in_before x (inr e) = (old_stands ops (edit_id edit) x (sym old_is ∙ e)).0
 
-    pub marked_in : (four : List Mark) → four ≡ marks_with (is_wrong_read claim listed) read three → AreMarks (is_wrong_read claim listed) listed four
-    marked_in four four_is = rw (four_is, read_is, three_is, two_is, one_is, listed_is, old_is, new_is) (marked_after claim ops edit apart accepted marks are left come left_at come_at)
+  is_among : (x : Op) → Contains listed x → IsAmong others new x
+  is_among x h = subst (λ (o : Option Op). IsAmong others o x) (sym new_is) (after_cases ops edit apart.ids (edit_accepted claim ops edit accepted) x (subst (λ (l : List Op). Contains l x) listed_is h))
+
+  pub in_listed : (x : Op) → IsAmong others new x → Contains listed x
+  in_listed x (inl h) = subst (λ (l : List Op). Contains l x) (sym listed_is) (other_after ops edit x h)
+  in_listed x (inr e) = subst (λ (l : List Op). Contains l x) (sym listed_is) (new_stands ops edit x (sym new_is ∙ e)).0
+
+  -- the new operation stands
+  pub new_listed : IfSome new (Contains listed)
+  new_listed = by_cases new refl
+    where
+      by_cases : (o : Option Op) → new ≡ o → IfSome o (Contains listed)
+      by_cases None e = tt
+      by_cases (Some op) e = in_listed op (inr e)
+
+  other_than : (x y : Op) → Contains others x → same_id y.id (edit_id edit) ≡ true → ¬ (x ≡ y)
+  other_than x y among t same = both_ways (same_id x.id (edit_id edit)) (other_apart ops (edit_id edit) x among) (subst (λ (o : Op). same_id o.id (edit_id edit) ≡ true) (sym same) t)
+
+  not_old : (x y : Op) → Contains others x → old ≡ Some y → ¬ (x ≡ y)
+  not_old x y among e = other_than x y among (old_stands ops (edit_id edit) y (sym old_is ∙ e)).1
+
+  not_new : (x y : Op) → Contains others x → new ≡ Some y → ¬ (x ≡ y)
+  not_new x y among e = other_than x y among (new_stands ops edit y (sym new_is ∙ e)).1
+
+  module _ (item : Option Item) (item_is : IsItemOf claim listed new item) (first : List Item) (are : AreItems claim ops first) where
+    pub place_for_new : IsFreeFor (spot_in claim old) item first
+    place_for_new = place_is_free claim ops others listed old new apart later_listed was_among in_listed not_new item item_is first are
+
+    pub old_place : IsTaken (spot_in claim old) first
+    old_place = place_is_taken claim ops old apart (λ o e. in_before o (inr e)) first are
+
+    pub laid_after : (left come : Option Item) → IsCoverBefore claim listed None old left → IsCoverBefore claim listed old new come
+        → (second third last : List Item) → IsExchanged (spot_in claim old) item first second → IsRenewed left second third → IsRenewed come third last → AreInOrder last → AreItems claim listed last
+    laid_after left come left_is come_is second third last one two three order =
+        items_after claim ops others listed old new apart later_listed was_among in_before is_among in_listed not_old item left come item_is left_is come_is first second third last are one two three order

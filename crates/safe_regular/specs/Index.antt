@@ -5,10 +5,10 @@ use Rattle.intervals.specs.declared.operation.OpId.{OpId}
 use Rattle.intervals.specs.declared.operation.Moment.{Moment}
 use Rattle.intervals.specs.Operation.{IsWrite}
 
--- each write of that property stands by its id at its beginning, and nothing else does
-pub record IsIndex (P : Op → Type 0) (ops : List Op) (at : Moment → Option OpId) : Type 0 where
-  pub there : (w : Op) → Contains ops w → IsWrite w → P w → at w.begin ≡ Some w.id
-  pub back : (m : Moment) (id : OpId) → at m ≡ Some id → (w : Op) × Contains ops w × IsWrite w × P w × (w.begin ≡ m) × (w.id ≡ id)
+-- each write stands by its id at its beginning, and nothing else does
+pub record IsIndex (ops : List Op) (at : Moment → Option OpId) : Type 0 where
+  pub there : (w : Op) → Contains ops w → IsWrite w → at w.begin ≡ Some w.id
+  pub back : (m : Moment) (id : OpId) → at m ≡ Some id → (w : Op) × Contains ops w × IsWrite w × (w.begin ≡ m) × (w.id ≡ id)
 
 -- of the moments that Q holds of the greatest one with an id, and that id
 pub record IsLastAt (Q : Moment → Type 0) (at : Moment → Option OpId) (m : Moment) (id : OpId) : Type 0 where

@@ -1,9 +1,8 @@
 pub mod Judge
-pub mod Seen
 pub mod Apart
 pub mod LookUp
-pub mod Window
 pub mod First
 pub mod Index
 pub mod Writes
+pub mod Line
 pub mod Held

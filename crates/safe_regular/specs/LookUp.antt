@@ -2,9 +2,7 @@
 use Rattle.std.specs.Prelude.{◌≡◌, ℕ, ◌<◌, ◌≤◌, List, [], Contains, Option, Some, None, MatchBool}
 use Rattle.std.specs.List.{cons_option}
 use Rattle.intervals.specs.declared.operation.Op.{Op}
-use Rattle.intervals.specs.declared.operation.Value.{Value}
-use Rattle.intervals.specs.Operation.{IsWrite, same_id, value_of}
-use Rattle.intervals.specs.Judging.{end_number}
+use Rattle.intervals.specs.Operation.{IsWrite, same_id}
 
 -- it begins before that moment
 abbrev pub BeginsBefore : ℕ → Op → Type 0
@@ -17,10 +15,6 @@ BeginsFrom moment w = moment ≤ w.begin.0
 -- it begins after that moment
 abbrev pub BeginsAfter : ℕ → Op → Type 0
 BeginsAfter moment w = moment < w.begin.0
-
--- it has that value, and begins by that moment
-abbrev pub HasValueBy : Value → ℕ → Op → Type 0
-HasValueBy value moment w = (value_of w.act ≡ value) × (w.begin.0 ≤ moment)
 
 -- a write of that property that stands, and none of those begins later
 pub record IsLast (P : Op → Type 0) (ops : List Op) (found : Op) : Type 0 where
@@ -49,23 +43,6 @@ IsLastOf P ops (Some found) = IsLast P ops found
 abbrev pub IsFirstOf : (Op → Type 0) → List Op → Option Op → Type 0
 IsFirstOf P ops None = NoneFits P ops
 IsFirstOf P ops (Some found) = IsFirst P ops found
-
--- the last write to begin before the latest one does, or none where there is no latest one
-abbrev pub IsEarlierOf : List Op → Option Op → Option Op → Type 0
-IsEarlierOf ops None earlier = earlier ≡ None
-IsEarlierOf ops (Some latest) earlier = IsLastOf (BeginsBefore latest.begin.0) ops earlier
-
--- what is looked up to judge r: the last two writes to begin before it does, the first one to begin
--- as it does or later, and the last one of its value to begin by its end
-pub record AreFound (ops : List Op) (r : Op) (latest earlier next same : Option Op) : Type 0 where
-  pub latest_is : IsLastOf (BeginsBefore r.begin.0) ops latest
-  pub earlier_is : IsEarlierOf ops latest earlier
-  pub next_is : IsFirstOf (BeginsFrom r.begin.0) ops next
-  pub same_is : IsLastOf (HasValueBy (value_of r.act) (end_number r)) ops same
-
--- those of the four that are there
-abbrev pub found_of : Option Op → Option Op → Option Op → Option Op → List Op
-found_of latest earlier next same = cons_option latest (cons_option earlier (cons_option next (cons_option same [])))
 
 -- the next write after the one above, looked up only where that one has the id of op
 abbrev pub IsBeyondOf : List Op → Op → Option Op → Option Op → Type 0

@@ -10,11 +10,12 @@ ghost use Rattle.intervals.specs.Refusal.{write_refusal, reply_to, ok_unless};
 ghost use Rattle.intervals.specs.Judging.{first_wrong as first_wrong_of};
 ghost use Rattle.safe_regular.specs.Judge.{without_write, without_read};
 
-use crate::marks::{Beside, judge_over, judged_read, op_of, put_mark, take_mark, window_of};
+use crate::line::{cover_before, exchange, initial_item, item_of, renew, spot_of};
 use crate::writes::{Writes, check_write};
 use intervals::laws::{regular_without_wrong_reads, safe_without_wrong_reads};
 use intervals::{Claim, Edit, Kind, Memory, Op, OpId, OpTable, Refusal};
 use read_tree::ReadTree;
+use read_tree::laws::{each_spot_has_a_last_cover, short_reads_are_told};
 use std::alloc::Global;
 use std::marker::Model;
 
@@ -24,7 +25,7 @@ pub struct SingleWriterJudge<'t> {
     claim: Claim,
     table: OpTable<'t>,
     writes: Writes,
-    reads: ReadTree,
+    line: ReadTree,
 }
 
 impl<'t> Model for SingleWriterJudge<'t> {
@@ -35,7 +36,7 @@ impl<'t> Model for SingleWriterJudge<'t> {
 
     ghost view = { λ j. record { claim = terms_of j.claim; ops = j.table.ops; prepared = j.table.prepared } };
 
-    ghost invariant = { λ j. HoldTogether (terms_of j.claim) j.table j.writes j.reads };
+    ghost invariant = { λ j. HoldTogether (terms_of j.claim) j.table j.writes j.line };
 }
 
 impl<'t> SingleWriterJudge<'t> {
@@ -44,11 +45,15 @@ impl<'t> SingleWriterJudge<'t> {
         requires { claim.now.kind ≢ Kind.Atomic }
         ensures { IfOk result (λ judge. judge ≡ record { claim = terms_of claim.now; ops = []; prepared = None }) }
     {
+        let mut line = ReadTree::new(alloc);
+        line.reserve(1)?;
+        line.insert(initial_item(claim, None));
+        let _ = line.has_short();
         Ok(SingleWriterJudge {
             claim: claim.try_clone(alloc)?,
             table: OpTable::new(alloc),
             writes: Writes::new(alloc),
-            reads: ReadTree::new(alloc),
+            line,
         })
     }
 
@@ -80,7 +85,7 @@ impl<'t> SingleWriterJudge<'t> {
         ensures ok { OnOk result (self.new ≡ record self.old { prepared = Some op.now }) }
         ensures err { OnErr result (self.new ≡ self.old) }
     {
-        self.reads.reserve(1)?;
+        self.line.reserve(1)?;
         self.writes.hold(op)?;
         if let Err(refused) = self.table.prepare(op) {
             self.writes.release(op);
@@ -117,8 +122,8 @@ impl<'t> SingleWriterJudge<'t> {
         Ok(())
     }
 
-    /// Carries out an edit whose new operation is prepared: the mark of the old operation goes, the reads
-    /// in the windows of its writes are judged anew, and the mark of the new one comes.
+    /// Carries out an edit whose new operation is prepared: the item of the old operation goes, that of the
+    /// new one comes, and the covers in front of both are made anew.
     fn settle(&mut self, edit: Edit<'t>, new: Option<Op<'t>>)
         requires accepted { reply_to self.old.claim self.old.ops edit ≡ None }
         requires new { new ≡ new_op self.old.ops edit }
@@ -126,19 +131,15 @@ impl<'t> SingleWriterJudge<'t> {
         ensures { self.new ≡ record self.old { ops = edited self.old.ops edit.entry; prepared = prepared_after new.entry self.old.prepared } }
     {
         let old = op_of(&self.table, edit.id());
-        let left = window_of(&self.writes, &self.table, old);
+        let spot = spot_of(&self.claim, old);
         self.writes.change(old, new, self.table.prepared());
         self.table.admit(edit);
-        let come = window_of(&self.writes, &self.table, new);
-        take_mark(&mut self.reads, judged_read(old));
-        let beside = Beside {
-            claim: &self.claim,
-            writes: &self.writes,
-            table: &self.table,
-        };
-        judge_over(&mut self.reads, &beside, left);
-        judge_over(&mut self.reads, &beside, come);
-        put_mark(&mut self.reads, &beside, judged_read(new));
+        let item = item_of(&self.claim, &self.writes, &self.table, new);
+        let left = cover_before(&self.claim, &self.writes, &self.table, None, old);
+        let come = cover_before(&self.claim, &self.writes, &self.table, old, new);
+        exchange(&mut self.line, spot, item);
+        renew(&mut self.line, left);
+        renew(&mut self.line, come);
     }
 
     /// Admits a write that passed its check.
@@ -205,8 +206,10 @@ impl<'t> SingleWriterJudge<'t> {
     pub fn first_wrong(&self) -> Option<Op<'t>>
         ensures { result ≡ first_wrong_of self.now.claim self.now.ops }
     {
-        let mark = self.reads.first_wrong()?;
-        op_of(&self.table, mark.id)
+        each_spot_has_a_last_cover();
+        short_reads_are_told();
+        let item = self.line.first_short()?;
+        op_of(&self.table, item.id)
     }
 
     /// Whether no read is wrong.
@@ -215,8 +218,16 @@ impl<'t> SingleWriterJudge<'t> {
     {
         safe_without_wrong_reads();
         regular_without_wrong_reads();
-        !self.reads.has_wrong()
+        each_spot_has_a_last_cover();
+        short_reads_are_told();
+        !self.line.has_short()
     }
+}
+
+fn op_of<'t>(table: &OpTable<'t>, id: OpId) -> Option<Op<'t>>
+    ensures { result ≡ op_in table.now.ops id }
+{
+    table.get(id).copied()
 }
 
 fn is_write_in(table: &OpTable, id: OpId) -> bool

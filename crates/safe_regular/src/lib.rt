@@ -14,15 +14,14 @@
 //! `intervals::laws::worked_faults` and `worked_writes` are such histories, computed from the
 //! definitions; the rows of `tests.rt` run these calls.
 //!
-//! Begin with `judge.rt`: its clauses are the whole promise, in the words of `intervals`. Which reads
-//! are right is in `reads.rt`, which writes are allowed in `writes.rt`; each is found by a few look-ups
-//! among the writes. What was judged of the reads is kept in `marks.rt`: an edit has those of a window
-//! judged anew, and no others.
+//! Begin with `judge.rt`: its clauses are the whole promise, in the words of `intervals`. Which writes
+//! are allowed is in `writes.rt`. Reads and writes stand in one tree as reads and covers, which is in
+//! `line.rt`: a write covers the reads that it makes right, so an edit changes a few items, however many
+//! reads it makes right or wrong.
 #![tactic(auto)]
 
 mod judge;
-mod marks;
-mod reads;
+mod line;
 mod writes;
 
 pub use judge::SingleWriterJudge;

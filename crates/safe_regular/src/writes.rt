@@ -1,4 +1,4 @@
-//! The writes by their beginnings and values, and which writes a claim allows beside them.
+//! The writes by their beginnings, and which writes a claim allows beside them.
 
 ghost use Rattle.std.specs.Prelude.{◌≡◌, ◌≢◌, [], List, IfSome, OnOk, None, Some, false, true};
 ghost use Rattle.std.specs.List.{cons_option};
@@ -10,20 +10,18 @@ ghost use Rattle.intervals.specs.Refusal.{write_refusal, ok_unless, is_overlappe
 ghost use Rattle.intervals.specs.Shelf.{id_at, same_spot};
 ghost use Rattle.intervals.specs.Standing.{HasDistinctIds};
 ghost use Rattle.safe_regular.specs.Apart.{AreApart};
-ghost use Rattle.safe_regular.specs.LookUp.{BeginsBefore, BeginsFrom, BeginsAfter, HasValueBy, IsLastOf, IsFirstOf, IsEarlierOf, IsBeyondOf};
-ghost use Rattle.safe_regular.specs.Writes.{AreWrites, HasPlace, HasPlaces, HasPlacesOf, IsAdded, IsAddedOf, spot_by_begin as begin_spot, StandAlike, StandAlikeIn, spot_by_value as value_spot, op_at as op_of_found};
+ghost use Rattle.safe_regular.specs.LookUp.{BeginsBefore, BeginsFrom, BeginsAfter, IsLastOf, IsFirstOf, IsBeyondOf};
+ghost use Rattle.safe_regular.specs.Writes.{AreWrites, HasPlace, HasPlaceFor, HasPlaceIn, IsAdded, IsAddedOf, spot_by_begin as begin_spot, StandAlike, StandAlikeIn, op_at as op_of_found};
 
 use intervals::{
-    Claim, Kind, Memory, Moment, Op, OpId, OpTable, Refusal, Shelf, Spot, Value, is_same_value,
-    overlaps,
+    Claim, Kind, Memory, Moment, Op, OpId, OpTable, Refusal, Shelf, Spot, Value, overlaps,
 };
 use std::alloc::Global;
 
-/// The ids of the writes by beginning, and by value and beginning.
+/// The ids of the writes by beginning.
 #[derive(Drop)]
 pub struct Writes {
     begins: Shelf,
-    values: Shelf,
 }
 
 impl Writes {
@@ -32,52 +30,42 @@ impl Writes {
     {
         Writes {
             begins: Shelf::new(alloc),
-            values: Shelf::new(alloc),
         }
     }
 
-    /// Holds the places at which the operation is to stand, all or none.
+    /// Holds the place at which the operation is to stand.
     pub fn hold(&mut self, op: &Op) -> Result<(), Memory>
-        ensures places { OnOk result (HasPlaces op.now self.new) }
+        ensures place { OnOk result (HasPlaceFor op.now self.new) }
         ensures writes { (ops : List AnOp) → AreWrites ops self.old → AreWrites ops self.new }
     {
-        let begin = spot_by_begin(op);
-        let made = hold(&mut self.begins, begin)?;
-        if let Err(memory) = hold(&mut self.values, spot_by_value(op)) {
-            if made {
-                release(&mut self.begins, begin);
-            }
-            return Err(memory);
-        }
-        Ok(())
+        hold(&mut self.begins, spot_of_write(op))
     }
 
-    /// Lets the places go that were held for the operation and are empty.
+    /// Lets the place go that was held for the operation and is empty.
     pub fn release(&mut self, op: &Op)
         ensures { (ops : List AnOp) → AreWrites ops self.old → AreWrites ops self.new }
     {
-        release(&mut self.begins, spot_by_begin(op));
-        release(&mut self.values, spot_by_value(op));
+        release(&mut self.begins, spot_of_write(op));
     }
 
-    /// Takes an operation out, and puts in one that is prepared. The places of the prepared one stay. A
-    /// write that keeps its spots is not touched.
+    /// Takes an operation out, and puts in one that is prepared. The place of the prepared one stays. A
+    /// write that keeps its spot is not touched.
     pub fn change(&mut self, old: Option<Op>, new: Option<Op>, prepared: Option<Op>)
         requires new { IfSome new (λ op. prepared ≡ Some op) }
-        requires places { HasPlacesOf prepared self.old }
+        requires place { HasPlaceIn prepared self.old }
         ensures writes { (before others after : List AnOp) → AreWrites before self.old → IsAddedOf others old.entry before → IsAddedOf others new.entry after → AreWrites after self.new }
-        ensures places { HasPlacesOf prepared.entry self.new }
+        ensures place { HasPlaceIn prepared.entry self.new }
     {
-        if !keeps_its_spots(old, new) {
+        if !keeps_its_spot(old, new) {
             self.exchange(old, new, prepared);
         }
     }
 
     fn exchange(&mut self, old: Option<Op>, new: Option<Op>, prepared: Option<Op>)
         requires new { IfSome new (λ op. prepared ≡ Some op) }
-        requires places { HasPlacesOf prepared self.old }
+        requires place { HasPlaceIn prepared self.old }
         ensures writes { (before others after : List AnOp) → AreWrites before self.old → IsAddedOf others old.entry before → IsAddedOf others new.entry after → AreWrites after self.new }
-        ensures places { HasPlacesOf prepared.entry self.new }
+        ensures place { HasPlaceIn prepared.entry self.new }
     {
         if let Some(op) = old {
             self.take_out(&op, prepared);
@@ -88,26 +76,24 @@ impl Writes {
     }
 
     fn take_out(&mut self, op: &Op, prepared: Option<Op>)
-        requires { HasPlacesOf prepared self.old }
+        requires { HasPlaceIn prepared self.old }
         ensures writes { (others ops : List AnOp) → AreWrites ops self.old → IsAdded others op.now ops → AreWrites others self.new }
-        ensures places { HasPlacesOf prepared.entry self.new }
+        ensures place { HasPlaceIn prepared.entry self.new }
     {
-        take_out(&mut self.begins, spot_by_begin(op), held_by_begin(prepared));
-        take_out(&mut self.values, spot_by_value(op), held_by_value(prepared));
+        take_out(&mut self.begins, spot_of_write(op), held_by(prepared));
     }
 
     fn put_in(&mut self, op: &Op)
-        requires { HasPlaces op.now self.old }
+        requires { HasPlaceFor op.now self.old }
         ensures writes { (others ops : List AnOp) → AreWrites others self.old → IsAdded others op.now ops → AreWrites ops self.new }
-        ensures places { HasPlaces op.now self.new }
+        ensures place { HasPlaceFor op.now self.new }
     {
-        put_in(&mut self.begins, spot_by_begin(op), op.id);
-        put_in(&mut self.values, spot_by_value(op), op.id);
+        put_in(&mut self.begins, spot_of_write(op), op.id);
     }
 }
 
-/// Whether both are writes of one id, beginning and value.
-fn keeps_its_spots(old: Option<Op>, new: Option<Op>) -> bool
+/// Whether both are writes of one id and beginning.
+fn keeps_its_spot(old: Option<Op>, new: Option<Op>) -> bool
     ensures { result ≡ true → StandAlikeIn old.entry new.entry }
 {
     match (old, new) {
@@ -119,11 +105,7 @@ fn keeps_its_spots(old: Option<Op>, new: Option<Op>) -> bool
 fn stand_alike(old: &Op, new: &Op) -> bool
     ensures { result ≡ true → StandAlike old.now new.now }
 {
-    old.is_write()
-        && new.is_write()
-        && old.has_id(new.id)
-        && old.begin.0 == new.begin.0
-        && is_same_value(old.value(), new.value())
+    old.is_write() && new.is_write() && old.has_id(new.id) && old.begin.0 == new.begin.0
 }
 
 /// The first of `NotAWriter`, `WritesOverlap` and `OutOfDomain` that holds of the write. An operation of
@@ -227,18 +209,6 @@ pub fn last_before<'t>(writes: &Writes, table: &OpTable<'t>, limit: Moment) -> O
     op_at(table, writes.begins.last_before(Value::Nil, limit))
 }
 
-/// The last write to begin before that one.
-pub fn last_before_it<'t>(
-    writes: &Writes,
-    table: &OpTable<'t>,
-    latest: Option<Op<'t>>,
-) -> Option<Op<'t>>
-    ensures { AreWrites table.now.ops writes.now → HasDistinctIds table.now.ops → IsEarlierOf table.now.ops latest.entry result }
-{
-    let latest = latest?;
-    last_before(writes, table, latest.begin)
-}
-
 /// The first write to begin at the moment or later.
 pub fn first_from<'t>(writes: &Writes, table: &OpTable<'t>, from: Moment) -> Option<Op<'t>>
     ensures { AreWrites table.now.ops writes.now → HasDistinctIds table.now.ops → IsFirstOf (BeginsFrom from.0) table.now.ops result }
@@ -253,18 +223,6 @@ pub fn first_after<'t>(writes: &Writes, table: &OpTable<'t>, after: Moment) -> O
     op_at(table, writes.begins.first_after(Value::Nil, after))
 }
 
-/// The last write of the value to begin by the moment.
-pub fn last_of_value<'t>(
-    writes: &Writes,
-    table: &OpTable<'t>,
-    value: Value,
-    by: Moment,
-) -> Option<Op<'t>>
-    ensures { AreWrites table.now.ops writes.now → HasDistinctIds table.now.ops → IsLastOf (HasValueBy value by.0) table.now.ops result }
-{
-    op_at(table, writes.values.last_up_to(value, by))
-}
-
 fn op_at<'t>(table: &OpTable<'t>, found: Option<(Moment, OpId)>) -> Option<Op<'t>>
     ensures { result ≡ op_of_found table.now.ops found }
 {
@@ -272,7 +230,7 @@ fn op_at<'t>(table: &OpTable<'t>, found: Option<(Moment, OpId)>) -> Option<Op<'t
     table.get(id).copied()
 }
 
-fn spot_by_begin(op: &Op) -> Option<Spot>
+fn spot_of_write(op: &Op) -> Option<Spot>
     ensures { result ≡ begin_spot op.now }
 {
     if op.is_write() {
@@ -285,44 +243,22 @@ fn spot_by_begin(op: &Op) -> Option<Spot>
     }
 }
 
-fn spot_by_value(op: &Op) -> Option<Spot>
-    ensures { result ≡ value_spot op.now }
-{
-    if op.is_write() {
-        Some(Spot {
-            value: op.value(),
-            moment: op.begin,
-        })
-    } else {
-        None
-    }
-}
-
-fn held_by_begin(op: Option<Op>) -> Option<Spot>
+fn held_by(op: Option<Op>) -> Option<Spot>
     ensures none { op.entry ≡ None → result ≡ None }
     ensures some { IfSome op.entry (λ o. result ≡ begin_spot o) }
 {
     let op = op?;
-    spot_by_begin(&op)
+    spot_of_write(&op)
 }
 
-fn held_by_value(op: Option<Op>) -> Option<Spot>
-    ensures none { op.entry ≡ None → result ≡ None }
-    ensures some { IfSome op.entry (λ o. result ≡ value_spot o) }
-{
-    let op = op?;
-    spot_by_value(&op)
-}
-
-/// Holds the place at the spot, and says whether it was made.
-fn hold(shelf: &mut Shelf, spot: Option<Spot>) -> Result<bool, Memory>
+fn hold(shelf: &mut Shelf, spot: Option<Spot>) -> Result<(), Memory>
     ensures place { OnOk result (HasPlace shelf.new spot) }
     ensures ids { (other : ASpot) → id_at shelf.new other ≡ id_at shelf.old other }
 {
-    match spot {
-        Some(spot) => shelf.hold(spot),
-        None => Ok(false),
+    if let Some(spot) = spot {
+        shelf.hold(spot)?;
     }
+    Ok(())
 }
 
 fn release(shelf: &mut Shelf, spot: Option<Spot>)

@@ -3,5 +3,4 @@ use Rattle.safe_regular.proofs.writes.Writes.put_in.Goals as goal
 
 pub returns-clause-writes : goal.returns-clause-writes
 returns-clause-writes c others ops are added =
-    writes_with others c.args.op.now ops added c.args.self.now c.put_in.new.shelf c.put_in-2.new.shelf c.spot_by_begin.result c.spot_by_value.result c.spot_by_begin.ensures c.spot_by_value.ensures
-    c.put_in.ensures.ids c.put_in-2.ensures.ids c.put_in.ensures.there c.put_in-2.ensures.there are
+    writes_with others c.args.op.now ops added c.args.self.now c.put_in.new.shelf c.spot_of_write.result c.spot_of_write.ensures c.put_in.ensures.ids c.put_in.ensures.there are

@@ -1,0 +1,288 @@
+//! What stands in the tree of reads and covers for the operations, and how an edit changes it.
+
+ghost use Rattle.std.specs.Prelude.{◌≡◌, ◌↔◌, ◌<◌, ◌≤◌, None, Some, IfSome, IsSome, IsTrue, Contains, true};
+ghost use Rattle.intervals.specs.Judging.{is_allowed as allowed};
+ghost use Rattle.intervals.specs.declared.shelf.Spot.{Spot as ASpot};
+ghost use Rattle.intervals.specs.Standing.{HasDistinctIds};
+ghost use Rattle.intervals.specs.Terms.{terms_of};
+ghost use Rattle.read_tree.specs.declared.item.Item.{Item as AnItem};
+ghost use Rattle.read_tree.specs.Items.{AreInOrder, place_of, item_at};
+ghost use Rattle.safe_regular.specs.Line.{counted as counted_from_1, reach_by as reach_by_end, end_of as end_of_op, has_rows as rows_of, number_of as number_of_op, read_reach as reach_of_read, cover_reach as reach_of_cover, initial_reach as reach_of_initial, read_item as item_of_read, cover_item as item_of_write, initial_item as item_of_initial, spot_in, items_without, items_with, items_renewed, IsTaken, IsFreeFor, IsExchanged, IsRenewed, IsItem, IsItemOf, IsInFront, HasWriteAt, IsCoverBefore};
+ghost use Rattle.safe_regular.specs.Writes.{AreWrites};
+
+use crate::writes::{Writes, first_after, first_from, last_before};
+use intervals::{Claim, Kind, Moment, Op, OpId, OpTable, Spot, Value, is_same_value};
+use read_tree::{Item, ReadTree};
+
+fn counted(moment: Moment) -> u64
+    ensures { result ≡ counted_from_1 moment.0 }
+{
+    moment.0.saturating_add(1)
+}
+
+fn reach_by(end: Option<Moment>) -> u64
+    ensures { result ≡ reach_by_end end }
+{
+    match end {
+        Some(end) => counted(end),
+        None => u64::MAX - 1,
+    }
+}
+
+fn end_of(op: Option<Op>) -> Option<Moment>
+    ensures { result ≡ end_of_op op.entry }
+{
+    let ended = op?;
+    ended.end
+}
+
+fn has_rows(kind: Kind) -> bool
+    ensures { result ≡ rows_of kind }
+{
+    match kind {
+        Kind::Safe => false,
+        Kind::Regular => true,
+        Kind::Atomic => true,
+    }
+}
+
+fn is_allowed(claim: &Claim, value: Value) -> bool
+    ensures { result ≡ allowed (terms_of claim.now).domain claim.now.initial value }
+{
+    claim.has_in_domain(value) || is_same_value(claim.initial, value)
+}
+
+fn read_reach(claim: &Claim, read: &Op) -> u64
+    ensures { result ≡ reach_of_read claim.now.kind (terms_of claim.now) read.now }
+{
+    match claim.kind {
+        Kind::Safe => {
+            if is_allowed(claim, read.value()) {
+                counted(read.begin)
+            } else {
+                u64::MAX
+            }
+        }
+        Kind::Regular => counted(read.begin),
+        Kind::Atomic => counted(read.begin),
+    }
+}
+
+fn cover_reach(kind: Kind, end: Option<Moment>, next: Option<Op>) -> u64
+    ensures { result ≡ reach_of_cover kind end next.entry }
+{
+    match kind {
+        Kind::Safe => reach_by(end),
+        Kind::Regular => reach_by(end_of(next)),
+        Kind::Atomic => reach_by(end_of(next)),
+    }
+}
+
+fn initial_reach(kind: Kind, next: Option<Op>) -> u64
+    ensures { result ≡ reach_of_initial kind next.entry }
+{
+    match kind {
+        Kind::Safe => 0,
+        Kind::Regular => reach_by(end_of(next)),
+        Kind::Atomic => reach_by(end_of(next)),
+    }
+}
+
+fn read_item(claim: &Claim, read: &Op) -> Item
+    ensures { result ≡ item_of_read (terms_of claim.now) read.now }
+{
+    Item {
+        value: read.value(),
+        moment: Moment(counted(Moment(read.end_number()))),
+        reach: read_reach(claim, read),
+        id: read.id,
+        covers: false,
+        by_value: has_rows(claim.kind),
+    }
+}
+
+fn cover_item(claim: &Claim, write: &Op, next: Option<Op>) -> Item
+    ensures { result ≡ item_of_write (terms_of claim.now) write.now next.entry }
+{
+    Item {
+        value: write.value(),
+        moment: Moment(counted(write.begin)),
+        reach: cover_reach(claim.kind, write.end, next),
+        id: write.id,
+        covers: true,
+        by_value: has_rows(claim.kind),
+    }
+}
+
+/// The cover of the initial value.
+pub fn initial_item(claim: &Claim, next: Option<Op>) -> Item
+    ensures { result ≡ item_of_initial (terms_of claim.now) next.entry }
+{
+    Item {
+        value: claim.initial,
+        moment: Moment(0),
+        reach: initial_reach(claim.kind, next),
+        id: OpId {
+            feeder: 0,
+            event: 0,
+        },
+        covers: true,
+        by_value: has_rows(claim.kind),
+    }
+}
+
+fn number_of(op: &Op) -> u64
+    ensures { result ≡ number_of_op op.now }
+{
+    if op.is_write() {
+        op.begin.0
+    } else {
+        op.end_number()
+    }
+}
+
+/// Where the item of the operation stands, where it has one.
+pub fn spot_of(claim: &Claim, op: Option<Op>) -> Option<Spot>
+    ensures { result ≡ spot_in (terms_of claim.now) op.entry }
+{
+    let op = op?;
+    if op.is_write() || op.is_judged_read() {
+        let value = if has_rows(claim.kind) {
+            op.value()
+        } else {
+            Value::Nil
+        };
+        Some(Spot {
+            value,
+            moment: Moment(counted(Moment(number_of(&op)))),
+        })
+    } else {
+        None
+    }
+}
+
+/// The item of an operation that stands: a write is a cover, a read that has an end a read.
+pub fn item_of(claim: &Claim, writes: &Writes, table: &OpTable, op: Option<Op>) -> Option<Item>
+    ensures { AreWrites table.now.ops writes.now → HasDistinctIds table.now.ops → IfSome op.entry (Contains table.now.ops)
+        → IsItemOf (terms_of claim.now) table.now.ops op.entry result }
+{
+    let op = op?;
+    if op.is_write() {
+        let next = first_after(writes, table, op.begin);
+        return Some(cover_item(claim, &op, next));
+    }
+    if op.is_judged_read() {
+        return Some(read_item(claim, &op));
+    }
+    None
+}
+
+/// The cover in front of a write, where values have rows: how far it covers is said by the write behind
+/// it. It is that of the other operation too where that is a write of the same beginning.
+pub fn cover_before(
+    claim: &Claim,
+    writes: &Writes,
+    table: &OpTable,
+    other: Option<Op>,
+    op: Option<Op>,
+) -> Option<Item>
+    ensures { AreWrites table.now.ops writes.now → HasDistinctIds table.now.ops
+        → IsCoverBefore (terms_of claim.now) table.now.ops other.entry op.entry result }
+{
+    let op = op?;
+    if !op.is_write() || !has_rows(claim.kind) || has_write_at(other, op.begin) {
+        return None;
+    }
+    Some(cover_in_front(claim, writes, table, op.begin))
+}
+
+fn has_write_at(op: Option<Op>, moment: Moment) -> bool
+    ensures { IsTrue result ↔ HasWriteAt op.entry moment.0 }
+{
+    match op {
+        Some(op) => op.is_write() && op.begin.0 == moment.0,
+        None => false,
+    }
+}
+
+/// The cover of the last write that begins before the moment, or of the initial value where none does.
+fn cover_in_front(claim: &Claim, writes: &Writes, table: &OpTable, moment: Moment) -> Item
+    ensures { AreWrites table.now.ops writes.now → HasDistinctIds table.now.ops
+        → IsItem (terms_of claim.now) table.now.ops result × IsInFront (terms_of claim.now) table.now.ops moment.0 result }
+{
+    match last_before(writes, table, moment) {
+        Some(write) => {
+            let next = first_after(writes, table, write.begin);
+            cover_item(claim, &write, next)
+        }
+        None => {
+            let next = first_from(writes, table, Moment(0));
+            initial_item(claim, next)
+        }
+    }
+}
+
+/// Takes out what stands at the spot, and puts the item in.
+pub fn exchange(line: &mut ReadTree, spot: Option<Spot>, item: Option<Item>)
+    requires room { IsSome item → 0 < line.old.free }
+    requires taken { IsTaken spot line.old.items }
+    requires apart { IsFreeFor spot item line.old.items }
+    ensures exchanged { IsExchanged spot item line.old.items line.new.items }
+    ensures free { item ≡ None → line.old.free ≤ line.new.free }
+{
+    if is_place_of(spot, item) {
+        renew_in(line, item);
+    } else {
+        take_out(line, spot);
+        put_in(line, item);
+    }
+}
+
+/// Whether the item is to stand at the spot.
+fn is_place_of(spot: Option<Spot>, item: Option<Item>) -> bool
+    ensures { result ≡ true → (s : ASpot) × (x : AnItem) × (spot ≡ Some s) × (item ≡ Some x) × (place_of x ≡ s) }
+{
+    match (spot, item) {
+        (Some(spot), Some(item)) => item.spot() == spot,
+        _ => false,
+    }
+}
+
+fn take_out(line: &mut ReadTree, spot: Option<Spot>)
+    ensures items { line.new.items ≡ items_without spot line.old.items }
+    ensures free { line.old.free ≤ line.new.free }
+{
+    if let Some(spot) = spot {
+        let _ = line.remove(spot);
+    }
+}
+
+fn put_in(line: &mut ReadTree, item: Option<Item>)
+    requires room { IsSome item → 0 < line.old.free }
+    requires new_spot { IfSome item (λ x. item_at (place_of x) line.old.items ≡ None) }
+    ensures items { line.new.items ≡ items_with item line.old.items }
+    ensures free { item ≡ None → line.new.free ≡ line.old.free }
+{
+    if let Some(item) = item {
+        line.insert(item);
+    }
+}
+
+fn renew_in(line: &mut ReadTree, item: Option<Item>)
+    ensures items { line.new.items ≡ items_renewed item line.old.items }
+    ensures free { line.new.free ≡ line.old.free }
+{
+    if let Some(item) = item {
+        line.renew(item);
+    }
+}
+
+/// Puts the item in the place of the one at its spot.
+pub fn renew(line: &mut ReadTree, item: Option<Item>)
+    ensures renewed { IsRenewed item line.old.items line.new.items }
+    ensures order { AreInOrder line.new.items }
+    ensures free { line.new.free ≡ line.old.free }
+{
+    renew_in(line, item);
+    let _ = line.has_short();
+}
