@@ -106,9 +106,3 @@ comes_neither a b h k = elim (trichotomy a b) [
   | inl same ↦ same
   | inr either ↦ elim either [ inl before ↦ absurd (comes_none a b h before) | inr behind ↦ absurd (comes_none b a k behind) ]
 ]
-
-pub comes_later : (a b : Spot) → comes_before a b ≡ false → same_spot b a ≡ false → StandsBefore b a
-comes_later a b h k = elim (trichotomy a b) [
-  | inl same ↦ let t = true_same b a (sym same) in absurd (cc)
-  | inr either ↦ elim either [ inl before ↦ absurd (comes_none a b h before) | inr behind ↦ behind ]
-]

@@ -24,7 +24,7 @@ row_of x = if x.by_value then x.value else Nil
 abbrev pub place_of : Item → Spot
 place_of x = spot_of (row_of x) x.moment
 
--- of two spots in one row the first has the lesser moment
+-- the first spot stands before the second; of two in one row the one of the lesser moment does
 abbrev pub StandsBefore : Spot → Spot → Type 0
 StandsBefore a b = spot_cmp b a ≡ Less
 

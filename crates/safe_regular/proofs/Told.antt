@@ -43,9 +43,6 @@ number_of_write op write = rw write refl
 pub number_of_read : (op : Op) → IsJudgedRead op → number_of op ≡ end_number op
 number_of_read op judged = rw (not-true (is_write op) (and_parts (not (is_write op)) (is_some op.end) judged).0) refl
 
-pub counted_is : (n : ℕ) → n ≤ 4611686018427387903 → counted n ≡ n + 1
-counted_is n low = omega (arith, low)
-
 module _ (claim : Terms) (ops : List Op) (apart : StandApart claim ops) where
   number_low : (op : Op) → Contains ops op → number_of op ≤ 4611686018427387903
   number_low op stands =
@@ -78,9 +75,6 @@ module _ (claim : Terms) (ops : List Op) (apart : StandApart claim ops) where
 
   pub initial_away : (a : Op) → Contains ops a → same_spot (initial_place claim) (place_in claim a) ≡ false
   initial_away a sa = other_moment (initial_place claim) (place_in claim a) (λ e. let low = number_low a sa in omega (arith, e, low))
-
-  pub away_from_initial : (a : Op) → Contains ops a → same_spot (place_in claim a) (initial_place claim) ≡ false
-  away_from_initial a sa = other_moment (place_in claim a) (initial_place claim) (λ e. let low = number_low a sa in omega (arith, e, low))
 
   pub writes_apart : AreApart ops
   writes_apart = are_apart ops apart.moments apart.ends apart.writes
