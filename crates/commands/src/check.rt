@@ -17,6 +17,7 @@ use report::report;
 use shards::NoGate;
 use std::alloc::Global;
 use std::io::Write;
+use std::mem::forget;
 use std::sync::Wait;
 use std::thread::Threads;
 use tower_file::Tower;
@@ -52,7 +53,7 @@ pub fn check<'a, A: AllocGlobal + Threads + Wait + Sync, F: Files, W: Write>(
         return Err(CommandFault::Memory);
     };
     a_run_is_of_its_tower();
-    let ran = run_readers(
+    let run = match run_readers(
         rt,
         alloc,
         &tower,
@@ -61,13 +62,18 @@ pub fn check<'a, A: AllocGlobal + Threads + Wait + Sync, F: Files, W: Write>(
         field_of(asked.moments),
         asked.shards,
         &NoGate,
-    );
-    let run = match ran {
+    ) {
         Ok(run) => run,
         Err(fault) => return Err(CommandFault::of_run(fault)),
     };
     match report(rt, alloc, &tower, &run, order, out) {
-        Ok(()) => Ok(status_after(&tower, &run)),
+        Ok(()) => {
+            let status = status_after(&tower, &run);
+            // The command is over: to take the run down, node by node, would cost a tenth of its time.
+            forget(run);
+            forget(pages);
+            Ok(status)
+        }
         Err(fault) => Err(CommandFault::of_report(fault)),
     }
 }

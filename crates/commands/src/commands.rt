@@ -27,7 +27,7 @@ use words::{Command, read_words};
 /// fails, else 3 where an element was refused, else 0. It is 2 where a trace or its reading broke off, whose line or
 /// report is written all the same, and where the words ask for no command or are no text, a trace cannot be opened,
 /// a tower file cannot be read or has a fault, memory was refused or `out` could not be written,
-/// which is said on `err`.
+/// which is said on `err`. The memory of the command's run is left to the process, which is to end next.
 pub fn run<
     A: AllocGlobal + Threads + Wait + Sync,
     S: AsStr + Drop,

@@ -22,6 +22,7 @@ use shards::NoGate;
 use shards::laws::what_stands_is_after_all_edits;
 use std::alloc::{AllocError, Global};
 use std::io::{Read, Write};
+use std::mem::forget;
 use std::sync::Wait;
 use std::thread::Threads;
 use std::unreachable;
@@ -79,7 +80,7 @@ fn audit_trace<'a, A: AllocGlobal + Threads + Wait + Sync, S: Read + Drop + Send
         return Err(CommandFault::Memory);
     };
     readers.push_reserved(reader);
-    let ran = run_readers(
+    let run = match run_readers(
         rt,
         alloc,
         &tower,
@@ -88,11 +89,15 @@ fn audit_trace<'a, A: AllocGlobal + Threads + Wait + Sync, S: Read + Drop + Send
         MomentField::Index,
         1,
         &NoGate,
-    );
-    match ran {
-        Ok(run) => Ok(verdict_of(&run)),
-        Err(fault) => Err(CommandFault::of_run(fault)),
-    }
+    ) {
+        Ok(run) => run,
+        Err(fault) => return Err(CommandFault::of_run(fault)),
+    };
+    let audit = verdict_of(&run);
+    // As in `check`, the run is not taken down.
+    forget(run);
+    forget(pages);
+    Ok(audit)
 }
 
 /// The tower of the register, read from its text; none where memory is refused.

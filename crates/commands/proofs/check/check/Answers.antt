@@ -9,12 +9,12 @@ pub returns-in-Ok-report-clause-checked : goal.returns-in-Ok-report-clause-check
 returns-in-Ok-report-clause-checked g c =
     let asked = c.args.asked.now in
     let files = g.F.Files.held c.args.files.now in
-    let run = c.in-Ok-ran.run' in
+    let run = c.in-Ok-run_readers.run' in
     checked (files asked.tower.now) (asked_check asked) c.in_ok-tower.tower c.in_ok-order.order run.closed run.logs.items c.field_of.result (map g.F.Reader.Read.remaining c.in_ok-readers.readers.items) (AreHeld files (map (λ name. name.now) asked.traces.items)) _ _ _
     c.in_ok-tower.ensures.tower
     c.in_ok-order.ensures.named
     (λ known held. c.in_ok-readers.ensures.held known (held_later files (g.F.Files.held c.read_tower.new.files) asked.traces.items c.deref.result.now known c.read_tower.ensures.stays c.deref.ensures.value held))
     c.field_of.ensures
-    c.in-Ok-ran.ensures.run
+    c.in-Ok-run_readers.ensures.run
     c.in-Ok-report.ensures.report
-    c.status_after.ensures
+    c.status_after-status.ensures

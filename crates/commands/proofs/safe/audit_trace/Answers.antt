@@ -7,20 +7,20 @@ use Rattle.feeders.specs.Run.{IsRun}
 use Rattle.commands.proofs.Alone.{Says, audited_as_read}
 use Rattle.commands.proofs.safe.audit_trace.Goals as goal
 
-pub returns-in-Ok-ran-clause-audit : goal.returns-in-Ok-ran-clause-audit
-returns-in-Ok-ran-clause-audit g c =
-    let closed = c.in-Ok-ran.run'.closed in
-    let logs = c.in-Ok-ran.run'.logs.items in
+pub returns-clause-audit : goal.returns-clause-audit
+returns-clause-audit g c =
+    let closed = c.in-Ok-run_readers.run'.closed in
+    let logs = c.in-Ok-run_readers.run'.logs.items in
     let left = g.S.Read.remaining c.args.reader in
-    let fed = c.in-Ok-ran.ensures.run in
-    let says : Says closed logs c.verdict_of.result = record {
-      holds = c.verdict_of.ensures.holds;
-      operations = c.verdict_of.ensures.operations;
-      refused = c.verdict_of.ensures.refused;
-      broken = c.verdict_of.ensures.broken;
+    let fed = c.in-Ok-run_readers.ensures.run in
+    let says : Says closed logs c.verdict_of-audit.result = record {
+      holds = c.verdict_of-audit.ensures.holds;
+      operations = c.verdict_of-audit.ensures.operations;
+      refused = c.verdict_of-audit.ensures.refused;
+      broken = c.verdict_of-audit.ensures.broken;
     } in
     let tower_is : c.in-Some.tower ≡ alone_tower = search rules in
     let alone : map g.S.Read.remaining c.push_reserved.new.self.items ≡ left ∷ [] = search rules in
     let read : AreReadOf (left ∷ []) logs fed.0 = subst (λ (l : List (Option (List ℕ))). AreReadOf l logs fed.0) alone fed.1 in
     let run : IsRun alone_tower Index 1 fed.0 closed logs = subst (λ (t : Contents). IsRun t Index 1 fed.0 closed logs) tower_is fed.2 in
-    audited_as_read c.what_stands_is_after_all_edits.ensures c.texts_decide_nothing.ensures.reply c.texts_decide_nothing.ensures.standing c.texts_decide_nothing.ensures.alike left fed.0 closed logs c.verdict_of.result read run says
+    audited_as_read c.what_stands_is_after_all_edits.ensures c.texts_decide_nothing.ensures.reply c.texts_decide_nothing.ensures.standing c.texts_decide_nothing.ensures.alike left fed.0 closed logs c.verdict_of-audit.result read run says
