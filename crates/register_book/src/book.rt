@@ -69,6 +69,7 @@ impl<'t> RegisterBook<'t> {
         ensures memory { OnErr result (reply_to self.old.claim self.old.ops edit.entry ≡ None) }
         ensures withdrawal { OnErr result (IsSome (new_op self.old.ops edit.entry)) }
         ensures steps { self.new.steps ≤ self.old.steps + most_steps self.old.claim self.old.ops }
+        ensures rises { self.old.steps ≤ self.new.steps }
     {
         if let Some(refusal) = refusal_of(&self.judge, &edit) {
             return Ok(Reply::Refused(refusal));
@@ -85,6 +86,7 @@ impl<'t> RegisterBook<'t> {
         ensures err { OnErr result (self.new ≡ self.old) }
         ensures memory { OnErr result (IsSome (new_op self.old.ops edit.entry)) }
         ensures steps { self.new.steps ≤ self.old.steps + most_steps self.old.claim self.old.ops }
+        ensures rises { self.old.steps ≤ self.new.steps }
     {
         self.judge.admit(edit)?;
         Ok(())

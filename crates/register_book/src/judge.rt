@@ -69,6 +69,7 @@ impl<'t> Judge<'t> {
         ensures kind { IsOfItsKind self.old → IsOfItsKind self.new }
         ensures left { HasNonePrepared self.new }
         ensures steps { (held_by self.new).steps ≤ (held_by self.old).steps + most_steps (held_by self.old).claim (held_by self.old).ops }
+        ensures rises { (held_by self.old).steps ≤ (held_by self.new).steps }
     {
         match self {
             Judge::One(judge) => judge.admit(edit),

@@ -19,6 +19,7 @@ impl Node {
         ensures* lent { sem 𝓛 (LendsLeft self.entry result) }
         ensures value { result.now ≡ self.old.left }
         ensures counted { steps.new ≡ min (steps.old + 1) (2 ^ 64 - 1) }
+        ensures rises { steps.old ≤ steps.new }
     {
         *steps = steps.saturating_add(1);
         &mut self.left
@@ -28,6 +29,7 @@ impl Node {
         ensures* lent { sem 𝓛 (LendsRight self.entry result) }
         ensures value { result.now ≡ self.old.right }
         ensures counted { steps.new ≡ min (steps.old + 1) (2 ^ 64 - 1) }
+        ensures rises { steps.old ≤ steps.new }
     {
         *steps = steps.saturating_add(1);
         &mut self.right
@@ -46,6 +48,7 @@ impl Tree {
         ensures not_lower { self.old.height ≤ self.new.height }
         ensures at_most_one_higher { self.new.height ≤ self.old.height + 1 }
         ensures steps { steps.new ≤ steps.old + self.old.height }
+        ensures rises { steps.old ≤ steps.new }
     {
         let Some(mut top) = self.take() else {
             *self = close(place);
@@ -69,6 +72,7 @@ impl Tree {
         ensures not_higher { self.new.height ≤ self.old.height }
         ensures at_most_one_lower { self.old.height ≤ self.new.height + 1 }
         ensures steps { steps.new ≤ steps.old + self.old.height }
+        ensures rises { steps.old ≤ steps.new }
     {
         let Some(mut top) = self.take() else {
             return None;
@@ -98,6 +102,7 @@ impl Tree {
         ensures height { self.new.height ≡ self.old.height }
         ensures stays { IsTrue result ↔ (summary_of self.old.zones ≡ summary_of self.new.zones) }
         ensures steps { steps.new ≤ steps.old + self.old.height }
+        ensures rises { steps.old ≤ steps.new }
     {
         let Some(mut top) = self.take() else {
             unreachable!()
@@ -121,6 +126,7 @@ impl Tree {
         ensures not_higher { self.new.height ≤ self.old.height }
         ensures at_most_one_lower { self.old.height ≤ self.new.height + 1 }
         ensures steps { steps.new ≤ steps.old + self.old.height }
+        ensures rises { steps.old ≤ steps.new }
     {
         let Some(mut top) = self.take() else {
             return None;
@@ -144,6 +150,7 @@ fn join_sides(mut top: Box<Node>, steps: &mut u64) -> (Tree, Box<Node>)
     ensures not_lower { max top.value.left.height top.value.right.height ≤ result.0.height }
     ensures at_most_one_higher { result.0.height ≤ max top.value.left.height top.value.right.height + 1 }
     ensures steps { steps.new ≤ steps.old + (max top.value.left.height top.value.right.height + 1) }
+    ensures rises { steps.old ≤ steps.new }
 {
     let left = mem::replace(&mut top.left, Tree::new());
     let Some(mut first) = top.go_right(steps).take_first(steps) else {

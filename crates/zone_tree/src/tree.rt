@@ -90,6 +90,7 @@ impl ZoneTree {
         ensures zones { self.new.zones ≡ with_zone zone self.old.zones }
         ensures free { self.new.free + 1 ≡ self.old.free }
         ensures steps { self.new.steps ≤ self.old.steps + (2 * digits (length self.old.zones) + 1) }
+        ensures rises { self.old.steps ≤ self.new.steps }
     {
         // The number of places bounds the zones, and so the height.
         let _ = (self.tree.height(), self.places.taken());
@@ -104,6 +105,7 @@ impl ZoneTree {
         ensures zones { self.new.zones ≡ without_zone_at left self.old.zones }
         ensures free { self.new.free ≡ (if is_some result then self.old.free + 1 else self.old.free) }
         ensures steps { self.new.steps ≤ self.old.steps + (2 * digits (length self.old.zones) + 1) }
+        ensures rises { self.old.steps ≤ self.new.steps }
     {
         let _ = self.tree.height();
         let Some(place) = self.tree.remove(left, &mut self.steps) else {
@@ -122,6 +124,7 @@ impl ZoneTree {
         ensures zones { self.new.zones ≡ with_zone zone (without_zone_at zone.left self.old.zones) }
         ensures free { self.new.free ≡ self.old.free }
         ensures steps { self.new.steps ≤ self.old.steps + (2 * digits (length self.old.zones) + 1) }
+        ensures rises { self.old.steps ≤ self.new.steps }
     {
         let _ = self.tree.height();
         let _ = self.tree.replace(&zone, &mut self.steps);

@@ -20,6 +20,7 @@ pub fn exchange(
     ensures zones { AreExchanged before.now after.now tree.old.zones tree.new.zones }
     ensures room { NeedsNoRoom tree.old.zones before.now after.now → tree.old.free ≤ tree.new.free }
     ensures steps { tree.new.steps ≤ tree.old.steps + 4 * (2 * digits (length tree.old.zones + 1) + 1) }
+    ensures rises { tree.old.steps ≤ tree.new.steps }
 {
     match (
         is_unchanged(&before.0, &after.0),
@@ -50,6 +51,7 @@ fn move_zone(tree: &mut ZoneTree, gone: &Option<Zone>, come: &Option<Zone>)
     ensures zones { tree.new.zones ≡ with come.now (without gone.now tree.old.zones) }
     ensures room { (IsSome come.now → Stands tree.old.zones gone.now) → tree.old.free ≤ tree.new.free }
     ensures steps { tree.new.steps ≤ tree.old.steps + 4 * (2 * digits (length tree.old.zones + 1) + 1) }
+    ensures rises { tree.old.steps ≤ tree.new.steps }
 {
     digits_are_the_least_that_hold_a_number();
     match (gone, come) {
@@ -78,6 +80,7 @@ fn move_both(
     ensures zones { tree.new.zones ≡ moved gone.now come.now tree.old.zones }
     ensures room { KeepsRoom tree.old.zones gone.now come.now → tree.old.free ≤ tree.new.free }
     ensures steps { tree.new.steps ≤ tree.old.steps + 4 * (2 * digits (length tree.old.zones + 1) + 1) }
+    ensures rises { tree.old.steps ≤ tree.new.steps }
 {
     digits_are_the_least_that_hold_a_number();
     take(tree, &gone.0);
@@ -106,6 +109,7 @@ fn take(tree: &mut ZoneTree, zone: &Option<Zone>)
     ensures kept { tree.old.free ≤ tree.new.free }
     ensures freed { Stands tree.old.zones zone.now → tree.old.free < tree.new.free }
     ensures steps { tree.new.steps ≤ tree.old.steps + (2 * digits (length tree.old.zones) + 1) }
+    ensures rises { tree.old.steps ≤ tree.new.steps }
 {
     match zone {
         Some(zone) => {
@@ -122,6 +126,7 @@ fn put(tree: &mut ZoneTree, zone: &Option<Zone>)
     ensures free { tree.old.free ≤ tree.new.free + 1 }
     ensures kept { IsNone zone.now → tree.old.free ≤ tree.new.free }
     ensures steps { tree.new.steps ≤ tree.old.steps + (2 * digits (length tree.old.zones) + 1) }
+    ensures rises { tree.old.steps ≤ tree.new.steps }
 {
     match zone {
         Some(zone) => tree.insert(*zone),

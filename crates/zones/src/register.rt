@@ -138,6 +138,7 @@ impl<'t> Clusters<'t> {
         ensures err { OnErr result (self.new ≡ self.old) }
         ensures memory { OnErr result (IsSome (new_op self.old.ops edit.entry) × (self.old.prepared ≡ None)) }
         ensures steps { self.new.steps ≤ self.old.steps + 4 * (2 * digits (length (zones_of self.old.claim.initial self.old.ops) + 1) + 1) }
+        ensures rises { self.old.steps ≤ self.new.steps }
     {
         let new = self.table.new_op(&edit);
         if let Some(op) = new {
@@ -156,6 +157,7 @@ impl<'t> Clusters<'t> {
         requires prepared { IfSome new (λ op. self.old.prepared ≡ Some op) }
         ensures edited { self.new ≡ record self.old { ops = edited self.old.ops edit.entry; prepared = prepared_after new.entry self.old.prepared; steps = self.new.steps } }
         ensures steps { self.new.steps ≤ self.old.steps + 4 * (2 * digits (length (zones_of self.old.claim.initial self.old.ops) + 1) + 1) }
+        ensures rises { self.old.steps ≤ self.new.steps }
     {
         // That the zones stand in order is known of what is gone over.
         let _ = self.zones.iter();
@@ -183,6 +185,8 @@ impl<'t> Clusters<'t> {
         ensures succeeds { IsSome self.old.prepared → IsOk result }
         ensures ok { OnOk result (self.new ≡ record self.old { ops = self.old.ops ++ write.now ∷ []; prepared = None; steps = self.new.steps }) }
         ensures err { OnErr result (self.new ≡ self.old) }
+        ensures steps { self.new.steps ≤ self.old.steps + 4 * (2 * digits (length (zones_of self.old.claim.initial self.old.ops) + 1) + 1) }
+        ensures rises { self.old.steps ≤ self.new.steps }
     {
         self.admit(Edit::Append(*write))
     }
@@ -195,13 +199,17 @@ impl<'t> Clusters<'t> {
         ensures succeeds { IsSome self.old.prepared → IsOk result }
         ensures ok { OnOk result (self.new ≡ record self.old { ops = self.old.ops ++ read.now ∷ []; prepared = None; steps = self.new.steps }) }
         ensures err { OnErr result (self.new ≡ self.old) }
+        ensures steps { self.new.steps ≤ self.old.steps + 4 * (2 * digits (length (zones_of self.old.claim.initial self.old.ops) + 1) + 1) }
+        ensures rises { self.old.steps ≤ self.new.steps }
     {
         self.admit(Edit::Append(*read))
     }
 
     pub fn drop_write(&mut self, id: OpId)
         requires { IsSomeAnd (op_in self.old.ops id) IsWrite }
-        ensures { self.new ≡ record self.old { ops = edited self.old.ops (Edit.Withdraw id); steps = self.new.steps } }
+        ensures dropped { self.new ≡ record self.old { ops = edited self.old.ops (Edit.Withdraw id); steps = self.new.steps } }
+        ensures steps { self.new.steps ≤ self.old.steps + 4 * (2 * digits (length (zones_of self.old.claim.initial self.old.ops) + 1) + 1) }
+        ensures rises { self.old.steps ≤ self.new.steps }
     {
         // A withdrawal takes no memory.
         let _ = self.admit(Edit::Withdraw(id));
@@ -209,7 +217,9 @@ impl<'t> Clusters<'t> {
 
     pub fn drop_read(&mut self, id: OpId)
         requires { IsSomeAnd (op_in self.old.ops id) (λ op. ¬ IsWrite op) }
-        ensures { self.new ≡ record self.old { ops = edited self.old.ops (Edit.Withdraw id); steps = self.new.steps } }
+        ensures dropped { self.new ≡ record self.old { ops = edited self.old.ops (Edit.Withdraw id); steps = self.new.steps } }
+        ensures steps { self.new.steps ≤ self.old.steps + 4 * (2 * digits (length (zones_of self.old.claim.initial self.old.ops) + 1) + 1) }
+        ensures rises { self.old.steps ≤ self.new.steps }
     {
         // A withdrawal takes no memory.
         let _ = self.admit(Edit::Withdraw(id));
