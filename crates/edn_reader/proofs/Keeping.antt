@@ -41,6 +41,10 @@ pub outer_low : (opens : List Open) (p : ℕ) → Rising opens p → outer opens
 outer_low [] p r = omega arith
 outer_low (item ∷ opens) p r = omega (arith, r.0, outer_low opens item.place r.1)
 
+pub rising_up : (opens : List Open) (p q : ℕ) → p ≤ q → Rising opens p → Rising opens q
+rising_up [] p q le r = tt
+rising_up (item ∷ opens) p q le r = (omega (arith, r.0, le), r.1)
+
 -- What was taken keeps this place: what is open goes on from it, or an element begins there.
 abbrev Keeps : ℕ → ℕ → Taken → Type 0
 Keeps keep end (on opens) = keep ≤ outer opens end
@@ -151,12 +155,19 @@ pub part_ends : (part : Part) (start at end : ℕ) (rest : List ℕ) (token : To
 part_ends part start at end rest token opens span e le r t = kept_ends (last part) token start at end opens span (λ g. sym e ∙ gap_stays part rest g) le r t
 
 -- A part that goes on keeps no less.
-token_low : (token : Token) (start at : ℕ) → start ≤ at → start ≤ kept_token token start at
+pub token_low : (token : Token) (start at : ℕ) → start ≤ at → start ≤ kept_token token start at
 token_low tokens.Gap start at le = le
 token_low (tokens.Leaf kind) start at le = omega arith
 token_low (tokens.Opens opener) start at le = omega arith
 token_low (tokens.Closes bracket) start at le = omega arith
 token_low tokens.Unfinished start at le = omega arith
+
+pub token_high : (token : Token) (start at : ℕ) → start ≤ at → kept_token token start at ≤ at
+token_high tokens.Gap start at le = omega arith
+token_high (tokens.Leaf kind) start at le = le
+token_high (tokens.Opens opener) start at le = le
+token_high (tokens.Closes bracket) start at le = le
+token_high tokens.Unfinished start at le = le
 
 token_rises : (token later : Token) (start at end : ℕ) → (token ≡ tokens.Gap → later ≡ tokens.Gap) → start ≤ at → at ≤ end → kept_token token start at ≤ kept_token later start end
 token_rises tokens.Gap later start at end g le high =

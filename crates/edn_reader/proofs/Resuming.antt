@@ -342,6 +342,25 @@ pub ahead_within : (part : Part) (at : ℕ) (bytes : List ℕ) (later : Part) �
 unfolding IsAhead
 ahead_within part at bytes later is = is
 
+-- Whatever has begun takes a run byte more.
+pub one_taken : (part : Part) → (resumed part (97 ∷ [])).1 ≡ 1
+unfolding lexed class_of stretch quoted_length after_hash
+one_taken Nothing = refl
+one_taken Comment = refl
+one_taken (Run token) = refl
+one_taken Text = refl
+one_taken Escape = refl
+one_taken Hash = refl
+one_taken Backslash = refl
+
+-- So a token that has begun and ends in a piece ends behind a byte of it.
+pub piece_some : (piece : List ℕ) (part : Part) (found : Found) → IsAhead part 0 (drop 0 piece) (Whole found) → 0 < length piece
+piece_some [] part found is =
+    let k = ahead_whole part 0 [] found is in
+    let one = ap (λ (x : Token × ℕ). x.1) (k.2 (97 ∷ [])) in
+    absurd (omega (arith, k.1, one, one_taken part))
+piece_some (b ∷ piece) part found is = omega arith
+
 -- Where nothing follows.
 pub resumed_last : (part : Part) → resumed part [] ≡ (last part, 0)
 unfolding stretch

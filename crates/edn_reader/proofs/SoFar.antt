@@ -5,14 +5,11 @@ use Rattle.std.proofs.lemmas.Bool.{cases_lt}
 use Rattle.edn_reader.specs.declared.element.ElementKind.{ElementKind}
 use Rattle.edn_reader.specs.declared.element.Core.{Core}
 use Rattle.edn_reader.specs.declared.nesting.Open.{Open}
-use Rattle.edn_reader.specs.declared.resume.Part.{Part}
-use Rattle.edn_reader.specs.declared.resume.Part.TheVariants as parts
 use Rattle.edn_reader.specs.declared.token.Token.{Token}
-use Rattle.edn_reader.specs.Bytes.{class_of, stretch}
 use Rattle.edn_reader.specs.Grammar.{Piece, IsElement, IsElementAt, IsElements, none, next}
 use Rattle.edn_reader.specs.Text.{IsFront, StandsOpen}
 use Rattle.edn_reader.specs.Fault.{IsBeginning, AreElementsSoFar}
-use Rattle.edn_reader.specs.Token.{lexed, quoted_length, after_hash}
+use Rattle.edn_reader.specs.Token.{lexed}
 use Rattle.edn_reader.specs.Resuming.{resumed}
 use Rattle.edn_reader.specs.Taking.{Taken, on, ends, fails, piece_in}
 use Rattle.edn_reader.specs.Splitting.{Splitting, IsAfter, StandsAfter}
@@ -20,6 +17,7 @@ use Rattle.edn_reader.proofs.Places.{cancel_end, core_within, moved_element, mov
 use Rattle.edn_reader.proofs.Runs.{goes, front_taken}
 use Rattle.edn_reader.proofs.Unique.{ending_stands, ending_end, front_fewer, agree}
 use Rattle.edn_reader.proofs.Ended.{stands_end}
+use Rattle.edn_reader.proofs.Resuming.{one_taken}
 use Rattle.edn_reader.proofs.Reading.{Says, says, elements_within, front_of}
 
 -- ---- where elements end
@@ -54,19 +52,6 @@ firsts_end [] others els = elements_forward els
 firsts_end (piece ∷ firsts) others (next {ended = here} gap element whole els) =
     let place : place_behind here firsts ≡ place_behind (piece.start + length piece.text) firsts = ap (λ (n : ℕ). place_behind n firsts) (one_ends piece.text element whole) in
     omega (arith, place, firsts_end firsts others els)
-
--- ---- one run byte more
-
--- Whatever has begun takes it.
-one_taken : (part : Part) → (resumed part (97 ∷ [])).1 ≡ 1
-unfolding lexed class_of stretch quoted_length after_hash
-one_taken parts.Nothing = refl
-one_taken parts.Comment = refl
-one_taken (parts.Run token) = refl
-one_taken parts.Text = refl
-one_taken parts.Escape = refl
-one_taken parts.Hash = refl
-one_taken parts.Backslash = refl
 
 none_left : (b : List ℕ) → length b ≡ 0 → b ≡ []
 none_left [] e = refl

@@ -5,7 +5,7 @@ use Rattle.std.proofs.lemmas.Bool.{cases_lt}
 use Rattle.std.proofs.lemmas.List.{take-append-drop, take-append-le, length-take-le}
 use Rattle.std.proofs.lemmas.Grind.{reverse_onto}
 use Rattle.std.specs.List.{slice_get}
-use Rattle.std.specs.Option.{option_to_list}
+use Rattle.std.specs.Option.{option_to_list, MatchOption}
 use Rattle.edn_reader.specs.declared.bytes.Bracket.{Bracket}
 use Rattle.edn_reader.specs.declared.fault.EdnFault.{EdnFault}
 use Rattle.edn_reader.specs.declared.fault.EdnFault.TheVariants as faults
@@ -26,8 +26,9 @@ use Rattle.edn_reader.specs.Text.{IsFront, IsText, IsViable, StandsOpen, outermo
 use Rattle.edn_reader.specs.Token.{lexed}
 use Rattle.edn_reader.specs.Resuming.{longer, resumed, last}
 use Rattle.edn_reader.specs.Taking.{IsPieceAt, piece_in}
-use Rattle.edn_reader.specs.Within.{StandsWithin, FaultBehind, outer, Reaches, ReadsPiece, EndsBetween, Concludes, ReadsEnd, EndsAt}
-use Rattle.edn_reader.specs.Splitting.{Splitting, keep, IsAfter, StandsAfter, TakesOn, EndsOn, IsFull}
+use Rattle.edn_reader.specs.Fault.{FaultOf, wanted_at, CanWantMemory, AreElementsBefore}
+use Rattle.edn_reader.specs.Within.{StandsWithin, FaultBehind, outer, kept_token, Reaches, ReadsPiece, WantsInPiece, EndsBetween, Concludes, ReadsEnd, EndsAt}
+use Rattle.edn_reader.specs.Splitting.{Splitting, keep, IsAfter, StandsAfter, KeepsFault, WantsMemory, Takes, TakesOn, EndsOn, IsFull}
 use Rattle.edn_reader.proofs.Stretches.{drop_before}
 use Rattle.edn_reader.proofs.Lexing.{token_lexed, finishing}
 use Rattle.edn_reader.proofs.Resuming.{same_size, resumed_last}
@@ -36,6 +37,8 @@ use Rattle.edn_reader.proofs.Runs.{span_at}
 use Rattle.edn_reader.proofs.Ended.{stands_end, stands_left, stands_room}
 use Rattle.edn_reader.proofs.Viable.{viable, stands_after, viable_finished}
 use Rattle.edn_reader.proofs.Reading.{StandsAt, full_fails}
+use Rattle.edn_reader.proofs.Keeping.{rising_stands, rising_up, outer_up, outer_low, token_low, token_high}
+use Rattle.edn_reader.proofs.Within.{no_memory}
 
 -- ---- places of joined bytes
 
@@ -70,21 +73,57 @@ piece_front xs ys span low high =
 
 -- ---- where nothing has begun
 
-stands_anew : (input : List ℕ) (at end : ℕ) (pieces : List Piece) (opens : List Open) → at ≡ end → opens ≡ [] → StandsAt input pieces [] at
-    → StandsWithin input end pieces opens (record { start = at; part = parts.Nothing })
-stands_anew input at end pieces opens same empty s =
+stands_anew : (input : List ℕ) (at end : ℕ) (pieces : List Piece) (opens : List Open) → at ≡ end → StandsAt input pieces opens at → StandsWithin input end pieces opens (record { start = at; part = parts.Nothing })
+stands_anew input at end pieces opens same s =
     let left = lexed (drop at input) in
     record {
       low = omega (arith, same);
-      stands = subst (λ (o : List Open). StandsAt input pieces o at) (sym empty) s;
+      stands = s;
       token = same_size left.0 left.1 (end - at + left.1) (omega (arith, same)) ∙ ap (λ (n : ℕ). longer (end - at) (lexed (drop n input))) same;
     }
+
+none_open : {input : List ℕ} {at : ℕ} {pieces : List Piece} (opens : List Open) → opens ≡ [] → StandsAt input pieces [] at → StandsAt input pieces opens at
+none_open {input} {at} {pieces} opens empty s = subst (λ (o : List Open). StandsAt input pieces o at) (sym empty) s
 
 none_full : (opens : List Open) (at : ℕ) → IsFull false (record { start = at; part = parts.Nothing }) opens
 none_full opens at opener e = absurd cc
 
 pub after_nothing : (next : List ℕ) (ended : Span) → StandsAfter [] next [] (record { taken = 0; begun = record { start = 0; part = parts.Nothing }; opens = []; fault = None; ended = ended })
-after_nothing next ended input more e = record { no_fault = refl; taken = refl; stands = stands_anew input 0 0 [] [] refl refl (outermost none nothing); not_full = none_full [] 0 }
+after_nothing next ended input more e = record { no_fault = refl; taken = refl; stands = stands_anew input 0 0 [] [] refl (outermost none nothing); not_full = none_full [] 0 }
+
+-- ---- what is kept
+
+-- What is kept is no later than where something has begun, or than what was taken.
+keep_low : {bytes input : List ℕ} {pieces : List Piece} (old : Splitting) → IsAfter bytes input pieces old → keep old ≤ kept_token (last old.begun.part) old.begun.start old.taken
+keep_low old s =
+    let from = kept_token (last old.begun.part) old.begun.start old.taken in
+    outer_low old.opens from (rising_up old.opens old.begun.start from (token_low (last old.begun.part) old.begun.start old.taken (omega (arith, s.stands.low, s.taken))) (rising_stands s.stands.stands))
+
+keep_high : {bytes input : List ℕ} {pieces : List Piece} (old : Splitting) → IsAfter bytes input pieces old → keep old ≤ old.taken
+keep_high old s = omega (arith, keep_low old s, token_high (last old.begun.part) old.begun.start old.taken (omega (arith, s.stands.low, s.taken)))
+
+keeps_more : (keep place : ℕ) (after : List Open) → keep ≤ place → keep ≤ outer after keep → keep ≤ outer after place
+keeps_more keep place after le is = omega (arith, outer_up after keep place le, is)
+
+-- ---- a fault
+
+fault_met : (input : List ℕ) (pieces : List Piece) (fault : EdnFault) → wanted_at fault ≡ None → FaultBehind input pieces fault → FaultOf input fault × AreElementsBefore input pieces
+fault_met input pieces (faults.Memory place) e f = absurd cc
+fault_met input pieces (faults.Truncated place) e f = no_memory f.0 (λ h. h)
+fault_met input pieces (faults.StrayClose place) e f = no_memory f.0 (λ h. h)
+fault_met input pieces (faults.WrongClose place) e f = no_memory f.0 (λ h. h)
+fault_met input pieces (faults.TooDeep place) e f = no_memory f.0 (λ h. h)
+fault_met input pieces (faults.OddMap place) e f = no_memory f.0 (λ h. h)
+fault_met input pieces (faults.TagWithoutElement place) e f = no_memory f.0 (λ h. h)
+
+pub is_wanted : (fault : EdnFault) (place : ℕ) → wanted_at fault ≡ Some place → fault ≡ faults.Memory place
+is_wanted (faults.Memory at) place e = let same : at ≡ place = cc in ap faults.Memory same
+is_wanted (faults.Truncated at) place e = absurd cc
+is_wanted (faults.StrayClose at) place e = absurd cc
+is_wanted (faults.WrongClose at) place e = absurd cc
+is_wanted (faults.TooDeep at) place e = absurd cc
+is_wanted (faults.OddMap at) place e = absurd cc
+is_wanted (faults.TagWithoutElement at) place e = absurd cc
 
 -- ---- a piece
 
@@ -114,9 +153,63 @@ takes_within piece old later after few reads bytes next pieces stands =
       (known (some_input bytes piece next) [] refl).1,
     )
 
-pub takes_fault : (piece : List ℕ) (old : Splitting) (fault : EdnFault) (new : Splitting) → new.fault ≡ Some fault → ReadsPiece piece old.taken old.begun old.opens (Err fault) new.opens
-    → TakesOn piece old (Err fault) new
-takes_fault piece old fault new same reads bytes next pieces stands = (same, read_at piece old (Err fault) new.opens reads bytes next pieces stands)
+-- A fault of the input is kept.
+pub takes_fault : (piece : List ℕ) (old : Splitting) (fault : EdnFault) (after : List Open) → wanted_at fault ≡ None → ReadsPiece piece old.taken old.begun old.opens (Err fault) after
+    → TakesOn piece old (Err fault) (record { taken = old.taken; begun = old.begun; opens = after; fault = Some fault; ended = old.ended })
+takes_fault piece old fault after met reads bytes next pieces stands =
+    let new : Splitting = record { taken = old.taken; begun = old.begun; opens = after; fault = Some fault; ended = old.ended } in
+    let known = read_at piece old (Err fault) after reads bytes next pieces stands in
+    let first = stands (some_input bytes piece next) [] refl in (
+      keeps_more (keep old) (kept_token (last old.begun.part) old.begun.start old.taken) after (keep_low old first) (known (some_input bytes piece next) [] refl).2,
+      subst (λ (o : Option ℕ). MatchOption o (KeepsFault bytes (piece ++ next) pieces fault new) (λ place. WantsMemory bytes piece next pieces place new)) (sym met)
+          (refl, λ input more e. fault_met input pieces fault met (known input more e).0),
+    )
+
+-- Memory was wanted for what began before the piece: all is as it was.
+pub takes_before : (piece : List ℕ) (old : Splitting) (place : ℕ) (after : List Open) → place < old.taken → WantsInPiece old.taken (length piece) old.begun.start old.opens (faults.Memory place) after
+    → ReadsPiece piece old.taken old.begun old.opens (Err (faults.Memory place)) after
+    → TakesOn piece old (Err (faults.Memory old.taken)) (record { taken = old.taken; begun = old.begun; opens = after; fault = old.fault; ended = old.ended })
+takes_before piece old place after lt (some, before) reads bytes next pieces stands =
+    let known = read_at piece old (Err (faults.Memory place)) after reads bytes next pieces stands in
+    let first = stands (some_input bytes piece next) [] refl in
+    let used = old.taken - length bytes in
+    let size : used ≤ length piece = omega (arith, first.taken) in
+    subst (λ (opens : List Open). Takes bytes piece next pieces old (Err (faults.Memory old.taken)) (record { taken = old.taken; begun = old.begun; opens = opens; fault = old.fault; ended = old.ended })) (sym (before lt).1) (
+      omega arith,
+      (
+        omega (arith, first.taken),
+        omega (arith, first.taken, some),
+        refl,
+        (λ input more e.
+            let s = stands input more (behind_used bytes piece next more input used e) in
+            let long : old.taken ≡ length (bytes ++ take used piece) = omega (arith, s.taken, length-append bytes (take used piece), length-take-le used piece size) in
+            record { no_fault = s.no_fault; taken = long; stands = subst (λ (n : ℕ). StandsWithin input n pieces old.opens old.begun) (sym s.taken ∙ long) s.stands; not_full = s.not_full }),
+        (λ input more e. subst (CanWantMemory input pieces) (before lt).0 (known input more e).0.1),
+      ),
+    )
+
+-- Memory was wanted at a byte of the piece, where nothing has begun then.
+pub takes_there : (piece : List ℕ) (old : Splitting) (place : ℕ) (after : List Open) → old.taken ≤ place → ReadsPiece piece old.taken old.begun old.opens (Err (faults.Memory place)) after
+    → TakesOn piece old (Err (faults.Memory place)) (record { taken = place; begun = record { start = place; part = parts.Nothing }; opens = after; fault = old.fault; ended = old.ended })
+takes_there piece old place after le reads bytes next pieces stands =
+    let known = read_at piece old (Err (faults.Memory place)) after reads bytes next pieces stands in
+    let one = known (some_input bytes piece next) [] refl in
+    let first = stands (some_input bytes piece next) [] refl in
+    let used = place - length bytes in
+    let size : used ≤ length piece = omega (arith, first.taken, one.1.0) in (
+      keeps_more (keep old) place after (omega (arith, keep_high old first, le)) one.2,
+      (
+        omega (arith, first.taken, le),
+        omega (arith, first.taken, one.1.0),
+        refl,
+        (λ input more e.
+            let f = behind_used bytes piece next more input used e in
+            let s = stands input more f in
+            let long : place ≡ length (bytes ++ take used piece) = omega (arith, s.taken, le, length-append bytes (take used piece), length-take-le used piece size) in
+            record { no_fault = s.no_fault; taken = long; stands = stands_anew input place (length (bytes ++ take used piece)) pieces after long (known input more f).1.1; not_full = none_full after place }),
+        (λ input more e. (known input more e).0.1),
+      ),
+    )
 
 opens_stays : (part : Part) (opener : Opener) (rest : List ℕ) → last part ≡ tokens.Opens opener → (resumed part rest).0 ≡ tokens.Opens opener
 opens_stays parts.Nothing opener rest e = absurd cc
@@ -128,15 +221,17 @@ opens_stays parts.Hash opener rest e = absurd cc
 opens_stays parts.Backslash opener rest e = absurd cc
 
 full_behind : (input : List ℕ) (end : ℕ) (pieces : List Piece) (later : Begun) (after : List Open) → IsFull true later after → StandsWithin input end pieces after later
-    → FaultBehind input pieces (faults.TooDeep later.start)
+    → FaultOf input (faults.TooDeep later.start) × AreElementsBefore input pieces
 full_behind input end pieces later after full w =
     let is = ap (λ (x : _ × ℕ). x.0) w.token ∙ opens_stays later.part full.0.0 (drop end input) full.0.1 in
-    (inr (full_fails input pieces later.start full.0.0 after w.stands is full.1), tt)
+    full_fails input pieces later.start full.0.0 after w.stands is full.1
 
-pub takes_full : (piece : List ℕ) (old : Splitting) (later : Begun) (after : List Open) (new : Splitting) → new.fault ≡ Some (faults.TooDeep later.start) → IsFull true later after
-    → ReadsPiece piece old.taken old.begun old.opens (Ok (Within later)) after → TakesOn piece old (Err (faults.TooDeep later.start)) new
-takes_full piece old later after new same full reads bytes next pieces stands =
-    (same, λ input more e. full_behind input (old.taken + length piece) pieces later after full (read_at piece old (Ok (Within later)) after reads bytes next pieces stands input more e).0)
+pub takes_full : (piece : List ℕ) (old : Splitting) (later : Begun) (after : List Open) → IsFull true later after → ReadsPiece piece old.taken old.begun old.opens (Ok (Within later)) after
+    → TakesOn piece old (Err (faults.TooDeep later.start))
+    (record { taken = old.taken + length piece; begun = later; opens = after; fault = Some (faults.TooDeep later.start); ended = old.ended })
+takes_full piece old later after full reads bytes next pieces stands =
+    let known = read_at piece old (Ok (Within later)) after reads bytes next pieces stands in
+    ((known (some_input bytes piece next) [] refl).1, (refl, λ input more e. full_behind input (old.taken + length piece) pieces later after full (known input more e).0))
 
 pub takes_element : (piece : List ℕ) (old : Splitting) (span : Span) (after : List Open) → ReadsPiece piece old.taken old.begun old.opens (Ok (Ended span)) after
     → EndsBetween old.taken (old.taken + length piece) (Ended span) after
@@ -168,7 +263,7 @@ takes_element piece old span after reads (empty, low, high) bytes next pieces st
             let f = behind_used bytes piece next more input used e in
             let s = stands input more f in
             let long : span.end ≡ length (bytes ++ take used piece) = omega (arith, place, length-append bytes (take used piece), length-take-le used piece size) in
-            record { no_fault = s.no_fault; taken = long; stands = stands_anew input span.end (length (bytes ++ take used piece)) (pieces ++ piece_in (bytes ++ piece) span ∷ []) after long empty (outermost (front input more f) nothing); not_full = none_full after span.end }),
+            record { no_fault = s.no_fault; taken = long; stands = stands_anew input span.end (length (bytes ++ take used piece)) (pieces ++ piece_in (bytes ++ piece) span ∷ []) after long (none_open after empty (outermost (front input more f) nothing)); not_full = none_full after span.end }),
         front,
         (refl, refl, refl),
       ),
@@ -177,23 +272,24 @@ takes_element piece old span after reads (empty, low, high) bytes next pieces st
 -- ---- the end of the input
 
 -- What the end says of the input.
-end_at : (old : Splitting) (result : Result (Option Span) EdnFault) → ReadsEnd old.taken old.begun old.opens result → (input : List ℕ) (pieces : List Piece) → IsAfter input input pieces old
-    → Concludes input pieces (keep old) result
-end_at old result reads input pieces s =
+end_at : (old : Splitting) (result : Result (Option Span) EdnFault) (after : List Open) → ReadsEnd old.taken old.begun old.opens result after → (input : List ℕ) (pieces : List Piece)
+    → IsAfter input input pieces old → Concludes input pieces (keep old) result after
+end_at old result after reads input pieces s =
     reads input pieces (sym s.taken) (subst (λ (n : ℕ). StandsWithin input n pieces old.opens old.begun) (sym s.taken) s.stands)
 
-pub ends_element : (old : Splitting) (span : Span) (after : List Open) → ReadsEnd old.taken old.begun old.opens (Ok (Some span)) → EndsAt old.begun.start old.taken (Some span) after
+pub ends_element : (old : Splitting) (span : Span) (after : List Open) → ReadsEnd old.taken old.begun old.opens (Ok (Some span)) after → EndsAt old.begun.start old.taken (Some span) after
     → EndsOn old (Ok (Some (span.start, span.end))) (record { taken = old.taken; begun = record { start = old.taken; part = parts.Nothing }; opens = after; fault = old.fault; ended = span })
 ends_element old span after reads (empty, some, place) input pieces s =
-    let known = end_at old (Ok (Some span)) reads input pieces s in
+    let known = end_at old (Ok (Some span)) after reads input pieces s in
     let front = subst (IsFront input (pieces ++ piece_in input span ∷ [])) place known.0.3 in (
       place ∙ s.taken,
       known.2,
+      ap (λ (o : List Open). outer o old.taken) empty ∙ sym place,
       (
         piece_in input span,
         (refl, omega (arith, known.0.0, known.0.1), refl),
         known.1,
-        record { no_fault = s.no_fault; taken = s.taken; stands = stands_anew input old.taken (length input) (pieces ++ piece_in input span ∷ []) after s.taken empty (outermost front nothing); not_full = none_full after old.taken },
+        record { no_fault = s.no_fault; taken = s.taken; stands = stands_anew input old.taken (length input) (pieces ++ piece_in input span ∷ []) after s.taken (none_open after empty (outermost front nothing)); not_full = none_full after old.taken },
         (refl, refl, refl),
       ),
     )
@@ -205,14 +301,27 @@ text_stands input pieces at same (begins, after, front, gap) =
     let place : after ≡ at = omega (arith, stands_end here, same) in
     subst (StandsAt input pieces []) place (subst (λ (rest : List ℕ). StandsOpen input pieces [] after rest) (stands_left here) here)
 
-pub ends_text : (old : Splitting) (after : List Open) → ReadsEnd old.taken old.begun old.opens (Ok None) → after ≡ []
+pub ends_text : (old : Splitting) (after : List Open) → ReadsEnd old.taken old.begun old.opens (Ok None) after → after ≡ []
     → EndsOn old (Ok None) (record { taken = old.taken; begun = record { start = old.taken; part = parts.Nothing }; opens = after; fault = old.fault; ended = old.ended })
 ends_text old after reads empty input pieces s =
-    let text = end_at old (Ok None) reads input pieces s in
-    (text, record { no_fault = s.no_fault; taken = s.taken; stands = stands_anew input old.taken (length input) pieces after s.taken empty (text_stands input pieces old.taken s.taken text); not_full = none_full after old.taken })
+    let text = end_at old (Ok None) after reads input pieces s in (
+      text,
+      record { no_fault = s.no_fault; taken = s.taken; stands = stands_anew input old.taken (length input) pieces after s.taken (none_open after empty (text_stands input pieces old.taken s.taken text)); not_full = none_full after old.taken },
+      omega (arith, keep_high old s, ap (λ (o : List Open). outer o old.taken) empty),
+    )
 
-pub ends_fault : (old : Splitting) (fault : EdnFault) (new : Splitting) → new.fault ≡ Some fault → ReadsEnd old.taken old.begun old.opens (Err fault) → EndsOn old (Err fault) new
-ends_fault old fault new same reads input pieces s = (same, end_at old (Err fault) reads input pieces s)
+pub ends_fault : (old : Splitting) (fault : EdnFault) (after : List Open) → wanted_at fault ≡ None → ReadsEnd old.taken old.begun old.opens (Err fault) after
+    → EndsOn old (Err fault) (record { taken = old.taken; begun = old.begun; opens = after; fault = Some fault; ended = old.ended })
+ends_fault old fault after met reads input pieces s =
+    let new : Splitting = record { taken = old.taken; begun = old.begun; opens = after; fault = Some fault; ended = old.ended } in
+    let known = end_at old (Err fault) after reads input pieces s in (
+      keeps_more (keep old) (kept_token (last old.begun.part) old.begun.start old.taken) after (keep_low old s) known.1,
+      subst
+          (λ (o : Option ℕ).
+          MatchOption o ((new.fault ≡ Some fault) × FaultOf input fault × AreElementsBefore input pieces)
+          (λ place. (new ≡ old) × (place ≡ old.begun.start) × CanWantMemory input pieces place))
+          (sym met) (let f = fault_met input pieces fault met known.0 in (refl, f.0, f.1)),
+    )
 
 -- ---- after a fault
 

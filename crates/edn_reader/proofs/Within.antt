@@ -3,7 +3,7 @@ use Rattle.std.proofs.Common.{◌≡◌, ◌⊎◌, inl, inr, ℕ, suc, ◌+◌,
 use Rattle.std.proofs.Math.ListN.{drop_of_length-le}
 use Rattle.std.proofs.lemmas.Bool.Decides.{nat_tests}
 use Rattle.std.specs.Bool.{◌==◌}
-use Rattle.std.specs.Prelude.{IfOk, IfErr}
+use Rattle.std.specs.Prelude.{IfOk, IfErr, IfSome}
 use Rattle.edn_reader.specs.declared.fault.EdnFault.{EdnFault}
 use Rattle.edn_reader.specs.declared.fault.EdnFault.TheVariants as faults
 use Rattle.edn_reader.specs.declared.nesting.Open.{Open}
@@ -20,13 +20,13 @@ use Rattle.edn_reader.specs.declared.tokens.Reached.TheVariants.{Ended, Within}
 use Rattle.edn_reader.specs.Grammar.{Piece}
 use Rattle.edn_reader.specs.Text.{IsFront, outermost}
 use Rattle.edn_reader.specs.Grammar.{nothing}
-use Rattle.edn_reader.specs.Fault.{FaultOf, IsMemory, MemoryOnlyThere, AreElementsBefore}
+use Rattle.edn_reader.specs.Fault.{FaultOf, IsMemory, wanted_at, MemoryOnlyThere, AreElementsBefore}
 use Rattle.edn_reader.specs.Token.{found_at, lexed}
 use Rattle.edn_reader.specs.Resuming.{longer, resumed, last, IsAhead}
-use Rattle.edn_reader.specs.Taking.{on, ends, fails, taken, GrowthRefused, IsPieceAt, LeadsOver, piece_in, Reads}
-use Rattle.edn_reader.specs.Within.{StandsWithin, FaultBehind, outer, kept_token, kept, Reaches, ReadsOn, ReadsPiece, ReadsEnd, IsBetween, EndsAt}
+use Rattle.edn_reader.specs.Taking.{on, ends, fails, taken, GrowthRefused, StaysOpen, IsPieceAt, LeadsOver, piece_in, Reads}
+use Rattle.edn_reader.specs.Within.{StandsWithin, FaultBehind, StandsWhereWanted, outer, kept_token, kept, Reaches, ReadsOn, ReadsPiece, WantsFrom, WantsInPiece, WantsAtEnd, ReadsEnd, IsBetween, EndsAt}
 use Rattle.edn_reader.proofs.Lexing.{found_is}
-use Rattle.edn_reader.proofs.Resuming.{same_size, longer_twice, ahead_whole, ahead_within, resumed_last}
+use Rattle.edn_reader.proofs.Resuming.{same_size, longer_twice, ahead_whole, ahead_within, resumed_last, piece_some}
 use Rattle.edn_reader.proofs.Reading.{StandsAt, stands_next, element_next, fault_next, memory_next, text_end, open_end}
 use Rattle.edn_reader.proofs.Leading.{in_piece, in_input, stands_led}
 use Rattle.edn_reader.proofs.Keeping.{rising_stands, outer_up, on_keeps, ends_keeps, led_keeps, gap_stays, part_on, part_ends, part_low, part_rises}
@@ -87,13 +87,47 @@ fault_by : (input : List ℕ) (pieces : List Piece) (at : ℕ) (found : Found) (
 fault_by input pieces at found fault opens lt s e (inl memory) refused = (inl memory, memory_next input pieces at found fault opens s e refused)
 fault_by input pieces at found fault opens lt s e (inr t) refused = (inr (fault_next input pieces at found fault opens lt s e t), memory_next input pieces at found fault opens s e refused)
 
+-- What is open begins no sooner than at a place, whatever follows.
+outer_any : (keep p : ℕ) (opens : List Open) → keep ≤ outer opens p → keep ≤ outer opens keep
+outer_any keep p [] le = omega arith
+outer_any keep p (item ∷ opens) le = le
+
+stays_outer : (keep p : ℕ) (opens after : List Open) → StaysOpen opens after → keep ≤ outer opens p → keep ≤ outer after keep
+stays_outer keep p opens after (inl same) le = subst (λ (o : List Open). keep ≤ outer o keep) (sym same) (outer_any keep p opens le)
+stays_outer keep p opens after (inr (item, whole)) le = outer_any keep item.place after (subst (λ (o : List Open). keep ≤ outer o p) whole le)
+
+-- Where a growth was refused at a token, what was open before it is.
+stands_wanted : (input : List ℕ) (end : ℕ) (pieces : List Piece) (at : ℕ) (token : Token) (fault : EdnFault) (opens after : List Open) → at < end → StandsAt input pieces opens at
+    → GrowthRefused token at opens fault → (IsMemory fault → after ≡ opens) → StandsWhereWanted input end pieces after fault
+stands_wanted input end pieces at token (faults.Memory place) opens after lt s refused kept =
+    (omega (arith, refused.0, lt), subst (λ (n : ℕ). StandsAt input pieces after n) (sym refused.0) (subst (λ (o : List Open). StandsAt input pieces o at) (sym (kept tt)) s))
+stands_wanted input end pieces at token (faults.Truncated place) opens after lt s refused kept = tt
+stands_wanted input end pieces at token (faults.StrayClose place) opens after lt s refused kept = tt
+stands_wanted input end pieces at token (faults.WrongClose place) opens after lt s refused kept = tt
+stands_wanted input end pieces at token (faults.TooDeep place) opens after lt s refused kept = tt
+stands_wanted input end pieces at token (faults.OddMap place) opens after lt s refused kept = tt
+stands_wanted input end pieces at token (faults.TagWithoutElement place) opens after lt s refused kept = tt
+
 pub reads_fault : (piece : List ℕ) (base from at : ℕ) (found : Found) (fault : EdnFault) (opens inner after : List Open) → Led piece base from opens at inner → at < length piece
     → IsAhead Nothing at (drop at piece) (aheads.Whole found) → IsMemory fault ⊎ (taken found.token (base + at) (base + found.end) inner ≡ fails fault)
-    → GrowthRefused found.token (base + at) inner fault → ReadsOn piece base from opens (Err fault) after
-reads_fault piece base from at found fault opens inner after led lt ahead t refused input behind pieces is s =
+    → GrowthRefused found.token (base + at) inner fault → StaysOpen inner after → (IsMemory fault → after ≡ inner) → ReadsOn piece base from opens (Err fault) after
+reads_fault piece base from at found fault opens inner after led lt ahead t refused stays kept input behind pieces is s =
     let before = led input behind pieces is s in
-    let token : Found = record { token = found.token; end = base + found.end } in
-    fault_by input pieces (base + at) token fault inner (in_input input piece behind base at is lt) before.0 (here input piece behind base at found is lt ahead) t refused
+    let token : Found = record { token = found.token; end = base + found.end } in (
+      fault_by input pieces (base + at) token fault inner (in_input input piece behind base at is lt) before.0 (here input piece behind base at found is lt ahead) t refused,
+      stands_wanted input (base + length piece) pieces (base + at) found.token fault inner after (omega (arith, lt)) before.0 refused kept,
+      stays_outer (outer opens (base + from)) (base + at) inner after stays before.1,
+    )
+
+-- Where it was refused.
+pub wants_here : (base from at size : ℕ) (token : Token) (fault : EdnFault) (opens : List Open) → from ≤ at → at < size → GrowthRefused token (base + at) opens fault → WantsFrom (base + from) size fault
+wants_here base from at size token (faults.Memory place) opens low lt refused = (omega (arith, lt), omega (arith, refused.0, low))
+wants_here base from at size token (faults.Truncated place) opens low lt refused = tt
+wants_here base from at size token (faults.StrayClose place) opens low lt refused = tt
+wants_here base from at size token (faults.WrongClose place) opens low lt refused = tt
+wants_here base from at size token (faults.TooDeep place) opens low lt refused = tt
+wants_here base from at size token (faults.OddMap place) opens low lt refused = tt
+wants_here base from at size token (faults.TagWithoutElement place) opens low lt refused = tt
 
 -- What is left of the input behind the piece.
 behind_piece : (input piece behind : List ℕ) (base : ℕ) → IsPieceAt input base piece behind → drop (base + length piece) input ≡ behind
@@ -138,7 +172,7 @@ reaches_low : (input : List ℕ) (end : ℕ) (pieces : List Piece) (low keep : �
     → Reaches input end pieces low result after
 reaches_low input end pieces low keep (Ok (Ended span)) after le r = (r.0, omega (arith, le, r.1))
 reaches_low input end pieces low keep (Ok (Within begun)) after le r = (r.0, omega (arith, le, r.1))
-reaches_low input end pieces low keep (Err fault) after le r = r
+reaches_low input end pieces low keep (Err fault) after le r = (r.0, r.1, outer_any low keep after (omega (arith, le, r.2)))
 
 token_at : (token : Token) (start at : ℕ) → start ≡ at → kept_token token start at ≤ start
 token_at tokens.Gap start at e = omega (arith, e)
@@ -185,10 +219,39 @@ piece_element piece base begun found span opens after other ahead t input behind
 
 pub piece_fault : (piece : List ℕ) (base : ℕ) (begun : Begun) (found : Found) (fault : EdnFault) (opens after : List Open) → (begun.start ≡ base → ⊥)
     → IsAhead begun.part 0 (drop 0 piece) (aheads.Whole found) → IsMemory fault ⊎ (taken found.token begun.start (base + found.end) opens ≡ fails fault)
-    → GrowthRefused found.token begun.start opens fault → ReadsPiece piece base begun opens (Err fault) after
-piece_fault piece base begun found fault opens after other ahead t refused input behind pieces is w =
-    let token : Found = record { token = found.token; end = base + found.end } in
-    fault_by input pieces begun.start token fault opens (begun_low input piece behind base begun is other w.low) w.stands (begun_here input piece behind pieces base begun opens found is w ahead) t refused
+    → GrowthRefused found.token begun.start opens fault → StaysOpen opens after → (IsMemory fault → after ≡ opens) → ReadsPiece piece base begun opens (Err fault) after
+piece_fault piece base begun found fault opens after other ahead t refused stays same input behind pieces is w =
+    let token : Found = record { token = found.token; end = base + found.end } in (
+      fault_by input pieces begun.start token fault opens (begun_low input piece behind base begun is other w.low) w.stands (begun_here input piece behind pieces base begun opens found is w ahead) t refused,
+      stands_wanted input (base + length piece) pieces begun.start found.token fault opens after (omega (arith, other, w.low)) w.stands refused same,
+      stays_outer (kept opens begun base) (kept_token (last begun.part) begun.start base) opens after stays (omega arith),
+    )
+
+-- Where memory was wanted, behind what has begun.
+wants_size : (base size start : ℕ) (opens after : List Open) (token : Token) (fault : EdnFault) → 0 < size → GrowthRefused token start opens fault → (IsMemory fault → after ≡ opens)
+    → WantsInPiece base size start opens fault after
+wants_size base size start opens after token (faults.Memory place) some refused same = (some, λ lt. (refused.0, same tt))
+wants_size base size start opens after token (faults.Truncated place) some refused same = tt
+wants_size base size start opens after token (faults.StrayClose place) some refused same = tt
+wants_size base size start opens after token (faults.WrongClose place) some refused same = tt
+wants_size base size start opens after token (faults.TooDeep place) some refused same = tt
+wants_size base size start opens after token (faults.OddMap place) some refused same = tt
+wants_size base size start opens after token (faults.TagWithoutElement place) some refused same = tt
+
+pub wants_begun : (piece : List ℕ) (base : ℕ) (begun : Begun) (found : Found) (fault : EdnFault) (opens after : List Open) → IsAhead begun.part 0 (drop 0 piece) (aheads.Whole found)
+    → GrowthRefused found.token begun.start opens fault → (IsMemory fault → after ≡ opens) → WantsInPiece base (length piece) begun.start opens fault after
+wants_begun piece base begun found fault opens after ahead refused same =
+    wants_size base (length piece) begun.start opens after found.token fault (piece_some piece begun.part found ahead) refused same
+
+wants_by : (base low size start : ℕ) (opens after : List Open) (o : Option ℕ) → base ≤ low → IfSome o (λ place. (0 < size) × (low ≤ place))
+    → IfSome o (λ place. (0 < size) × (place < base → (place ≡ start) × (after ≡ opens)))
+wants_by base low size start opens after None le w = tt
+wants_by base low size start opens after (Some place) le w = (w.0, λ lt. absurd (omega (arith, lt, le, w.1)))
+
+pub wants_later : (base low size start : ℕ) (opens after : List Open) (result : Result Reached EdnFault) → base ≤ low → IfErr result (λ fault. WantsFrom low size fault)
+    → IfErr result (λ fault. WantsInPiece base size start opens fault after)
+wants_later base low size start opens after (Ok reached) le w = tt
+wants_later base low size start opens after (Err fault) le w = wants_by base low size start opens after (wanted_at fault) le w
 
 pub piece_on : (piece : List ℕ) (base : ℕ) (begun : Begun) (found : Found) (opens middle after : List Open) (result : Result Reached EdnFault) → (begun.start ≡ base → ⊥)
     → IsAhead begun.part 0 (drop 0 piece) (aheads.Whole found) → taken found.token begun.start (base + found.end) opens ≡ on middle → ReadsOn piece base found.end middle result after
@@ -223,9 +286,10 @@ piece_within piece base begun later opens ahead input behind pieces is w =
 
 -- ---- the end of the input
 
--- What stands open at the end, in each input that ends there.
+-- What stands open at the end, in each input that ends there, which begins no sooner than at a place that was kept.
 abbrev pub EndStands : ℕ → Begun → List Open → List Open → Type 0
-EndStands end begun opens after = (input : List ℕ) (pieces : List Piece) → length input ≡ end → StandsWithin input end pieces opens begun → StandsAt input pieces after end
+EndStands end begun opens after =
+    (input : List ℕ) (pieces : List Piece) → length input ≡ end → StandsWithin input end pieces opens begun → StandsAt input pieces after end × (kept opens begun end ≤ outer after end)
 
 end_here : (input : List ℕ) (pieces : List Piece) (end : ℕ) (begun : Begun) (opens : List Open) → length input ≡ end → StandsWithin input end pieces opens begun
     → ◌≡◌ {A = Found} (record { token = last begun.part; end = end }) (found_at begun.start (lexed (drop begun.start input)))
@@ -236,16 +300,19 @@ end_here input pieces end begun opens long w =
 
 pub end_same : (end : ℕ) (begun : Begun) (opens : List Open) → end ≤ begun.start → EndStands end begun opens opens
 end_same end begun opens past input pieces long w =
-    let place : begun.start ≡ end = omega (arith, w.low, past) in subst (StandsAt input pieces opens) place w.stands
+    let place : begun.start ≡ end = omega (arith, w.low, past) in
+    (subst (StandsAt input pieces opens) place w.stands, outer_up opens (kept_token (last begun.part) begun.start end) end (omega (arith, token_at (last begun.part) begun.start end place, w.low)))
 
 pub end_on : (end : ℕ) (begun : Begun) (opens after : List Open) → begun.start < end → taken (last begun.part) begun.start end opens ≡ on after → EndStands end begun opens after
 end_on end begun opens after lt t input pieces long w =
-    let token : Found = record { token = last begun.part; end = end } in
-    stands_next input pieces begun.start token opens after (omega (arith, lt, long)) w.stands (end_here input pieces end begun opens long w) t
+    let token : Found = record { token = last begun.part; end = end } in (
+      stands_next input pieces begun.start token opens after (omega (arith, lt, long)) w.stands (end_here input pieces end begun opens long w) t,
+      part_on begun.part begun.start end end [] (last begun.part) opens after (ap (λ (x : Token × ℕ). x.0) (resumed_last begun.part)) w.low (omega arith) (rising_stands w.stands) t,
+    )
 
-pub end_element : (end : ℕ) (begun : Begun) (span : Span) (opens : List Open) → begun.start < end → taken (last begun.part) begun.start end opens ≡ ends span → span.end ≡ end
-    → ReadsEnd end begun opens (Ok (Some span))
-end_element end begun span opens lt t place input pieces long w =
+pub end_element : (end : ℕ) (begun : Begun) (span : Span) (opens after : List Open) → begun.start < end → taken (last begun.part) begun.start end opens ≡ ends span → span.end ≡ end
+    → ReadsEnd end begun opens (Ok (Some span)) after
+end_element end begun span opens after lt t place input pieces long w =
     let token : Found = record { token = last begun.part; end = end } in
     let e = end_here input pieces end begun opens long w in
     let one = element_next input pieces begun.start token span opens (omega (arith, lt, long)) w.stands e t in (
@@ -254,19 +321,32 @@ end_element end begun span opens lt t place input pieces long w =
       part_ends begun.part begun.start end end [] (last begun.part) opens span (ap (λ (x : Token × ℕ). x.0) (resumed_last begun.part)) w.low (rising_stands w.stands) t,
     )
 
-pub end_fault : (end : ℕ) (begun : Begun) (fault : EdnFault) (opens : List Open) → begun.start < end → IsMemory fault ⊎ (taken (last begun.part) begun.start end opens ≡ fails fault)
-    → GrowthRefused (last begun.part) begun.start opens fault → ReadsEnd end begun opens (Err fault)
-end_fault end begun fault opens lt t refused input pieces long w =
-    let token : Found = record { token = last begun.part; end = end } in
-    fault_by input pieces begun.start token fault opens (omega (arith, lt, long)) w.stands (end_here input pieces end begun opens long w) t refused
+pub end_fault : (end : ℕ) (begun : Begun) (fault : EdnFault) (opens after : List Open) → begun.start < end → IsMemory fault ⊎ (taken (last begun.part) begun.start end opens ≡ fails fault)
+    → GrowthRefused (last begun.part) begun.start opens fault → StaysOpen opens after → ReadsEnd end begun opens (Err fault) after
+end_fault end begun fault opens after lt t refused stays input pieces long w =
+    let token : Found = record { token = last begun.part; end = end } in (
+      fault_by input pieces begun.start token fault opens (omega (arith, lt, long)) w.stands (end_here input pieces end begun opens long w) t refused,
+      stays_outer (kept opens begun end) (kept_token (last begun.part) begun.start end) opens after stays (omega arith),
+    )
 
-pub end_text : (end : ℕ) (begun : Begun) (opens after : List Open) → EndStands end begun opens after → (length after == 0) ≡ true → ReadsEnd end begun opens (Ok None)
-end_text end begun opens [] stands e input pieces long w = text_end input pieces end (omega (arith, long)) (stands input pieces long w)
+pub wants_at_end : (start : ℕ) (token : Token) (fault : EdnFault) (opens after : List Open) → GrowthRefused token start opens fault → (IsMemory fault → after ≡ opens) → WantsAtEnd start opens fault after
+wants_at_end start token (faults.Memory place) opens after refused same = (refused.0, same tt)
+wants_at_end start token (faults.Truncated place) opens after refused same = tt
+wants_at_end start token (faults.StrayClose place) opens after refused same = tt
+wants_at_end start token (faults.WrongClose place) opens after refused same = tt
+wants_at_end start token (faults.TooDeep place) opens after refused same = tt
+wants_at_end start token (faults.OddMap place) opens after refused same = tt
+wants_at_end start token (faults.TagWithoutElement place) opens after refused same = tt
+
+pub end_text : (end : ℕ) (begun : Begun) (opens after : List Open) → EndStands end begun opens after → (length after == 0) ≡ true → ReadsEnd end begun opens (Ok None) after
+end_text end begun opens [] stands e input pieces long w = text_end input pieces end (omega (arith, long)) (stands input pieces long w).0
 end_text end begun opens (item ∷ after) stands e input pieces long w = let none_is : suc (length after) ≡ 0 = grind (arith, nat_tests) in absurd (omega arith)
 
-pub end_open : (end : ℕ) (begun : Begun) (opens after : List Open) → EndStands end begun opens after → (length after == 0) ≡ false → ReadsEnd end begun opens (Err (faults.Truncated end))
+pub end_open : (end : ℕ) (begun : Begun) (opens after : List Open) → EndStands end begun opens after → (length after == 0) ≡ false → ReadsEnd end begun opens (Err (faults.Truncated end)) after
 end_open end begun opens [] stands e input pieces long w = absurd cc
-end_open end begun opens (item ∷ after) stands e input pieces long w = (inr (open_end input pieces end item after (omega (arith, long)) (stands input pieces long w)), tt)
+end_open end begun opens (item ∷ after) stands e input pieces long w =
+    let s = stands input pieces long w in
+    ((inr (open_end input pieces end item after (omega (arith, long)) s.0), tt), outer_any (kept opens begun end) end (item ∷ after) s.1)
 
 pub none_open : (opens : List Open) → (length opens == 0) ≡ true → opens ≡ []
 none_open [] e = refl
@@ -290,7 +370,7 @@ pub whole_element : (input : List ℕ) (from : ℕ) (opens after : List Open) (s
 whole_element input from opens after span e reads between =
     (between.0, omega (arith, between.1), λ pieces front. (reads input [] pieces (whole_piece input) (stands_whole input from pieces opens e front)).0)
 
-no_memory : {X Y : Type 0} → X ⊎ Y → (X → ⊥) → Y
+pub no_memory : {X Y : Type 0} → X ⊎ Y → (X → ⊥) → Y
 no_memory (inl x) h = absurd (h x)
 no_memory (inr y) h = y
 
@@ -306,11 +386,11 @@ met_by input from (faults.OddMap place) f = inr (λ pieces front. no_memory (f p
 met_by input from (faults.TagWithoutElement place) f = inr (λ pieces front. no_memory (f pieces front) (λ h. h))
 
 pub whole_fault : (input : List ℕ) (from : ℕ) (opens after : List Open) (fault : EdnFault) → opens ≡ [] → ReadsOn input 0 from opens (Err fault) after → Reads input from (Err fault) after
-whole_fault input from opens after fault e reads = met_by input from fault (λ pieces front. (reads input [] pieces (whole_piece input) (stands_whole input from pieces opens e front)).0)
+whole_fault input from opens after fault e reads = met_by input from fault (λ pieces front. (reads input [] pieces (whole_piece input) (stands_whole input from pieces opens e front)).0.0)
 
 pub whole_memory : (input : List ℕ) (from : ℕ) (opens after : List Open) (fault : EdnFault) → opens ≡ [] → ReadsOn input 0 from opens (Err fault) after
     → (pieces : List Piece) → IsFront input pieces from → MemoryOnlyThere input pieces fault
-whole_memory input from opens after fault e reads pieces front = (reads input [] pieces (whole_piece input) (stands_whole input from pieces opens e front)).1
+whole_memory input from opens after fault e reads pieces front = (reads input [] pieces (whole_piece input) (stands_whole input from pieces opens e front)).0.1
 
 -- What is within at the end of the input.
 within_whole : (input : List ℕ) (from : ℕ) (opens inner : List Open) (begun : Begun) → opens ≡ [] → ReadsOn input 0 from opens (Ok (Within begun)) inner
@@ -319,14 +399,14 @@ within_whole input from opens inner begun e reads pieces front =
     subst (λ (n : ℕ). StandsWithin input n pieces inner begun) (at_end input) (reads input [] pieces (whole_piece input) (stands_whole input from pieces opens e front)).0
 
 pub whole_end : (input : List ℕ) (from : ℕ) (opens inner after : List Open) (begun : Begun) (result : Result (Option Span) EdnFault) → opens ≡ [] → ReadsOn input 0 from opens (Ok (Within begun)) inner
-    → IsBetween (0 + from) (0 + length input) (Within begun) inner → ReadsEnd (length input) begun inner result → IfOk result (λ span. EndsAt begun.start (length input) span after) → Reads input from result after
+    → IsBetween (0 + from) (0 + length input) (Within begun) inner → ReadsEnd (length input) begun inner result after → IfOk result (λ span. EndsAt begun.start (length input) span after) → Reads input from result after
 whole_end input from opens inner after begun (Ok (Some span)) e reads between end place =
     (place.0, omega (arith, between.0, place.1, place.2), λ pieces front. (end input pieces refl (within_whole input from opens inner begun e reads pieces front)).0)
 whole_end input from opens inner after begun (Ok None) e reads between end place = (place, λ pieces front. end input pieces refl (within_whole input from opens inner begun e reads pieces front))
 whole_end input from opens inner after begun (Err fault) e reads between end place =
-    met_by input from fault (λ pieces front. (end input pieces refl (within_whole input from opens inner begun e reads pieces front)).0)
+    met_by input from fault (λ pieces front. (end input pieces refl (within_whole input from opens inner begun e reads pieces front)).0.0)
 
-pub whole_end_memory : (input : List ℕ) (from : ℕ) (opens inner : List Open) (begun : Begun) (result : Result (Option Span) EdnFault) → opens ≡ [] → ReadsOn input 0 from opens (Ok (Within begun)) inner
-    → ReadsEnd (length input) begun inner result → IfErr result (λ fault. (pieces : List Piece) → IsFront input pieces from → MemoryOnlyThere input pieces fault)
-whole_end_memory input from opens inner begun (Ok span) e reads end = tt
-whole_end_memory input from opens inner begun (Err fault) e reads end = λ pieces front. (end input pieces refl (within_whole input from opens inner begun e reads pieces front)).1
+pub whole_end_memory : (input : List ℕ) (from : ℕ) (opens inner after : List Open) (begun : Begun) (result : Result (Option Span) EdnFault) → opens ≡ [] → ReadsOn input 0 from opens (Ok (Within begun)) inner
+    → ReadsEnd (length input) begun inner result after → IfErr result (λ fault. (pieces : List Piece) → IsFront input pieces from → MemoryOnlyThere input pieces fault)
+whole_end_memory input from opens inner after begun (Ok span) e reads end = tt
+whole_end_memory input from opens inner after begun (Err fault) e reads end = λ pieces front. (end input pieces refl (within_whole input from opens inner begun e reads pieces front)).0.1

@@ -66,6 +66,16 @@ IsMemory (TooDeep place) = ⊥
 IsMemory (OddMap place) = ⊥
 IsMemory (TagWithoutElement place) = ⊥
 
+-- The byte at which memory was wanted; none where it is a fault of the input.
+abbrev pub wanted_at : EdnFault → Option ℕ
+wanted_at (Memory place) = Some place
+wanted_at (Truncated place) = None
+wanted_at (StrayClose place) = None
+wanted_at (WrongClose place) = None
+wanted_at (TooDeep place) = None
+wanted_at (OddMap place) = None
+wanted_at (TagWithoutElement place) = None
+
 -- Want of memory can be met at a place: behind these elements sixteen or more stand open there, and fewer than 64,
 -- and one more bracket, tag or discard begins. (Sixteen are kept in place, and more on the heap.)
 pub record CanWantMemory (input : List ℕ) (pieces : List Piece) (place : ℕ) : Type 0 where

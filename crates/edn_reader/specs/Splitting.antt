@@ -1,5 +1,5 @@
 -- What a splitter stands for, and what it says of the inputs that the bytes which it has taken can go on to be.
-use Rattle.std.specs.Prelude.{◌≡◌, ◌≢◌, ◌≤◌, ◌<◌, ◌+◌, ◌-◌, ℕ, Bool, true, false, List, [], ◌∷◌, ◌++◌, length, take, drop, Option, Some, None, Result, Ok, Err}
+use Rattle.std.specs.Prelude.{◌≡◌, ◌≢◌, ◌≤◌, ◌<◌, ◌+◌, ◌-◌, ℕ, Bool, true, false, List, [], ◌∷◌, ◌++◌, length, take, drop, Option, Some, None, Result, Ok, Err, MatchOption}
 use Rattle.edn_reader.specs.declared.fault.EdnFault.{EdnFault}
 use Rattle.edn_reader.specs.declared.nesting.Open.{Open}
 use Rattle.edn_reader.specs.declared.splitter.Taken.{Taken}
@@ -10,7 +10,8 @@ use Rattle.edn_reader.specs.declared.tokens.Begun.{Begun}
 use Rattle.edn_reader.specs.Grammar.{Piece}
 use Rattle.edn_reader.specs.Text.{IsFront, IsText}
 use Rattle.edn_reader.specs.Resuming.{last}
-use Rattle.edn_reader.specs.Within.{StandsWithin, FaultBehind, kept}
+use Rattle.edn_reader.specs.Fault.{FaultOf, wanted_at, CanWantMemory, AreElementsBefore}
+use Rattle.edn_reader.specs.Within.{StandsWithin, kept}
 
 -- A splitter: how many bytes it has taken, what has begun among them and has not ended, what stands open before that,
 -- the fault that was met, and the outermost element that ended last.
@@ -61,24 +62,40 @@ TakesUpTo bytes piece next pieces old used (Some span) new =
     × ((input more : List ℕ) → input ≡ bytes ++ ((piece ++ next) ++ more) → IsFront input (pieces ++ last ∷ []) span.1)
     × IsLast new last)
 
--- The same of what taking the piece answered; or each input that goes on so has the fault, or memory was wanted.
+-- Memory was wanted at a byte of the piece. The bytes before it are taken, behind the same elements, and it goes on with this
+-- byte; what begins there, or began in an earlier piece, finds sixteen or more open in each input that goes on so.
+abbrev pub WantsMemory : List ℕ → List ℕ → List ℕ → List Piece → ℕ → Splitting → Type 0
+WantsMemory bytes piece next pieces place new =
+    (length bytes ≤ place) × (place < length bytes + length piece) × (new.taken ≡ place)
+    × StandsAfter (bytes ++ take (place - length bytes) piece) (drop (place - length bytes) piece ++ next) pieces new
+    × ((input more : List ℕ) → input ≡ bytes ++ ((piece ++ next) ++ more) → CanWantMemory input pieces new.begun.start)
+
+-- Each input that goes on from bytes by what is known of it has the fault, with these elements before it, and it is kept.
+abbrev pub KeepsFault : List ℕ → List ℕ → List Piece → EdnFault → Splitting → Type 0
+KeepsFault bytes known pieces fault new =
+    (new.fault ≡ Some fault) × ((input more : List ℕ) → input ≡ bytes ++ (known ++ more) → FaultOf input fault × AreElementsBefore input pieces)
+
+-- What taking the piece answered: so many of its bytes were used; or there is a fault, or want of memory. No place that was
+-- kept is given up.
 abbrev pub Takes : List ℕ → List ℕ → List ℕ → List Piece → Splitting → Result Taken EdnFault → Splitting → Type 0
 Takes bytes piece next pieces old (Ok taken) new = TakesUpTo bytes piece next pieces old taken.used taken.whole new
 Takes bytes piece next pieces old (Err fault) new =
-    (new.fault ≡ Some fault) × ((input more : List ℕ) → input ≡ bytes ++ ((piece ++ next) ++ more) → FaultBehind input pieces fault)
+    (keep old ≤ keep new) × MatchOption (wanted_at fault) (KeepsFault bytes (piece ++ next) pieces fault new) (λ place. WantsMemory bytes piece next pieces place new)
 
 -- Taking a piece, after whatever bytes.
 abbrev pub TakesOn : List ℕ → Splitting → Result Taken EdnFault → Splitting → Type 0
 TakesOn piece old result new = (bytes next : List ℕ) (pieces : List Piece) → StandsAfter bytes (piece ++ next) pieces old → Takes bytes piece next pieces old result new
 
--- The end of an input. There is no element more; or the last one ends there; or the input has the fault, or memory was
--- wanted.
+-- The end of an input. There is no element more; or the last one ends there; or the input has the fault, which is kept; or memory
+-- was wanted where something has begun, and all is as it was. No place that was kept is given up.
 abbrev pub Finishes : List ℕ → List Piece → Splitting → Result (Option (ℕ × ℕ)) EdnFault → Splitting → Type 0
-Finishes input pieces old (Ok None) new = IsText input pieces × IsAfter input input pieces new
+Finishes input pieces old (Ok None) new = IsText input pieces × IsAfter input input pieces new × (keep old ≤ keep new)
 Finishes input pieces old (Ok (Some span)) new =
-    (span.1 ≡ length input) × (keep old ≤ span.0)
+    (span.1 ≡ length input) × (keep old ≤ span.0) × (keep new ≡ span.1)
     × ((last : Piece) × IsSpan input span.0 span.1 last × IsText input (pieces ++ last ∷ []) × IsAfter input input (pieces ++ last ∷ []) new × IsLast new last)
-Finishes input pieces old (Err fault) new = (new.fault ≡ Some fault) × FaultBehind input pieces fault
+Finishes input pieces old (Err fault) new =
+    (keep old ≤ keep new)
+    × MatchOption (wanted_at fault) ((new.fault ≡ Some fault) × FaultOf input fault × AreElementsBefore input pieces) (λ place. (new ≡ old) × (place ≡ old.begun.start) × CanWantMemory input pieces place)
 
 -- The same of whatever input ends there.
 abbrev pub EndsOn : Splitting → Result (Option (ℕ × ℕ)) EdnFault → Splitting → Type 0

@@ -135,6 +135,10 @@ GrowthRefused token place opens (TooDeep at) = Unit {0}
 GrowthRefused token place opens (OddMap at) = Unit {0}
 GrowthRefused token place opens (TagWithoutElement at) = Unit {0}
 
+-- All stays open at a fault, but for one that a closing bracket may have taken.
+abbrev pub StaysOpen : List Open → List Open → Type 0
+StaysOpen opens after = (after ≡ opens) ⊎ ((item : Open) × (opens ≡ item ∷ after))
+
 -- The element at a span of the input.
 abbrev pub piece_in : List ℕ → Span → Piece
 piece_in input span = record { kind = span.kind; start = span.start; text = take (span.end - span.start) (drop span.start input); core = span.core }

@@ -1,5 +1,8 @@
 //! The first fault of an input, at a byte place.
 
+ghost use Rattle.std.specs.Prelude.{◌≡◌};
+ghost use Rattle.edn_reader.specs.Fault.{wanted_at};
+
 use thiserror::Error;
 
 #[derive(Clone, Copy, Debug, PartialEq, Eq, Error)]
@@ -22,7 +25,18 @@ pub enum EdnFault {
     /// A bracket closes while a tag or discard in it waits for its element: the `#` of the innermost.
     #[error("E6 TagWithoutElement at {0}")]
     TagWithoutElement(usize),
-    /// A growth was refused at this byte.
+    /// A growth was refused, for what begins at this byte. [`Splitter::take`](crate::Splitter::take) names the byte that
+    /// it goes on with: this one, or the first of its piece where what begins stands in an earlier one.
     #[error("E7 Memory at {0}")]
     Memory(usize),
+}
+
+/// The byte at which memory was wanted; none where it is a fault of the input.
+pub fn wanted_at(fault: EdnFault) -> Option<usize>
+    ensures { result ≡ wanted_at fault }
+{
+    match fault {
+        EdnFault::Memory(place) => Some(place),
+        _ => None,
+    }
 }

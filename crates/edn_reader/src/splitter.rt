@@ -4,7 +4,7 @@ ghost use Rattle.std.specs.Prelude.{◌≡◌, ◌+◌, ◌≤◌, ◌<◌, ◌^
 ghost use Rattle.edn_reader.specs.Splitting.{IsFull};
 
 use crate::element::{Element, ElementKind};
-use crate::fault::EdnFault;
+use crate::fault::{EdnFault, wanted_at};
 use crate::nesting::Nesting;
 use crate::resume::Part;
 use crate::step::{ROOM, Span, plain_span};
@@ -14,7 +14,8 @@ use std::alloc::Global;
 use std::marker::Model;
 
 /// Reads an input that comes in pieces, cut anywhere, and keeps none of its bytes. The elements and the first fault are
-/// those that a [`Reader`](crate::Reader) finds in the joined pieces. A fault that it met it answers for good.
+/// those that a [`Reader`](crate::Reader) finds in the joined pieces. A fault of the input it answers for good. After
+/// [`EdnFault::Memory`] it goes on: the same call again, with what was not taken, gives what it would have given.
 #[derive(Drop)]
 pub struct Splitter {
     nesting: Nesting,
@@ -102,7 +103,8 @@ impl Splitter {
     }
 
     /// Takes a piece, up to the end of the next outermost element or to its own. An element that needs no closing byte
-    /// ends with the byte behind it, which is not used.
+    /// ends with the byte behind it, which is not used. Where memory is refused it has taken the bytes before the one that
+    /// the fault names: the rest, from that byte on, is the next piece.
     pub fn take(&mut self, piece: &[u8]) -> Result<Taken, EdnFault>
         requires { self.old.taken + length piece.now < 2 ^ 64 }
         ensures takes { TakesOn piece.now self.old result self.new }
@@ -139,14 +141,28 @@ impl Splitter {
                     whole: None,
                 })
             }
-            Err(fault) => {
-                self.fault = Some(fault);
-                Err(fault)
-            }
+            Err(fault) => match wanted_at(fault) {
+                None => {
+                    self.fault = Some(fault);
+                    Err(fault)
+                }
+                Some(place) => {
+                    if place < base {
+                        return Err(EdnFault::Memory(base));
+                    }
+                    self.taken = place;
+                    self.begun = Begun {
+                        start: place,
+                        part: Part::Nothing,
+                    };
+                    Err(EdnFault::Memory(place))
+                }
+            },
         }
     }
 
-    /// Takes the end of the input: the element that ended with it, where there is one.
+    /// Takes the end of the input: the element that ended with it, where there is one. Where memory is refused all is as it
+    /// was, and the end may be taken again.
     pub fn end(&mut self) -> Result<Option<(u64, u64)>, EdnFault>
         ensures ends { EndsOn self.old result self.new }
         ensures again { IfSome self.old.fault (λ fault. (result ≡ Err fault) × (self.new ≡ self.old)) }
@@ -170,10 +186,13 @@ impl Splitter {
                 };
                 Ok(None)
             }
-            Err(fault) => {
-                self.fault = Some(fault);
-                Err(fault)
-            }
+            Err(fault) => match wanted_at(fault) {
+                None => {
+                    self.fault = Some(fault);
+                    Err(fault)
+                }
+                Some(place) => Err(EdnFault::Memory(place)),
+            },
         }
     }
 }

@@ -1,10 +1,10 @@
 //! What a token leads to: on, to the end of an outermost element, or to a fault.
 
-ghost use Rattle.std.specs.Prelude.{◌≡◌, ◌≤◌, ◌<◌, length, IfErr};
+ghost use Rattle.std.specs.Prelude.{◌≡◌, ◌≤◌, ◌<◌, length, IfErr, OnErr};
 ghost use Rattle.edn_reader.specs.declared.token.Token.TheVariants.{Opens};
 ghost use Rattle.edn_reader.specs.Fault.{IsMemory};
 ghost use Rattle.edn_reader.specs.Grammar.{fits, waits, is_paired, kind_of};
-ghost use Rattle.edn_reader.specs.Taking.{Gives, GrowthRefused, completed, closed, opened, taken, plain_span, fault_before};
+ghost use Rattle.edn_reader.specs.Taking.{Gives, GrowthRefused, StaysOpen, completed, closed, opened, taken, plain_span, fault_before};
 
 use crate::bytes::Bracket;
 use crate::element::{Core, ElementKind};
@@ -61,6 +61,7 @@ fn complete(element: Span, nesting: &mut Nesting) -> Option<Span>
 fn open(place: usize, opener: Opener, nesting: &mut Nesting) -> Result<Option<Span>, EdnFault>
     ensures gives { Gives result nesting.new (opened place opener nesting.old) }
     ensures memory { IfErr result (λ fault. GrowthRefused (Opens opener) place nesting.old fault) }
+    ensures kept { OnErr result (nesting.new ≡ nesting.old) }
 {
     if nesting.has(ROOM) {
         return Err(EdnFault::TooDeep(place));
@@ -102,6 +103,7 @@ fn close(
 ) -> Result<Option<Span>, EdnFault>
     ensures gives { Gives result nesting.new (closed place end bracket nesting.old) }
     ensures memory { IfErr result (λ fault. IsMemory fault → ⊥) }
+    ensures open { OnErr result (StaysOpen nesting.old nesting.new) }
 {
     let Some(open) = nesting.pop() else {
         return Err(EdnFault::StrayClose(place));
@@ -124,6 +126,8 @@ fn close(
 pub fn take(place: usize, found: Found, nesting: &mut Nesting) -> Result<Option<Span>, EdnFault>
     ensures gives { Gives result nesting.new (taken found.token place found.end nesting.old) }
     ensures memory { IfErr result (λ fault. GrowthRefused found.token place nesting.old fault) }
+    ensures open { OnErr result (StaysOpen nesting.old nesting.new) }
+    ensures kept { IfErr result (λ fault. IsMemory fault → nesting.new ≡ nesting.old) }
 {
     match found.token {
         Token::Gap => Ok(None),

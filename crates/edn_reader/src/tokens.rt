@@ -1,7 +1,7 @@
 //! Token after token over a piece of an input, up to the end of an outermost element or of the piece.
 
-ghost use Rattle.std.specs.Prelude.{◌≡◌, ◌+◌, ◌≤◌, ◌<◌, ◌^◌, length, IfOk};
-ghost use Rattle.edn_reader.specs.Within.{ReadsOn, ReadsPiece, ReadsEnd, IsBetween, EndsBetween, EndsAt};
+ghost use Rattle.std.specs.Prelude.{◌≡◌, ◌+◌, ◌≤◌, ◌<◌, ◌^◌, length, IfOk, IfErr};
+ghost use Rattle.edn_reader.specs.Within.{ReadsOn, ReadsPiece, ReadsEnd, IsBetween, EndsBetween, EndsAt, WantsFrom, WantsInPiece, WantsAtEnd};
 
 use crate::fault::EdnFault;
 use crate::nesting::Nesting;
@@ -39,6 +39,7 @@ pub fn read_tokens(
     requires fits { base + length piece.now < 2 ^ 64 }
     ensures reads { ReadsOn piece.now base from nesting.old result nesting.new }
     ensures between { IfOk result (λ reached. IsBetween (base + from) (base + length piece.now) reached nesting.new) }
+    ensures wants { IfErr result (λ fault. WantsFrom (base + from) (length piece.now) fault) }
 {
     let mut at = from;
     while at < piece.len() {
@@ -78,6 +79,7 @@ pub fn read_piece(
     requires { base + length piece.now < 2 ^ 64 }
     ensures reads { ReadsPiece piece.now base begun nesting.old result nesting.new }
     ensures between { IfOk result (λ reached. EndsBetween base (base + length piece.now) reached nesting.new) }
+    ensures wants { IfErr result (λ fault. WantsInPiece base (length piece.now) begun.start nesting.old fault nesting.new) }
 {
     if begun.start == base {
         return read_tokens(piece, base, 0, nesting);
@@ -103,8 +105,9 @@ pub fn read_piece(
 
 /// Takes what has begun as the last token of an input that ends here.
 pub fn read_end(end: usize, begun: Begun, nesting: &mut Nesting) -> Result<Option<Span>, EdnFault>
-    ensures reads { ReadsEnd end begun nesting.old result }
+    ensures reads { ReadsEnd end begun nesting.old result nesting.new }
     ensures place { IfOk result (λ span. EndsAt begun.start end span nesting.new) }
+    ensures wants { IfErr result (λ fault. WantsAtEnd begun.start nesting.old fault nesting.new) }
 {
     if begun.start < end {
         let token = Found {

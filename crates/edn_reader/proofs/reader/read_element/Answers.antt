@@ -15,7 +15,7 @@ returns-in-Ok-Within-clause-reads c =
 pub returns-in-Ok-Within-clause-memory : goal.returns-in-Ok-Within-clause-memory
 returns-in-Ok-Within-clause-memory c =
     let said = rw c.in-Ok-Within.field-0-is at c.in-Ok-Within.ensures in
-    whole_end_memory c.args.input.now c.args.from c.args.nesting.now c.read_tokens.new.nesting c.in-Ok-Within.begun c.read_end.result c.requires.none_open said.reads c.read_end.ensures.reads
+    whole_end_memory c.args.input.now c.args.from c.args.nesting.now c.read_tokens.new.nesting c.read_end.new.nesting c.in-Ok-Within.begun c.read_end.result c.requires.none_open said.reads c.read_end.ensures.reads
 
 pub returns-in-Err-clause-reads : goal.returns-in-Err-clause-reads
 returns-in-Err-clause-reads c = whole_fault c.args.input.now c.args.from c.args.nesting.now c.read_tokens.new.nesting c.in-Err.fault c.requires.none_open c.in-Err.ensures.reads

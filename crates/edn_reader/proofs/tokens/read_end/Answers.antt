@@ -1,13 +1,13 @@
 use Rattle.std.proofs.Common.{sym, subst, ◌∙◌}
 use Rattle.edn_reader.proofs.Reading.{taken_ends}
-use Rattle.edn_reader.proofs.Within.{EndStands, end_same, end_on, end_element, end_fault, end_text, end_open}
+use Rattle.edn_reader.proofs.Within.{EndStands, end_same, end_on, end_element, end_fault, wants_at_end, end_text, end_open}
 use Rattle.edn_reader.proofs.tokens.read_end.Goals.{then-begun-end+in-Ok-None, else-begun-end}
 use Rattle.edn_reader.proofs.tokens.read_end.Goals as goal
 
 pub returns-in-Ok-Some-clause-reads : goal.returns-in-Ok-Some-clause-reads
 returns-in-Ok-Some-clause-reads c =
     let given = rw (c.in-Ok-Some.field-0-is, c.last.ensures) at c.in-Ok-Some.ensures.gives in
-    end_element c.args.end c.args.begun c.in-Ok-Some.span c.args.nesting.now c.if-begun-end.true given.0 (taken_ends _ c.args.begun.start c.args.end c.args.nesting.now c.in-Ok-Some.span given.0)
+    end_element c.args.end c.args.begun c.in-Ok-Some.span c.args.nesting.now c.take.new.nesting c.if-begun-end.true given.0 (taken_ends _ c.args.begun.start c.args.end c.args.nesting.now c.in-Ok-Some.span given.0)
 
 pub returns-in-Ok-Some-clause-place : goal.returns-in-Ok-Some-clause-place
 returns-in-Ok-Some-clause-place c =
@@ -18,7 +18,11 @@ pub returns-in-Err-clause-reads : goal.returns-in-Err-clause-reads
 returns-in-Err-clause-reads c =
     let gives = rw c.last.ensures at c.in-Err.ensures.gives in
     let memory = rw c.last.ensures at c.in-Err.ensures.memory in
-    end_fault c.args.end c.args.begun c.in-Err.fault c.args.nesting.now c.if-begun-end.true gives memory
+    end_fault c.args.end c.args.begun c.in-Err.fault c.args.nesting.now c.take.new.nesting c.if-begun-end.true gives memory c.in-Err.ensures.open
+
+pub returns-in-Err-clause-wants : goal.returns-in-Err-clause-wants
+returns-in-Err-clause-wants c =
+    wants_at_end c.args.begun.start c.last.result c.in-Err.fault c.args.nesting.now c.take.new.nesting c.in-Err.ensures.memory c.in-Err.ensures.kept
 
 pub returns-then-has-clause-reads : goal.returns-then-has-clause-reads
 returns-then-has-clause-reads c =
