@@ -1,5 +1,5 @@
 -- The first fault of an input: the byte that no text has there, and what stands open before it.
-use Rattle.std.specs.Prelude.{◌≡◌, ◌≢◌, ◌≤◌, ◌<◌, ℕ, suc, not, ◌&&◌, if◌then◌else◌, List, [], ◌∷◌, ◌++◌, length, take, Option, Some, None}
+use Rattle.std.specs.Prelude.{◌≡◌, ◌≢◌, ◌≤◌, ◌<◌, ℕ, suc, not, ◌&&◌, if◌then◌else◌, List, [], ◌∷◌, ◌++◌, length, take, Option, Some, None, IfSome}
 use Rattle.edn_reader.specs.declared.bytes.ByteClass.TheVariants.{Hash, Quote, Opens, Closes}
 use Rattle.edn_reader.specs.declared.bytes.Bracket.{Bracket}
 use Rattle.edn_reader.specs.declared.fault.EdnFault.{EdnFault}
@@ -92,13 +92,7 @@ pub record CanWantMemory (input : List ℕ) (pieces : List Piece) (place : ℕ) 
 -- Behind these elements, want of memory is answered only where it can be met: at the first byte of what begins there.
 -- Of any other fault this says nothing.
 abbrev pub MemoryOnlyThere : List ℕ → List Piece → EdnFault → Type 0
-MemoryOnlyThere input pieces (Memory place) = CanWantMemory input pieces place
-MemoryOnlyThere input pieces (Truncated place) = Unit {0}
-MemoryOnlyThere input pieces (StrayClose place) = Unit {0}
-MemoryOnlyThere input pieces (WrongClose place) = Unit {0}
-MemoryOnlyThere input pieces (TooDeep place) = Unit {0}
-MemoryOnlyThere input pieces (OddMap place) = Unit {0}
-MemoryOnlyThere input pieces (TagWithoutElement place) = Unit {0}
+MemoryOnlyThere input pieces fault = IfSome (wanted_at fault) (CanWantMemory input pieces)
 
 -- The first elements of a list.
 abbrev pub IsBeginning : List Piece → List Piece → Type 0

@@ -1,10 +1,10 @@
 -- What a token leads to where these stand open. No public clause speaks of it.
-use Rattle.std.specs.Prelude.{◌≡◌, ◌≢◌, ◌<◌, ◌≤◌, ◌+◌, ◌-◌, ◌⊎◌, ℕ, Bool, true, false, ◌==◌, ◌&&◌, if◌then◌else◌, not, List, [], ◌∷◌, ◌++◌, length, take, drop, Option, Some, None, Result, Ok, Err}
+use Rattle.std.specs.Prelude.{◌≡◌, ◌≢◌, ◌<◌, ◌≤◌, ◌+◌, ◌-◌, ◌⊎◌, ℕ, Bool, true, false, ◌==◌, ◌&&◌, if◌then◌else◌, not, List, [], ◌∷◌, ◌++◌, length, take, drop, Option, Some, None, Result, Ok, Err, IfSome}
 use Rattle.edn_reader.specs.declared.bytes.Bracket.{Bracket}
 use Rattle.edn_reader.specs.declared.element.ElementKind.{ElementKind}
 use Rattle.edn_reader.specs.declared.element.ElementKind.TheVariants.{Tagged}
 use Rattle.edn_reader.specs.declared.fault.EdnFault.{EdnFault}
-use Rattle.edn_reader.specs.declared.fault.EdnFault.TheVariants.{Truncated, StrayClose, WrongClose, TooDeep, OddMap, TagWithoutElement, Memory}
+use Rattle.edn_reader.specs.declared.fault.EdnFault.TheVariants.{Truncated, StrayClose, WrongClose, TooDeep, OddMap, TagWithoutElement}
 use Rattle.edn_reader.specs.declared.nesting.Open.{Open}
 use Rattle.edn_reader.specs.declared.step.Span.{Span}
 use Rattle.edn_reader.specs.declared.token.Token.{Token}
@@ -14,7 +14,7 @@ use Rattle.edn_reader.specs.declared.token.Opener.TheVariants as openers
 use Rattle.edn_reader.specs.Grammar.{Piece, fits, waits, is_paired, kind_of}
 use Rattle.edn_reader.specs.Text.{IsFront, IsText}
 use Rattle.edn_reader.specs.Token.{lexed}
-use Rattle.edn_reader.specs.Fault.{FaultOf, IsMemory, AreElementsBefore, innermost}
+use Rattle.edn_reader.specs.Fault.{FaultOf, IsMemory, wanted_at, AreElementsBefore, innermost}
 
 -- The reader goes on with these open, gives an outermost element, or fails.
 pub data Taken : Type 0 where
@@ -127,13 +127,8 @@ Gives (Err fault) opens token = IsMemory fault ⊎ (token ≡ fails fault)
 
 -- A growth was refused: what opens at this place finds sixteen or more open. Of any other fault this says nothing.
 abbrev pub GrowthRefused : Token → ℕ → List Open → EdnFault → Type 0
-GrowthRefused token place opens (Memory at) = (at ≡ place) × (opener : Opener) × (token ≡ tokens.Opens opener) × (16 ≤ length opens) × (length opens ≢ 64)
-GrowthRefused token place opens (Truncated at) = Unit {0}
-GrowthRefused token place opens (StrayClose at) = Unit {0}
-GrowthRefused token place opens (WrongClose at) = Unit {0}
-GrowthRefused token place opens (TooDeep at) = Unit {0}
-GrowthRefused token place opens (OddMap at) = Unit {0}
-GrowthRefused token place opens (TagWithoutElement at) = Unit {0}
+GrowthRefused token place opens fault =
+    IfSome (wanted_at fault) (λ at. (at ≡ place) × (opener : Opener) × (token ≡ tokens.Opens opener) × (16 ≤ length opens) × (length opens ≢ 64))
 
 -- All stays open at a fault, but for one that a closing bracket may have taken.
 abbrev pub StaysOpen : List Open → List Open → Type 0
