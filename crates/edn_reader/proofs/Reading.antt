@@ -2,6 +2,7 @@
 use Rattle.std.proofs.Common.{◌≡◌, ◌⊎◌, inl, inr, ℕ, zero, suc, ◌+◌, ◌<◌, ◌≤◌, Bool, true, false, cond, eqb, ◌&&◌, List, [], ◌∷◌, ◌++◌, length, drop, length-drop, Option, Some, None, refl, sym, ap, subst, ◌∙◌, arith, length-append}
 use Rattle.std.proofs.lemmas.Bool.Decides.{nat_tests}
 use Rattle.std.proofs.Math.ListN.{drop_of_length-le}
+use Rattle.std.proofs.lemmas.Option.{IfSome_then}
 use Rattle.edn_reader.specs.declared.bytes.ByteClass.TheVariants.{Plain, Hash, Quote, Opens, Closes}
 use Rattle.edn_reader.specs.declared.bytes.Bracket.{Bracket}
 use Rattle.edn_reader.specs.declared.bytes.Bracket.TheVariants.{Curly}
@@ -17,7 +18,7 @@ use Rattle.edn_reader.specs.declared.token.Opener.TheVariants as openers
 use Rattle.edn_reader.specs.Bytes.{class_of}
 use Rattle.edn_reader.specs.Grammar.{Piece, IsToken, opening, set, discard, tag, close, nothing, skipped, IsElementAt, leaf, IsElements, none, waits, fits, is_paired, kind_of}
 use Rattle.edn_reader.specs.Text.{IsFront, IsText, StandsOpen, outermost, opened}
-use Rattle.edn_reader.specs.Fault.{by_bracket, by_hash, Refuses, too_deep, closing, FaultOf, CanWantMemory, MemoryOnlyThere, AreElementsBefore, innermost}
+use Rattle.edn_reader.specs.Fault.{by_bracket, by_hash, Refuses, too_deep, closing, FaultOf, wanted_at, CanWantMemory, MemoryOnlyThere, AreElementsBefore, innermost}
 use Rattle.edn_reader.specs.Token.{found_at, lexed}
 use Rattle.edn_reader.specs.Taking.{Taken, on, ends, fails, with_one, is_tag, behind_tag, completed, EndsOne, plain_span, fault_before, closed, taken, GrowthRefused, piece_in}
 use Rattle.edn_reader.specs.Within.{OneMore}
@@ -252,10 +253,11 @@ full_fails input pieces at opener opens s is full =
     before_fault input pieces (faults.TooDeep at) (front_of s) (says_refused s (deep_refused token full).1)
 
 -- Where a growth was refused.
-pub memory_next : (input : List ℕ) (pieces : List Piece) (at : ℕ) (found : Found) (fault : EdnFault) (opens : List Open) → StandsAt input pieces opens at
-    → found ≡ found_at at (lexed (drop at input)) → GrowthRefused found.token at opens fault → MemoryOnlyThere input pieces fault
-memory_next input pieces at found (faults.Memory place) opens s e (same, opener, token, many, room) =
+pub memory_next : (input : List ℕ) (pieces : List Piece) (at : ℕ) (found : Found) (fault : EdnFault) (opens after : List Open) → StandsAt input pieces opens at
+    → found ≡ found_at at (lexed (drop at input)) → GrowthRefused found.token at opens fault after → MemoryOnlyThere input pieces fault
+memory_next input pieces at found fault opens after s e refused =
     let left = drop at input in
+    IfSome_then (wanted_at fault) refused (λ place (same, kept, opener, token, many, room).
     let is : (lexed left).0 ≡ tokens.Opens opener = sym (ap (λ (f : Found). f.token) e) ∙ token in
     subst (λ (n : ℕ). CanWantMemory input pieces n) (sym same)
     (record {
@@ -268,13 +270,7 @@ memory_next input pieces at found (faults.Memory place) opens s e (same, opener,
       begins = token_lexed at left (tokens.Opens opener) is (λ h. cc);
       many = many;
       room = omega (arith, stands_room opens s);
-    })
-memory_next input pieces at found (faults.Truncated place) opens s e refused = tt
-memory_next input pieces at found (faults.StrayClose place) opens s e refused = tt
-memory_next input pieces at found (faults.WrongClose place) opens s e refused = tt
-memory_next input pieces at found (faults.TooDeep place) opens s e refused = tt
-memory_next input pieces at found (faults.OddMap place) opens s e refused = tt
-memory_next input pieces at found (faults.TagWithoutElement place) opens s e refused = tt
+    }))
 
 nothing_left : (at : ℕ) (input : List ℕ) → length input ≤ at → drop at input ≡ []
 nothing_left at input le = drop_of_length-le input le

@@ -2,8 +2,9 @@
 use Rattle.std.proofs.Common.{◌≡◌, ◌⊎◌, inl, inr, ℕ, suc, ◌+◌, ◌-◌, ◌<◌, ◌≤◌, true, false, List, [], ◌∷◌, ◌++◌, length, drop, Option, Some, None, Result, Ok, Err, refl, sym, ap, subst, ◌∙◌, arith, length-drop, append-nil}
 use Rattle.std.proofs.Math.ListN.{drop_of_length-le}
 use Rattle.std.proofs.lemmas.Bool.Decides.{nat_tests}
+use Rattle.std.proofs.lemmas.Option.{IfSome_then}
 use Rattle.std.specs.Bool.{◌==◌}
-use Rattle.std.specs.Prelude.{IfOk, IfErr, IfSome}
+use Rattle.std.specs.Prelude.{IfOk, IfErr}
 use Rattle.edn_reader.specs.declared.fault.EdnFault.{EdnFault}
 use Rattle.edn_reader.specs.declared.fault.EdnFault.TheVariants as faults
 use Rattle.edn_reader.specs.declared.nesting.Open.{Open}
@@ -82,10 +83,10 @@ reads_element piece base from at found span opens inner after led lt ahead t inp
     )
 
 -- A fault or want of memory at a token.
-fault_by : (input : List ℕ) (pieces : List Piece) (at : ℕ) (found : Found) (fault : EdnFault) (opens : List Open) → at < length input → StandsAt input pieces opens at
-    → found ≡ found_at at (lexed (drop at input)) → IsMemory fault ⊎ (taken found.token at found.end opens ≡ fails fault) → GrowthRefused found.token at opens fault → FaultBehind input pieces fault
-fault_by input pieces at found fault opens lt s e (inl memory) refused = (inl memory, memory_next input pieces at found fault opens s e refused)
-fault_by input pieces at found fault opens lt s e (inr t) refused = (inr (fault_next input pieces at found fault opens lt s e t), memory_next input pieces at found fault opens s e refused)
+fault_by : (input : List ℕ) (pieces : List Piece) (at : ℕ) (found : Found) (fault : EdnFault) (opens after : List Open) → at < length input → StandsAt input pieces opens at
+    → found ≡ found_at at (lexed (drop at input)) → IsMemory fault ⊎ (taken found.token at found.end opens ≡ fails fault) → GrowthRefused found.token at opens fault after → FaultBehind input pieces fault
+fault_by input pieces at found fault opens after lt s e (inl memory) refused = (inl memory, memory_next input pieces at found fault opens after s e refused)
+fault_by input pieces at found fault opens after lt s e (inr t) refused = (inr (fault_next input pieces at found fault opens lt s e t), memory_next input pieces at found fault opens after s e refused)
 
 -- What is open begins no sooner than at a place, whatever follows.
 outer_any : (keep p : ℕ) (opens : List Open) → keep ≤ outer opens p → keep ≤ outer opens keep
@@ -98,36 +99,26 @@ stays_outer keep p opens after (inr (item, whole)) le = outer_any keep item.plac
 
 -- Where a growth was refused at a token, what was open before it is.
 stands_wanted : (input : List ℕ) (end : ℕ) (pieces : List Piece) (at : ℕ) (token : Token) (fault : EdnFault) (opens after : List Open) → at < end → StandsAt input pieces opens at
-    → GrowthRefused token at opens fault → (IsMemory fault → after ≡ opens) → StandsWhereWanted input end pieces after fault
-stands_wanted input end pieces at token (faults.Memory place) opens after lt s refused kept =
-    (omega (arith, refused.0, lt), subst (λ (n : ℕ). StandsAt input pieces after n) (sym refused.0) (subst (λ (o : List Open). StandsAt input pieces o at) (sym (kept tt)) s))
-stands_wanted input end pieces at token (faults.Truncated place) opens after lt s refused kept = tt
-stands_wanted input end pieces at token (faults.StrayClose place) opens after lt s refused kept = tt
-stands_wanted input end pieces at token (faults.WrongClose place) opens after lt s refused kept = tt
-stands_wanted input end pieces at token (faults.TooDeep place) opens after lt s refused kept = tt
-stands_wanted input end pieces at token (faults.OddMap place) opens after lt s refused kept = tt
-stands_wanted input end pieces at token (faults.TagWithoutElement place) opens after lt s refused kept = tt
+    → GrowthRefused token at opens fault after → StandsWhereWanted input end pieces after fault
+stands_wanted input end pieces at token fault opens after lt s refused =
+    IfSome_then (wanted_at fault) refused (λ place is.
+    (omega (arith, is.0, lt), subst (λ (n : ℕ). StandsAt input pieces after n) (sym is.0) (subst (λ (o : List Open). StandsAt input pieces o at) (sym is.1) s)))
 
 pub reads_fault : (piece : List ℕ) (base from at : ℕ) (found : Found) (fault : EdnFault) (opens inner after : List Open) → Led piece base from opens at inner → at < length piece
     → IsAhead Nothing at (drop at piece) (aheads.Whole found) → IsMemory fault ⊎ (taken found.token (base + at) (base + found.end) inner ≡ fails fault)
-    → GrowthRefused found.token (base + at) inner fault → StaysOpen inner after → (IsMemory fault → after ≡ inner) → ReadsOn piece base from opens (Err fault) after
-reads_fault piece base from at found fault opens inner after led lt ahead t refused stays kept input behind pieces is s =
+    → GrowthRefused found.token (base + at) inner fault after → StaysOpen inner after → ReadsOn piece base from opens (Err fault) after
+reads_fault piece base from at found fault opens inner after led lt ahead t refused stays input behind pieces is s =
     let before = led input behind pieces is s in
     let token : Found = record { token = found.token; end = base + found.end } in (
-      fault_by input pieces (base + at) token fault inner (in_input input piece behind base at is lt) before.0 (here input piece behind base at found is lt ahead) t refused,
-      stands_wanted input (base + length piece) pieces (base + at) found.token fault inner after (omega (arith, lt)) before.0 refused kept,
+      fault_by input pieces (base + at) token fault inner after (in_input input piece behind base at is lt) before.0 (here input piece behind base at found is lt ahead) t refused,
+      stands_wanted input (base + length piece) pieces (base + at) found.token fault inner after (omega (arith, lt)) before.0 refused,
       stays_outer (outer opens (base + from)) (base + at) inner after stays before.1,
     )
 
 -- Where it was refused.
-pub wants_here : (base from at size : ℕ) (token : Token) (fault : EdnFault) (opens : List Open) → from ≤ at → at < size → GrowthRefused token (base + at) opens fault → WantsFrom (base + from) size fault
-wants_here base from at size token (faults.Memory place) opens low lt refused = (omega (arith, lt), omega (arith, refused.0, low))
-wants_here base from at size token (faults.Truncated place) opens low lt refused = tt
-wants_here base from at size token (faults.StrayClose place) opens low lt refused = tt
-wants_here base from at size token (faults.WrongClose place) opens low lt refused = tt
-wants_here base from at size token (faults.TooDeep place) opens low lt refused = tt
-wants_here base from at size token (faults.OddMap place) opens low lt refused = tt
-wants_here base from at size token (faults.TagWithoutElement place) opens low lt refused = tt
+pub wants_here : (base from at size : ℕ) (token : Token) (fault : EdnFault) (opens after : List Open) → from ≤ at → at < size → GrowthRefused token (base + at) opens fault after
+    → WantsFrom (base + from) size fault
+wants_here base from at size token fault opens after low lt refused = IfSome_then (wanted_at fault) refused (λ place is. (omega (arith, lt), omega (arith, is.0, low)))
 
 -- What is left of the input behind the piece.
 behind_piece : (input piece behind : List ℕ) (base : ℕ) → IsPieceAt input base piece behind → drop (base + length piece) input ≡ behind
@@ -219,39 +210,24 @@ piece_element piece base begun found span opens after other ahead t input behind
 
 pub piece_fault : (piece : List ℕ) (base : ℕ) (begun : Begun) (found : Found) (fault : EdnFault) (opens after : List Open) → (begun.start ≡ base → ⊥)
     → IsAhead begun.part 0 (drop 0 piece) (aheads.Whole found) → IsMemory fault ⊎ (taken found.token begun.start (base + found.end) opens ≡ fails fault)
-    → GrowthRefused found.token begun.start opens fault → StaysOpen opens after → (IsMemory fault → after ≡ opens) → ReadsPiece piece base begun opens (Err fault) after
-piece_fault piece base begun found fault opens after other ahead t refused stays same input behind pieces is w =
+    → GrowthRefused found.token begun.start opens fault after → StaysOpen opens after → ReadsPiece piece base begun opens (Err fault) after
+piece_fault piece base begun found fault opens after other ahead t refused stays input behind pieces is w =
     let token : Found = record { token = found.token; end = base + found.end } in (
-      fault_by input pieces begun.start token fault opens (begun_low input piece behind base begun is other w.low) w.stands (begun_here input piece behind pieces base begun opens found is w ahead) t refused,
-      stands_wanted input (base + length piece) pieces begun.start found.token fault opens after (omega (arith, other, w.low)) w.stands refused same,
+      fault_by input pieces begun.start token fault opens after (begun_low input piece behind base begun is other w.low) w.stands (begun_here input piece behind pieces base begun opens found is w ahead) t refused,
+      stands_wanted input (base + length piece) pieces begun.start found.token fault opens after (omega (arith, other, w.low)) w.stands refused,
       stays_outer (kept opens begun base) (kept_token (last begun.part) begun.start base) opens after stays (omega arith),
     )
 
 -- Where memory was wanted, behind what has begun.
-wants_size : (base size start : ℕ) (opens after : List Open) (token : Token) (fault : EdnFault) → 0 < size → GrowthRefused token start opens fault → (IsMemory fault → after ≡ opens)
-    → WantsInPiece base size start opens fault after
-wants_size base size start opens after token (faults.Memory place) some refused same = (some, λ lt. (refused.0, same tt))
-wants_size base size start opens after token (faults.Truncated place) some refused same = tt
-wants_size base size start opens after token (faults.StrayClose place) some refused same = tt
-wants_size base size start opens after token (faults.WrongClose place) some refused same = tt
-wants_size base size start opens after token (faults.TooDeep place) some refused same = tt
-wants_size base size start opens after token (faults.OddMap place) some refused same = tt
-wants_size base size start opens after token (faults.TagWithoutElement place) some refused same = tt
-
 pub wants_begun : (piece : List ℕ) (base : ℕ) (begun : Begun) (found : Found) (fault : EdnFault) (opens after : List Open) → IsAhead begun.part 0 (drop 0 piece) (aheads.Whole found)
-    → GrowthRefused found.token begun.start opens fault → (IsMemory fault → after ≡ opens) → WantsInPiece base (length piece) begun.start opens fault after
-wants_begun piece base begun found fault opens after ahead refused same =
-    wants_size base (length piece) begun.start opens after found.token fault (piece_some piece begun.part found ahead) refused same
-
-wants_by : (base low size start : ℕ) (opens after : List Open) (o : Option ℕ) → base ≤ low → IfSome o (λ place. (0 < size) × (low ≤ place))
-    → IfSome o (λ place. (0 < size) × (place < base → (place ≡ start) × (after ≡ opens)))
-wants_by base low size start opens after None le w = tt
-wants_by base low size start opens after (Some place) le w = (w.0, λ lt. absurd (omega (arith, lt, le, w.1)))
+    → GrowthRefused found.token begun.start opens fault after → WantsInPiece base (length piece) begun.start opens fault after
+wants_begun piece base begun found fault opens after ahead refused =
+    let some = piece_some piece begun.part found ahead in IfSome_then (wanted_at fault) refused (λ place is. (some, λ lt. (is.0, is.1)))
 
 pub wants_later : (base low size start : ℕ) (opens after : List Open) (result : Result Reached EdnFault) → base ≤ low → IfErr result (λ fault. WantsFrom low size fault)
     → IfErr result (λ fault. WantsInPiece base size start opens fault after)
 wants_later base low size start opens after (Ok reached) le w = tt
-wants_later base low size start opens after (Err fault) le w = wants_by base low size start opens after (wanted_at fault) le w
+wants_later base low size start opens after (Err fault) le w = IfSome_then (wanted_at fault) w (λ place is. (is.0, λ lt. absurd (omega (arith, lt, le, is.1))))
 
 pub piece_on : (piece : List ℕ) (base : ℕ) (begun : Begun) (found : Found) (opens middle after : List Open) (result : Result Reached EdnFault) → (begun.start ≡ base → ⊥)
     → IsAhead begun.part 0 (drop 0 piece) (aheads.Whole found) → taken found.token begun.start (base + found.end) opens ≡ on middle → ReadsOn piece base found.end middle result after
@@ -322,21 +298,15 @@ end_element end begun span opens after lt t place input pieces long w =
     )
 
 pub end_fault : (end : ℕ) (begun : Begun) (fault : EdnFault) (opens after : List Open) → begun.start < end → IsMemory fault ⊎ (taken (last begun.part) begun.start end opens ≡ fails fault)
-    → GrowthRefused (last begun.part) begun.start opens fault → StaysOpen opens after → ReadsEnd end begun opens (Err fault) after
+    → GrowthRefused (last begun.part) begun.start opens fault after → StaysOpen opens after → ReadsEnd end begun opens (Err fault) after
 end_fault end begun fault opens after lt t refused stays input pieces long w =
     let token : Found = record { token = last begun.part; end = end } in (
-      fault_by input pieces begun.start token fault opens (omega (arith, lt, long)) w.stands (end_here input pieces end begun opens long w) t refused,
+      fault_by input pieces begun.start token fault opens after (omega (arith, lt, long)) w.stands (end_here input pieces end begun opens long w) t refused,
       stays_outer (kept opens begun end) (kept_token (last begun.part) begun.start end) opens after stays (omega arith),
     )
 
-pub wants_at_end : (start : ℕ) (token : Token) (fault : EdnFault) (opens after : List Open) → GrowthRefused token start opens fault → (IsMemory fault → after ≡ opens) → WantsAtEnd start opens fault after
-wants_at_end start token (faults.Memory place) opens after refused same = (refused.0, same tt)
-wants_at_end start token (faults.Truncated place) opens after refused same = tt
-wants_at_end start token (faults.StrayClose place) opens after refused same = tt
-wants_at_end start token (faults.WrongClose place) opens after refused same = tt
-wants_at_end start token (faults.TooDeep place) opens after refused same = tt
-wants_at_end start token (faults.OddMap place) opens after refused same = tt
-wants_at_end start token (faults.TagWithoutElement place) opens after refused same = tt
+pub wants_at_end : (start : ℕ) (token : Token) (fault : EdnFault) (opens after : List Open) → GrowthRefused token start opens fault after → WantsAtEnd start opens fault after
+wants_at_end start token fault opens after refused = IfSome_then (wanted_at fault) refused (λ place is. (is.0, is.1))
 
 pub end_text : (end : ℕ) (begun : Begun) (opens after : List Open) → EndStands end begun opens after → (length after == 0) ≡ true → ReadsEnd end begun opens (Ok None) after
 end_text end begun opens [] stands e input pieces long w = text_end input pieces end (omega (arith, long)) (stands input pieces long w).0

@@ -125,10 +125,10 @@ Gives (Ok None) opens token = token ≡ on opens
 Gives (Ok (Some span)) opens token = (token ≡ ends span) × (opens ≡ [])
 Gives (Err fault) opens token = IsMemory fault ⊎ (token ≡ fails fault)
 
--- A growth was refused: what opens at this place finds sixteen or more open. Of any other fault this says nothing.
-abbrev pub GrowthRefused : Token → ℕ → List Open → EdnFault → Type 0
-GrowthRefused token place opens fault =
-    IfSome (wanted_at fault) (λ at. (at ≡ place) × (opener : Opener) × (token ≡ tokens.Opens opener) × (16 ≤ length opens) × (length opens ≢ 64))
+-- A growth was refused: what opens at this place finds sixteen or more open, which stay so. Of any other fault this says nothing.
+abbrev pub GrowthRefused : Token → ℕ → List Open → EdnFault → List Open → Type 0
+GrowthRefused token place opens fault after =
+    IfSome (wanted_at fault) (λ at. (at ≡ place) × (after ≡ opens) × (opener : Opener) × (token ≡ tokens.Opens opener) × (16 ≤ length opens) × (length opens ≢ 64))
 
 -- All stays open at a fault, but for one that a closing bracket may have taken.
 abbrev pub StaysOpen : List Open → List Open → Type 0

@@ -60,8 +60,8 @@ fn complete(element: Span, nesting: &mut Nesting) -> Option<Span>
 
 fn open(place: usize, opener: Opener, nesting: &mut Nesting) -> Result<Option<Span>, EdnFault>
     ensures gives { Gives result nesting.new (opened place opener nesting.old) }
-    ensures memory { IfErr result (λ fault. GrowthRefused (Opens opener) place nesting.old fault) }
-    ensures kept { OnErr result (nesting.new ≡ nesting.old) }
+    ensures memory { IfErr result (λ fault. GrowthRefused (Opens opener) place nesting.old fault nesting.new) }
+    ensures open { OnErr result (StaysOpen nesting.old nesting.new) }
 {
     if nesting.has(ROOM) {
         return Err(EdnFault::TooDeep(place));
@@ -125,9 +125,8 @@ fn close(
 #[tactic(auto, unfolding(crate::specs::Taking::taken))]
 pub fn take(place: usize, found: Found, nesting: &mut Nesting) -> Result<Option<Span>, EdnFault>
     ensures gives { Gives result nesting.new (taken found.token place found.end nesting.old) }
-    ensures memory { IfErr result (λ fault. GrowthRefused found.token place nesting.old fault) }
+    ensures memory { IfErr result (λ fault. GrowthRefused found.token place nesting.old fault nesting.new) }
     ensures open { OnErr result (StaysOpen nesting.old nesting.new) }
-    ensures kept { IfErr result (λ fault. IsMemory fault → nesting.new ≡ nesting.old) }
 {
     match found.token {
         Token::Gap => Ok(None),

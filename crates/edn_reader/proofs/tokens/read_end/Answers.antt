@@ -22,7 +22,7 @@ returns-in-Err-clause-reads c =
 
 pub returns-in-Err-clause-wants : goal.returns-in-Err-clause-wants
 returns-in-Err-clause-wants c =
-    wants_at_end c.args.begun.start c.last.result c.in-Err.fault c.args.nesting.now c.take.new.nesting c.in-Err.ensures.memory c.in-Err.ensures.kept
+    wants_at_end c.args.begun.start c.last.result c.in-Err.fault c.args.nesting.now c.take.new.nesting c.in-Err.ensures.memory
 
 pub returns-then-has-clause-reads : goal.returns-then-has-clause-reads
 returns-then-has-clause-reads c =

@@ -39,11 +39,11 @@ returns-in-Ok-Some-clause-between c =
 pub returns-in-Err-clause-reads : goal.returns-in-Err-clause-reads
 returns-in-Err-clause-reads c =
     piece_fault c.args.piece.now c.args.base c.args.begun c.in-Whole.found c.in-Err.fault c.args.nesting.now c.take.new.nesting c.if-begun-base.false c.in-Whole.ensures c.in-Err.ensures.gives
-    c.in-Err.ensures.memory c.in-Err.ensures.open c.in-Err.ensures.kept
+    c.in-Err.ensures.memory c.in-Err.ensures.open
 
 pub returns-in-Err-clause-wants : goal.returns-in-Err-clause-wants
 returns-in-Err-clause-wants c =
-    wants_begun c.args.piece.now c.args.base c.args.begun c.in-Whole.found c.in-Err.fault c.args.nesting.now c.take.new.nesting c.in-Whole.ensures c.in-Err.ensures.memory c.in-Err.ensures.kept
+    wants_begun c.args.piece.now c.args.base c.args.begun c.in-Whole.found c.in-Err.fault c.args.nesting.now c.take.new.nesting c.in-Whole.ensures c.in-Err.ensures.memory
 
 pub returns-then-begun-base-clause-wants : goal.returns-then-begun-base-clause-wants
 returns-then-begun-base-clause-wants c =

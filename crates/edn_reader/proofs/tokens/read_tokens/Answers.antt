@@ -48,11 +48,10 @@ pub returns-in-Err-clause-reads : goal.returns-in-Err-clause-reads
 returns-in-Err-clause-reads c =
     reads_fault c.args.piece.now c.args.base c.args.from c.loop-at.at c.in-Whole.found c.in-Err.fault c.args.nesting.now c.loop-at.nesting c.take.new.nesting
     c.loop-at.invariant.led c.loop-at-test.true c.in-Whole.ensures c.in-Err.ensures.gives c.in-Err.ensures.memory c.in-Err.ensures.open
-    c.in-Err.ensures.kept
 
 pub returns-in-Err-clause-wants : goal.returns-in-Err-clause-wants
 returns-in-Err-clause-wants c =
-    wants_here c.args.base c.args.from c.loop-at.at (length c.args.piece.now) c.in-Whole.found.token c.in-Err.fault c.loop-at.nesting c.loop-at.invariant.low c.loop-at-test.true c.in-Err.ensures.memory
+    wants_here c.args.base c.args.from c.loop-at.at (length c.args.piece.now) c.in-Whole.found.token c.in-Err.fault c.loop-at.nesting c.take.new.nesting c.loop-at.invariant.low c.loop-at-test.true c.in-Err.ensures.memory
 
 pub returns-in-Within-clause-reads : goal.returns-in-Within-clause-reads
 returns-in-Within-clause-reads c =
