@@ -25,7 +25,7 @@ use Rattle.edn_reader.specs.Fault.{FaultOf, IsMemory, wanted_at, MemoryOnlyThere
 use Rattle.edn_reader.specs.Token.{found_at, lexed}
 use Rattle.edn_reader.specs.Resuming.{longer, resumed, last, IsAhead}
 use Rattle.edn_reader.specs.Taking.{on, ends, fails, taken, GrowthRefused, StaysOpen, IsPieceAt, LeadsOver, piece_in, Reads}
-use Rattle.edn_reader.specs.Within.{StandsWithin, FaultBehind, StandsWhereWanted, outer, kept_token, kept, Reaches, ReadsOn, ReadsPiece, WantsFrom, WantsInPiece, WantsAtEnd, ReadsEnd, IsBetween, EndsAt}
+use Rattle.edn_reader.specs.Within.{StandsWithin, FaultBehind, StandsWhereWanted, outer, kept_token, kept, Reaches, ReadsOn, ReadsPiece, WantsInPiece, ReadsEnd, IsBetween, EndsAt}
 use Rattle.edn_reader.proofs.Lexing.{found_is}
 use Rattle.edn_reader.proofs.Resuming.{same_size, longer_twice, ahead_whole, ahead_within, resumed_last, piece_some}
 use Rattle.edn_reader.proofs.Reading.{StandsAt, stands_next, element_next, fault_next, memory_next, text_end, open_end}
@@ -114,11 +114,6 @@ reads_fault piece base from at found fault opens inner after led lt ahead t refu
       stands_wanted input (base + length piece) pieces (base + at) found.token fault inner after (omega (arith, lt)) before.0 refused,
       stays_outer (outer opens (base + from)) (base + at) inner after stays before.1,
     )
-
--- Where it was refused.
-pub wants_here : (base from at size : ℕ) (token : Token) (fault : EdnFault) (opens after : List Open) → from ≤ at → at < size → GrowthRefused token (base + at) opens fault after
-    → WantsFrom (base + from) size fault
-wants_here base from at size token fault opens after low lt refused = IfSome_then (wanted_at fault) refused (λ place is. (omega (arith, lt), omega (arith, is.0, low)))
 
 -- What is left of the input behind the piece.
 behind_piece : (input piece behind : List ℕ) (base : ℕ) → IsPieceAt input base piece behind → drop (base + length piece) input ≡ behind
@@ -224,11 +219,6 @@ pub wants_begun : (piece : List ℕ) (base : ℕ) (begun : Begun) (found : Found
 wants_begun piece base begun found fault opens after ahead refused =
     let some = piece_some piece begun.part found ahead in IfSome_then (wanted_at fault) refused (λ place is. (some, λ lt. (is.0, is.1)))
 
-pub wants_later : (base low size start : ℕ) (opens after : List Open) (result : Result Reached EdnFault) → base ≤ low → IfErr result (λ fault. WantsFrom low size fault)
-    → IfErr result (λ fault. WantsInPiece base size start opens fault after)
-wants_later base low size start opens after (Ok reached) le w = tt
-wants_later base low size start opens after (Err fault) le w = IfSome_then (wanted_at fault) w (λ place is. (is.0, λ lt. absurd (omega (arith, lt, le, is.1))))
-
 pub piece_on : (piece : List ℕ) (base : ℕ) (begun : Begun) (found : Found) (opens middle after : List Open) (result : Result Reached EdnFault) → (begun.start ≡ base → ⊥)
     → IsAhead begun.part 0 (drop 0 piece) (aheads.Whole found) → taken found.token begun.start (base + found.end) opens ≡ on middle → ReadsOn piece base found.end middle result after
     → ReadsPiece piece base begun opens result after
@@ -304,9 +294,6 @@ end_fault end begun fault opens after lt t refused stays input pieces long w =
       fault_by input pieces begun.start token fault opens after (omega (arith, lt, long)) w.stands (end_here input pieces end begun opens long w) t refused,
       stays_outer (kept opens begun end) (kept_token (last begun.part) begun.start end) opens after stays (omega arith),
     )
-
-pub wants_at_end : (start : ℕ) (token : Token) (fault : EdnFault) (opens after : List Open) → GrowthRefused token start opens fault after → WantsAtEnd start opens fault after
-wants_at_end start token fault opens after refused = IfSome_then (wanted_at fault) refused (λ place is. (is.0, is.1))
 
 pub end_text : (end : ℕ) (begun : Begun) (opens after : List Open) → EndStands end begun opens after → (length after == 0) ≡ true → ReadsEnd end begun opens (Ok None) after
 end_text end begun opens [] stands e input pieces long w = text_end input pieces end (omega (arith, long)) (stands input pieces long w).0

@@ -1,6 +1,6 @@
 use Rattle.std.proofs.Common.{sym, subst, ◌∙◌}
 use Rattle.edn_reader.proofs.Reading.{taken_ends}
-use Rattle.edn_reader.proofs.Within.{EndStands, end_same, end_on, end_element, end_fault, wants_at_end, end_text, end_open}
+use Rattle.edn_reader.proofs.Within.{EndStands, end_same, end_on, end_element, end_fault, end_text, end_open}
 use Rattle.edn_reader.proofs.tokens.read_end.Goals.{then-begun-end+in-Ok-None, else-begun-end}
 use Rattle.edn_reader.proofs.tokens.read_end.Goals as goal
 
@@ -19,10 +19,6 @@ returns-in-Err-clause-reads c =
     let gives = rw c.last.ensures at c.in-Err.ensures.gives in
     let memory = rw c.last.ensures at c.in-Err.ensures.memory in
     end_fault c.args.end c.args.begun c.in-Err.fault c.args.nesting.now c.take.new.nesting c.if-begun-end.true gives memory c.in-Err.ensures.open
-
-pub returns-in-Err-clause-wants : goal.returns-in-Err-clause-wants
-returns-in-Err-clause-wants c =
-    wants_at_end c.args.begun.start c.last.result c.in-Err.fault c.args.nesting.now c.take.new.nesting c.in-Err.ensures.memory
 
 pub returns-then-has-clause-reads : goal.returns-then-has-clause-reads
 returns-then-has-clause-reads c =

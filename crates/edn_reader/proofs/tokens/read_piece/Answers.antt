@@ -1,7 +1,7 @@
-use Rattle.std.proofs.Common.{◌+◌, drop, length, arith, length-drop}
+use Rattle.std.proofs.Common.{◌+◌, drop, arith, length-drop}
 use Rattle.edn_reader.proofs.Reading.{taken_ends}
 use Rattle.edn_reader.proofs.Resuming.{ahead_whole}
-use Rattle.edn_reader.proofs.Within.{piece_anew, piece_on, piece_element, piece_fault, piece_within, wants_begun, wants_later}
+use Rattle.edn_reader.proofs.Within.{piece_anew, piece_on, piece_element, piece_fault, piece_within, wants_begun}
 use Rattle.edn_reader.proofs.tokens.read_piece.Goals as goal
 
 pub returns-then-begun-base-clause-reads : goal.returns-then-begun-base-clause-reads
@@ -44,14 +44,6 @@ returns-in-Err-clause-reads c =
 pub returns-in-Err-clause-wants : goal.returns-in-Err-clause-wants
 returns-in-Err-clause-wants c =
     wants_begun c.args.piece.now c.args.base c.args.begun c.in-Whole.found c.in-Err.fault c.args.nesting.now c.take.new.nesting c.in-Whole.ensures c.in-Err.ensures.memory
-
-pub returns-then-begun-base-clause-wants : goal.returns-then-begun-base-clause-wants
-returns-then-begun-base-clause-wants c =
-    wants_later c.args.base (c.args.base + 0) (length c.args.piece.now) c.args.begun.start c.args.nesting.now c.read_tokens.new.nesting c.read_tokens.result (omega arith) c.read_tokens.ensures.wants
-
-pub returns-in-Ok-None-clause-wants : goal.returns-in-Ok-None-clause-wants
-returns-in-Ok-None-clause-wants c =
-    wants_later c.args.base (c.args.base + c.in-Whole.found.end) (length c.args.piece.now) c.args.begun.start c.args.nesting.now c.read_tokens-in-Ok-None.new.nesting c.read_tokens-in-Ok-None.result (omega arith) c.read_tokens-in-Ok-None.ensures.wants
 
 pub returns-in-Within-clause-reads : goal.returns-in-Within-clause-reads
 returns-in-Within-clause-reads c = piece_within c.args.piece.now c.args.base c.args.begun c.in-Within.part c.args.nesting.now c.in-Within.ensures

@@ -1,7 +1,7 @@
-use Rattle.std.proofs.Common.{◌+◌, length, arith}
+use Rattle.std.proofs.Common.{◌+◌, arith}
 use Rattle.edn_reader.proofs.Reading.{taken_ends}
 use Rattle.edn_reader.proofs.Resuming.{found_whole}
-use Rattle.edn_reader.proofs.Within.{led_nowhere, led_on, reads_element, reads_fault, wants_here, reads_within, reads_all}
+use Rattle.edn_reader.proofs.Within.{led_nowhere, led_on, reads_element, reads_fault, reads_within, reads_all}
 use Rattle.edn_reader.proofs.tokens.read_tokens.Goals as goal
 
 pub loop-at-init : goal.loop-at-init
@@ -48,10 +48,6 @@ pub returns-in-Err-clause-reads : goal.returns-in-Err-clause-reads
 returns-in-Err-clause-reads c =
     reads_fault c.args.piece.now c.args.base c.args.from c.loop-at.at c.in-Whole.found c.in-Err.fault c.args.nesting.now c.loop-at.nesting c.take.new.nesting
     c.loop-at.invariant.led c.loop-at-test.true c.in-Whole.ensures c.in-Err.ensures.gives c.in-Err.ensures.memory c.in-Err.ensures.open
-
-pub returns-in-Err-clause-wants : goal.returns-in-Err-clause-wants
-returns-in-Err-clause-wants c =
-    wants_here c.args.base c.args.from c.loop-at.at (length c.args.piece.now) c.in-Whole.found.token c.in-Err.fault c.loop-at.nesting c.take.new.nesting c.loop-at.invariant.low c.loop-at-test.true c.in-Err.ensures.memory
 
 pub returns-in-Within-clause-reads : goal.returns-in-Within-clause-reads
 returns-in-Within-clause-reads c =
