@@ -108,9 +108,17 @@ fn is_again(answer: Result<Option<Element>, EdnFault>, fault: Option<EdnFault>) 
     }
 }
 
+/// Room for what is told of a short input. It is asked for again where it was refused.
+fn room(alloc: Global) -> Result<String, AllocError> {
+    match String::with_capacity(alloc, 1024) {
+        Ok(told) => Ok(told),
+        Err(_) => String::with_capacity(alloc, 1024),
+    }
+}
+
 /// Each element of an input, and its fault or its end; that is asked for twice more.
 fn told(alloc: Global, input: &[u8]) -> Result<String, AllocError> {
-    let mut told = String::new(alloc);
+    let mut told = room(alloc)?;
     let mut reader = Reader::new(alloc, input);
     let mut fault = None;
     for _ in input {
@@ -135,7 +143,7 @@ fn told(alloc: Global, input: &[u8]) -> Result<String, AllocError> {
 
 /// The places of each element of an input, and its fault or its end.
 fn spans_told(alloc: Global, input: &[u8]) -> Result<String, AllocError> {
-    let mut told = String::new(alloc);
+    let mut told = room(alloc)?;
     let mut reader = Reader::new(alloc, input);
     for _ in input {
         match reader.next() {
@@ -163,14 +171,29 @@ fn tell_span(told: &mut String, span: (u64, u64), kept: u64, keeps: u64) -> Resu
     Ok(())
 }
 
-/// Takes a piece whole, and tells what ended in it.
+/// What is left of a piece where memory was refused: the bytes from that place on, where those before it are taken and
+/// nothing is given up that was kept.
+fn left_behind<'a>(
+    splitter: &Splitter,
+    piece: &'a [u8],
+    place: usize,
+    before: u64,
+    kept: u64,
+) -> Option<&'a [u8]> {
+    if splitter.taken() != place as u64 || splitter.keep_from() < kept {
+        return None;
+    }
+    piece.get(place.checked_sub(before as usize)?..)
+}
+
+/// Takes a piece whole, with what is left of it again where memory was refused, and tells what ended in it.
 fn tell_piece(
     told: &mut String,
     splitter: &mut Splitter,
     piece: &[u8],
 ) -> Result<Option<EdnFault>, Fail> {
     let mut left = piece;
-    for _ in 0..=piece.len() {
+    for _ in 0..=piece.len().saturating_add(1) {
         let kept = splitter.keep_from();
         let before = splitter.taken();
         if kept > before {
@@ -190,6 +213,11 @@ fn tell_piece(
                     None if left.is_empty() => return Ok(None),
                     None => return Err("a piece that is not used".into()),
                 }
+            }
+            Err(EdnFault::Memory(place)) => {
+                left = left_behind(splitter, left, place, before, kept).ok_or(
+                    "bytes that are lost",
+                )?;
             }
             Err(fault) => return Ok(Some(fault)),
         }
@@ -212,7 +240,7 @@ fn fault_of_more(splitter: &mut Splitter) -> Option<EdnFault> {
 fn pieces_told(alloc: Global, input: &[u8], cut: usize, size: usize) -> Result<String, Fail>
     requires { 0 < size }
 {
-    let mut told = String::new(alloc);
+    let mut told = room(alloc)?;
     let mut splitter = Splitter::new(alloc);
     let (front, back) = input.split_at_checked(cut).ok_or("a cut")?;
     let mut fault = tell_piece(&mut told, &mut splitter, front)?;
@@ -221,8 +249,15 @@ fn pieces_told(alloc: Global, input: &[u8], cut: usize, size: usize) -> Result<S
             fault = tell_piece(&mut told, &mut splitter, piece)?;
         }
     }
-    let kept = splitter.keep_from();
-    match splitter.end() {
+    let (before, kept) = (splitter.taken(), splitter.keep_from());
+    let mut ended = splitter.end();
+    if let Err(EdnFault::Memory(_)) = ended {
+        if splitter.taken() != before || splitter.keep_from() != kept {
+            told.push_str("changed, ")?;
+        }
+        ended = splitter.end();
+    }
+    match ended {
         Ok(Some(span)) => tell_span(&mut told, span, kept, splitter.keep_from())?,
         Ok(None) => {}
         Err(met) => fault = Some(met),
@@ -407,9 +442,9 @@ a] => Atom 0 1, E2 StrayClose at 1
 63*[|#_#t => E4 TooDeep at 65
 63*[|#t #_ => E4 TooDeep at 66
 65*[ => E4 TooDeep at 64
-1000000*[ => E4 TooDeep at 64
-"|500000*\"\\ => E1 Truncated at 2000001
-"|500000*\"\\|" a => Text 0 2000002, Atom 2000003 2000004, end"##;
+100000*[ => E4 TooDeep at 64
+"|50000*\"\\ => E1 Truncated at 200001
+"|50000*\"\\|" a => Text 0 200002, Atom 200003 200004, end"##;
 
 #[test]
 fn rows_are_told(rt: HostRuntime) -> Result<(), Fail> {
@@ -477,5 +512,41 @@ fn refused_memory_is_the_answer_for_good(rt: HostRuntime) -> Result<(), Fail> {
     let first = gives_deep_elements(&rt, rt.alloc())?;
     let second = gives_deep_elements(&rt, rt.alloc())?;
     assert!(rt; first || second, "one growth is refused and no more");
+    Ok(())
+}
+
+/// Texts in which so much opens that what stands open has to grow, at a bracket and behind a `#` that a cut parts from its tag.
+const DEEP_ROWS: &str =
+    r##"a [[[[[[[[[[[[[[[[#t [[[[[[[[[[[[[[#u {:k #_ 1 7}]]]]]]]]]]]]]]]]]]]]]]]]]]]]]] b => 0 1, 2 79, 80 81, end
+[[[[[[[[[[[[[[[[#t => E1 Truncated at 18
+{[[[[[[[[[[[[[[[#t [) => E3 WrongClose at 20"##;
+
+/// To be run with each allocation refused in turn: what was refused is taken again, and nothing is lost.
+#[test]
+fn refused_memory_is_made_good_in_pieces(rt: HostRuntime) -> Result<(), Fail> {
+    for row in DEEP_ROWS.lines() {
+        let (text, want) = row.split_once(" => ").ok_or("a row")?;
+        for size in [1, 100] {
+            let found = pieces_told(rt.alloc(), text.as_bytes(), 0, size)?;
+            assert!(rt; found.as_str() == want, "{text} => {found}");
+        }
+    }
+    Ok(())
+}
+
+/// To be run with each allocation refused in turn: what is told of elements that open little takes none.
+#[test]
+fn refused_memory_is_not_met_where_little_opens(rt: HostRuntime) -> Result<(), Fail> {
+    for row in ROWS.lines().take(4) {
+        let (text, want) = row.split_once(" => ").ok_or("a row")?;
+        let found = told(rt.alloc(), text.as_bytes())?;
+        assert!(rt; found.as_str() == want, "{text} => {found}");
+        let whole = spans_told(rt.alloc(), text.as_bytes())?;
+        let found = pieces_told(rt.alloc(), text.as_bytes(), 0, 1)?;
+        assert!(rt;
+            found.as_str() == whole.as_str(),
+            "{text} in pieces => {found}"
+        );
+    }
     Ok(())
 }
