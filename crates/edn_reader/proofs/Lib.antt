@@ -14,6 +14,7 @@ pub mod Keeping
 pub mod Within
 pub mod Splitting
 pub mod SoFar
+pub mod Prefixes
 pub mod Skipping
 pub mod Views
 pub mod Integers

@@ -67,7 +67,7 @@ moved_stretch {p = p} {b = b} (ended h) e k = (e, ended (k h), replaced_none p b
 moved_stretch (more {b = x} w g) e k =
     let m = moved_stretch g e k in (x ∷ m.0, more w m.1, replaced_more x m.2)
 
-moved_quoted : {p q : ℕ} {a b : List ℕ} → IsQuoted p a q b → (e : List ℕ) → (d : List ℕ) × IsQuoted p d q e × Replaced p a q b d e
+pub moved_quoted : {p q : ℕ} {a b : List ℕ} → IsQuoted p a q b → (e : List ℕ) → (d : List ℕ) × IsQuoted p d q e × Replaced p a q b d e
 moved_quoted {p = p} {b = b} (closing {b = x} h) e = (x ∷ e, closing h, replaced_one x p b e)
 moved_quoted (taken {b = x} {c = y} h g) e =
     let m = moved_quoted g e in (x ∷ y ∷ m.0, taken h m.1, replaced_more x (replaced_more y m.2))

@@ -2,6 +2,7 @@ pub mod Bytes
 pub mod Grammar
 pub mod Text
 pub mod Fault
+pub mod Prefixes
 pub mod Integer
 pub mod Pairs
 pub mod Lent

@@ -1,6 +1,6 @@
 //! Laws of the format. Each is proved, and does nothing.
 
-ghost use Rattle.std.specs.Prelude.{◌≡◌, ◌⊎◌, ℕ, List, []};
+ghost use Rattle.std.specs.Prelude.{◌≡◌, ◌⊎◌, ◌++◌, ℕ, List, []};
 ghost use Rattle.std.specs.List.{AllByRecursion};
 ghost use Rattle.edn_reader.specs.declared.fault.EdnFault.{EdnFault};
 ghost use Rattle.edn_reader.specs.declared.element.Element.{Element};
@@ -8,7 +8,8 @@ ghost use Rattle.edn_reader.specs.declared.element.ElementKind.TheVariants.{Vect
 ghost use Rattle.edn_reader.specs.Lent.{piece_of};
 ghost use Rattle.edn_reader.specs.Grammar.{Piece, IsElement};
 ghost use Rattle.edn_reader.specs.Text.{IsFront, IsText, IsViable};
-ghost use Rattle.edn_reader.specs.Fault.{FaultOf, AreElementsSoFar};
+ghost use Rattle.edn_reader.specs.Fault.{FaultOf, IsBeginning, AreElementsBefore, AreElementsSoFar};
+ghost use Rattle.edn_reader.specs.Prefixes.{ArePrefix};
 ghost use Rattle.edn_reader.specs.Splitting.{Splitting, StandsAfter};
 ghost use Rattle.edn_reader.specs.Pairs.{values_of, HasPairs, HasMembers};
 
@@ -63,4 +64,13 @@ pub fn no_fault_so_far()
 /// whatever follows them.
 pub fn told_so_far()
     ensures { (bytes : List ℕ) (pieces : List Piece) (splitting : Splitting) → StandsAfter bytes [] pieces splitting → AreElementsSoFar bytes pieces }
+{}
+
+/// The elements of a prefix of an input, whether it is a text or has a fault, are the first of the elements of the whole;
+/// the last of them may go on there, where it is a run. Those that have ended in the prefix, whatever follows, are the
+/// first as they are.
+pub fn elements_of_a_prefix()
+    ensures before { (bytes more : List ℕ) (pieces all : List Piece) → AreElementsBefore bytes pieces → AreElementsBefore (bytes ++ more) all → ArePrefix pieces all }
+    ensures so_far { (bytes more : List ℕ) (pieces all : List Piece) → AreElementsSoFar bytes pieces → AreElementsBefore (bytes ++ more) all → IsBeginning pieces all }
+    ensures text { (input : List ℕ) (pieces : List Piece) → IsText input pieces → AreElementsBefore input pieces }
 {}
