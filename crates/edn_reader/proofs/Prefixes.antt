@@ -162,7 +162,7 @@ prefix_more (piece ∷ pieces) [] rest h = absurd h
 prefix_more (piece ∷ []) (other ∷ all) rest h = h
 prefix_more (piece ∷ second ∷ pieces) (other ∷ all) rest h = (h.0, prefix_more (second ∷ pieces) all rest h.1)
 
-prefix_same : (pieces rest : List Piece) → ArePrefix pieces (pieces ++ rest)
+pub prefix_same : (pieces rest : List Piece) → ArePrefix pieces (pieces ++ rest)
 prefix_same [] rest = tt
 prefix_same (piece ∷ []) rest = inl refl
 prefix_same (piece ∷ second ∷ pieces) rest = (refl, prefix_same (second ∷ pieces) rest)

@@ -1,4 +1,5 @@
 pub mod Items
+pub mod Prefixes
 pub mod Doing
 pub mod Holding
 pub mod Going

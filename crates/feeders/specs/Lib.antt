@@ -1,5 +1,6 @@
 -- what the public clauses speak of
 pub mod Steps
+pub mod Prefixes
 pub mod Broken
 pub mod Doings
 pub mod Run

@@ -1,10 +1,12 @@
 //! What a run's texts are: laws of the definitions. Each is the contract of a function that does nothing.
 
-ghost use Rattle.std.specs.Prelude.{◌≡◌, ◌%◌, ℕ, List, Option, Some, length, All};
+ghost use Rattle.std.specs.Prelude.{◌≡◌, ◌%◌, ◌++◌, ℕ, false, List, Option, Some, Result, length, All};
 ghost use Rattle.std.specs.List.{AllByRecursion, slice_get};
 ghost use Rattle.intervals.specs.Terms.{Claimed};
 ghost use Rattle.tower_file.specs.Contents.{Contents};
 ghost use Rattle.edn_reader.specs.Grammar.{Piece};
+ghost use Rattle.jepsen_form.specs.declared.fault.FormFault.{FormFault};
+ghost use Rattle.jepsen_form.specs.declared.item.Item.{Item};
 ghost use Rattle.jepsen_form.specs.declared.item.MomentField.{MomentField};
 ghost use Rattle.shards.specs.declared.entry.Entry.{Entry};
 ghost use Rattle.shards.specs.Plan.{Plan};
@@ -13,8 +15,14 @@ ghost use Rattle.shards.specs.Closing.{Ended, book_of, journal_of};
 ghost use Rattle.feeders.specs.declared.log.Broken.{Broken};
 ghost use Rattle.feeders.specs.declared.log.Log.{Log};
 ghost use Rattle.feeders.specs.Broken.{AreElements};
+ghost use Rattle.feeders.specs.Readers.{broke_reading};
+ghost use Rattle.feeders.specs.Steps.{AreItems};
+ghost use Rattle.feeders.specs.Prefixes.{PlainTaken, plain_steps};
 ghost use Rattle.feeders.specs.Run.{IsRun};
 ghost use Rattle.feeders.specs.Texts.{Part, text_of, IsLastSettled, IsSlice, Reading, IsOfStep, IsLentByTrace};
+
+use edn_reader::laws::elements_of_a_prefix;
+use jepsen_form::laws::one_item;
 
 /// Each text of an operation that stands after a legal journal is what the last of its accepted edits that makes
 /// something of this text makes of it, and so it is where there is none.
@@ -43,3 +51,15 @@ pub fn texts_are_elements_of_their_trace()
         → (register : ℕ) (held : Claimed) → book_of closed register ≡ Some held
         → All (IsLentByTrace tower chosen traces logs register (journal_of closed (register % length closed))) held.ops }
 {}
+
+/// The steps of a prefix of a trace, as they read, are the first of the steps of the trace: what comes later changes no
+/// earlier step, whether the prefix is a text, breaks in its text or is where the reading broke off. (Where the reading of the
+/// whole broke off, a last Atom may be left out that a prefix has.)
+pub fn steps_of_a_prefix()
+    ensures { (tower : Contents) (chosen : MomentField) (feeder : ℕ) (bytes more : List ℕ) (broken later : Option Broken) (items all : List (Result Item FormFault))
+        → AreItems tower chosen bytes broken items → AreItems tower chosen (bytes ++ more) later all → broke_reading later ≡ false
+        → (rest : List PlainTaken) × (plain_steps feeder all ≡ plain_steps feeder items ++ rest) }
+{
+    elements_of_a_prefix();
+    one_item();
+}

@@ -1,0 +1,31 @@
+-- The steps of a trace as they read: texts by their bytes, wherever they lie in memory.
+use Rattle.std.specs.Prelude.{ℕ, List, map, Option, Result, Ok, Err, option_map}
+use Rattle.intervals.specs.declared.operation.RegId.{RegId}
+use Rattle.jepsen_form.specs.declared.fault.FormFault.{FormFault}
+use Rattle.jepsen_form.specs.declared.item.Item.{Item}
+use Rattle.pairing.specs.declared.step.Step.{Step}
+use Rattle.pairing.specs.declared.step.Step.TheVariants as steps
+use Rattle.shards.specs.Plain.{PlainEdit, plain_edit}
+use Rattle.feeders.specs.declared.log.Code.{Code}
+use Rattle.feeders.specs.Steps.{Taken, steps_of}
+
+-- a step as it reads
+pub data PlainStep : Type 0 where
+  edit : RegId → PlainEdit → PlainStep
+  ask : RegId → PlainStep
+
+abbrev pub plain_step : Step → PlainStep
+plain_step (steps.Edit register change) = edit register (plain_edit change)
+plain_step (steps.Ask register) = ask register
+
+-- what an element comes to, as it reads
+abbrev pub PlainTaken : Type 0
+PlainTaken = Result (Option PlainStep) Code
+
+abbrev pub plain_taken : Taken → PlainTaken
+plain_taken (Ok step) = Ok (option_map plain_step step)
+plain_taken (Err code) = Err code
+
+-- the steps of a feeder's trace as they read
+abbrev pub plain_steps : ℕ → List (Result Item FormFault) → List PlainTaken
+plain_steps feeder items = map plain_taken (steps_of feeder items)
