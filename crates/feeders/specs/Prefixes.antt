@@ -14,6 +14,7 @@ pub data PlainStep : Type 0 where
   edit : RegId → PlainEdit → PlainStep
   ask : RegId → PlainStep
 
+-- each text is its bytes
 abbrev pub plain_step : Step → PlainStep
 plain_step (steps.Edit register change) = edit register (plain_edit change)
 plain_step (steps.Ask register) = ask register
@@ -22,6 +23,7 @@ plain_step (steps.Ask register) = ask register
 abbrev pub PlainTaken : Type 0
 PlainTaken = Result (Option PlainStep) Code
 
+-- its step is as it reads; a refusal has no text
 abbrev pub plain_taken : Taken → PlainTaken
 plain_taken (Ok step) = Ok (option_map plain_step step)
 plain_taken (Err code) = Err code

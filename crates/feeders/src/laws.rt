@@ -1,4 +1,5 @@
-//! What a run's texts are: laws of the definitions. Each is the contract of a function that does nothing.
+//! Laws of the definitions: what a run's texts are, and what the steps of a prefix of a trace are. Each is the contract of
+//! a function that does nothing.
 
 ghost use Rattle.std.specs.Prelude.{◌≡◌, ◌%◌, ◌++◌, ℕ, false, List, Option, Some, Result, length, All};
 ghost use Rattle.std.specs.List.{AllByRecursion, slice_get};
