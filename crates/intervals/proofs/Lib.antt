@@ -7,6 +7,7 @@ mod Indexed
 mod JudgedAlone
 pub mod Found
 pub mod Holders
+mod MomentHolders
 pub mod Accepted
 pub mod Ids
 pub mod EachPair
