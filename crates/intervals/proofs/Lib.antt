@@ -2,6 +2,7 @@ pub mod Agreement
 pub mod LeastOf
 mod Kept
 mod Spots
+pub mod SameSpot
 mod Slots
 mod Indexed
 mod JudgedAlone
