@@ -69,7 +69,8 @@ ends_late ops op e = by_end op.end (not_refused (has_early_end op) EndNotAfterBe
     by_end None e = tt
     by_end (Some end) e = not_at_most end.0 op.begin.0 e
 
-at_moment : (op : Op) (moment : Moment) → IsMomentOf op moment → is_moment_of op moment ≡ true
+-- the test of a moment from the fact
+pub at_moment : (op : Op) (moment : Moment) → IsMomentOf op moment → is_moment_of op moment ≡ true
 at_moment op moment (inl e) = (Decides-or (op.begin.0 == moment.0) _ (Decides-eqb op.begin.0 moment.0) (λ t. t, λ t. t)).1 (inl (ap (λ (m : Moment). m.0) e))
 at_moment op moment (inr e) = by_begin (op.begin.0 == moment.0) (ap (λ (end : Option Moment). is_at end moment) e ∙ (Decides-eqb moment.0 moment.0).1 refl)
   where

@@ -13,7 +13,7 @@ use Rattle.intervals.specs.Operation.{same_id}
 use Rattle.intervals.specs.Edit.{op_of, changed, new_op}
 use Rattle.intervals.specs.Refusal.{is_at, is_moment_of, find_other_with, moments_refusal, first_refusal}
 use Rattle.intervals.specs.Standing.{IsMomentOf, ShareNoMoment}
-use Rattle.intervals.specs.Moments.{HasPlaces, is_moment_of_next, kept_at}
+use Rattle.intervals.specs.Moments.{HasPlaces, IsHeld, is_moment_of_next, kept_at}
 use Rattle.intervals.specs.Table.{standing, slot_at, IsIndexed}
 use Rattle.intervals.proofs.Accepted.{shares_none, moments_accepted}
 use Rattle.intervals.proofs.Found.{find-None, find-Some}
@@ -47,7 +47,8 @@ both false b e = (refl, e)
 same_moment : (a b : Moment) → a.0 ≡ b.0 → a ≡ b
 same_moment a b e = ap {B = Moment} (λ n. record { 0 = n }) e
 
-moment_of : (op : Op) (m : Moment) → is_moment_of op m ≡ true → IsMomentOf op m
+-- the fact of a moment from its test
+pub moment_of : (op : Op) (m : Moment) → is_moment_of op m ≡ true → IsMomentOf op m
 moment_of op m t = by_cases ((Decides-or (op.begin.0 == m.0) (is_at op.end m) (Decides-eqb op.begin.0 m.0) (λ t. t, λ t. t)).0 t)
   where
     by_end : (end : Option Moment) → is_at end m ≡ true → end ≡ Some m
@@ -66,6 +67,34 @@ both_held op first second end e began others ended m t = by_cases (moment_of op 
     by_cases : IsMomentOf op m → is_some (kept_at second m) ≡ true
     by_cases (inl f) = subst (λ (x : Moment). is_some (kept_at second x) ≡ true) f (ap is_some (others op.begin began) ∙ began)
     by_cases (inr f) = subst (λ (x : Moment). is_some (kept_at second x) ≡ true) (some_is end m (sym e ∙ f)) ended
+
+module _ (before after : Moments) (prepared : Option Op) (awaited : (m : Moment) → IsHeld before m → is_moment_of_next prepared m ≡ true) where
+  -- the operation that the places were held for has come to them, or they were let go
+  pub none_held : (op : Op) → prepared ≡ Some op → ((m : Moment) → IsHeld after m → IsHeld before m × (is_moment_of op m ≡ false)) → (m : Moment) → IsHeld after m → false ≡ true
+  none_held op is gone m held =
+      let (was, other) = gone m held in
+      let t = awaited m was in
+      let e = ap (λ o. is_moment_of_next o m) is in
+      cc
+
+  -- the places of one operation were held, where none was
+  pub held_for : (op : Op) → prepared ≡ None → ((m : Moment) → is_moment_of op m ≡ false → kept_at after m ≡ kept_at before m) → (m : Moment) → IsHeld after m → is_moment_of op m ≡ true
+  held_for op none others m held = by_cases (is_moment_of op m) refl
+    where
+      by_cases : (t : Bool) → is_moment_of op m ≡ t → t ≡ true
+      by_cases true t = refl
+      by_cases false f =
+          let t = awaited m (sym (others m f) ∙ held) in
+          let e = ap (λ o. is_moment_of_next o m) none in
+          absurd (cc)
+
+  -- another operation left its moments, and the places of the one that is to come stay
+  pub held_still : ((m : Moment) → IsHeld after m → is_moment_of_next prepared m ≡ false → IsHeld before m) → (m : Moment) → IsHeld after m → is_moment_of_next prepared m ≡ true
+  held_still stays m held = by_cases (is_moment_of_next prepared m) refl
+    where
+      by_cases : (t : Bool) → is_moment_of_next prepared m ≡ t → t ≡ true
+      by_cases true t = refl
+      by_cases false f = let t = awaited m (stays m held f) in absurd (cc)
 
 -- what is so of the operation that is there, where two facts of it give the third
 pub if_some_both : {X : Type 0} (P Q R : X → Type 0) → ((x : X) → P x → Q x → R x) → (o : Option X) → IfSome o P → IfSome o Q → IfSome o R

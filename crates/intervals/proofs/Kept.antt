@@ -10,7 +10,7 @@ use Rattle.std.proofs.lemmas.Bool.Decides.{Decides-eqb}
 use Rattle.intervals.specs.declared.operation.OpId.{OpId}
 use Rattle.intervals.specs.declared.operation.Moment.{Moment}
 use Rattle.intervals.specs.declared.moments.Moments.{Moments}
-use Rattle.intervals.specs.Moments.{kept_at, holder_at, later_first}
+use Rattle.intervals.specs.Moments.{kept_at, holder_at, IsHeld, later_first}
 use Rattle.intervals.specs.Shelf.{joined}
 
 is_eq-reverse : (o : Ordering) → is_eq (ordering_reverse o) ≡ is_eq o
@@ -51,3 +51,27 @@ module _ (before after : Moments) (moment : Moment) (kept : Option (Option OpId)
       by_cases : (t : Bool) → (moment.0 == m.0) ≡ t → cond t kept (kept_at before m) ≡ kept_at before m
       by_cases true t = let f = ap (λ x. is_some (kept_at before x)) (same m t) in absurd (cc)
       by_cases false t = refl
+
+  -- at another moment is what was there
+  pub elsewhere : (m : Moment) → (moment.0 == m.0) ≡ false → kept_at after m ≡ kept_at before m
+  elsewhere m f = kept_after m ∙ ap (λ t. cond t kept (kept_at before m)) f
+
+  -- where the place went, each place that is held now was held, and is another
+  pub held_elsewhere : kept ≡ None → (m : Moment) → IsHeld after m → IsHeld before m × ((moment.0 == m.0) ≡ false)
+  held_elsewhere e m held = by_cases (moment.0 == m.0) refl (sym (kept_after m) ∙ held)
+    where
+      by_cases : (t : Bool) → (moment.0 == m.0) ≡ t → cond t kept (kept_at before m) ≡ Some None → IsHeld before m × ((moment.0 == m.0) ≡ false)
+      by_cases true t h = absurd (cc)
+      by_cases false t h = (h, t)
+
+-- a place without an id is not that of a moment that someone has
+pub held_apart : (moments : Moments) (moment : Moment) (r : Bool) → is_some (holder_at moments moment) ≡ not r → r ≡ false → (m : Moment) → IsHeld moments m → (moment.0 == m.0) ≡ false
+held_apart moments moment r e f m held = by_cases (moment.0 == m.0) refl
+  where
+    by_cases : (t : Bool) → (moment.0 == m.0) ≡ t → t ≡ false
+    by_cases false t = refl
+    by_cases true t =
+        let same : moment ≡ m = ap {B = Moment} (λ n. record { 0 = n }) ((Decides-eqb moment.0 m.0).0 t) in
+        let none : is_some (holder_at moments m) ≡ false = ap (λ k. is_some (joined k)) held in
+        let some = ap (λ x. is_some (holder_at moments x)) same in
+        absurd (cc)

@@ -23,6 +23,10 @@ kept_at moments moment = get later_first moments.holders (record { 0 = moment })
 abbrev pub holder_at : Moments → Moment → Option OpId
 holder_at moments moment = joined (kept_at moments moment)
 
+-- a place is held at the moment, and no operation has it
+abbrev pub IsHeld : Moments → Moment → Type 0
+IsHeld moments moment = kept_at moments moment ≡ Some None
+
 -- each moment of the operation has a place
 abbrev pub HasPlaces : Moments → Op → Type 0
 HasPlaces moments op = (moment : Moment) → is_moment_of op moment ≡ true → is_some (kept_at moments moment) ≡ true

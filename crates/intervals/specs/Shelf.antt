@@ -1,5 +1,5 @@
 -- Ids on a shelf, each at a spot: a value and a moment. A place may be held where no id stands.
-use Rattle.std.specs.Prelude.{Bool, ◌==◌, ◌&&◌, Option, Some, None}
+use Rattle.std.specs.Prelude.{Bool, false, ◌==◌, ◌&&◌, Option, Some, None}
 use Rattle.std.specs.declared.cmp.Ordering.{Ordering}
 use Rattle.std.specs.BTreeMap.{get}
 use Rattle.std.specs.Cmp.{IsTotalOrder, back_total, nat_cmp_total, on_total, then_total}
@@ -49,3 +49,8 @@ spot_of value moment = record { value = value; moment = moment }
 -- two spots are one
 abbrev pub same_spot : Spot → Spot → Bool
 same_spot a b = same_value a.value b.value && (a.moment.0 == b.moment.0)
+
+-- it is that spot, where there is one
+abbrev pub is_spot : Option Spot → Spot → Bool
+is_spot None other = false
+is_spot (Some spot) other = same_spot spot other

@@ -16,6 +16,10 @@ HasDistinctIds (op ∷ ops) = (op_of ops op.id ≡ None) × HasDistinctIds ops
 abbrev pub IsMomentOf : Op → Moment → Type 0
 IsMomentOf op moment = (op.begin ≡ moment) ⊎ (op.end ≡ Some moment)
 
+-- another operation that begins or ends at the moment
+abbrev pub IsMomentHolder : Op → Moment → Op → Type 0
+IsMomentHolder op moment other = (other.id ≢ op.id) × IsMomentOf other moment
+
 -- no moment is one of both operations
 abbrev pub ShareNoMoment : Op → Op → Type 0
 ShareNoMoment a b = (moment : Moment) → IsMomentOf a moment → ¬ IsMomentOf b moment

@@ -1,8 +1,9 @@
 //! Laws of the definitions. Each is the contract of a function that does nothing.
 
-ghost use Rattle.std.specs.Prelude.{◌≡◌, ◌≢◌, ◌↔◌, All, Contains, IsTrue, List, [], ◌∷◌, ◌++◌, map, length, take, drop, None, Some};
+ghost use Rattle.std.specs.Prelude.{◌≡◌, ◌≢◌, ◌↔◌, ◌⊎◌, All, Contains, IsTrue, List, [], ◌∷◌, ◌++◌, map, length, take, drop, None, Some};
 ghost use Rattle.intervals.specs.declared.operation.Op.{Op};
 ghost use Rattle.intervals.specs.declared.operation.OpId.{OpId};
+ghost use Rattle.intervals.specs.declared.operation.Moment.{Moment};
 ghost use Rattle.intervals.specs.declared.refusal.Refusal.TheVariants.{UnknownOp, OpTaken, EndNotAfterBegin, MomentTaken, MomentTooLarge, NotAWriter, WritesOverlap, ValueTaken, OutOfDomain};
 ghost use Rattle.intervals.specs.declared.claim.Holder.TheVariants as holders;
 ghost use Rattle.intervals.specs.declared.edit.Edit.{Edit};
@@ -15,8 +16,8 @@ ghost use Rattle.intervals.specs.declared.operation.Value.TheVariants.{Nil};
 ghost use Rattle.intervals.specs.Operation.{Precedes, Overlaps, IsJudgedRead, value_of, judged, writes};
 ghost use Rattle.intervals.specs.Edit.{op_of};
 ghost use Rattle.intervals.specs.Bare.{bare, bare_edit};
-ghost use Rattle.intervals.specs.Refusal.{first_refusal, write_refusal, overlap_refusal, is_overlapped, value_refusal, reply_to, standing};
-ghost use Rattle.intervals.specs.Standing.{HasDistinctIds, HasDistinctMoments, HasEndsAfterBeginnings, HasNoOverlappingWrites, HasDistinctValues, IsHolder};
+ghost use Rattle.intervals.specs.Refusal.{first_refusal, moments_refusal, moment_taken, write_refusal, overlap_refusal, is_overlapped, value_refusal, reply_to, standing};
+ghost use Rattle.intervals.specs.Standing.{HasDistinctIds, HasDistinctMoments, HasEndsAfterBeginnings, HasNoOverlappingWrites, HasDistinctValues, IsHolder, IsMomentHolder};
 ghost use Rattle.intervals.specs.Least.{IsLeast, least_by};
 ghost use Rattle.intervals.specs.Kind.{IsSafe, IsRegular, IsSafeRead, IsRegularRead, Arranges, Holds};
 ghost use Rattle.intervals.specs.Judging.{first_wrong, is_wrong_read, end_number};
@@ -60,6 +61,16 @@ pub fn first_overlapped_write_began_first()
     ensures named { (ops : List Op) (op : Op) (id : OpId) → overlap_refusal ops op ≡ Some (WritesOverlap id)
         → (other : Op) × (other.id ≡ id) × IsLeast (λ o. o.begin.0) (is_overlapped op) ops other }
     ensures none { (ops : List Op) (op : Op) → (overlap_refusal ops op ≡ None) ↔ All (λ other. ¬ IsTrue (is_overlapped op other)) ops }
+{}
+
+/// The operation that a taken moment names is another that stands and has it. It is asked of the
+/// beginning first; and none is named exactly where no other has the moment.
+pub fn taken_moments_have_a_holder()
+    ensures named { (ops : List Op) (op : Op) (moment : Moment) (id : OpId) → moments_refusal ops op ≡ Some (MomentTaken moment id)
+        → (other : Op) × (other.id ≡ id) × Contains ops other × IsMomentHolder op moment other }
+    ensures beginning_first { (ops : List Op) (op : Op) (moment : Moment) (id : OpId) → moments_refusal ops op ≡ Some (MomentTaken moment id)
+        → (moment ≡ op.begin) ⊎ ((op.end ≡ Some moment) × All (λ other. ¬ IsMomentHolder op op.begin other) ops) }
+    ensures none { (ops : List Op) (op : Op) (moment : Moment) → (moment_taken ops op.id (Some moment) ≡ None) ↔ All (λ other. ¬ IsMomentHolder op moment other) ops }
 {}
 
 /// The holder that a taken value names has it: the register at first, or another write that stands;

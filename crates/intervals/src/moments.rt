@@ -2,7 +2,7 @@
 
 ghost use Rattle.std.specs.Prelude.{◌≡◌, ◌==◌, true, false, None, Some, OnOk, OnErr, IfSome, is_some, if◌then◌else◌};
 ghost use Rattle.intervals.specs.declared.operation.Moment.{Moment as AMoment};
-ghost use Rattle.intervals.specs.Moments.{kept_at, holder_at, HasPlaces, is_moment_of_next};
+ghost use Rattle.intervals.specs.Moments.{kept_at, holder_at, HasPlaces, IsHeld, is_moment_of_next};
 ghost use Rattle.intervals.specs.Refusal.{is_moment_of, has_early_end, has_large_moment};
 
 use crate::{Memory, Moment, Op, OpId};
@@ -42,6 +42,8 @@ impl Moments {
         ensures there { OnOk result (is_some (kept_at self.new moment) ≡ true) }
         ensures holders { (m : AMoment) → holder_at self.new m ≡ holder_at self.old m }
         ensures others { (m : AMoment) → is_some (kept_at self.old m) ≡ true → kept_at self.new m ≡ kept_at self.old m }
+        ensures new { OnOk result ((m : AMoment) → (moment.0 == m.0) ≡ false → kept_at self.new m ≡ kept_at self.old m) }
+        ensures err { OnErr result ((m : AMoment) → kept_at self.new m ≡ kept_at self.old m) }
     {
         if self.holders.contains_key(&Reverse(moment)) {
             return Ok(());
@@ -52,7 +54,8 @@ impl Moments {
 
     /// Lets the place at the moment go where no operation has it.
     fn release(&mut self, moment: Moment)
-        ensures { (m : AMoment) → holder_at self.new m ≡ holder_at self.old m }
+        ensures gone { (m : AMoment) → IsHeld self.new m → IsHeld self.old m × ((moment.0 == m.0) ≡ false) }
+        ensures holders { (m : AMoment) → holder_at self.new m ≡ holder_at self.old m }
     {
         if self.holder_of(moment).is_none() {
             self.holders.remove(&Reverse(moment));
@@ -90,6 +93,8 @@ impl Moments {
 /// Holds the places of the operation's moments, all or none.
 pub(crate) fn hold_moments(moments: &mut Moments, op: &Op) -> Result<(), Memory>
     ensures held { OnOk result (HasPlaces moments.new op.now) }
+    ensures new { OnOk result ((m : AMoment) → is_moment_of op.now m ≡ false → kept_at moments.new m ≡ kept_at moments.old m) }
+    ensures err { OnErr result ((m : AMoment) → IsHeld moments.new m → IsHeld moments.old m) }
     ensures holders { (m : AMoment) → holder_at moments.new m ≡ holder_at moments.old m }
 {
     moments.hold(op.begin)?;
@@ -104,7 +109,8 @@ pub(crate) fn hold_moments(moments: &mut Moments, op: &Op) -> Result<(), Memory>
 
 /// Lets the places of the operation's moments go where no operation has them.
 pub(crate) fn release_moments(moments: &mut Moments, op: &Op)
-    ensures { (m : AMoment) → holder_at moments.new m ≡ holder_at moments.old m }
+    ensures gone { (m : AMoment) → IsHeld moments.new m → IsHeld moments.old m × (is_moment_of op.now m ≡ false) }
+    ensures holders { (m : AMoment) → holder_at moments.new m ≡ holder_at moments.old m }
 {
     moments.release(op.begin);
     if let Some(end) = op.end {
@@ -115,7 +121,8 @@ pub(crate) fn release_moments(moments: &mut Moments, op: &Op)
 /// Puts the operation at its moments, whose places are held.
 pub(crate) fn put_moments(moments: &mut Moments, op: &Op)
     requires { HasPlaces moments.old op.now }
-    ensures { (m : AMoment) → holder_at moments.new m ≡ (if is_moment_of op.now m then Some op.now.id else holder_at moments.old m) }
+    ensures held { (m : AMoment) → IsHeld moments.new m → IsHeld moments.old m × (is_moment_of op.now m ≡ false) }
+    ensures holders { (m : AMoment) → holder_at moments.new m ≡ (if is_moment_of op.now m then Some op.now.id else holder_at moments.old m) }
 {
     moments.put(op.begin, op.id);
     if let Some(end) = op.end {
@@ -129,7 +136,8 @@ pub(crate) fn move_moments(moments: &mut Moments, old: &Op, new: &Op)
     requires id { old.now.id ≡ new.now.id }
     requires held { (m : AMoment) → is_moment_of old.now m ≡ true → holder_at moments.old m ≡ Some old.now.id }
     requires places { HasPlaces moments.old new.now }
-    ensures { (m : AMoment) → holder_at moments.new m ≡ (if is_moment_of new.now m then Some new.now.id else if is_moment_of old.now m then None else holder_at moments.old m) }
+    ensures held { (m : AMoment) → IsHeld moments.new m → IsHeld moments.old m × (is_moment_of new.now m ≡ false) }
+    ensures holders { (m : AMoment) → holder_at moments.new m ≡ (if is_moment_of new.now m then Some new.now.id else if is_moment_of old.now m then None else holder_at moments.old m) }
 {
     leave(moments, old.begin, new);
     if let Some(end) = old.end {
@@ -163,6 +171,7 @@ fn enter(moments: &mut Moments, moment: Moment, old: &Op)
 
 /// Takes the operation away from its moments, and keeps the places of the one that is to come.
 pub(crate) fn take_moments(moments: &mut Moments, op: &Op, next: Option<Op>)
+    ensures held { (m : AMoment) → IsHeld moments.new m → is_moment_of_next next.entry m ≡ false → IsHeld moments.old m }
     ensures holders { (m : AMoment) → holder_at moments.new m ≡ (if is_moment_of op.now m then None else holder_at moments.old m) }
     ensures kept { IfSome next.entry (λ n. HasPlaces moments.old n → HasPlaces moments.new n) }
 {
@@ -173,6 +182,7 @@ pub(crate) fn take_moments(moments: &mut Moments, op: &Op, next: Option<Op>)
 }
 
 fn take_moment(moments: &mut Moments, moment: Moment, next: Option<Op>)
+    ensures held { (m : AMoment) → IsHeld moments.new m → is_moment_of_next next.entry m ≡ false → IsHeld moments.old m }
     ensures holders { (m : AMoment) → holder_at moments.new m ≡ (if moment.0 == m.0 then None else holder_at moments.old m) }
     ensures kept { IfSome next.entry (λ n. HasPlaces moments.old n → HasPlaces moments.new n) }
 {

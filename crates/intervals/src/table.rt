@@ -29,9 +29,10 @@ pub struct OpTable<'t> {
 }
 
 impl<'t> Model for OpTable<'t> {
-    ghost use Rattle.std.specs.Prelude.{◌≡◌, ◌<◌, IfSome, length, vec_capacity, vec_len};
+    ghost use Rattle.std.specs.Prelude.{◌≡◌, ◌<◌, true, IfSome, length, vec_capacity, vec_len};
     ghost use Rattle.std.specs.HashMap.{get as place_of, spare};
-    ghost use Rattle.intervals.specs.Moments.{holder_at, HasPlaces};
+    ghost use Rattle.intervals.specs.declared.operation.Moment.{Moment as AMoment};
+    ghost use Rattle.intervals.specs.Moments.{holder_at, HasPlaces, IsHeld, is_moment_of_next};
     ghost use Rattle.intervals.specs.Operation.{same_id};
     ghost use Rattle.intervals.specs.Table.{Tabled, IsIndexed, standing, slot_at};
 
@@ -42,6 +43,7 @@ impl<'t> Model for OpTable<'t> {
     ghost invariant = { λ t.
         IsIndexed (slot_at t.slots.items) (place_of same_id t.places) (holder_at t.moments)
         × (t.count ≡ length (standing t.slots.items))
+        × ((m : AMoment) → IsHeld t.moments m → is_moment_of_next t.prepared m ≡ true)
         × IfSome t.prepared (λ op. (vec_len t.slots < vec_capacity t.slots) × (0 < spare t.places) × HasPlaces t.moments op) };
 }
 

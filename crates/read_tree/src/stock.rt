@@ -67,8 +67,9 @@ impl Stock {
         if places <= held {
             return Ok(());
         }
-        let room = self.taken.checked_add(places).ok_or(Memory)?;
-        self.spare.reserve(room - held)?;
+        // Where the sum is past the greatest number, the vector cannot grow so far.
+        let more = self.taken.saturating_add(places - held);
+        self.spare.reserve(more)?;
         let filled = fill(self.alloc, &mut self.spare, places);
         if filled.is_err() {
             self.spare.truncate(held);

@@ -1,5 +1,7 @@
 //! Rows of items, as calls of a tree, and a long run beside a plain list.
 
+ghost use Rattle.std.specs.Prelude.{◌≤◌, OnOk};
+
 use super::*;
 use intervals::{Memory, Moment, OpId, Spot, Value, is_same_value};
 use std::alloc::Global;
@@ -42,37 +44,78 @@ fn item_of(word: &str) -> Item {
     )
 }
 
-fn put(tree: &mut ReadTree, item: Item) -> Result<(), Memory> {
-    tree.reserve(1)?;
+/// What stands in the one row at the moment.
+fn in_one_row(tree: &ReadTree, moment: u64) -> Option<Item> {
+    tree.get(Spot {
+        value: Value::Nil,
+        moment: Moment(moment),
+    })
+}
+
+/// What can be seen of a tree without memory: a number that is made of what stands in the one row, the
+/// free places, and the moment of the first short read.
+fn seen(tree: &ReadTree) -> (u64, usize, Option<u64>) {
+    let mut items: u64 = 0;
+    for moment in 0..20 {
+        if let Some(item) = in_one_row(tree, moment) {
+            items = items.wrapping_mul(31).wrapping_add(moment + 1);
+            items = items.wrapping_mul(31).wrapping_add(item.reach);
+        }
+    }
+    let first = tree.first_short().map(|read| read.moment.0);
+    (items, tree.free(), first)
+}
+
+/// Where memory is refused the tree is as it was, and the same call then makes the room.
+fn make_room(rt: &impl Abort, tree: &mut ReadTree) -> Result<(), Memory>
+    ensures { OnOk result (1 ≤ tree.new.free) }
+{
+    let before = seen(tree);
+    match tree.reserve(1) {
+        Ok(()) => Ok(()),
+        Err(Memory) => {
+            assert!(rt; seen(tree) == before);
+            tree.reserve(1)
+        }
+    }
+}
+
+fn put(rt: &impl Abort, tree: &mut ReadTree, item: Item) -> Result<(), Memory> {
+    make_room(rt, tree)?;
     if tree.get(item.spot()).is_none() {
         tree.insert(item);
     }
     Ok(())
 }
 
+/// An empty text with room for what is told of a row, so that telling it takes no memory.
+fn roomy(alloc: Global) -> Result<String, Memory> {
+    let mut text = String::new(alloc);
+    if text.reserve(100).is_err() {
+        text.reserve(100)?;
+    }
+    Ok(text)
+}
+
 /// The first short read, the moments of what is in the one row, and the free places. A word behind `~`
 /// takes out what stands at its spot.
-fn told(alloc: Global, words: &str) -> Result<String, Memory> {
-    let mut tree = ReadTree::new(alloc);
+fn told<R: AllocGlobal + Abort>(rt: &R, words: &str) -> Result<String, Memory> {
+    let mut told = roomy(rt.alloc())?;
+    let mut tree = ReadTree::new(rt.alloc());
     for word in words.split(' ') {
         match word.strip_prefix('~') {
             Some(gone) => {
                 let _ = tree.remove(item_of(gone).spot());
             }
-            None => put(&mut tree, item_of(word))?,
+            None => put(rt, &mut tree, item_of(word))?,
         }
     }
-    let mut told = String::new(alloc);
     let _ = match tree.first_short() {
         Some(first) => write!(told, "{}:", first.moment.0),
         None => write!(told, "none:"),
     };
     for moment in 0..20 {
-        let spot = Spot {
-            value: Value::Nil,
-            moment: Moment(moment),
-        };
-        if tree.get(spot).is_some() {
+        if in_one_row(&tree, moment).is_some() {
             let _ = write!(told, " {moment}");
         }
     }
@@ -101,11 +144,12 @@ R1:1-0 R1:2-0 R1:3-0 R1:4-0 R1:5-0 R1:6-0 R1:7-0 ~R1:4 ~R1:2 ~R1:1 => none: 3 5 
 R1:7-0 R1:6-0 R1:5-0 R1:4-0 R1:3-0 R1:2-0 R1:1-0 ~R1:7 ~R1:6 ~R1:5 => none: 1 2 3 4, 3 free
 R1:1-0 R1:9-5 R1:2-0 R1:8-4 R1:3-3 R1:7-0 R1:4-0 ~R1:3 => 8: 1 2 4 7 8 9, 1 free";
 
+/// To be run with each allocation refused in turn too.
 #[test]
 fn rows_are_told(rt: HostRuntime) -> Result<(), Fail> {
     for row in ROWS.lines() {
         let (words, want) = row.split_once(" => ").ok_or("a row")?;
-        let found = told(rt.alloc(), words)?;
+        let found = told(&rt, words)?;
         assert!(rt; found.as_str() == want, "{row}");
     }
     Ok(())
@@ -147,14 +191,14 @@ fn agrees(tree: &ReadTree, plain: &[Item]) -> bool {
 }
 
 /// The step at which the tree and the list come to say different things.
-fn first_difference(alloc: Global, by_value: bool) -> Result<Option<u64>, Memory> {
-    let mut tree = ReadTree::new(alloc);
-    let mut plain = Vec::new(alloc);
+fn first_difference<R: AllocGlobal + Abort>(rt: &R, by_value: bool) -> Result<Option<u64>, Memory> {
+    let mut tree = ReadTree::new(rt.alloc());
+    let mut plain = Vec::new(rt.alloc());
     for i in 0..80u64 {
         let moment = i.wrapping_mul(37) % 83;
         let value = i64::try_from(i % 3).unwrap_or(0);
         let new = item(i % 4 == 1, by_value, value, moment, i.wrapping_mul(29) % 41);
-        put(&mut tree, new)?;
+        put(rt, &mut tree, new)?;
         plain.push(new)?;
         if i % 3 == 0 {
             let gone = i.wrapping_mul(53) % 83;
@@ -172,7 +216,7 @@ fn first_difference(alloc: Global, by_value: bool) -> Result<Option<u64>, Memory
 
 #[test]
 fn a_long_run_agrees_with_a_plain_list(rt: HostRuntime) -> Result<(), Fail> {
-    assert!(rt; first_difference(rt.alloc(), true)?.is_none());
-    assert!(rt; first_difference(rt.alloc(), false)?.is_none());
+    assert!(rt; first_difference(&rt, true)?.is_none());
+    assert!(rt; first_difference(&rt, false)?.is_none());
     Ok(())
 }

@@ -1,4 +1,4 @@
-ghost use Rattle.std.specs.Prelude.{◌≡◌, ◌↔◌, ◌+◌, ◌≤◌, [], All, Some, None, length, IfOk, IfSome, OnOk, OnErr, IsNone, IsSome, IsTrue, option_copied};
+ghost use Rattle.std.specs.Prelude.{◌≡◌, ◌≢◌, ◌↔◌, ◌+◌, ◌≤◌, [], All, Some, None, length, IfOk, IfSome, OnOk, OnErr, IsNone, IsSome, IsTrue, option_copied};
 ghost use Rattle.intervals.specs.Terms.{terms_of};
 ghost use Rattle.intervals.specs.Edit.{op_of, edited, new_op};
 ghost use Rattle.intervals.specs.Refusal.{reply_to, after_edit};
@@ -39,7 +39,8 @@ impl<'t> Model for RegisterBook<'t> {
 impl<'t> RegisterBook<'t> {
     /// A book of no operations. It keeps a claim of its own that says the same.
     pub fn new(alloc: Global, claim: &Claim) -> Result<Self, Memory>
-        ensures { IfOk result (λ book. book ≡ record { claim = terms_of claim.now; ops = []; steps = book.steps }) }
+        ensures made { IfOk result (λ book. book ≡ record { claim = terms_of claim.now; ops = []; steps = book.steps }) }
+        ensures steps { IfOk result (λ book. book.steps ≤ 3) }
     {
         Ok(RegisterBook {
             judge: Judge::new(alloc, claim)?,
@@ -94,7 +95,8 @@ impl<'t> RegisterBook<'t> {
 
     /// How many levels the tree of zones has gone down for edits so far; 0 where there is no tree.
     pub fn steps(&self) -> u64
-        ensures { result ≡ self.now.steps }
+        ensures steps { result ≡ self.now.steps }
+        ensures none { self.now.claim.kind ≢ Kind.Atomic → result ≡ 0 }
     {
         self.judge.steps()
     }

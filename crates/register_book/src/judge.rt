@@ -1,6 +1,6 @@
 //! The judge of a register's kind, asked alike whichever it is.
 
-ghost use Rattle.std.specs.Prelude.{◌≡◌, ◌↔◌, ◌+◌, ◌≤◌, [], None, IfOk, IfSome, OnOk, OnErr, IsNone, IsSome, IsTrue};
+ghost use Rattle.std.specs.Prelude.{◌≡◌, ◌≢◌, ◌↔◌, ◌+◌, ◌≤◌, [], None, IfOk, IfSome, OnOk, OnErr, IsNone, IsSome, IsTrue};
 ghost use Rattle.intervals.specs.Terms.{terms_of};
 ghost use Rattle.intervals.specs.Edit.{edited, new_op};
 ghost use Rattle.intervals.specs.Refusal.{reply_to, write_refusal, ok_unless};
@@ -29,6 +29,7 @@ pub enum Judge<'t> {
 impl<'t> Judge<'t> {
     pub fn new(alloc: Global, claim: &Claim) -> Result<Self, Memory>
         ensures held { IfOk result (λ judge. held_by judge ≡ record { claim = terms_of claim.now; ops = []; steps = (held_by judge).steps }) }
+        ensures steps { IfOk result (λ judge. (held_by judge).steps ≤ 3) }
         ensures kind { IfOk result IsOfItsKind }
         ensures none_prepared { IfOk result HasNonePrepared }
     {
@@ -78,7 +79,9 @@ impl<'t> Judge<'t> {
     }
 
     pub fn steps(&self) -> u64
-        ensures { result ≡ (held_by self.now).steps }
+        requires { IsOfItsKind self.now }
+        ensures steps { result ≡ (held_by self.now).steps }
+        ensures none { (held_by self.now).claim.kind ≢ Kind.Atomic → result ≡ 0 }
     {
         match self {
             Judge::One(_) => 0,

@@ -752,13 +752,11 @@ fn retried(
     book: &mut RegisterBook<'static>,
     edit: Edit<'static>,
 ) -> Result<Reply, Memory> {
-    let len = book.len();
-    let fault = book.fault();
+    let before = (book.len(), book.steps(), book.fault());
     match book.apply(edit) {
         Ok(reply) => Ok(reply),
         Err(Memory) => {
-            assert!(rt; book.len() == len);
-            assert!(rt; book.fault() == fault);
+            assert!(rt; (book.len(), book.steps(), book.fault()) == before);
             book.apply(edit)
         }
     }

@@ -15,7 +15,7 @@ use Rattle.read_tree.specs.Items.{AreInOrder, Contents}
 use Rattle.safe_regular.specs.declared.writes.Writes.{Writes}
 use Rattle.safe_regular.specs.Held.{StandApart, CanJudge, HasRoomFor}
 use Rattle.safe_regular.specs.Line.{AreItems, IsCoverBefore, IsExchanged, IsFreeFor, IsItemOf, IsRenewed, IsTaken, spot_in}
-use Rattle.safe_regular.specs.Writes.{AreWrites, HasPlaceIn, IsAddedOf}
+use Rattle.safe_regular.specs.Writes.{AreWrites, HasPlaceIn, HoldsOnlyFor, IsAddedOf}
 use Rattle.safe_regular.proofs.Changed.{others_of, IsAmong, other_stands, other_apart, old_stands, before_cases, other_after, new_stands, after_cases, goes, comes}
 use Rattle.safe_regular.proofs.Edited.{apart_kept}
 use Rattle.safe_regular.proofs.Laid.{items_after, place_is_free, place_is_taken}
@@ -59,6 +59,13 @@ module _ (claim : Terms) (ops : List Op) (edit : Edit) (apart : StandApart claim
       let now : IsAddedOf (others_of ops (edit_id edit)) new (edited ops edit) = rw new_is (comes ops edit apart.ids (edit_accepted claim ops edit accepted) (writes_apart claim (edited ops edit) later)) in
       let both : CanJudge (edited ops edit) writes' = record { shelved = change ops (others_of ops (edit_id edit)) (edited ops edit) are among now; ids = later.ids } in
       subst (λ (l : List Op). CanJudge l writes') (sym listed_is) both
+
+  -- the shelf holds no place but for what is prepared afterwards
+  pub only_for : (writes writes' : Writes) → AreWrites ops writes → (prepared : Option Op) → HoldsOnlyFor prepared writes
+      → ((before others : List Op) → AreWrites before writes → IsAddedOf others old before → HoldsOnlyFor prepared writes → HoldsOnlyFor (prepared_after new prepared) writes') → HoldsOnlyFor (prepared_after new prepared) writes'
+  only_for writes writes' are prepared only change =
+      let among : IsAddedOf (others_of ops (edit_id edit)) old ops = rw old_is (goes ops (edit_id edit) apart.ids (writes_apart claim ops apart)) in
+      change ops (others_of ops (edit_id edit)) are among only
 
   abbrev others : List Op
   others = others_of ops (edit_id edit)

@@ -10,13 +10,15 @@ use Rattle.intervals.specs.declared.shelf.Spot.{Spot}
 use Rattle.intervals.specs.declared.shelf.Shelf.{Shelf}
 use Rattle.intervals.specs.Operation.{IsWrite, is_write}
 use Rattle.intervals.specs.Edit.{op_of}
-use Rattle.intervals.specs.Shelf.{id_at, spot_of, same_spot}
+use Rattle.intervals.specs.Shelf.{id_at, is_spot, joined, place_at, spot_of, same_spot}
 use Rattle.intervals.specs.Standing.{HasDistinctIds}
+use Rattle.intervals.specs.Table.{prepared_after}
 use Rattle.intervals.proofs.Ids.{found_by_id}
+use Rattle.intervals.proofs.SameSpot.{is_spot_one}
 use Rattle.safe_regular.specs.declared.writes.Writes.{Writes}
 use Rattle.safe_regular.specs.Index.{IsIndex}
 use Rattle.safe_regular.specs.LookUp.{BeginsBefore, BeginsFrom, BeginsAfter, IsLastOf, IsFirstOf}
-use Rattle.safe_regular.specs.Writes.{AreWrites, HaveSameWrites, IsAdded, IsAddedOf, StandAlike, StandAlikeIn, id_by_begin, spot_by_begin, op_at}
+use Rattle.safe_regular.specs.Writes.{AreWrites, HaveSameWrites, IsAdded, IsAddedOf, StandAlike, StandAlikeIn, HoldsOnlyFor, id_by_begin, spot_by_begin, spot_by_begin_in, op_at}
 use Rattle.safe_regular.proofs.Index.{none_indexed, last_indexed, first_indexed, index_with, index_without}
 use Rattle.safe_regular.proofs.Lists.{one_of_id}
 
@@ -161,3 +163,45 @@ writes_stay_in others before after old new (o, n, is_old, is_new, alike) gone co
     writes_stay others before after o n alike
     (subst (λ (x : Option Op). IsAddedOf others x before) is_old gone)
     (subst (λ (x : Option Op). IsAddedOf others x after) is_new come)
+
+-- the place of one operation is held, where none was
+pub held_for : (op : Op) (old : Writes) (begins : Shelf) (spot : Option Spot) → spot ≡ spot_by_begin op
+    → ((other : Spot) → is_spot spot other ≡ false → place_at begins other ≡ place_at old.begins other) → HoldsOnlyFor None old → HoldsOnlyFor (Some op) (on begins)
+held_for op old begins spot spot_is others only other held = by_cases (is_spot spot other) refl
+  where
+    by_cases : (t : Bool) → is_spot spot other ≡ t → is_spot (spot_by_begin op) other ≡ true
+    by_cases true t = ap (λ s. is_spot s other) (sym spot_is) ∙ t
+    by_cases false f = absurd (let t = only other (sym (others other f) ∙ held) in cc)
+
+-- the place that was held for one operation is let go, where no id stands there
+pub held_no_more : (op : Op) (old : Writes) (begins : Shelf) (spot : Option Spot) → spot ≡ spot_by_begin op
+    → IfSome spot (λ s. id_at old.begins s ≡ None → place_at begins s ≡ None) → AreAlike old.begins begins
+    → ((other : Spot) → is_spot spot other ≡ false → place_at begins other ≡ place_at old.begins other) → HoldsOnlyFor (Some op) old → HoldsOnlyFor None (on begins)
+held_no_more op old begins spot spot_is gone alike others only other held = absurd (by_cases (is_spot spot other) refl)
+  where
+    none : id_at old.begins other ≡ None
+    none = sym (alike other) ∙ ap joined held
+
+    by_cases : (t : Bool) → is_spot spot other ≡ t → ⊥
+    by_cases true t =
+        let one : spot ≡ Some other = is_spot_one spot other t in
+        let went = subst (λ (x : Option Spot). IfSome x (λ s. id_at old.begins s ≡ None → place_at begins s ≡ None)) one gone in
+        let left : place_at begins other ≡ None = went none in
+        cc
+    by_cases false f =
+        let t = only other (sym (others other f) ∙ held) in
+        let e = ap (λ s. is_spot s other) spot_is in
+        cc
+
+-- where a write keeps its spot, no place is held for the new one
+pub none_held_in : (before others : List Op) (old new prepared : Option Op) (writes : Writes) → StandAlikeIn old new → IfSome new (λ op. prepared ≡ Some op) → AreWrites before writes → IsAddedOf others old before → HoldsOnlyFor prepared writes → HoldsOnlyFor (prepared_after new prepared) writes
+none_held_in before others old new prepared writes (o, n, is_old, is_new, alike) room are gone only spot held =
+    let prepared_is : prepared ≡ Some n = subst (λ (p : Option Op). IfSome p (λ op. prepared ≡ Some op)) is_new room in
+    let awaited : is_spot (spot_by_begin n) spot ≡ true = subst (λ (p : Option Op). is_spot (spot_by_begin_in p) spot ≡ true) prepared_is (only spot held) in
+    let one : Some (spot_of Nil n.begin) ≡ Some spot = is_spot_one (Some (spot_of Nil n.begin)) spot (rw alike.new_writes at awaited) in
+    let here : spot_of Nil n.begin ≡ spot = cc in
+    let there : IsAdded others o before = subst (λ (x : Option Op). IsAddedOf others x before) is_old gone in
+    let stands : id_by_begin writes n.begin ≡ Some o.id = subst (λ (m : Moment). id_by_begin writes m ≡ Some o.id) alike.begin (are.there o (there.added alike.old_writes) alike.old_writes) in
+    let some : id_at writes.begins spot ≡ Some o.id = subst (λ (s : Spot). id_at writes.begins s ≡ Some o.id) here stands in
+    let none : id_at writes.begins spot ≡ None = ap joined held in
+    absurd (cc)

@@ -1,5 +1,5 @@
 -- The items of the operations stand apart: where one stands tells of which operation it is.
-use Rattle.std.proofs.Common.{◌≡◌, ◌≢◌, ℕ, suc, ◌+◌, ◌≤◌, ◌⊎◌, inl, inr, true, false, not, ◌==◌, List, Option, Some, None, refl, sym, ap, ◌∙◌, cond, subst, arith}
+use Rattle.std.proofs.Common.{◌≡◌, ◌≢◌, ℕ, suc, ◌≤◌, ◌⊎◌, inl, inr, true, false, not, ◌==◌, List, Option, Some, None, refl, sym, ap, ◌∙◌, cond, subst, arith}
 use Rattle.std.specs.Prelude.{Contains, is_some}
 use Rattle.std.proofs.lemmas.Bool.{and_parts, both_ways, not-true, eqb-true, eq-eqb, ne_eqb, and_right}
 use Rattle.std.proofs.lemmas.List.Elements.{All-contains}

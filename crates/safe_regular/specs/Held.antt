@@ -10,7 +10,7 @@ use Rattle.intervals.specs.Terms.{Terms}
 use Rattle.read_tree.specs.Items.{Contents}
 use Rattle.safe_regular.specs.declared.writes.Writes.{Writes}
 use Rattle.safe_regular.specs.Line.{AreItems}
-use Rattle.safe_regular.specs.Writes.{AreWrites, HasPlaceFor}
+use Rattle.safe_regular.specs.Writes.{AreWrites, HasPlaceFor, HoldsOnlyFor}
 
 -- a claim, the operations that stand under it, and the one that there is room for
 pub record Judged : Type 0 where
@@ -38,12 +38,14 @@ pub record HasRoomFor (writes : Writes) (line : Contents) (op : Op) : Type 0 whe
   pub place : HasPlaceFor op writes
   pub free : 1 ≤ line.free
 
--- the shelf and the tree are those of the operations, and there is room for the prepared one
+-- the shelf and the tree are those of the operations, there is room for the prepared one, and the shelf
+-- holds no place but for that
 pub record HoldTogether (claim : Terms) (table : Tabled) (writes : Writes) (line : Contents) : Type 0 where
   pub apart : StandApart claim table.ops
   pub shelved : AreWrites table.ops writes
   pub laid : AreItems claim table.ops line.items
   pub room : IfSome table.prepared (HasRoomFor writes line)
+  pub only : HoldsOnlyFor table.prepared writes
 
 -- what is known of the operations where they are looked up
 pub record CanJudge (ops : List Op) (writes : Writes) : Type 0 where

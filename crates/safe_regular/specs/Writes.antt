@@ -8,7 +8,7 @@ use Rattle.intervals.specs.declared.shelf.Spot.{Spot}
 use Rattle.intervals.specs.declared.shelf.Shelf.{Shelf}
 use Rattle.intervals.specs.Operation.{IsWrite, is_write}
 use Rattle.intervals.specs.Edit.{op_of}
-use Rattle.intervals.specs.Shelf.{place_at, id_at, spot_of}
+use Rattle.intervals.specs.Shelf.{place_at, id_at, is_spot, spot_of}
 use Rattle.safe_regular.specs.declared.writes.Writes.{Writes}
 use Rattle.safe_regular.specs.Index.{IsIndex}
 
@@ -23,6 +23,15 @@ AreWrites ops writes = IsIndex ops (id_by_begin writes)
 -- where an operation stands by its beginning, where it is a write
 abbrev pub spot_by_begin : Op → Option Spot
 spot_by_begin op = if is_write op then Some (spot_of Nil op.begin) else None
+
+-- the same of an operation that there may be
+abbrev pub spot_by_begin_in : Option Op → Option Spot
+spot_by_begin_in None = None
+spot_by_begin_in (Some op) = spot_by_begin op
+
+-- each place at which no write stands is held for that operation
+abbrev pub HoldsOnlyFor : Option Op → Writes → Type 0
+HoldsOnlyFor op writes = (spot : Spot) → place_at writes.begins spot ≡ Some None → is_spot (spot_by_begin_in op) spot ≡ true
 
 -- the place at the spot is there
 abbrev pub HasPlace : Shelf → Option Spot → Type 0

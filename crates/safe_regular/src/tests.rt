@@ -6,7 +6,8 @@ ghost use Rattle.intervals.specs.Refusal.{reply_to, first_refusal, new_write_ref
 
 use super::*;
 use intervals::{
-    Act, Change, Claim, Edit, Kind, Lent, Memory, Moment, Op, OpId, Parts, Refusal, Value, Writers,
+    Act, Change, Claim, Edit, Kind, Lent, Memory, Moment, Op, OpBook, OpId, Parts, Refusal, Value,
+    Writers,
 };
 use std::alloc::Global;
 use std::fmt::Write;
@@ -174,20 +175,25 @@ fn event_of(id: Option<OpId>) -> u64 {
     }
 }
 
-/// What can be seen of a judge without memory: a number that is made of the beginnings and ends of the
-/// operations, the operation that there is room for, the fault and the verdict.
-fn seen(judge: &SingleWriterJudge) -> (u64, u64, u64, bool) {
+/// A number that is made of the beginnings and ends of the operations.
+fn number_of_moments(slots: &[Option<Op>]) -> u64 {
     let mut moments: u64 = 0;
-    for slot in judge.operations().slots() {
+    for slot in slots {
         if let Some(op) = slot {
             let end = op.end.map_or(0, |end| end.0.wrapping_add(1));
             moments = moments.wrapping_mul(31).wrapping_add(op.begin.0);
             moments = moments.wrapping_mul(31).wrapping_add(end);
         }
     }
+    moments
+}
+
+/// What can be seen of a judge without memory: the moments of its operations, the operation that there is
+/// room for, the fault and the verdict.
+fn seen(judge: &SingleWriterJudge) -> (u64, u64, u64, bool) {
     let room = judge.prepared().map(|op| op.id);
     (
-        moments,
+        number_of_moments(judge.operations().slots()),
         event_of(room),
         event_of(judge.first_fault()),
         judge.holds(),
@@ -341,5 +347,55 @@ fn rows_are_told(rt: HostRuntime) -> Result<(), Fail> {
         let found = told_of_kind(&rt, words)?;
         assert!(rt; found.as_str() == want, "{row}");
     }
+    Ok(())
+}
+
+#[tactic(auto, using(crate::proofs::Refusals::err_ok_unless))]
+fn refusal_by_book<'t>(book: &OpBook<'t>, edit: &Edit<'t>) -> Option<Refusal>
+    ensures { result ≡ first_refusal book.now edit.now }
+{
+    book.check(edit).err()
+}
+
+/// Where memory is refused the book is as it was, and the same edit is carried out then.
+fn admitted<'t>(rt: &impl Abort, book: &mut OpBook<'t>, edit: Edit<'t>) -> Result<(), Memory>
+    requires { first_refusal book.old edit ≡ None }
+{
+    let before = (book.len(), number_of_moments(book.slots()));
+    match book.admit(edit) {
+        Ok(()) => Ok(()),
+        Err(Memory) => {
+            assert!(rt; (book.len(), number_of_moments(book.slots())) == before);
+            book.admit(edit)
+        }
+    }
+}
+
+/// What is refused, and the moments of what stands.
+fn told_of_book<R: AllocGlobal + Abort>(rt: &R, words: &'static str) -> Result<String, Memory> {
+    let mut told = roomy(rt.alloc())?;
+    let mut book = OpBook::new(rt.alloc());
+    for word in words.split(' ') {
+        let edit = edit_of(word);
+        match refusal_by_book(&book, &edit) {
+            Some(refusal) => {
+                let _ = write!(told, "{refusal} ");
+            }
+            None => admitted(rt, &mut book, edit)?,
+        }
+    }
+    for slot in book.slots() {
+        if let Some(op) = slot {
+            let _ = write!(told, "{}-{} ", op.begin.0, op.end_number());
+        }
+    }
+    Ok(told)
+}
+
+/// To be run with each allocation refused in turn too.
+#[test]
+fn a_book_is_told(rt: HostRuntime) -> Result<(), Fail> {
+    let found = told_of_book(&rt, "w1:0-9 r1:3- ~3-5 r2:3-4 w2:5-8 !0 w3:11-12 !9")?;
+    assert!(rt; found.as_str() == "X2 OpTaken X4 MomentTaken X1 UnknownOp 3-5 11-12 ");
     Ok(())
 }

@@ -1,17 +1,18 @@
 //! The writes by their beginnings, and which writes a claim allows beside them.
 
-ghost use Rattle.std.specs.Prelude.{◌≡◌, ◌≢◌, [], List, IfSome, OnOk, None, Some, false, true};
+ghost use Rattle.std.specs.Prelude.{◌≡◌, ◌≢◌, [], List, IfSome, OnOk, OnErr, None, Some, false, true, if◌then◌else◌};
 ghost use Rattle.std.specs.List.{cons_option};
 ghost use Rattle.intervals.specs.declared.operation.Op.{Op as AnOp};
 ghost use Rattle.intervals.specs.declared.shelf.Spot.{Spot as ASpot};
 ghost use Rattle.intervals.specs.Terms.{terms_of};
 ghost use Rattle.intervals.specs.Least.{least_by, least_from, less_of};
 ghost use Rattle.intervals.specs.Refusal.{write_refusal, ok_unless, is_overlapped as overlapped};
-ghost use Rattle.intervals.specs.Shelf.{id_at, same_spot};
+ghost use Rattle.intervals.specs.Shelf.{id_at, is_spot, place_at, same_spot};
 ghost use Rattle.intervals.specs.Standing.{HasDistinctIds};
+ghost use Rattle.intervals.specs.Table.{prepared_after};
 ghost use Rattle.safe_regular.specs.Apart.{AreApart};
 ghost use Rattle.safe_regular.specs.LookUp.{BeginsBefore, BeginsFrom, BeginsAfter, IsLastOf, IsFirstOf, IsBeyondOf};
-ghost use Rattle.safe_regular.specs.Writes.{AreWrites, HasPlace, HasPlaceFor, HasPlaceIn, IsAdded, IsAddedOf, spot_by_begin as begin_spot, StandAlike, StandAlikeIn, op_at as op_of_found};
+ghost use Rattle.safe_regular.specs.Writes.{AreWrites, HasPlace, HasPlaceFor, HasPlaceIn, IsAdded, IsAddedOf, spot_by_begin as begin_spot, StandAlike, StandAlikeIn, HoldsOnlyFor, op_at as op_of_found};
 
 use intervals::{
     Claim, Kind, Memory, Moment, Op, OpId, OpTable, Refusal, Shelf, Spot, Value, overlaps,
@@ -26,7 +27,8 @@ pub struct Writes {
 
 impl Writes {
     pub fn new(alloc: Global) -> Self
-        ensures { AreWrites [] result }
+        ensures writes { AreWrites [] result }
+        ensures only { HoldsOnlyFor None result }
     {
         Writes {
             begins: Shelf::new(alloc),
@@ -36,6 +38,8 @@ impl Writes {
     /// Holds the place at which the operation is to stand.
     pub fn hold(&mut self, op: &Op) -> Result<(), Memory>
         ensures place { OnOk result (HasPlaceFor op.now self.new) }
+        ensures only { HoldsOnlyFor None self.old → HoldsOnlyFor (Some op.now) self.new }
+        ensures err { OnErr result ((spot : ASpot) → place_at self.new.begins spot ≡ place_at self.old.begins spot) }
         ensures writes { (ops : List AnOp) → AreWrites ops self.old → AreWrites ops self.new }
     {
         hold(&mut self.begins, spot_of_write(op))
@@ -43,7 +47,8 @@ impl Writes {
 
     /// Lets the place go that was held for the operation and is empty.
     pub fn release(&mut self, op: &Op)
-        ensures { (ops : List AnOp) → AreWrites ops self.old → AreWrites ops self.new }
+        ensures only { HoldsOnlyFor (Some op.now) self.old → HoldsOnlyFor None self.new }
+        ensures writes { (ops : List AnOp) → AreWrites ops self.old → AreWrites ops self.new }
     {
         release(&mut self.begins, spot_of_write(op));
     }
@@ -55,6 +60,7 @@ impl Writes {
         requires place { HasPlaceIn prepared self.old }
         ensures writes { (before others after : List AnOp) → AreWrites before self.old → IsAddedOf others old.entry before → IsAddedOf others new.entry after → AreWrites after self.new }
         ensures place { HasPlaceIn prepared.entry self.new }
+        ensures only { (before others : List AnOp) → AreWrites before self.old → IsAddedOf others old.entry before → HoldsOnlyFor prepared.entry self.old → HoldsOnlyFor (prepared_after new.entry prepared.entry) self.new }
     {
         if !keeps_its_spot(old, new) {
             self.exchange(old, new, prepared);
@@ -66,6 +72,7 @@ impl Writes {
         requires place { HasPlaceIn prepared self.old }
         ensures writes { (before others after : List AnOp) → AreWrites before self.old → IsAddedOf others old.entry before → IsAddedOf others new.entry after → AreWrites after self.new }
         ensures place { HasPlaceIn prepared.entry self.new }
+        ensures only { HoldsOnlyFor prepared.entry self.old → HoldsOnlyFor (prepared_after new.entry prepared.entry) self.new }
     {
         if let Some(op) = old {
             self.take_out(&op, prepared);
@@ -79,6 +86,7 @@ impl Writes {
         requires { HasPlaceIn prepared self.old }
         ensures writes { (others ops : List AnOp) → AreWrites ops self.old → IsAdded others op.now ops → AreWrites others self.new }
         ensures place { HasPlaceIn prepared.entry self.new }
+        ensures only { HoldsOnlyFor prepared.entry self.old → HoldsOnlyFor prepared.entry self.new }
     {
         take_out(&mut self.begins, spot_of_write(op), held_by(prepared));
     }
@@ -87,6 +95,7 @@ impl Writes {
         requires { HasPlaceFor op.now self.old }
         ensures writes { (others ops : List AnOp) → AreWrites others self.old → IsAdded others op.now ops → AreWrites ops self.new }
         ensures place { HasPlaceFor op.now self.new }
+        ensures only { HoldsOnlyFor (Some op.now) self.old → HoldsOnlyFor None self.new }
     {
         put_in(&mut self.begins, spot_of_write(op), op.id);
     }
@@ -254,6 +263,8 @@ fn held_by(op: Option<Op>) -> Option<Spot>
 fn hold(shelf: &mut Shelf, spot: Option<Spot>) -> Result<(), Memory>
     ensures place { OnOk result (HasPlace shelf.new spot) }
     ensures ids { (other : ASpot) → id_at shelf.new other ≡ id_at shelf.old other }
+    ensures others { (other : ASpot) → is_spot spot other ≡ false → place_at shelf.new other ≡ place_at shelf.old other }
+    ensures err { OnErr result ((other : ASpot) → place_at shelf.new other ≡ place_at shelf.old other) }
 {
     if let Some(spot) = spot {
         shelf.hold(spot)?;
@@ -262,7 +273,9 @@ fn hold(shelf: &mut Shelf, spot: Option<Spot>) -> Result<(), Memory>
 }
 
 fn release(shelf: &mut Shelf, spot: Option<Spot>)
-    ensures { (other : ASpot) → id_at shelf.new other ≡ id_at shelf.old other }
+    ensures gone { IfSome spot (λ s. id_at shelf.old s ≡ None → place_at shelf.new s ≡ None) }
+    ensures others { (other : ASpot) → is_spot spot other ≡ false → place_at shelf.new other ≡ place_at shelf.old other }
+    ensures ids { (other : ASpot) → id_at shelf.new other ≡ id_at shelf.old other }
 {
     if let Some(spot) = spot {
         shelf.release(spot);
@@ -275,6 +288,7 @@ fn take_out(shelf: &mut Shelf, spot: Option<Spot>, held: Option<Spot>)
     ensures gone { IfSome spot (λ s. id_at shelf.new s ≡ None) }
     ensures ids { (other : ASpot) → IfSome spot (λ s. same_spot s other ≡ false) → id_at shelf.new other ≡ id_at shelf.old other }
     ensures held { HasPlace shelf.new held }
+    ensures places { (other : ASpot) → place_at shelf.new other ≡ (if is_spot spot other then (if is_spot held other then Some None else None) else place_at shelf.old other) }
 {
     match (spot, held) {
         (Some(spot), Some(held)) if spot == held => shelf.vacate(spot),
@@ -289,6 +303,7 @@ fn put_in(shelf: &mut Shelf, spot: Option<Spot>, id: OpId)
     ensures there { IfSome spot (λ s. id_at shelf.new s ≡ Some id) }
     ensures ids { (other : ASpot) → IfSome spot (λ s. same_spot s other ≡ false) → id_at shelf.new other ≡ id_at shelf.old other }
     ensures place { HasPlace shelf.new spot }
+    ensures places { (other : ASpot) → place_at shelf.new other ≡ (if is_spot spot other then Some (Some id) else place_at shelf.old other) }
 {
     if let Some(spot) = spot {
         shelf.put(spot, id);

@@ -66,7 +66,8 @@ impl Stock {
         if places <= free {
             return Ok(());
         }
-        let more = self.taken.checked_add(places - free).ok_or(Memory)?;
+        // Where the sum is past the greatest number, the vector cannot grow so far.
+        let more = self.taken.saturating_add(places - free);
         self.spare.reserve(more)?;
         let filled = fill(self.alloc, &mut self.spare, places);
         if filled.is_err() {

@@ -17,7 +17,7 @@ use Rattle.zone_tree.specs.Order.{Contents, StandInOrder}
 use Rattle.zones.specs.declared.index.Members.{Members}
 use Rattle.zones.specs.Cluster.{zone_of, zones_of}
 use Rattle.zones.specs.Faults.{AreStretched, AreStretchesAt}
-use Rattle.zones.specs.Index.{AreMembers, HasPlaces, HasPlacesOf}
+use Rattle.zones.specs.Index.{AreMembers, HasPlaces, HasPlacesOf, HoldsOnlyFor}
 use Rattle.zones.specs.Members.{IsChange}
 use Rattle.zones.specs.Together.{HasRoomFor, HoldTogether}
 use Rattle.zones.specs.Zoned.{AreExchanged, AreZoned, AreZonesAt, CanExchange, NeedsNoRoom, StandApart, judged_part, other_value, value_in}
@@ -60,9 +60,9 @@ room_of_one members zones stretches prepared op e places more most =
     subst (λ (p : Option Op). IfSome p (HasRoomFor members zones stretches)) (sym e) (record { places = places; zones_free = more; stretches_free = most })
 
 -- of no operations
-pub together_at_first : (claim : Terms) → claim.kind ≡ Atomic → (table : Tabled) (members : Members) (zones stretches : Contents) (zone : Zone) → table ≡ record { ops = []; prepared = None } → AreMembers [] members
+pub together_at_first : (claim : Terms) → claim.kind ≡ Atomic → (table : Tabled) (members : Members) (zones stretches : Contents) (zone : Zone) → table ≡ record { ops = []; prepared = None } → AreMembers [] members → HoldsOnlyFor None members
     → (AreMembers table.ops members → HasDistinctIds table.ops → zone ≡ zone_of claim.initial table.ops claim.initial) → zones.zones ≡ zone ∷ [] → stretches.zones ≡ [] → HoldTogether claim table members zones stretches
-together_at_first claim atomic table members zones stretches zone e are is zones_are none =
+together_at_first claim atomic table members zones stretches zone e are only is zones_are none =
     subst (λ (t : Tabled). (AreMembers t.ops members → HasDistinctIds t.ops → zone ≡ zone_of claim.initial t.ops claim.initial) → HoldTogether claim t members zones stretches) (sym e)
     (λ first. record {
       apart = apart_none claim atomic;
@@ -70,17 +70,19 @@ together_at_first claim atomic table members zones stretches zone e are is zones
       zoned = subst (AreZoned claim.initial []) (sym zones_are) (zoned_at_first claim.initial zone (first are tt));
       stretched = subst (AreStretched claim.initial []) (sym none) (stretched_none claim.initial);
       room = tt;
+      only = only;
     }) is
 
 -- of the same operations
 pub together_kept : (claim : Terms) (table other : Tabled) (members changed : Members) (zones others stretches rest : Contents) → HoldTogether claim table members zones stretches
-    → other.ops ≡ table.ops → AreMembers table.ops changed → others.zones ≡ zones.zones → rest.zones ≡ stretches.zones → IfSome other.prepared (HasRoomFor changed others rest) → HoldTogether claim other changed others rest
-together_kept claim table other members changed zones others stretches rest together same are zones_same rest_same room = record {
+    → other.ops ≡ table.ops → AreMembers table.ops changed → others.zones ≡ zones.zones → rest.zones ≡ stretches.zones → IfSome other.prepared (HasRoomFor changed others rest) → HoldsOnlyFor other.prepared changed → HoldTogether claim other changed others rest
+together_kept claim table other members changed zones others stretches rest together same are zones_same rest_same room only = record {
   apart = subst (StandApart claim) (sym same) together.apart;
   members_of = subst (λ (l : List Op). AreMembers l changed) (sym same) are;
   zoned = subst (λ (l : List Op). AreZoned claim.initial l others.zones) (sym same) (subst (AreZoned claim.initial table.ops) (sym zones_same) together.zoned);
   stretched = subst (λ (l : List Op). AreStretched claim.initial l rest.zones) (sym same) (subst (AreStretched claim.initial table.ops) (sym rest_same) together.stretched);
   room = room;
+  only = only;
 }
 
 -- the judged part of what is prepared

@@ -2,6 +2,7 @@ mod EdgeOrder
 mod Members
 mod Judged
 mod Rows
+mod Held
 mod Lookups
 mod Sorting
 mod Cluster

@@ -1,41 +1,23 @@
 -- A row of a shelf: what stands there, what a change makes of it, and what a look-up in it says.
-use Rattle.std.proofs.Common.{◌≡◌, ◌≢◌, ◌⊎◌, inl, inr, Bool, true, false, List, Option, Some, None, Decides, refl, sym, ap, subst, ◌∙◌}
+use Rattle.std.proofs.Common.{◌≡◌, ◌≢◌, ◌⊎◌, inl, inr, Bool, true, false, List, Option, Some, None, refl, sym, ap, subst, ◌∙◌}
 use Rattle.std.specs.Prelude.{Contains, IfSome, is_some, if◌then◌else◌}
-use Rattle.std.proofs.lemmas.Bool.Decides.{Decides-and, Decides-eqb}
 use Rattle.intervals.specs.declared.operation.Op.{Op}
 use Rattle.intervals.specs.declared.operation.OpId.{OpId}
 use Rattle.intervals.specs.declared.operation.Moment.{Moment}
 use Rattle.intervals.specs.declared.operation.Value.{Value}
 use Rattle.intervals.specs.declared.shelf.Spot.{Spot}
 use Rattle.intervals.specs.declared.shelf.Shelf.{Shelf}
-use Rattle.intervals.specs.Operation.{IsWrite, is_write, same_value, value_of, judged}
-use Rattle.intervals.specs.Shelf.{place_at, id_at, joined, same_spot, spot_of}
+use Rattle.intervals.specs.Operation.{IsWrite, is_write, value_of, judged}
+use Rattle.intervals.specs.Shelf.{place_at, id_at, is_spot, joined, spot_of}
+use Rattle.intervals.proofs.SameSpot.{is_spot_one, is_spot_itself}
 use Rattle.zones.specs.declared.index.Row.{Row}
 use Rattle.zones.specs.declared.index.Row.TheVariants.{Writes, Ends, Begins}
 use Rattle.zones.specs.Cluster.{edge_of_end}
 use Rattle.zones.specs.Members.{HaveOwnPlaces, IsChange}
 use Rattle.zones.specs.declared.index.Members.{Members}
-use Rattle.zones.specs.Index.{AreMembers, HasPlaceAt, HasPlaces, HasPlacesOf, IsInTime, IsRow, shelf_of, at_first, by_begin, by_end, come_at, is_spot, spot_in, spot_on, taken_at}
-use Rattle.zones.proofs.Members.{Decides-same_value, kept, kept_stands}
+use Rattle.zones.specs.Index.{AreMembers, HasPlaceAt, HasPlaces, HasPlacesOf, IsInTime, IsRow, shelf_of, at_first, by_begin, by_end, come_at, spot_in, spot_on, taken_at}
+use Rattle.zones.proofs.Members.{kept, kept_stands}
 use Rattle.zones.proofs.Judged.{is_judged, judged_write}
-
--- the test for one spot decides it
-pub Decides-same_spot : (a b : Spot) → (same_spot a b ≡ true → a ≡ b) × (a ≡ b → same_spot a b ≡ true)
-Decides-same_spot a b = (
-  (λ t. let (e, f) = parts.0 t in
-      ap {B = Spot} (λ v. spot_of v a.moment) e ∙ ap {B = Spot} (λ n. spot_of b.value (record { 0 = n })) f),
-  (λ e. parts.1 (ap (λ (s : Spot). s.value) e, ap (λ (s : Spot). s.moment.0) e)),
-)
-  where
-    parts : Decides (same_spot a b) ((a.value ≡ b.value) × (a.moment.0 ≡ b.moment.0))
-    parts = Decides-and (same_value a.value b.value) _ (Decides-same_value a.value b.value) (Decides-eqb a.moment.0 b.moment.0)
-
-is_spot_one : (spot : Option Spot) (other : Spot) → is_spot spot other ≡ true → spot ≡ Some other
-is_spot_one None other t = absurd (cc)
-is_spot_one (Some spot) other t = ap Some ((Decides-same_spot spot other).0 t)
-
-is_spot_itself : (spot : Spot) → is_spot (Some spot) spot ≡ true
-is_spot_itself spot = (Decides-same_spot spot spot).1 refl
 
 -- what an operation is that stands at a spot
 pub written : (op : Op) (spot : Spot) → spot_on Writes op ≡ Some spot → IsWrite op × (spot ≡ spot_of (value_of op.act) at_first)

@@ -1,6 +1,6 @@
 -- The shelves of the members: each write stands at its value, each judged read at its value and end, and
 -- at its value and beginning. No public clause speaks of these words.
-use Rattle.std.specs.Prelude.{◌≡◌, ◌≤◌, Bool, true, false, Contains, List, Option, Some, None, IfSome, is_some, if◌then◌else◌}
+use Rattle.std.specs.Prelude.{◌≡◌, ◌≤◌, true, false, Contains, List, Option, Some, None, IfSome, is_some, if◌then◌else◌}
 use Rattle.intervals.specs.declared.operation.Op.{Op}
 use Rattle.intervals.specs.declared.operation.OpId.{OpId}
 use Rattle.intervals.specs.declared.operation.Moment.{Moment}
@@ -8,7 +8,7 @@ use Rattle.intervals.specs.declared.operation.Value.{Value}
 use Rattle.intervals.specs.declared.shelf.Spot.{Spot}
 use Rattle.intervals.specs.declared.shelf.Shelf.{Shelf}
 use Rattle.intervals.specs.Operation.{is_write, value_of}
-use Rattle.intervals.specs.Shelf.{place_at, id_at, same_spot, spot_of}
+use Rattle.intervals.specs.Shelf.{place_at, id_at, is_spot, spot_of}
 use Rattle.zones.specs.declared.index.Row.{Row}
 use Rattle.zones.specs.declared.index.Row.TheVariants.{Writes, Ends, Begins}
 use Rattle.zones.specs.declared.index.Members.{Members}
@@ -74,10 +74,9 @@ abbrev pub spot_in : Row → Option Op → Option Spot
 spot_in row None = None
 spot_in row (Some op) = spot_on row op
 
--- it is that spot
-abbrev pub is_spot : Option Spot → Spot → Bool
-is_spot None other = false
-is_spot (Some spot) other = same_spot spot other
+-- each place at which no id stands is held for that operation
+abbrev pub HoldsOnlyFor : Option Op → Members → Type 0
+HoldsOnlyFor op members = (row : Row) (spot : Spot) → place_at (shelf_of members row) spot ≡ Some None → is_spot (spot_in row op) spot ≡ true
 
 -- the place at the spot is there
 abbrev pub HasPlaceAt : Shelf → Option Spot → Type 0

@@ -5,7 +5,7 @@ use Rattle.intervals.specs.Terms.{Terms}
 use Rattle.intervals.specs.Table.{Tabled}
 use Rattle.zone_tree.specs.Order.{Contents}
 use Rattle.zones.specs.declared.index.Members.{Members}
-use Rattle.zones.specs.Index.{AreMembers, HasPlaces}
+use Rattle.zones.specs.Index.{AreMembers, HasPlaces, HoldsOnlyFor}
 use Rattle.zones.specs.Faults.{AreStretched}
 use Rattle.zones.specs.Zoned.{StandApart, AreZoned}
 
@@ -23,11 +23,12 @@ pub record HasRoomFor (members : Members) (zones stretches : Contents) (op : Op)
   pub zones_free : 2 ≤ zones.free
   pub stretches_free : 2 ≤ stretches.free
 
--- the shelves, the zones and the stretches are those of the operations, and there is room for the
--- prepared one
+-- the shelves, the zones and the stretches are those of the operations, there is room for the prepared
+-- one, and the shelves hold no place but for that
 pub record HoldTogether (claim : Terms) (table : Tabled) (members : Members) (zones stretches : Contents) : Type 0 where
   pub apart : StandApart claim table.ops
   pub members_of : AreMembers table.ops members
   pub zoned : AreZoned claim.initial table.ops zones.zones
   pub stretched : AreStretched claim.initial table.ops stretches.zones
   pub room : IfSome table.prepared (HasRoomFor members zones stretches)
+  pub only : HoldsOnlyFor table.prepared members

@@ -4,10 +4,11 @@ ghost use Rattle.std.specs.Prelude.{◌≡◌, ◌≢◌, ◌≤◌, ◌<◌, []
 ghost use Rattle.intervals.specs.declared.operation.Op.{Op as AnOp};
 ghost use Rattle.intervals.specs.declared.shelf.Spot.{Spot as ASpot};
 ghost use Rattle.intervals.specs.Edit.{op_of};
-ghost use Rattle.intervals.specs.Shelf.{place_at, id_at};
+ghost use Rattle.intervals.specs.Shelf.{place_at, id_at, is_spot};
 ghost use Rattle.intervals.specs.Standing.{HasDistinctIds};
+ghost use Rattle.intervals.specs.Table.{prepared_after};
 ghost use Rattle.zones.specs.Members.{IsChange, IsTheWriteAt, EndsFirstOf, BeginsLastOf, HasNoRead, HasNoWrite};
-ghost use Rattle.zones.specs.Index.{AreMembers, HasPlaces, HasPlacesOf, HasPlaceAt, HaveSamePlaces, IsInTime, IsMade, IsStill, is_spot, spot_on as on, spot_in as in_row, taken_at, put_at, come_at};
+ghost use Rattle.zones.specs.Index.{AreMembers, HasPlaces, HasPlacesOf, HasPlaceAt, HaveSamePlaces, HoldsOnlyFor, IsInTime, IsMade, IsStill, spot_on as on, spot_in as in_row, taken_at, put_at, come_at};
 
 use intervals::{Memory, Moment, Op, OpId, OpTable, Shelf, Spot, Value};
 use std::alloc::Global;
@@ -30,7 +31,8 @@ pub struct Members {
 
 impl Members {
     pub fn new(alloc: Global) -> Self
-        ensures { AreMembers [] result }
+        ensures members { AreMembers [] result }
+        ensures only { HoldsOnlyFor None result }
     {
         Members {
             writes: Shelf::new(alloc),
@@ -42,6 +44,7 @@ impl Members {
     /// Holds the places at which the operation is to stand, all or none.
     pub fn hold(&mut self, op: &Op) -> Result<(), Memory>
         ensures places { OnOk result (HasPlaces op.now self.new) }
+        ensures only { OnOk result (HoldsOnlyFor None self.old → HoldsOnlyFor (Some op.now) self.new) }
         ensures err { OnErr result (HaveSamePlaces self.old self.new) }
         ensures members { (ops : List AnOp) → AreMembers ops self.old → AreMembers ops self.new }
     {
@@ -63,7 +66,8 @@ impl Members {
 
     /// Lets the places go that were held for the operation and are empty.
     pub fn release(&mut self, op: &Op)
-        ensures { (ops : List AnOp) → AreMembers ops self.old → AreMembers ops self.new }
+        ensures only { HoldsOnlyFor (Some op.now) self.old → HoldsOnlyFor None self.new }
+        ensures members { (ops : List AnOp) → AreMembers ops self.old → AreMembers ops self.new }
     {
         release(&mut self.writes, spot_on(Row::Writes, op));
         release(&mut self.ends, spot_on(Row::Ends, op));
@@ -76,6 +80,7 @@ impl Members {
         requires places { HasPlacesOf prepared self.old }
         ensures members { (before after : List AnOp) → AreMembers before self.old → IsChange before old.entry new.entry after → AreMembers after self.new }
         ensures places { HasPlacesOf prepared.entry self.new }
+        ensures only { HoldsOnlyFor prepared.entry self.old → HoldsOnlyFor (prepared_after new.entry prepared.entry) self.new }
     {
         change_row(&mut self.writes, Row::Writes, old, new, prepared);
         change_row(&mut self.ends, Row::Ends, old, new, prepared);
@@ -141,6 +146,7 @@ fn hold(shelf: &mut Shelf, spot: Option<Spot>) -> Result<Option<Spot>, Memory>
     ensures there { OnOk result (IfSome spot (λ s. is_some (place_at shelf.new s) ≡ true)) }
     ensures ids { (other : ASpot) → id_at shelf.new other ≡ id_at shelf.old other }
     ensures made { IfOk result (IsMade shelf.old shelf.new) }
+    ensures others { (other : ASpot) → is_spot spot other ≡ false → place_at shelf.new other ≡ place_at shelf.old other }
     ensures err { OnErr result ((other : ASpot) → place_at shelf.new other ≡ place_at shelf.old other) }
 {
     let Some(spot) = spot else {

@@ -57,7 +57,8 @@ impl<'t> Clusters<'t> {
     /// Clusters of no operations.
     pub fn new(alloc: Global, claim: &Claim) -> Result<Self, Memory>
         requires { claim.now.kind ≡ Kind.Atomic }
-        ensures { IfOk result (λ clusters. clusters ≡ record { claim = terms_of claim.now; ops = []; prepared = None; steps = clusters.steps }) }
+        ensures made { IfOk result (λ clusters. clusters ≡ record { claim = terms_of claim.now; ops = []; prepared = None; steps = clusters.steps }) }
+        ensures steps { IfOk result (λ clusters. clusters.steps ≤ 3) }
     {
         let claim = claim.try_clone(alloc)?;
         let table = OpTable::new(alloc);
@@ -303,7 +304,8 @@ impl<'t> Clusters<'t> {
 /// A tree of one zone.
 fn tree_of(alloc: Global, zone: Zone) -> Result<ZoneTree, Memory>
     requires { HasOrderedEdges zone }
-    ensures { IfOk result (λ tree. tree.zones ≡ zone ∷ []) }
+    ensures zones { IfOk result (λ tree. tree.zones ≡ zone ∷ []) }
+    ensures steps { IfOk result (λ tree. tree.steps ≤ 3) }
 {
     let mut tree = ZoneTree::new(alloc);
     tree.reserve(1)?;

@@ -1,4 +1,4 @@
-use Rattle.std.proofs.Common.{Some, None}
+use Rattle.std.proofs.Common.{Some}
 use Rattle.intervals.proofs.Kept.{kept_after}
 use Rattle.intervals.proofs.moments.Moments.put.Goals as goal
 

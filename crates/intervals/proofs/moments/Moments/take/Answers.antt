@@ -1,4 +1,4 @@
-use Rattle.std.proofs.Common.{Some, None}
+use Rattle.std.proofs.Common.{None}
 use Rattle.intervals.proofs.Kept.{kept_after}
 use Rattle.intervals.proofs.moments.Moments.take.Goals as goal
 

@@ -1,9 +1,9 @@
-use Rattle.std.proofs.Common.{refl, sym, subst}
+use Rattle.std.proofs.Common.{Some, refl, sym, ap, ◌∙◌, subst}
 use Rattle.std.specs.HashMap.{get as place_of}
 use Rattle.intervals.specs.Moments.{holder_at, HasPlaces}
 use Rattle.intervals.specs.Operation.{same_id}
 use Rattle.intervals.proofs.Slots.{standing_changed, as_many}
-use Rattle.intervals.proofs.Indexed.{none_in_slot, found_in_slot, new_in_slot, has_own_id, only_there, indexed_amended}
+use Rattle.intervals.proofs.Indexed.{none_in_slot, found_in_slot, new_in_slot, has_own_id, only_there, indexed_amended, none_held}
 use Rattle.intervals.proofs.table.OpTable.amend.Goals as goal
 
 pub unreachable-requires : goal.unreachable-requires
@@ -20,7 +20,7 @@ move_moments-requires-clause-places c =
     let slot = rw c.as_slice.ensures.value at c.in-Some.ensures.slot in
     let new = new_in_slot inside.slots.items (place_of same_id inside.places) (holder_at inside.moments) c.self.invariant.0 c.args.id c.args.change.now c.in-Some.place c.in-Some.op.now c.in-Some.ensures.place slot in
     let room = rw (← c.self.view_is, new) at c.requires.room in
-    let held = rw room at c.self.invariant.2 in
+    let held = rw room at c.self.invariant.3 in
     subst (HasPlaces inside.moments) (sym c.changed-new.ensures) held.2
 
 pub move_moments-requires-clause-held : goal.move_moments-requires-clause-held
@@ -31,12 +31,16 @@ move_moments-requires-clause-held c m t =
 pub invariant_of-self : goal.invariant_of-self
 invariant_of-self c =
     let inside = c.self.inside in
-    let slot = rw c.as_slice.ensures.value at c.in-Some.ensures.slot in (
+    let slot = rw c.as_slice.ensures.value at c.in-Some.ensures.slot in
+    let new = new_in_slot inside.slots.items (place_of same_id inside.places) (holder_at inside.moments) c.self.invariant.0 c.args.id c.args.change.now c.in-Some.place c.in-Some.op.now c.in-Some.ensures.place slot in
+    let room = rw (← c.self.view_is, new) at c.requires.room in (
       rw c.changed-new.ensures
           (indexed_amended inside.slots.items (place_of same_id inside.places) (holder_at inside.moments) c.self.invariant.0 c.args.id c.args.change.now c.in-Some.place c.in-Some.op.now _
           (rw (← c.self.view_is) at c.requires.accepted) c.in-Some.ensures.place slot
-          (λ m. rw c.changed-new.ensures at (c.move_moments.ensures m))),
+          (λ m. rw c.changed-new.ensures at (c.move_moments.ensures.holders m))),
       rw (as_many inside.slots.items c.in-Some.place c.in-Some.op.now c.changed-new.result slot) c.self.invariant.1,
+      none_held inside.moments c.move_moments.new.moments inside.prepared c.self.invariant.2 c.changed-new.result
+          (room ∙ ap Some (sym c.changed-new.ensures)) c.move_moments.ensures.held,
       tt,
     )
 

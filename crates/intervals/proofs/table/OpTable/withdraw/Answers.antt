@@ -4,7 +4,7 @@ use Rattle.intervals.specs.Moments.{holder_at}
 use Rattle.intervals.specs.Operation.{same_id}
 use Rattle.intervals.specs.Table.{slot_at}
 use Rattle.intervals.proofs.Slots.{standing_without, one_less}
-use Rattle.intervals.proofs.Indexed.{none_in_slot, has_own_id, only_there, indexed_without, indexed_alike, if_some_both}
+use Rattle.intervals.proofs.Indexed.{none_in_slot, has_own_id, only_there, indexed_without, indexed_alike, if_some_both, held_still}
 use Rattle.intervals.proofs.table.OpTable.withdraw.Goals as goal
 
 pub unreachable-requires : goal.unreachable-requires
@@ -24,7 +24,8 @@ invariant_of-self c =
       indexed_alike (slot_at (set inside.slots.items c.in-Some.place None)) _ (place_of same_id c.remove.new.self) _ (holder_at c.take_moments.new.moments) _ indexed
           c.drop_empty_end.ensures.slots (λ id. refl) (λ m. refl),
       rw c.drop_empty_end.ensures.standing (omega (arith, one_less inside.slots.items c.in-Some.place c.in-Some.op.now slot, c.self.invariant.1)),
-      if_some_both _ _ _ (λ op room kept. (omega (arith, room.0, c.drop_empty_end.ensures.len, c.drop_empty_end.ensures.capacity), omega (arith, room.1, c.remove.ensures.spare), kept room.2)) inside.prepared c.self.invariant.2 c.take_moments.ensures.kept,
+      held_still inside.moments c.take_moments.new.moments inside.prepared c.self.invariant.2 c.take_moments.ensures.held,
+      if_some_both _ _ _ (λ op room kept. (omega (arith, room.0, c.drop_empty_end.ensures.len, c.drop_empty_end.ensures.capacity), omega (arith, room.1, c.remove.ensures.spare), kept room.2)) inside.prepared c.self.invariant.3 c.take_moments.ensures.kept,
     )
 
 pub returns : goal.returns

@@ -1,4 +1,4 @@
-use Rattle.std.proofs.Common.{◌≡◌, ◌≤◌, ◌∙◌, Option, Some, None, sym, ap, subst, arith}
+use Rattle.std.proofs.Common.{◌≡◌, ◌≤◌, ◌∙◌, List, Option, Some, None, sym, ap, subst, arith}
 use Rattle.std.specs.Prelude.{IfSome}
 use Rattle.intervals.specs.declared.operation.Op.{Op}
 use Rattle.intervals.specs.declared.shelf.Spot.{Spot}
@@ -9,8 +9,8 @@ use Rattle.intervals.specs.Terms.{terms_of}
 use Rattle.intervals.proofs.Accepted.{edit_accepted}
 use Rattle.safe_regular.specs.Held.{Judged, CanJudge}
 use Rattle.safe_regular.specs.Line.{IsExchanged, IsFreeFor, IsTaken, spot_in}
-use Rattle.safe_regular.specs.Writes.{HasPlaceIn}
-use Rattle.safe_regular.proofs.Settled.{can_judge, laid_after, later_listed, new_listed, no_item, old_place, place_for_new, room_after, room_for_new}
+use Rattle.safe_regular.specs.Writes.{AreWrites, HasPlaceIn, HoldsOnlyFor, IsAddedOf}
+use Rattle.safe_regular.proofs.Settled.{can_judge, laid_after, later_listed, new_listed, no_item, only_for, old_place, place_for_new, room_after, room_for_new}
 use Rattle.safe_regular.proofs.judge.SingleWriterJudge.settle.Goals as goal
 
 pub admit-requires-clause-accepted : goal.admit-requires-clause-accepted
@@ -91,4 +91,8 @@ invariant_of-self c =
       room = room_after c.self.inside.writes c.change.new.self c.self.inside.line c.renew-2.new.line c.self.inside.table.prepared c.args.new c.admit.new.self.prepared held.room
           (subst (λ (o : Option Op). HasPlaceIn o c.change.new.self) c.prepared.ensures c.change.ensures.place) free
           (ap (λ (t : Tabled). t.prepared) c.admit.ensures ∙ ap (λ (o : Option Op). prepared_after o c.self.inside.table.prepared) (sym new_is));
+      only = subst (λ (o : Option Op). HoldsOnlyFor o c.change.new.self)
+          (sym (ap (λ (t : Tabled). t.prepared) c.admit.ensures ∙ ap (λ (o : Option Op). prepared_after o c.self.inside.table.prepared) (sym new_is)))
+          (only_for claim ops c.args.edit held.apart accepted c.op_of-old.result c.args.new old_is new_is c.admit.new.self.ops listed c.self.inside.writes c.change.new.self held.shelved c.self.inside.table.prepared held.only
+          (subst (λ (p : Option Op). (before others : List Op) → AreWrites before c.self.inside.writes → IsAddedOf others c.op_of-old.result before → HoldsOnlyFor p c.self.inside.writes → HoldsOnlyFor (prepared_after c.args.new p) c.change.new.self) c.prepared.ensures c.change.ensures.only));
     }

@@ -1,4 +1,5 @@
 use Rattle.zones.specs.declared.index.Row.TheVariants.{Writes, Ends, Begins}
+use Rattle.zones.proofs.Held.{changed_only}
 use Rattle.zones.proofs.Rows.{place_of, changed_rows, changed_places, of_rows}
 use Rattle.zones.specs.Index.{IsInTime, spot_in}
 use Rattle.zones.proofs.index.Members.change.Goals as goal
@@ -22,3 +23,8 @@ pub returns-clause-places : goal.returns-clause-places
 returns-clause-places c =
     changed_places c.args.old c.args.new c.args.self.now c.change_row.new.shelf c.change_row-2.new.shelf c.change_row-3.new.shelf
     c.args.prepared c.change_row.ensures.places c.change_row-2.ensures.places c.change_row-3.ensures.places c.requires.places
+
+pub returns-clause-only : goal.returns-clause-only
+returns-clause-only c =
+    changed_only c.args.self.now c.change_row.new.shelf c.change_row-2.new.shelf c.change_row-3.new.shelf
+    c.args.old c.args.new c.args.prepared c.requires.prepared c.change_row.ensures.places c.change_row-2.ensures.places c.change_row-3.ensures.places

@@ -8,10 +8,11 @@ use Rattle.intervals.specs.Terms.{terms_of}
 use Rattle.intervals.proofs.Accepted.{edit_accepted}
 use Rattle.zone_tree.specs.Digits.{digits}
 use Rattle.zones.specs.Cluster.{zones_of}
-use Rattle.zones.specs.Index.{AreMembers, HasPlacesOf}
+use Rattle.zones.specs.Index.{AreMembers, HasPlacesOf, HoldsOnlyFor}
 use Rattle.zones.specs.Together.{Clustered, HasRoomFor}
 use Rattle.zones.specs.Zoned.{judged_part}
 use Rattle.zones.proofs.Admitted.{apart_after, as_many_zones, can_exchange_stretches, can_exchange_zones, change_is, enough_for, judged_prepared, room_after, stretched_after, stretches_need_no_room, zoned_after, zones_need_no_room}
+use Rattle.zones.proofs.Held.{only_after}
 use Rattle.zones.proofs.register.Clusters.settle.Goals as goal
 
 pub change-requires-clause-prepared : goal.change-requires-clause-prepared
@@ -126,6 +127,10 @@ invariant_of-self c =
           (λ none. c.exchange-2.ensures.room (stretches_need_no_room claim ops c.args.edit apart accepted c.judged-old.result c.judged-new.result old_is new_is after after_is
           c.value_in-first.result c.other_value-second.result (search rules) (search rules) c.stretches_in-stretches.result c.stretches_in-stretches_after.result stretches c.self.invariant.stretched
           stretches_before stretches_later (new_is ∙ none))));
+      only = subst (λ (p : Option Op). HoldsOnlyFor p c.change.new.self) (sym (ap (λ (t : Tabled). t.prepared) c.admit.ensures ∙ ap (λ (n : Option Op). prepared_after n prepared) (sym asked)))
+          (only_after c.args.new prepared c.change.new.self (subst (λ (x : Clustered). IfSome c.args.new (λ op. x.prepared ≡ Some op)) (sym c.self.view_is) c.requires.prepared)
+          (subst (λ (n : Option Op). HoldsOnlyFor (prepared_after n prepared) c.change.new.self) c.judged-new.ensures
+          (subst (λ (p : Option Op). HoldsOnlyFor p c.self.inside.members → HoldsOnlyFor (prepared_after c.judged-new.result p) c.change.new.self) c.prepared.ensures c.change.ensures.only c.self.invariant.only)));
     }
 
 pub returns-clause-edited : goal.returns-clause-edited
