@@ -1,10 +1,17 @@
 -- What is said on standard error of a run that broke off.
 use Rattle.std.specs.Prelude.{List, ℕ, [], ◌∷◌, ◌++◌, Option, Some, None, codes}
+use Rattle.std.specs.Borrow.{Bor}
 use Rattle.shards.specs.declared.fault.ShardFault.{ShardFault}
 use Rattle.shards.specs.declared.fault.ShardFault.TheVariants.{UnknownRegister, JournalBehind, PassMissing, Stranger, ForeignPass}
 use Rattle.shards.specs.declared.fault.ShardFault.TheVariants as shards
+use Rattle.feeders.specs.declared.fault.RunFault.{RunFault}
+use Rattle.feeders.specs.declared.fault.RunFault.TheVariants as runs
+use Rattle.report.specs.declared.fault.ReportFault.{ReportFault}
+use Rattle.report.specs.declared.fault.ReportFault.TheVariants as reports
 use Rattle.commands.specs.declared.fault.CommandFault.{CommandFault}
 use Rattle.commands.specs.declared.fault.CommandFault.TheVariants.{Usage, TooManyTraces, Unreadable, Tower, NoRegister, Shard, Memory, Unwritable}
+use Rattle.commands.specs.declared.input.InputFault.{InputFault}
+use Rattle.commands.specs.declared.input.InputFault.TheVariants as inputs
 use Rattle.report.specs.Names.{printed}
 
 -- the code of a shard's refusal
@@ -26,3 +33,20 @@ complaint_of (NoRegister name) = Some (codes "regaudit: no register " ++ printed
 complaint_of (Shard fault) = Some (codes "regaudit: " ++ shard_code fault ++ 10 ∷ [])
 complaint_of Memory = Some (codes "regaudit: out of memory" ++ 10 ∷ [])
 complaint_of Unwritable = Some (codes "regaudit: cannot write" ++ 10 ∷ [])
+
+-- an input of that name that was not read whole, as a command's fault: it cannot be read, or memory is wanting
+abbrev pub unread : Bor (List ℕ) → InputFault → CommandFault
+unread name inputs.Memory = Memory
+unread name inputs.Failed = Unreadable name
+unread name inputs.TooLong = Unreadable name
+unread name inputs.TooManyCalls = Unreadable name
+
+-- a run's fault as a command's: a shard's refusal stays that one
+abbrev pub broken_off : RunFault → CommandFault
+broken_off runs.Memory = Memory
+broken_off (runs.Shard fault) = Shard fault
+
+-- a report's fault as a command's
+abbrev pub unreported : ReportFault → CommandFault
+unreported reports.Memory = Memory
+unreported reports.Write = Unwritable

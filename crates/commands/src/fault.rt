@@ -2,7 +2,7 @@
 
 ghost use Rattle.std.specs.Prelude.{◌≡◌, ◌≢◌, ◌∷◌, ◌++◌, [], Some, IfOk, IfSome, codes, string_bytes};
 ghost use Rattle.tower_file.specs.Tower.{code_of};
-ghost use Rattle.commands.specs.Complaint.{complaint_of, shard_code as code_of_shard};
+ghost use Rattle.commands.specs.Complaint.{broken_off, complaint_of, shard_code as code_of_shard, unread, unreported};
 
 use crate::input::InputFault;
 use feeders::RunFault;
@@ -51,7 +51,8 @@ impl<'a> CommandFault<'a> {
     }
 
     pub fn of_input(fault: InputFault, name: &'a str) -> CommandFault<'a>
-        ensures { result ≢ CommandFault.Unwritable }
+        ensures own { result ≡ unread name.entry fault }
+        ensures quiet { result ≢ CommandFault.Unwritable }
     {
         match fault {
             InputFault::Memory => CommandFault::Memory,
@@ -72,7 +73,8 @@ impl<'a> CommandFault<'a> {
     }
 
     pub fn of_run(fault: RunFault) -> CommandFault<'a>
-        ensures { result ≢ CommandFault.Unwritable }
+        ensures own { result ≡ broken_off fault }
+        ensures quiet { result ≢ CommandFault.Unwritable }
     {
         match fault {
             RunFault::Memory => CommandFault::Memory,
@@ -81,7 +83,8 @@ impl<'a> CommandFault<'a> {
     }
 
     pub fn of_report(fault: ReportFault) -> CommandFault<'a>
-        ensures { result ≢ CommandFault.Unwritable → fault ≡ ReportFault.Memory }
+        ensures own { result ≡ unreported fault }
+        ensures quiet { result ≢ CommandFault.Unwritable → fault ≡ ReportFault.Memory }
     {
         match fault {
             ReportFault::Memory => CommandFault::Memory,

@@ -5,6 +5,7 @@ use crate::fault::CommandFault;
 use crate::files::{Files, Missing};
 use crate::input::{read_whole, read_within};
 use feeders::run_traces;
+use intervals::{Memory, RegId};
 use jepsen_form::MomentField;
 use report::culprits;
 use report::laws::a_run_is_of_its_tower;
@@ -429,14 +430,23 @@ fn is_carried_out<A: AllocGlobal + Threads + Wait + Sync>(
     None
 }
 
-/// The register that fails is to blame, and there is memory to say so.
+/// The register that fails is to blame, and there is memory to say so. To be run with each allocation refused in turn:
+/// the same call again then says so.
 #[test]
 fn a_failing_register_is_a_culprit(rt: HostRuntime) -> Result<(), Fail> {
     let alloc = rt.alloc();
-    let tower = Tower::read(alloc, TOWER)?;
+    let Ok(tower) = Tower::read(alloc, TOWER) else {
+        return Ok(());
+    };
     a_run_is_of_its_tower();
-    let run = run_traces(&rt, alloc, &tower, &[TRACE], MomentField::Index, 1, &NoGate)?;
-    let found = culprits(alloc, &tower, &run.closed)?;
-    assert!(rt; found.len() == 1);
+    let traces = &[TRACE];
+    let Ok(run) = run_traces(&rt, alloc, &tower, traces, MomentField::Index, 1, &NoGate) else {
+        return Ok(());
+    };
+    let found = match culprits(alloc, &tower, &run.closed) {
+        Ok(found) => found,
+        Err(Memory) => culprits(alloc, &tower, &run.closed)?,
+    };
+    assert!(rt; found.as_slice() == [RegId(0)].as_slice());
     Ok(())
 }

@@ -1,5 +1,5 @@
 -- What an item that was read has.
-use Rattle.std.specs.Prelude.{⊤, Option, IsSome}
+use Rattle.std.specs.Prelude.{⊤, ◌<◌, ℕ, Option, Some, None, IsSome, IfSome}
 use Rattle.intervals.specs.declared.operation.RegId.{RegId}
 use Rattle.intervals.specs.declared.operation.Moment.{Moment}
 use Rattle.jepsen_form.specs.declared.item.Event.{Event as AnEvent}
@@ -26,3 +26,15 @@ IsWhole (Amend of change) = ⊤
 IsWhole (Withdraw of) = ⊤
 IsWhole (Ask register) = ⊤
 IsWhole Skipped = ⊤
+
+-- The register that an item names, if it names one.
+abbrev pub named_by : Item → Option RegId
+named_by (Event event) = event.register
+named_by (Amend of change) = None
+named_by (Withdraw of) = None
+named_by (Ask register) = Some register
+named_by Skipped = None
+
+-- The register that an item names is one of the first so many.
+abbrev pub NamesBelow : ℕ → Item → Type 0
+NamesBelow count item = IfSome (named_by item) (λ register. register.0 < count)

@@ -1,6 +1,6 @@
 //! Laws of the elements of a trace. Each is proved, and does nothing.
 
-ghost use Rattle.std.specs.Prelude.{◌≡◌, ℕ, List, Result};
+ghost use Rattle.std.specs.Prelude.{◌≡◌, ℕ, List, length, Result, IfOk};
 ghost use Rattle.std.specs.Borrow.{Bor};
 ghost use Rattle.edn_reader.specs.Grammar.{Piece, IsElement};
 ghost use Rattle.tower_file.specs.Contents.{Contents};
@@ -8,6 +8,7 @@ ghost use Rattle.jepsen_form.specs.declared.item.Item.{Item};
 ghost use Rattle.jepsen_form.specs.declared.item.MomentField.{MomentField};
 ghost use Rattle.jepsen_form.specs.declared.fault.FormFault.{FormFault};
 ghost use Rattle.jepsen_form.specs.Item.{IsItem, answer_with, lying_at};
+ghost use Rattle.jepsen_form.specs.Whole.{NamesBelow};
 
 use edn_reader::laws::{members_of_vector, pairs_of_map};
 
@@ -20,3 +21,8 @@ pub fn one_item()
     pairs_of_map();
     members_of_vector();
 }
+
+/// A register that an item names is one of the tower's.
+pub fn items_name_registers_of_the_tower()
+    ensures { (tower : Contents) (chosen : MomentField) (piece : Piece) (answer : Result Item FormFault) → IsItem tower chosen piece answer → IfOk answer (NamesBelow (length tower.registers)) }
+{}

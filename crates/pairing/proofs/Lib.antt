@@ -1,3 +1,4 @@
 pub mod Rows
 pub mod Standing
 pub mod Turns
+pub mod Naming

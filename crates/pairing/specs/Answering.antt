@@ -2,6 +2,7 @@
 use Rattle.std.specs.Prelude.{◌≡◌, ℤ, Bool, true, false, List, ◌∷◌, ◌++◌, Option, Some, None, IsTrue}
 use Rattle.std.specs.List.{list_any}
 use Rattle.intervals.specs.declared.operation.OpId.{OpId}
+use Rattle.intervals.specs.declared.operation.RegId.{RegId}
 use Rattle.intervals.specs.Edit.{edit_id}
 use Rattle.jepsen_form.specs.declared.item.Item.{Item}
 use Rattle.jepsen_form.specs.declared.item.Item.TheVariants.{Event, Amend, Withdraw, Ask, Skipped}
@@ -52,3 +53,8 @@ pub record IsNext (items : List Placed) (process : ℤ) (earlier later : Placed)
 abbrev pub step_id : Step → Option OpId
 step_id (steps.Edit register edit) = Some (edit_id edit)
 step_id (steps.Ask register) = None
+
+-- the register that a step is on
+abbrev pub step_register : Step → RegId
+step_register (steps.Edit register edit) = register
+step_register (steps.Ask register) = register

@@ -1,11 +1,12 @@
 //! Laws of pairing. Each is proved, and does nothing.
 
-ghost use Rattle.std.specs.Prelude.{◌≡◌, ◌∷◌, ◌++◌, ℕ, ℤ, List, Some, Ok, false, not, IsTrue};
+ghost use Rattle.std.specs.Prelude.{◌≡◌, ◌<◌, ◌∷◌, ◌++◌, ℕ, ℤ, List, All, Some, Ok, false, not, IsTrue};
 ghost use Rattle.pairing.specs.declared.step.Step.{Step};
 ghost use Rattle.pairing.specs.Accepted.{Placed, accepted, is_event_of};
 ghost use Rattle.pairing.specs.Step.{step_of, id_of};
-ghost use Rattle.pairing.specs.Answering.{IsFirst, IsNext, is_invocation, step_id};
-ghost use Rattle.jepsen_form.specs.Whole.{IsWhole};
+ghost use Rattle.pairing.specs.Answering.{IsFirst, IsNext, is_invocation, step_id, step_register};
+ghost use Rattle.jepsen_form.specs.declared.item.Item.{Item};
+ghost use Rattle.jepsen_form.specs.Whole.{IsWhole, NamesBelow};
 
 /// The accepted events of a process are an invocation, its answer, an invocation, its answer and so
 /// on: the answer of an accepted invocation is the first later accepted event of its process.
@@ -27,4 +28,10 @@ pub fn answers_are_of_their_invocation()
     ensures { (feeder : ℕ) (items : List Placed) (process : ℤ) (earlier later : Placed) → (next : IsNext (accepted items) process earlier later)
         → IsWhole earlier.item → IsTrue (is_invocation earlier.item) → (step : Step)
         → step_of feeder (next.before ++ earlier ∷ next.between) later.place later.item ≡ Ok (Some step) → step_id step ≡ Some (id_of feeder earlier.place) }
+{}
+
+/// The step of an item is on a register that it or an earlier item names.
+pub fn steps_are_on_named_registers()
+    ensures { (count feeder place : ℕ) (items : List Placed) (item : Item) (step : Step) → All (λ one. NamesBelow count one.item) items → NamesBelow count item
+        → step_of feeder (accepted items) place item ≡ Ok (Some step) → (step_register step).0 < count }
 {}

@@ -19,23 +19,32 @@
 //! ```
 //!
 //! `= word WORD` is a word, the program's name left out; `= file NAME` a file, which stands before
-//! those of the folder; `= input` standard input, and `= inputs` several, one a line, with a run for
-//! each; `= out` and `= err` what the two outputs are to get; `= room N` an output that takes N bytes
-//! alone. What is left out is empty. `= status N` is the last section, since a line behind it is none of a text.
-//! `%` and two hexadecimal digits are a byte, and a `%` at the end of a text takes its last line end away.
+//! those of the folder, and `= times N` makes the last one N times as long; `= input` standard input,
+//! and `= inputs` several, one a line, with a run for each; `= out` and `= err` what the two outputs are
+//! to get; `= room N` an output that takes N bytes alone. What is left out is empty. `= status N` is the
+//! last section, since a line behind it is none of a text. `%` and two hexadecimal digits are a byte,
+//! and a `%` at the end of a text takes its last line end away.
 //!
 //! Each run is made with texts that come whole and with texts that come byte by byte, and, where the row has a line
-//! `= cut`, with texts that are cut in two, at each place in turn: what is written is to be the same.
+//! `= cut`, with texts that are cut in two, at each place in turn: what is written is to be the same. Where it has a
+//! line `= filled`, there is a run for each output that takes fewer bytes than the text, from none on: it is to take
+//! what it can, and the run says that it cannot write.
+//!
+//! Where a row ends with a line `= front`, or with `= byte BYTES`, its `= out` is a picture of the last file, cut short at
+//! each place or with each byte replaced by each of these: a letter for each place (`spoilt.rt`).
 #![tactic(auto)]
 
+mod outcome;
 mod pieces;
 mod row;
 mod shelf;
+mod spoilt;
 
-use crate::pieces::{Cut, Pieces};
+use crate::outcome::carried_out;
+use crate::pieces::Cut;
 use crate::row::{Row, row_of};
-use crate::shelf::Shelf;
-use commands::{run, words_of};
+use crate::spoilt::picture;
+use commands::words_of;
 use std::io::Write;
 use std::process::ExitCode;
 use std::rt::{Env, Files};
@@ -85,7 +94,7 @@ where
     let mut same = true;
     for text in text.split("\n=== ").skip(1) {
         match row_of(rt.alloc(), text) {
-            Ok(row) => same = is_row_as_said(rt, &row, err)? && same,
+            Ok(mut row) => same = is_row_as_said(rt, &mut row, err)? && same,
             Err(error) => {
                 write!(err, "{subject}: {error} in the row {text}\n")?;
                 same = false;
@@ -97,22 +106,41 @@ where
 
 fn is_row_as_said<R: Files + Print + AllocGlobal + Threads + Wait + Sync, E: Write>(
     rt: &R,
-    row: &Row,
+    row: &mut Row,
     err: &mut E,
 ) -> io::Result<bool>
 where
     R::File: Send,
 {
-    for input in &row.inputs {
-        if !is_input_as_said(rt, row, input, err)? {
-            return Ok(false);
-        }
+    if !is_each_run_as_said(rt, row, err)? {
+        return Ok(false);
     }
     println!(rt; "ok {}", row.name)?;
     Ok(true)
 }
 
-/// A run of texts that come whole, one of texts that come byte by byte, and for a row that is cut one for each place.
+fn is_each_run_as_said<R: Files + AllocGlobal + Threads + Wait + Sync, E: Write>(
+    rt: &R,
+    row: &mut Row,
+    err: &mut E,
+) -> io::Result<bool>
+where
+    R::File: Send,
+{
+    if !row.spoils.is_empty() {
+        let found = picture(rt, row)?;
+        return is_same(row, "picture", &row.out, &found, err);
+    }
+    for input in &row.inputs {
+        if !is_input_as_said(rt, row, input, err)? {
+            return Ok(false);
+        }
+    }
+    Ok(true)
+}
+
+/// A run of texts that come whole, one of texts that come byte by byte, for a row that is cut one for each place, and
+/// for one that is filled one for each number of bytes that its output takes.
 fn is_input_as_said<R: Files + AllocGlobal + Threads + Wait + Sync, E: Write>(
     rt: &R,
     row: &Row,
@@ -129,6 +157,11 @@ where
             same = same && is_run_as_said(rt, row, input, Cut::at(place), err)?;
         }
     }
+    if row.is_filled {
+        for room in 0..row.out.len() {
+            same = same && is_filling_as_said(rt, row, input, room, err)?;
+        }
+    }
     Ok(same)
 }
 
@@ -142,28 +175,29 @@ fn is_run_as_said<R: Files + AllocGlobal + Threads + Wait + Sync, E: Write>(
 where
     R::File: Send,
 {
-    let mut room = vec![in rt.alloc(); 0u8; row.room]?;
-    let mut out = room.as_mut_slice();
-    let mut said = Vec::new(rt.alloc());
-    let status = run(
-        rt,
-        row.handed_over(rt.alloc()),
-        &mut Shelf::new(rt, row, cut),
-        &mut Pieces::new(input, cut),
-        &mut out,
-        &mut said,
-    );
-    let written = row.room.saturating_sub(out.len());
-    let out_is = is_same(
-        row,
-        "out",
-        &row.out,
-        room.get(..written).unwrap_or(&[]),
-        err,
-    )?;
-    let err_is = is_same(row, "err", &row.err, &said, err)?;
-    let status = format!(in rt.alloc(); "{status}")?;
-    let status_is = is_same(row, "status", &row.status, status.as_bytes(), err)?;
+    let written = carried_out(rt, row, input, cut, row.room)?;
+    let out_is = is_same(row, "out", &row.out, &written.out, err)?;
+    let err_is = is_same(row, "err", &row.err, &written.err, err)?;
+    let status_is = is_same(row, "status", &row.status, &written.status, err)?;
+    Ok(out_is && err_is && status_is)
+}
+
+/// An output that is too small takes what it can, and the run says so.
+fn is_filling_as_said<R: Files + AllocGlobal + Threads + Wait + Sync, E: Write>(
+    rt: &R,
+    row: &Row,
+    input: &[u8],
+    room: usize,
+    err: &mut E,
+) -> io::Result<bool>
+where
+    R::File: Send,
+{
+    let written = carried_out(rt, row, input, Cut::WHOLE, room)?;
+    let front = row.out.get(..room).unwrap_or(&[]);
+    let out_is = is_same(row, "filled out", front, &written.out, err)?;
+    let err_is = is_same(row, "err", b"regaudit: cannot write\n", &written.err, err)?;
+    let status_is = is_same(row, "status", b"2", &written.status, err)?;
     Ok(out_is && err_is && status_is)
 }
 

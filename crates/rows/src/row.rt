@@ -19,6 +19,17 @@ pub struct Row {
     pub room: usize,
     /// Whether its texts are cut in two at each place too.
     pub is_cut: bool,
+    /// Whether its output takes each number of bytes, and no more, too.
+    pub is_filled: bool,
+    /// What its last file is spoilt by.
+    pub spoils: Vec<Spoil>,
+}
+
+/// A file is cut short at each place, or each of its bytes is replaced by this one.
+#[derive(Clone, Copy, Debug, PartialEq, Eq)]
+pub enum Spoil {
+    Front,
+    Byte(u8),
 }
 
 #[derive(Drop)]
@@ -40,6 +51,8 @@ pub fn row_of(alloc: Global, text: &str) -> io::Result<Row> {
         status: Vec::new(alloc),
         room: 65_536,
         is_cut: false,
+        is_filled: false,
+        spoils: Vec::new(alloc),
     };
     row.words.push(decoded(alloc, "regaudit")?)?;
     for section in sections {
@@ -65,8 +78,28 @@ fn take_section(alloc: Global, row: &mut Row, section: &str) -> io::Result<()> {
         ("err", _) => row.err = text_of(alloc, body)?,
         ("status", number) => row.status = decoded(alloc, number)?,
         ("room", number) => row.room = number.parse().unwrap_or(0),
+        ("times", number) => lengthen(alloc, &mut row.files, number.parse().unwrap_or(0))?,
         ("cut", _) => row.is_cut = true,
+        ("filled", _) => row.is_filled = true,
+        ("front", _) => row.spoils.push(Spoil::Front)?,
+        ("byte", byte) => {
+            for byte in decoded(alloc, byte)? {
+                row.spoils.push(Spoil::Byte(byte))?;
+            }
+        }
         _ => return Err(Error::from(ErrorKind::InvalidData)),
+    }
+    Ok(())
+}
+
+/// The last file so many times.
+fn lengthen(alloc: Global, files: &mut Vec<Named>, times: u32) -> Result<(), AllocError> {
+    let mut text = Vec::new(alloc);
+    if let Some(file) = files.last_mut() {
+        for _ in 0..times {
+            text.extend_from_slice(&file.bytes)?;
+        }
+        file.bytes = text;
     }
     Ok(())
 }

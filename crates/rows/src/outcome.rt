@@ -1,0 +1,49 @@
+//! One run of a row.
+
+use crate::pieces::{Cut, Pieces};
+use crate::row::Row;
+use crate::shelf::Shelf;
+use commands::run;
+use std::io;
+use std::rt::Files;
+use std::sync::Wait;
+use std::thread::Threads;
+
+/// What a run writes to its outputs, and its status in digits.
+#[derive(Drop)]
+pub struct Written {
+    pub out: Vec<u8>,
+    pub err: Vec<u8>,
+    pub status: Vec<u8>,
+}
+
+/// A run of a row on an input, with texts that are cut so and an output that takes so many bytes.
+pub fn carried_out<R: Files + AllocGlobal + Threads + Wait + Sync>(
+    rt: &R,
+    row: &Row,
+    input: &[u8],
+    cut: Cut,
+    room: usize,
+) -> io::Result<Written>
+where
+    R::File: Send,
+{
+    let mut taken = vec![in rt.alloc(); 0u8; room]?;
+    let mut out = taken.as_mut_slice();
+    let mut err = Vec::new(rt.alloc());
+    let status = run(
+        rt,
+        row.handed_over(rt.alloc()),
+        &mut Shelf::new(rt, row, cut),
+        &mut Pieces::new(input, cut),
+        &mut out,
+        &mut err,
+    );
+    let written = room.saturating_sub(out.len());
+    taken.truncate(written);
+    Ok(Written {
+        out: taken,
+        err,
+        status: format!(in rt.alloc(); "{status}")?.into_bytes(),
+    })
+}
