@@ -10,7 +10,7 @@ use Rattle.shards.specs.declared.fault.ShardFault.{ShardFault}
 use Rattle.shards.specs.declared.shard.Shard.{Shard}
 use Rattle.register_book.specs.Kept.{claimed_of}
 use Rattle.shards.specs.Plan.{Plan}
-use Rattle.shards.specs.Journal.{IsLegalJournal}
+use Rattle.shards.specs.Journal.{IsJournalOf}
 use Rattle.shards.specs.Pass.{Passed}
 use Rattle.shards.specs.Closing.{AreComplete, AreItsPasses, Held, Ended, IsClosed, IsClosingFault, IsSettled, IsUnfinished, books_of, journal_of, left_by}
 use Rattle.shards.specs.Shard.{IsKept, ended_of, held_of}
@@ -77,7 +77,7 @@ pub unfinished : (plan : Plan) (passes : List Passed) (shards : List Shard) (fau
 unfinished plan passes shards fault many kept fault_is = record {
   shards = map held_of shards;
   many = length-map shards held_of ∙ many;
-  legal = All-map (λ held. (held.at < plan.shards) × IsLegalJournal plan held.at held.journal) held_of shards
-      (All-weaker (IsKept plan) (λ shard. (shard.at < plan.shards) × IsLegalJournal plan shard.at shard.journal.items) (λ shard is. (is.here, is.legal)) shards kept);
+  of_plan = All-map (λ held. (held.at < plan.shards) × IsJournalOf plan held.at held.journal) held_of shards
+      (All-weaker (IsKept plan) (λ shard. (shard.at < plan.shards) × IsJournalOf plan shard.at shard.journal.items) (λ shard is. (is.here, is.of_shard)) shards kept);
   fault_is = fault_is;
 }

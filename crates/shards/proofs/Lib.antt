@@ -3,6 +3,7 @@ mod Journals
 mod Opened
 mod Kept
 mod Legal
+mod Lone
 mod Rising
 mod Places
 mod Farther

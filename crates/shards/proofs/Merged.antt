@@ -12,7 +12,7 @@ use Rattle.shards.specs.declared.entry.Numbered.{Numbered}
 use Rattle.shards.specs.declared.shard.Shard.{Shard}
 use Rattle.shards.specs.Plan.{Plan}
 use Rattle.shards.specs.Plain.{PlainEntry, plain_entry, plain_numbered}
-use Rattle.shards.specs.Journal.{IsLegalJournal, count_by, is_by}
+use Rattle.shards.specs.Journal.{IsJournalOf, count_by, is_by}
 use Rattle.shards.specs.Pass.{Passed, told}
 use Rattle.shards.specs.Merge.{IsMerge, numbered, is_numbered_by, entries_of}
 use Rattle.shards.specs.Closing.{AreComplete, AreFit, Fits, Held, IsSettled}
@@ -92,16 +92,11 @@ pub as_submitted : (at : ℕ) (pass : Passed) (journal : List Entry) → map pla
 as_submitted at pass journal same =
     ap (map plain_entry) (sym (entries_by pass.feeder 0 journal)) ∙ (map-map _ _ (entries_of pass.feeder journal) ∙ (sym (map-map _ _ (entries_of pass.feeder journal)) ∙ (ap (map plain_of) same ∙ map-map _ _ (told pass at))))
 
--- what is known of a shard besides
-record Kept (plan : Plan) (shard : Held) : Type 0 where
-  legal : IsLegalJournal plan shard.at shard.journal
-  feeders : All (λ entry. entry.feeder < plan.feeders) shard.journal
-
 module _ (plan : Plan) (passes : List Passed) (apart : AllPairs (λ a b. a.feeder ≢ b.feeder) passes) (complete : AreComplete plan.feeders passes) where
-  finished_at : (place : ℕ) (shard : Held) → Kept plan shard → Fits passes place shard → All (λ pass. Rises (told pass place)) passes → AreOwned passes place shard.journal → IsSettled plan passes place shard.journal
-  finished_at place shard kept fits rise owned = record {
-    legal = subst (λ (at : ℕ). IsLegalJournal plan at shard.journal) fits.in_place kept.legal;
-    merge = is_merge place passes apart shard.journal owned rise (λ k d l. (fits.keeping k d l).count) (λ k d l. complete (get_or shard.journal k d).feeder (kept.feeders k d l));
+  finished_at : (place : ℕ) (shard : Held) → IsJournalOf plan shard.at shard.journal → Fits passes place shard → All (λ pass. Rises (told pass place)) passes → AreOwned passes place shard.journal → IsSettled plan passes place shard.journal
+  finished_at place shard of_shard fits rise owned = record {
+    of_shard = subst (λ (at : ℕ). IsJournalOf plan at shard.journal) fits.in_place of_shard;
+    merge = is_merge place passes apart shard.journal owned rise (λ k d l. (fits.keeping k d l).count) (λ k d l. complete (get_or shard.journal k d).feeder (of_shard.feeders k d l));
     farthest = λ k d l. (fits.keeping k d l).farthest;
   }
 
@@ -112,7 +107,7 @@ module _ (plan : Plan) (passes : List Passed) (apart : AllPairs (λ a b. a.feede
   finished shards kept fit rise owned place shard e =
       let within : place < length (map held_of shards) = slice_get_within (map held_of shards) place shard e in
       let long : length (map held_of shards) ≡ length shards = length-map shards held_of in
-      let each : All (Kept plan) (map held_of shards) =
-      All-map (Kept plan) held_of shards (All-weaker (IsKept plan) (λ s. Kept plan (held_of s)) (λ s k. record { legal = k.legal; feeders = k.feeders }) shards kept) in
-      let this : Kept plan shard = subst (Kept plan) (get_or_from_slice_get (map held_of shards) place shard shard e) (each place shard within) in
+      let each : All (λ held. IsJournalOf plan held.at held.journal) (map held_of shards) =
+      All-map (λ held. IsJournalOf plan held.at held.journal) held_of shards (All-weaker (IsKept plan) (λ s. IsJournalOf plan s.at s.journal.items) (λ s k. k.of_shard) shards kept) in
+      let this : IsJournalOf plan shard.at shard.journal = subst (λ (held : Held). IsJournalOf plan held.at held.journal) (get_or_from_slice_get (map held_of shards) place shard shard e) (each place shard within) in
       ((fit place shard e).in_place, finished_at place shard this (fit place shard e) (rise place (omega arith)) (owned place shard e))

@@ -7,7 +7,7 @@ use Rattle.shards.specs.declared.entry.Numbered.{Numbered}
 use Rattle.shards.specs.declared.fault.ShardFault.{ShardFault}
 use Rattle.shards.specs.declared.fault.ShardFault.TheVariants.{UnknownRegister, Memory, JournalBehind, PassMissing, Stranger, ForeignPass}
 use Rattle.shards.specs.Plan.{Plan}
-use Rattle.shards.specs.Journal.{standing_of, IsLegalJournal}
+use Rattle.shards.specs.Journal.{standing_of, IsJournalOf}
 use Rattle.shards.specs.Pass.{Passed, IsPassOf, IsInKeeping, IsBehind, HasFarthest}
 use Rattle.shards.specs.Merge.{IsMerge, IsStranger, numbered}
 
@@ -37,10 +37,10 @@ book_of shards register = slice_get (books_of shards (register % length shards))
 abbrev pub left_by : List Entry → ℕ → Terms → Claimed
 left_by journal register claim = record { claim = claim; ops = standing_of register journal }
 
--- a shard's journal is legal, a merge of what the passes submitted, and has each pass's farthest entry at its
+-- a journal of the shard, a merge of what the passes submitted, that has each pass's farthest entry at its
 -- number
 pub record IsSettled (plan : Plan) (passes : List Passed) (at : ℕ) (journal : List Entry) : Type 0 where
-  pub legal : IsLegalJournal plan at journal
+  pub of_shard : IsJournalOf plan at journal
   pub merge : IsMerge at passes journal
   pub farthest : All (λ pass. HasFarthest at pass journal) passes
 
@@ -125,9 +125,9 @@ IsClosingFault plan passes shards (Stranger at feeder number) =
 IsClosingFault plan passes shards UnknownRegister = ⊥
 IsClosingFault plan passes shards Memory = ⊥
 
--- of shards of the plan, with legal journals, this is the first fault
+-- of shards of the plan, with their journals, this is the first fault
 pub record IsUnfinished (plan : Plan) (passes : List Passed) (fault : ShardFault) : Type 0 where
   pub shards : List Held
   pub many : length shards ≡ plan.shards
-  pub legal : All (λ shard. (shard.at < plan.shards) × IsLegalJournal plan shard.at shard.journal) shards
+  pub of_plan : All (λ shard. (shard.at < plan.shards) × IsJournalOf plan shard.at shard.journal) shards
   pub fault_is : IsClosingFault plan passes shards fault

@@ -7,7 +7,7 @@ use Rattle.shards.specs.declared.entry.Entry.{Entry}
 use Rattle.shards.specs.declared.entry.Numbered.{Numbered}
 use Rattle.shards.specs.declared.shard.Shard.{Shard}
 use Rattle.shards.specs.Plan.{Plan}
-use Rattle.shards.specs.Journal.{IsLegalJournal, count_by}
+use Rattle.shards.specs.Journal.{IsJournalOf, count_by}
 use Rattle.shards.specs.Pass.{Passed}
 use Rattle.shards.specs.Merge.{IsTold, numbered}
 use Rattle.shards.specs.Closing.{Held, Ended, left_by}
@@ -25,15 +25,14 @@ unedited claim = record { claim = claim; ops = [] }
 abbrev pub AreCounts : Plan → List Entry → List ℕ → Type 0
 AreCounts plan journal counts = (length counts ≡ plan.feeders) × ((feeder : ℕ) → feeder < plan.feeders → slice_get counts feeder ≡ Some (count_by feeder journal))
 
--- a shard of the plan, whose journal is legal, whose books are what it leaves, and whose counts are those of
--- its entries
+-- a shard of the plan with its journal, whose books are what that leaves, and whose counts are those of its
+-- entries
 pub record IsKept (plan : Plan) (shard : Shard) : Type 0 where
   pub shards : shard.shards ≡ plan.shards
   pub here : shard.at < plan.shards
-  pub legal : IsLegalJournal plan shard.at shard.journal.items
+  pub of_shard : IsJournalOf plan shard.at shard.journal.items
   pub books : AreBooks plan shard.at shard.journal.items (map claimed_of shard.books.items)
   pub counts : AreCounts plan shard.journal.items shard.counts.items
-  pub feeders : All (λ entry. entry.feeder < plan.feeders) shard.journal.items
 
 abbrev pub held_of : Shard → Held
 held_of shard = record { at = shard.at; journal = shard.journal.items }
