@@ -17,5 +17,6 @@ mod Covers
 mod Merged
 mod Strangers
 mod Locked
+mod Others
 mod Ended
 pub mod Crosses

@@ -58,10 +58,10 @@ pub fn a_lone_feeder_has_all_entries()
         → IsLive plan pass pass' register answer → answer.number ≡ length (told pass (register % plan.shards)) }
 {}
 
-/// Of one list of shards and passes there is at most one fault.
+/// Of one list of shards and passes there is at most one fault, however many passes are wanted.
 pub fn one_closing_fault()
-    ensures { (plan : Plan) (passes : List Passed) (shards : List Held) (a b : ShardFault)
-        → IsClosingFault plan passes shards a → IsClosingFault plan passes shards b → a ≡ b }
+    ensures { (plan : Plan) (wanted : ℕ) (passes : List Passed) (shards : List Held) (a b : ShardFault)
+        → IsClosingFault plan wanted passes shards a → IsClosingFault plan wanted passes shards b → a ≡ b }
 {}
 
 /// A pass begins with no entries. One that it submits comes behind those of its shard, and all else that is
