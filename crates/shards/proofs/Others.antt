@@ -39,9 +39,9 @@ has_or_not (pass ∷ passes) feeder =
     elim (cases_eq pass.feeder feeder) [
       | inl is ↦ inl (0, pass, omega arith, refl, is)
       | inr other ↦ elim (has_or_not passes feeder) [
-          | inl has ↦ inl (suc has.0, has.1, omega (arith, has.2), has.3, has.4)
-          | inr none ↦ inr (has_later pass passes feeder other none)
-        ]
+        | inl has ↦ inl (suc has.0, has.1, omega (arith, has.2), has.3, has.4)
+        | inr none ↦ inr (has_later pass passes feeder other none)
+      ]
     ]
   where
     has_later : (pass : Passed) (passes : List Passed) (feeder : ℕ) → (pass.feeder ≡ feeder → ⊥) → ¬ HasPassOf passes feeder → ¬ HasPassOf (pass ∷ passes) feeder
@@ -67,11 +67,11 @@ fill_one : (plan : Plan) (passes : List Passed) (shards : List Held) (upto : ℕ
 fill_one plan passes shards upto many below so_far =
     elim (has_or_not (passes ++ so_far.others) upto) [
       | inl has ↦ record {
-          others = so_far.others;
-          its = so_far.its;
-          complete = below_more (HasPassOf (passes ++ so_far.others)) upto so_far.complete has;
-          each = so_far.each;
-        }
+        others = so_far.others;
+        its = so_far.its;
+        complete = below_more (HasPassOf (passes ++ so_far.others)) upto so_far.complete has;
+        each = so_far.each;
+      }
       | inr none ↦
           let one = made plan shards upto in
           let is : (passes ++ so_far.others) ++ one ∷ [] ≡ passes ++ (so_far.others ++ one ∷ []) = append_assoc passes so_far.others (one ∷ []) in
@@ -104,15 +104,15 @@ settled_with plan passes shards filled place shard is settled = record {
   merge = record {
     of_each = All-append (λ pass. map plain_numbered (entries_of pass.feeder shard.journal) ≡ map plain_numbered (told pass place)) passes filled.others settled.of_each
         (λ k d within.
-            let other = get_or filled.others k d in
-            ap (map plain_numbered) (sym (ap (λ (pass : Passed). told pass place) (filled.each k d within) ∙ told-made plan shards other.feeder place shard is)));
+        let other = get_or filled.others k d in
+        ap (map plain_numbered) (sym (ap (λ (pass : Passed). told pass place) (filled.each k d within) ∙ told-made plan shards other.feeder place shard is)));
     of_all = λ k d within. filled.complete (get_or shard.journal k d).feeder (settled.of_shard.feeders k d within);
   };
   farthest = All-append (λ pass. HasFarthest place pass shard.journal) passes filled.others settled.farthest
       (λ k d within.
-          let other = get_or filled.others k d in
-          subst (λ (pass : Passed). HasFarthest place pass shard.journal) (sym (filled.each k d within))
-          (subst (λ (known : Option Numbered). IfSome known (HasEntry shard.journal)) (sym (none_at plan.shards place)) tt));
+      let other = get_or filled.others k d in
+      subst (λ (pass : Passed). HasFarthest place pass shard.journal) (sym (filled.each k d within))
+      (subst (λ (known : Option Numbered). IfSome known (HasEntry shard.journal)) (sym (none_at plan.shards place)) tt));
 }
 
 -- the passes of all feeders, and what the shards are for them
