@@ -1,5 +1,5 @@
 -- The shards that an auditor leaves, and the books in them.
-use Rattle.std.specs.Prelude.{◌≡◌, ◌<◌, ◌%◌, ◌/◌, ◌+◌, ◌*◌, ℕ, List, [], length, map, slice_index_or, Option, Some, option_map, unwrap_or, All}
+use Rattle.std.specs.Prelude.{◌≡◌, ◌<◌, ◌%◌, ◌/◌, ◌+◌, ◌*◌, ◌++◌, ℕ, List, [], length, map, slice_index_or, Option, Some, option_map, unwrap_or, All}
 use Rattle.std.specs.List.{slice_get}
 use Rattle.std.proofs.Common.{ap, subst, ◌∙◌, arith, inl, inr}
 use Rattle.std.proofs.lemmas.List.{length-map}
@@ -10,10 +10,11 @@ use Rattle.shards.specs.declared.fault.ShardFault.{ShardFault}
 use Rattle.shards.specs.declared.shard.Shard.{Shard}
 use Rattle.register_book.specs.Kept.{claimed_of}
 use Rattle.shards.specs.Plan.{Plan}
-use Rattle.shards.specs.Journal.{IsLegalJournal}
+use Rattle.shards.specs.Journal.{IsJournalOf}
 use Rattle.shards.specs.Pass.{Passed}
-use Rattle.shards.specs.Closing.{AreComplete, AreItsPasses, Held, Ended, IsClosed, IsClosingFault, IsSettled, IsUnfinished, books_of, journal_of, left_by}
-use Rattle.shards.specs.Shard.{IsKept, ended_of, held_of}
+use Rattle.shards.specs.Closing.{AreComplete, AreItsPasses, Held, Ended, IsClosed, IsClosedWithSome, IsClosingFault, IsSettled, IsUnfinished, books_of, journal_of, left_by}
+use Rattle.shards.specs.Shard.{IsKept, IsSettledFor, ended_of, held_of}
+use Rattle.shards.proofs.Others.{all_passes}
 
 -- what stands at a place of a list
 record At {X : Type 0} (xs : List X) (place : ℕ) : Type 0 where
@@ -47,7 +48,7 @@ book_at plan shard register kept here =
     ∙ ap (λ (one : ℕ). option_map (left_by shard.journal.items one) (slice_get plan.claims one)) number
 
 -- shards without a fault are closed
-pub closed : (plan : Plan) (passes : List Passed) (shards : List Shard) → length shards ≡ plan.shards → 0 < plan.shards → All (IsKept plan) shards
+closed : (plan : Plan) (passes : List Passed) (shards : List Shard) → length shards ≡ plan.shards → 0 < plan.shards → All (IsKept plan) shards
     → AreItsPasses plan passes × AreComplete plan.feeders passes
     → ((place : ℕ) (shard : Held) → slice_get (map held_of shards) place ≡ Some shard → (shard.at ≡ place) × IsSettled plan passes place shard.journal)
     → IsClosed plan passes (map ended_of shards)
@@ -70,14 +71,23 @@ closed plan passes shards many some kept whole finished =
           (book_at plan there.one register (subst (IsKept plan) there.read (kept place there.one within)) ((held place there).0));
     }
 
+-- shards that are settled for some passes are closed with them
+pub closed_with_some : (plan : Plan) (passes : List Passed) (shards : List Shard) → length shards ≡ plan.shards → 0 < plan.shards → All (IsKept plan) shards
+    → AreItsPasses plan passes
+    → ((place : ℕ) (shard : Held) → slice_get (map held_of shards) place ≡ Some shard → (shard.at ≡ place) × IsSettledFor plan passes place shard.journal)
+    → IsClosedWithSome plan passes (map ended_of shards)
+closed_with_some plan passes shards many some kept its settled =
+    let all = all_passes plan passes (map held_of shards) (length-map shards held_of ∙ many) its settled in
+    (all.others, closed plan (passes ++ all.others) shards many some kept (all.its, all.complete) all.finished)
+
 -- shards with a fault are not
-pub unfinished : (plan : Plan) (passes : List Passed) (shards : List Shard) (fault : ShardFault) → length shards ≡ plan.shards → All (IsKept plan) shards
-    → IsClosingFault plan passes (map held_of shards) fault
-    → IsUnfinished plan passes fault
-unfinished plan passes shards fault many kept fault_is = record {
+pub unfinished : (plan : Plan) (wanted : ℕ) (passes : List Passed) (shards : List Shard) (fault : ShardFault) → length shards ≡ plan.shards → All (IsKept plan) shards
+    → IsClosingFault plan wanted passes (map held_of shards) fault
+    → IsUnfinished plan wanted passes fault
+unfinished plan wanted passes shards fault many kept fault_is = record {
   shards = map held_of shards;
   many = length-map shards held_of ∙ many;
-  legal = All-map (λ held. (held.at < plan.shards) × IsLegalJournal plan held.at held.journal) held_of shards
-      (All-weaker (IsKept plan) (λ shard. (shard.at < plan.shards) × IsLegalJournal plan shard.at shard.journal.items) (λ shard is. (is.here, is.legal)) shards kept);
+  of_plan = All-map (λ held. (held.at < plan.shards) × IsJournalOf plan held.at held.journal) held_of shards
+      (All-weaker (IsKept plan) (λ shard. (shard.at < plan.shards) × IsJournalOf plan shard.at shard.journal.items) (λ shard is. (is.here, is.of_shard)) shards kept);
   fault_is = fault_is;
 }

@@ -1,6 +1,6 @@
 -- A shard one entry later.
 use Rattle.std.proofs.Common.{◌≡◌, ℕ, zero, suc, ◌+◌, ◌*◌, ◌/◌, ◌%◌, ◌<◌, List, [], ◌∷◌, ◌++◌, set, length, get_or, Option, Some, None, refl, sym, ap, subst, ◌∙◌, inl, inr, arith}
-use Rattle.std.specs.Prelude.{map, ◌↔◌, option_map, All, IfSome, IsNone, IsTrue}
+use Rattle.std.specs.Prelude.{map, ◌↔◌, option_map, IfSome, IsNone, IsTrue}
 use Rattle.std.specs.List.{slice_get}
 use Rattle.std.proofs.lemmas.Bool.{cases_eq}
 use Rattle.std.proofs.lemmas.Option.{slice_get_within, get_or_from_slice_get}
@@ -17,7 +17,7 @@ use Rattle.shards.specs.declared.entry.Answer.{Answer}
 use Rattle.shards.specs.declared.entry.Entry.{Entry}
 use Rattle.shards.specs.declared.shard.Shard.{Shard}
 use Rattle.shards.specs.Plan.{Plan}
-use Rattle.shards.specs.Journal.{IsAnswered, IsLegalJournal, standing_of, count_by}
+use Rattle.shards.specs.Journal.{IsAnswered, IsJournalOf, standing_of, count_by}
 use Rattle.shards.specs.Steps.{IsStanding}
 use Rattle.shards.specs.Closing.{left_by}
 use Rattle.shards.specs.Shard.{AreBooks, AreCounts, IsKept}
@@ -106,6 +106,12 @@ counts_push plan journal counts entry count are feeder is = (
   ],
 )
 
+journal_push : (plan : Plan) (at : ℕ) (journal : List Entry) (entry : Entry) → IsJournalOf plan at journal → IsAnswered plan at journal entry → entry.feeder < plan.feeders → IsJournalOf plan at (journal ++ entry ∷ [])
+journal_push plan at journal entry of_shard answered feeder = record {
+  legal = each_after_push (IsAnswered plan at) [] journal entry of_shard.legal answered;
+  feeders = All-push (λ (e : Entry). e.feeder < plan.feeders) journal entry of_shard.feeders feeder;
+}
+
 -- the reply of a book is that of what stands after the journal
 pub answered_by : (plan : Plan) (shard : Shard) (entry : Entry) (book : Kept) → IsKept plan shard → entry.register.0 % plan.shards ≡ shard.at → entry.register.0 < length plan.claims
     → book ≡ get_or shard.books.items (entry.register.0 / shard.shards) book → IsReply book.claim book.ops entry.edit entry.reply
@@ -141,7 +147,7 @@ kept_push plan old new entry book edited count kept here known feeder is reply c
     record {
       shards = shards_is ∙ kept.shards;
       here = subst (λ (at : ℕ). at < plan.shards) (sym at_is) kept.here;
-      legal = subst (λ (at : ℕ). IsLegalJournal plan at new.journal.items) (sym at_is) (subst (IsLegalJournal plan old.at) (sym journal_is) (each_after_push (IsAnswered plan old.at) [] old.journal.items entry kept.legal answered));
+      of_shard = subst (λ (at : ℕ). IsJournalOf plan at new.journal.items) (sym at_is) (subst (IsJournalOf plan old.at) (sym journal_is) (journal_push plan old.at old.journal.items entry kept.of_shard answered feeder));
       books = subst (λ (at : ℕ). AreBooks plan at new.journal.items (map claimed_of new.books.items)) (sym at_is)
           (subst (λ (journal : List Entry). AreBooks plan old.at journal (map claimed_of new.books.items)) (sym journal_is)
           (subst (AreBooks plan old.at longer) (sym books_set)
@@ -149,7 +155,6 @@ kept_push plan old new entry book edited count kept here known feeder is reply c
           (subst (λ (b : Claimed). IsReply b.claim b.ops entry.edit entry.reply) held reply) edited_is)));
       counts = subst (λ (journal : List Entry). AreCounts plan journal new.counts.items) (sym journal_is)
           (subst (AreCounts plan longer) (sym counts_are) (counts_push plan old.journal.items old.counts.items entry (count + 1) kept.counts feeder (ap (λ (n : ℕ). n + 1) (count_of_feeder plan old entry.feeder count kept feeder count_is))));
-      feeders = subst (All (λ (e : Entry). e.feeder < plan.feeders)) (sym journal_is) (All-push (λ (e : Entry). e.feeder < plan.feeders) old.journal.items entry kept.feeders feeder);
     }
 
 -- what a book answers is what stands after the journal

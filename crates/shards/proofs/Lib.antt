@@ -3,6 +3,7 @@ mod Journals
 mod Opened
 mod Kept
 mod Legal
+mod Lone
 mod Rising
 mod Places
 mod Farther
@@ -16,5 +17,6 @@ mod Covers
 mod Merged
 mod Strangers
 mod Locked
+mod Others
 mod Ended
 pub mod Crosses

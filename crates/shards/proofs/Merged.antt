@@ -1,24 +1,23 @@
--- A journal in which each entry is owned, and that has as many entries of each feeder as its pass submitted,
--- is a merge.
-use Rattle.std.proofs.Common.{◌≡◌, ◌≢◌, ℕ, ◌+◌, ◌<◌, Bool, true, false, List, [], ◌∷◌, Some, length, map, get_or, refl, sym, ap, subst, ◌∙◌, cond, arith, eqb-true}
-use Rattle.std.specs.Prelude.{All, Any, Contains}
-use Rattle.std.specs.List.{AllByRecursion, AllPairs, filter, slice_get}
+-- A journal in which each entry is owned, and that has as many entries of a feeder as its pass submitted, has
+-- those that it submitted.
+use Rattle.std.proofs.Common.{◌≡◌, ℕ, ◌+◌, ◌<◌, Bool, true, false, List, [], ◌∷◌, Some, length, map, get_or, refl, sym, ap, subst, ◌∙◌, cond, arith, eqb-true}
+use Rattle.std.specs.Prelude.{All, Contains}
+use Rattle.std.specs.List.{AllByRecursion, filter, slice_get}
 use Rattle.std.proofs.lemmas.List.{length-map}
 use Rattle.std.proofs.lemmas.Simd.{map-map}
-use Rattle.std.proofs.lemmas.List.Elements.{All-map, All-weaker, Contains-get_or, recursion_from_All}
+use Rattle.std.proofs.lemmas.List.Elements.{All-contains, All-map, All-weaker, Contains-get_or, recursion_from_All}
 use Rattle.std.proofs.lemmas.Option.{get_or_from_slice_get, slice_get_within}
 use Rattle.shards.specs.declared.entry.Entry.{Entry}
 use Rattle.shards.specs.declared.entry.Numbered.{Numbered}
 use Rattle.shards.specs.declared.shard.Shard.{Shard}
 use Rattle.shards.specs.Plan.{Plan}
 use Rattle.shards.specs.Plain.{PlainEntry, plain_entry, plain_numbered}
-use Rattle.shards.specs.Journal.{IsLegalJournal, count_by, is_by}
+use Rattle.shards.specs.Journal.{IsJournalOf, count_by, is_by}
 use Rattle.shards.specs.Pass.{Passed, told}
-use Rattle.shards.specs.Merge.{IsMerge, numbered, is_numbered_by, entries_of}
-use Rattle.shards.specs.Closing.{AreComplete, AreFit, Fits, Held, IsSettled}
-use Rattle.shards.specs.Shard.{AreOwned, IsKept, IsOwned, Rises, held_of}
+use Rattle.shards.specs.Merge.{IsTold, numbered, is_numbered_by, entries_of}
+use Rattle.shards.specs.Closing.{AreFit, Fits, Held}
+use Rattle.shards.specs.Shard.{AreOwned, IsKept, IsOwned, IsSettledFor, Rises, held_of}
 use Rattle.shards.proofs.Covers.{IsAmong, Above, same_from_covers}
-use Rattle.shards.proofs.Strangers.{told_from_owned}
 
 -- a feeder's entries without their numbers
 entries_by : (feeder n : ℕ) (journal : List Entry) → map (λ known. known.entry) (filter (is_numbered_by feeder) (numbered n journal)) ≡ filter (is_by feeder) journal
@@ -58,7 +57,7 @@ filter_rises test (x ∷ xs) up = by_test (test x) (filter_rises test xs up.1)
     by_test true rest = (above_filter test x xs up.0, rest)
     by_test false rest = rest
 
-module _ (at : ℕ) (passes : List Passed) (apart : AllPairs (λ a b. a.feeder ≢ b.feeder) passes) where
+module _ (at : ℕ) (passes : List Passed) where
   -- the owned entries of a pass's feeder are among its own
   among_own : (pass : Passed) → Contains passes pass → (xs : List Numbered) → AllByRecursion (IsOwned passes at) xs → AllByRecursion (IsAmong (told pass at)) (filter (is_numbered_by pass.feeder) xs)
   among_own pass h [] owned = tt
@@ -66,7 +65,7 @@ module _ (at : ℕ) (passes : List Passed) (apart : AllPairs (λ a b. a.feeder �
     where
       by_test : (t : Bool) → is_numbered_by pass.feeder x ≡ t → AllByRecursion (IsAmong (told pass at)) (filter (is_numbered_by pass.feeder) xs)
           → AllByRecursion (IsAmong (told pass at)) (cond t (x ∷ filter (is_numbered_by pass.feeder) xs) (filter (is_numbered_by pass.feeder) xs))
-      by_test true e rest = (told_from_owned passes at x pass apart h (sym (eqb-true x.entry.feeder pass.feeder e)) owned.0, rest)
+      by_test true e rest = (All-contains (λ own. own.feeder ≡ x.entry.feeder → IsTold own at x) passes pass owned.0 h (sym (eqb-true x.entry.feeder pass.feeder e)), rest)
       by_test false e rest = rest
 
   own_entries : (journal : List Entry) → AreOwned passes at journal → (pass : Passed) → Contains passes pass → Rises (told pass at) → count_by pass.feeder journal ≡ length (told pass at)
@@ -75,13 +74,6 @@ module _ (at : ℕ) (passes : List Passed) (apart : AllPairs (λ a b. a.feeder �
       same_from_covers (entries_of pass.feeder journal) (told pass at) (filter_rises (is_numbered_by pass.feeder) (numbered 0 journal) (numbers_rise 0 journal)) up
       (among_own pass h (numbered 0 journal) (recursion_from_All (IsOwned passes at) (numbered 0 journal) owned))
       (count_of pass.feeder journal ∙ count)
-
-  is_merge : (journal : List Entry) → AreOwned passes at journal → All (λ pass. Rises (told pass at)) passes → All (λ pass. count_by pass.feeder journal ≡ length (told pass at)) passes
-      → All (λ entry. Any (λ pass. pass.feeder ≡ entry.feeder) passes) journal → IsMerge at passes journal
-  is_merge journal owned rise counts of_all = record {
-    of_each = λ k d l. own_entries journal owned (get_or passes k d) (Contains-get_or passes k d l) (rise k d l) (counts k d l);
-    of_all = of_all;
-  }
 
 -- an entry without its number
 abbrev plain_of : ℕ × PlainEntry → PlainEntry
@@ -92,27 +84,22 @@ pub as_submitted : (at : ℕ) (pass : Passed) (journal : List Entry) → map pla
 as_submitted at pass journal same =
     ap (map plain_entry) (sym (entries_by pass.feeder 0 journal)) ∙ (map-map _ _ (entries_of pass.feeder journal) ∙ (sym (map-map _ _ (entries_of pass.feeder journal)) ∙ (ap (map plain_of) same ∙ map-map _ _ (told pass at))))
 
--- what is known of a shard besides
-record Kept (plan : Plan) (shard : Held) : Type 0 where
-  legal : IsLegalJournal plan shard.at shard.journal
-  feeders : All (λ entry. entry.feeder < plan.feeders) shard.journal
-
-module _ (plan : Plan) (passes : List Passed) (apart : AllPairs (λ a b. a.feeder ≢ b.feeder) passes) (complete : AreComplete plan.feeders passes) where
-  finished_at : (place : ℕ) (shard : Held) → Kept plan shard → Fits passes place shard → All (λ pass. Rises (told pass place)) passes → AreOwned passes place shard.journal → IsSettled plan passes place shard.journal
-  finished_at place shard kept fits rise owned = record {
-    legal = subst (λ (at : ℕ). IsLegalJournal plan at shard.journal) fits.in_place kept.legal;
-    merge = is_merge place passes apart shard.journal owned rise (λ k d l. (fits.keeping k d l).count) (λ k d l. complete (get_or shard.journal k d).feeder (kept.feeders k d l));
+module _ (plan : Plan) (passes : List Passed) where
+  settled_at : (place : ℕ) (shard : Held) → IsJournalOf plan shard.at shard.journal → Fits passes place shard → All (λ pass. Rises (told pass place)) passes → AreOwned passes place shard.journal → IsSettledFor plan passes place shard.journal
+  settled_at place shard of_shard fits rise owned = record {
+    of_shard = subst (λ (at : ℕ). IsJournalOf plan at shard.journal) fits.in_place of_shard;
+    of_each = λ k d l. own_entries place passes shard.journal owned (get_or passes k d) (Contains-get_or passes k d l) (rise k d l) (fits.keeping k d l).count;
     farthest = λ k d l. (fits.keeping k d l).farthest;
   }
 
-  -- shards that fit the passes and have no stranger are finished
-  pub finished : (shards : List Shard) → All (IsKept plan) shards → AreFit passes (map held_of shards) → ((place : ℕ) → place < length shards → All (λ pass. Rises (told pass place)) passes)
+  -- shards that fit the passes and have no stranger are settled for them
+  pub settled : (shards : List Shard) → All (IsKept plan) shards → AreFit passes (map held_of shards) → ((place : ℕ) → place < length shards → All (λ pass. Rises (told pass place)) passes)
       → ((place : ℕ) (shard : Held) → slice_get (map held_of shards) place ≡ Some shard → AreOwned passes place shard.journal)
-      → (place : ℕ) (shard : Held) → slice_get (map held_of shards) place ≡ Some shard → (shard.at ≡ place) × IsSettled plan passes place shard.journal
-  finished shards kept fit rise owned place shard e =
+      → (place : ℕ) (shard : Held) → slice_get (map held_of shards) place ≡ Some shard → (shard.at ≡ place) × IsSettledFor plan passes place shard.journal
+  settled shards kept fit rise owned place shard e =
       let within : place < length (map held_of shards) = slice_get_within (map held_of shards) place shard e in
       let long : length (map held_of shards) ≡ length shards = length-map shards held_of in
-      let each : All (Kept plan) (map held_of shards) =
-      All-map (Kept plan) held_of shards (All-weaker (IsKept plan) (λ s. Kept plan (held_of s)) (λ s k. record { legal = k.legal; feeders = k.feeders }) shards kept) in
-      let this : Kept plan shard = subst (Kept plan) (get_or_from_slice_get (map held_of shards) place shard shard e) (each place shard within) in
-      ((fit place shard e).in_place, finished_at place shard this (fit place shard e) (rise place (omega arith)) (owned place shard e))
+      let each : All (λ held. IsJournalOf plan held.at held.journal) (map held_of shards) =
+      All-map (λ held. IsJournalOf plan held.at held.journal) held_of shards (All-weaker (IsKept plan) (λ s. IsJournalOf plan s.at s.journal.items) (λ s k. k.of_shard) shards kept) in
+      let this : IsJournalOf plan shard.at shard.journal = subst (λ (held : Held). IsJournalOf plan held.at held.journal) (get_or_from_slice_get (map held_of shards) place shard shard e) (each place shard within) in
+      ((fit place shard e).in_place, settled_at place shard this (fit place shard e) (rise place (omega arith)) (owned place shard e))

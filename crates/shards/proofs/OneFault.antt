@@ -122,26 +122,26 @@ missing_not feeders passes feeder h complete = h.1 (complete feeder h.0)
 first_unfit_not : (passes : List Passed) (shards : List Held) (at seen found : ℕ) → IsFirstUnfit passes shards at seen found → ¬ AreFit passes shards
 first_unfit_not passes shards at seen found h fit = unfit_not passes at h.0.0 seen found h.0.2 (fit at h.0.0 h.0.1)
 
-pub one_fault : (plan : Plan) (passes : List Passed) (shards : List Held) (a b : ShardFault) → IsClosingFault plan passes shards a → IsClosingFault plan passes shards b → a ≡ b
-one_fault plan passes shards UnknownRegister b h k = absurd h
-one_fault plan passes shards Memory b h k = absurd h
-one_fault plan passes shards a UnknownRegister h k = absurd k
-one_fault plan passes shards a Memory h k = absurd k
-one_fault plan passes shards ForeignPass ForeignPass h k = refl
-one_fault plan passes shards ForeignPass (PassMissing feeder) h k = absurd (h k.0)
-one_fault plan passes shards ForeignPass (JournalBehind at seen found) h k = absurd (h k.0)
-one_fault plan passes shards ForeignPass (Stranger at feeder number) h k = absurd (h k.0)
-one_fault plan passes shards (PassMissing feeder) ForeignPass h k = absurd (k h.0)
-one_fault plan passes shards (PassMissing feeder) (PassMissing feeder') h k = ap PassMissing (first_missing_one plan.feeders passes feeder feeder' h.1 k.1)
-one_fault plan passes shards (PassMissing feeder) (JournalBehind at seen found) h k = absurd (missing_not plan.feeders passes feeder h.1 k.1)
-one_fault plan passes shards (PassMissing feeder) (Stranger at feeder' number) h k = absurd (missing_not plan.feeders passes feeder h.1 k.1)
-one_fault plan passes shards (JournalBehind at seen found) ForeignPass h k = absurd (k h.0)
-one_fault plan passes shards (JournalBehind at seen found) (PassMissing feeder) h k = absurd (missing_not plan.feeders passes feeder k.1 h.1)
-one_fault plan passes shards (JournalBehind at seen found) (JournalBehind at' seen' found') h k = first_unfit_one passes shards at at' seen found seen' found' h.0.apart h.2 k.2
-one_fault plan passes shards (JournalBehind at seen found) (Stranger at' feeder number) h k = absurd (first_unfit_not passes shards at seen found h.2 k.2)
-one_fault plan passes shards (Stranger at feeder number) ForeignPass h k = absurd (k h.0)
-one_fault plan passes shards (Stranger at feeder number) (PassMissing feeder') h k = absurd (missing_not plan.feeders passes feeder' k.1 h.1)
-one_fault plan passes shards (Stranger at feeder number) (JournalBehind at' seen found) h k = absurd (first_unfit_not passes shards at' seen found k.2 h.2)
-one_fault plan passes shards (Stranger at feeder number) (Stranger at' feeder' number') h k =
+pub one_fault : (plan : Plan) (wanted : ℕ) (passes : List Passed) (shards : List Held) (a b : ShardFault) → IsClosingFault plan wanted passes shards a → IsClosingFault plan wanted passes shards b → a ≡ b
+one_fault plan wanted passes shards UnknownRegister b h k = absurd h
+one_fault plan wanted passes shards Memory b h k = absurd h
+one_fault plan wanted passes shards a UnknownRegister h k = absurd k
+one_fault plan wanted passes shards a Memory h k = absurd k
+one_fault plan wanted passes shards ForeignPass ForeignPass h k = refl
+one_fault plan wanted passes shards ForeignPass (PassMissing feeder) h k = absurd (h k.0)
+one_fault plan wanted passes shards ForeignPass (JournalBehind at seen found) h k = absurd (h k.0)
+one_fault plan wanted passes shards ForeignPass (Stranger at feeder number) h k = absurd (h k.0)
+one_fault plan wanted passes shards (PassMissing feeder) ForeignPass h k = absurd (k h.0)
+one_fault plan wanted passes shards (PassMissing feeder) (PassMissing feeder') h k = ap PassMissing (first_missing_one wanted passes feeder feeder' h.1 k.1)
+one_fault plan wanted passes shards (PassMissing feeder) (JournalBehind at seen found) h k = absurd (missing_not wanted passes feeder h.1 k.1)
+one_fault plan wanted passes shards (PassMissing feeder) (Stranger at feeder' number) h k = absurd (missing_not wanted passes feeder h.1 k.1)
+one_fault plan wanted passes shards (JournalBehind at seen found) ForeignPass h k = absurd (k h.0)
+one_fault plan wanted passes shards (JournalBehind at seen found) (PassMissing feeder) h k = absurd (missing_not wanted passes feeder k.1 h.1)
+one_fault plan wanted passes shards (JournalBehind at seen found) (JournalBehind at' seen' found') h k = first_unfit_one passes shards at at' seen found seen' found' h.0.apart h.2 k.2
+one_fault plan wanted passes shards (JournalBehind at seen found) (Stranger at' feeder number) h k = absurd (first_unfit_not passes shards at seen found h.2 k.2)
+one_fault plan wanted passes shards (Stranger at feeder number) ForeignPass h k = absurd (k h.0)
+one_fault plan wanted passes shards (Stranger at feeder number) (PassMissing feeder') h k = absurd (missing_not wanted passes feeder' k.1 h.1)
+one_fault plan wanted passes shards (Stranger at feeder number) (JournalBehind at' seen found) h k = absurd (first_unfit_not passes shards at' seen found k.2 h.2)
+one_fault plan wanted passes shards (Stranger at feeder number) (Stranger at' feeder' number') h k =
     let same = first_with_stranger_one passes shards at at' h.3.0 k.3.0 h.3.1 k.3.1 in
     strangers_same at at' feeder feeder' number number' h.3.0 k.3.0 same.0 same.1 h.3.2 k.3.2 h.3.3 k.3.3

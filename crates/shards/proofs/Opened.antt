@@ -1,6 +1,6 @@
 -- The books of a shard before any edit.
 use Rattle.std.proofs.Common.{◌≡◌, ℕ, zero, suc, ◌+◌, ◌*◌, ◌<◌, ◌≤◌, List, [], ◌∷◌, ◌++◌, length, replicate, Option, Some, None, refl, sym, ap, subst, ◌∙◌, inl, inr, arith}
-use Rattle.std.specs.Prelude.{map, All, option_map, option_to_list}
+use Rattle.std.specs.Prelude.{map, option_map, option_to_list}
 use Rattle.std.specs.List.{slice_get}
 use Rattle.std.proofs.lemmas.Bool.{cases_lt}
 use Rattle.std.proofs.lemmas.List.{length_push, length-replicate, get_or-replicate}
@@ -12,7 +12,7 @@ use Rattle.register_book.specs.Kept.{claimed_of}
 use Rattle.shards.specs.declared.entry.Entry.{Entry}
 use Rattle.shards.specs.declared.shard.Shard.{Shard}
 use Rattle.shards.specs.Plan.{Plan}
-use Rattle.shards.specs.Journal.{IsLegalJournal}
+use Rattle.shards.specs.Journal.{IsJournalOf}
 use Rattle.shards.specs.Shard.{AreBooks, AreCounts, IsKept, unedited}
 use Rattle.shards.proofs.Slots.{get_push_below, get_push_at}
 
@@ -69,9 +69,8 @@ pub opened : (plan : Plan) (shard : Shard) → shard.shards ≡ plan.shards → 
 opened plan shard shards here empty books counts = record {
   shards = shards;
   here = here;
-  legal = subst (IsLegalJournal plan shard.at) (sym empty) tt;
+  of_shard = subst (IsJournalOf plan shard.at) (sym empty) (record { legal = tt; feeders = All-nil (λ (entry : Entry). entry.feeder < plan.feeders) });
   books = subst (λ (journal : List Entry). AreBooks plan shard.at journal (map claimed_of shard.books.items)) (sym empty) books;
   counts = subst (λ (journal : List Entry). AreCounts plan journal shard.counts.items) (sym empty)
       (subst (AreCounts plan []) (sym counts) (length-replicate plan.feeders 0, λ feeder below. get_replicate plan.feeders feeder 0 below));
-  feeders = subst (All (λ (entry : Entry). entry.feeder < plan.feeders)) (sym empty) (All-nil (λ (entry : Entry). entry.feeder < plan.feeders));
 }

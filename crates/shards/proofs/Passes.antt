@@ -27,7 +27,7 @@ pub none_of : (passes : List Passed) (feeder upto : ℕ) → length passes ≤ u
 none_of passes feeder upto all none has =
     none has.0 has.1 (omega arith) (omega (arith, all, has.2)) (ap (λ (pass : Passed). pass.feeder) has.3 ∙ has.4)
 
-its_push : (plan : Plan) (passes : List Passed) (pass : Passed) → AreItsPasses plan passes → IsPassOf plan pass → ¬ HasPassOf passes pass.feeder → AreItsPasses plan (passes ++ pass ∷ [])
+pub its_push : (plan : Plan) (passes : List Passed) (pass : Passed) → AreItsPasses plan passes → IsPassOf plan pass → ¬ HasPassOf passes pass.feeder → AreItsPasses plan (passes ++ pass ∷ [])
 its_push plan passes pass its of none = record {
   each = All-push (IsPassOf plan) passes pass its.each of;
   apart = all_pairs_push (λ a b. a.feeder ≢ b.feeder) passes pass its.apart

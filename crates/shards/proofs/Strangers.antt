@@ -1,20 +1,19 @@
--- Entries of a journal that a pass of their feeder submitted, and those that none did.
-use Rattle.std.proofs.Common.{◌≡◌, ◌≢◌, ℕ, ◌+◌, ◌<◌, ◌≤◌, ◌⊎◌, inl, inr, List, [], ◌∷◌, length, Option, Some, get_or, refl, sym, ap, subst, ◌∙◌, zero, suc, arith}
-use Rattle.std.specs.Prelude.{All, Contains}
-use Rattle.std.specs.List.{AllPairs, slice_get}
-use Rattle.std.proofs.lemmas.Bool.{cases_order}
-use Rattle.std.proofs.lemmas.List.{get_or_default}
-use Rattle.std.proofs.lemmas.List.Elements.{All-weaker}
+-- Entries of a journal that the pass of their feeder submitted, and those that it did not.
+use Rattle.std.proofs.Common.{◌≡◌, ℕ, ◌+◌, ◌<◌, ◌≤◌, ◌⊎◌, inl, inr, Bool, true, false, List, [], ◌∷◌, length, Option, Some, get_or, refl, sym, ap, subst, ◌∙◌, zero, suc, arith}
+use Rattle.std.specs.Prelude.{◌↔◌, All, Contains, IsTrue, MatchBool}
+use Rattle.std.specs.List.{slice_get}
+use Rattle.std.proofs.lemmas.Bool.{cases_order, false≢true}
+use Rattle.std.proofs.lemmas.List.Elements.{All-contains, All-weaker}
 use Rattle.std.proofs.lemmas.Option.{same_Some}
 use Rattle.shards.specs.declared.entry.Entry.{Entry}
 use Rattle.shards.specs.declared.entry.Numbered.{Numbered}
 use Rattle.shards.specs.Plain.{PlainEntry, plain_entry}
 use Rattle.shards.specs.Pass.{Passed}
 use Rattle.shards.specs.Merge.{IsStranger, IsTold, numbered}
-use Rattle.shards.specs.Closing.{HasNoStranger, Held, IsFirstStranger}
+use Rattle.shards.specs.Closing.{HasNoStranger, HasPassOf, Held, IsFirstStranger}
 use Rattle.shards.specs.Shard.{AreOwned, IsOwned}
 use Rattle.shards.proofs.Covers.{IsAmong}
-use Rattle.shards.proofs.Passes.{one_pass}
+use Rattle.shards.proofs.Passes.{AreApart, all_of_none, all_of_one}
 
 abbrev number_of : Numbered → ℕ
 number_of known = known.number
@@ -28,22 +27,19 @@ module _ (own : List Numbered) (known : Numbered) where
   reads_same found only (k, x, within, is, same) =
       (x, only x (k, within, is) (ap (λ (p : ℕ × PlainEntry). p.0) same), ap (λ (p : ℕ × PlainEntry). p.1) same)
 
--- of the pass of its feeder
-pub told_from_owned : (passes : List Passed) (at : ℕ) (known : Numbered) (pass : Passed) → AllPairs (λ a b. a.feeder ≢ b.feeder) passes → Contains passes pass → pass.feeder ≡ known.entry.feeder → IsOwned passes at known → IsTold pass at known
-told_from_owned passes at known pass apart h e (k, other, within, is, (f, told)) =
-    subst (λ (p : Passed). IsTold p at known) (one_pass passes other pass apart (k, within, is) h (f ∙ sym e)) told
+-- the pass of its feeder decides whether an entry is a stranger
+pub owned_by : (told : Bool) (passes : List Passed) (at : ℕ) (known : Numbered) (pass : Passed) → AreApart passes → Contains passes pass → pass.feeder ≡ known.entry.feeder
+    → IsTrue told ↔ IsTold pass at known → MatchBool told (IsOwned passes at known) (IsStranger passes at known)
+owned_by true passes at known pass apart here of is = all_of_one (λ other. IsTold other at known) passes pass known.entry.feeder apart here of (is.0 refl)
+owned_by false passes at known pass apart here of is = (here.0, pass, here.1, here.2, (of, λ told. false≢true (is.1 told)))
 
-pub owned_from_told : (passes : List Passed) (at : ℕ) (known : Numbered) (pass : Passed) → Contains passes pass → pass.feeder ≡ known.entry.feeder → IsTold pass at known → IsOwned passes at known
-owned_from_told passes at known pass (k, within, is) e told = (k, pass, within, is, (e, told))
-
--- a stranger is an entry that is not owned
-stranger_from : (passes : List Passed) (at : ℕ) (known : Numbered) → ¬ IsOwned passes at known → IsStranger passes at known
-stranger_from passes at known none k d within e told = none (k, get_or passes k d, within, get_or_default passes k (get_or passes k d) d within, (e, told))
+-- where there is none it is none
+pub owned_by_none : (passes : List Passed) (at : ℕ) (known : Numbered) → ¬ HasPassOf passes known.entry.feeder → IsOwned passes at known
+owned_by_none passes at known none = all_of_none (λ other. IsTold other at known) passes known.entry.feeder none
 
 no_stranger_from : (passes : List Passed) (at : ℕ) (known : Numbered) → IsOwned passes at known → ¬ IsStranger passes at known
-no_stranger_from passes at known (k, pass, within, is, (e, told)) stranger =
-    let s : pass.feeder ≡ known.entry.feeder → ¬ IsTold pass at known = subst (λ (p : Passed). p.feeder ≡ known.entry.feeder → ¬ IsTold p at known) is (stranger k pass within) in
-    s e told
+no_stranger_from passes at known owned (k, pass, within, is, (of, not_told)) =
+    not_told (All-contains (λ other. other.feeder ≡ known.entry.feeder → IsTold other at known) passes pass owned (k, within, is) of)
 
 length-numbered : (n : ℕ) (journal : List Entry) → length (numbered n journal) ≡ length journal
 length-numbered n [] = refl
@@ -86,10 +82,10 @@ module _ (journal : List Entry) (number : ℕ) where
         let n = ap number_of (at_place k journal e e.entry i) in
         omega arith)
 
-  pub first_stranger_from : (passes : List Passed) (at : ℕ) (d : Entry) → number < length journal → All (λ known. known.number < number → IsOwned passes at known) (numbered 0 journal) → ¬ IsOwned passes at (read d) → IsFirstStranger passes at journal (read d)
-  first_stranger_from passes at d l below none = (
+  pub first_stranger_from : (passes : List Passed) (at : ℕ) (d : Entry) → number < length journal → All (λ known. known.number < number → IsOwned passes at known) (numbered 0 journal) → IsStranger passes at (read d) → IsFirstStranger passes at journal (read d)
+  first_stranger_from passes at d l below stranger = (
     stands d l,
-    stranger_from passes at (read d) none,
+    stranger,
     All-weaker (λ known. known.number < number → IsOwned passes at known) (λ known. known.number < number → ¬ IsStranger passes at known)
         (λ known owned less. no_stranger_from passes at known (owned less)) (numbered 0 journal) below,
   )

@@ -1,5 +1,5 @@
 -- What an auditor leaves, and why it refuses to.
-use Rattle.std.specs.Prelude.{◌≡◌, ◌≢◌, ◌⊎◌, ◌<◌, ◌%◌, ◌/◌, ℕ, List, [], length, Option, Some, option_map, unwrap_or, All, Any, Contains, EachIndex}
+use Rattle.std.specs.Prelude.{◌≡◌, ◌≢◌, ◌⊎◌, ◌<◌, ◌%◌, ◌/◌, ℕ, List, [], ◌++◌, length, Option, Some, option_map, unwrap_or, All, Any, Contains, EachIndex}
 use Rattle.std.specs.List.{slice_get, AllPairs}
 use Rattle.intervals.specs.Terms.{Terms, Claimed}
 use Rattle.shards.specs.declared.entry.Entry.{Entry}
@@ -7,7 +7,7 @@ use Rattle.shards.specs.declared.entry.Numbered.{Numbered}
 use Rattle.shards.specs.declared.fault.ShardFault.{ShardFault}
 use Rattle.shards.specs.declared.fault.ShardFault.TheVariants.{UnknownRegister, Memory, JournalBehind, PassMissing, Stranger, ForeignPass}
 use Rattle.shards.specs.Plan.{Plan}
-use Rattle.shards.specs.Journal.{standing_of, IsLegalJournal}
+use Rattle.shards.specs.Journal.{standing_of, IsJournalOf}
 use Rattle.shards.specs.Pass.{Passed, IsPassOf, IsInKeeping, IsBehind, HasFarthest}
 use Rattle.shards.specs.Merge.{IsMerge, IsStranger, numbered}
 
@@ -37,10 +37,10 @@ book_of shards register = slice_get (books_of shards (register % length shards))
 abbrev pub left_by : List Entry → ℕ → Terms → Claimed
 left_by journal register claim = record { claim = claim; ops = standing_of register journal }
 
--- a shard's journal is legal, a merge of what the passes submitted, and has each pass's farthest entry at its
+-- a journal of the shard, a merge of what the passes submitted, that has each pass's farthest entry at its
 -- number
 pub record IsSettled (plan : Plan) (passes : List Passed) (at : ℕ) (journal : List Entry) : Type 0 where
-  pub legal : IsLegalJournal plan at journal
+  pub of_shard : IsJournalOf plan at journal
   pub merge : IsMerge at passes journal
   pub farthest : All (λ pass. HasFarthest at pass journal) passes
 
@@ -53,7 +53,7 @@ pub record AreItsPasses (plan : Plan) (passes : List Passed) : Type 0 where
 abbrev pub HasPassOf : List Passed → ℕ → Type 0
 HasPassOf passes feeder = Any (λ pass. pass.feeder ≡ feeder) passes
 
--- each feeder has a pass
+-- each feeder of so many has a pass
 abbrev pub AreComplete : ℕ → List Passed → Type 0
 AreComplete feeders passes = (feeder : ℕ) → feeder < feeders → HasPassOf passes feeder
 
@@ -65,6 +65,10 @@ pub record IsClosed (plan : Plan) (passes : List Passed) (shards : List Ended) :
   pub many : length shards ≡ plan.shards
   pub finished : EachIndex shards (λ at. IsSettled plan passes at (journal_of shards at))
   pub books : (register : ℕ) → book_of shards register ≡ option_map (left_by (journal_of shards (register % plan.shards)) register) (slice_get plan.claims register)
+
+-- closed so with these passes and some of the feeders that have none
+abbrev pub IsClosedWithSome : Plan → List Passed → List Ended → Type 0
+IsClosedWithSome plan passes shards = (others : List Passed) × IsClosed plan (passes ++ others) shards
 
 -- the shard stands at its place, with a journal that is in keeping with each pass
 pub record Fits (passes : List Passed) (place : ℕ) (shard : Held) : Type 0 where
@@ -91,7 +95,7 @@ IsFirstStranger passes at journal known =
     × IsStranger passes at known
     × All (λ other. other.number < known.number → ¬ IsStranger passes at other) (numbered 0 journal)
 
--- a feeder without a pass, the least
+-- the least feeder of so many without a pass
 abbrev pub IsFirstMissing : ℕ → List Passed → ℕ → Type 0
 IsFirstMissing feeders passes feeder = (feeder < feeders) × (¬ HasPassOf passes feeder) × ((lesser : ℕ) → lesser < feeder → HasPassOf passes lesser)
 
@@ -111,23 +115,23 @@ IsFirstWithStranger passes shards at known =
     ((shard : Held) × (slice_get shards at ≡ Some shard) × IsFirstStranger passes at shard.journal known)
     × ((lesser : ℕ) (shard : Held) → lesser < at → slice_get shards lesser ≡ Some shard → HasNoStranger passes lesser shard.journal)
 
--- the first fault: a pass of another auditor, or two of one feeder; a feeder without a pass; a shard that does
--- not fit the passes; a stranger
-abbrev pub IsClosingFault : Plan → List Passed → List Held → ShardFault → Type 0
-IsClosingFault plan passes shards ForeignPass = ¬ AreItsPasses plan passes
-IsClosingFault plan passes shards (PassMissing feeder) = AreItsPasses plan passes × IsFirstMissing plan.feeders passes feeder
-IsClosingFault plan passes shards (JournalBehind at seen found) = AreItsPasses plan passes × AreComplete plan.feeders passes × IsFirstUnfit passes shards at seen found
-IsClosingFault plan passes shards (Stranger at feeder number) =
+-- the first fault where a pass is wanted of each of so many feeders: a pass of another auditor, or two of one
+-- feeder; such a feeder without a pass; a shard that does not fit the passes; a stranger
+abbrev pub IsClosingFault : Plan → ℕ → List Passed → List Held → ShardFault → Type 0
+IsClosingFault plan wanted passes shards ForeignPass = ¬ AreItsPasses plan passes
+IsClosingFault plan wanted passes shards (PassMissing feeder) = AreItsPasses plan passes × IsFirstMissing wanted passes feeder
+IsClosingFault plan wanted passes shards (JournalBehind at seen found) = AreItsPasses plan passes × AreComplete wanted passes × IsFirstUnfit passes shards at seen found
+IsClosingFault plan wanted passes shards (Stranger at feeder number) =
     AreItsPasses plan passes
-    × AreComplete plan.feeders passes
+    × AreComplete wanted passes
     × AreFit passes shards
     × ((known : Numbered) × IsFirstWithStranger passes shards at known × (known.entry.feeder ≡ feeder) × (known.number ≡ number))
-IsClosingFault plan passes shards UnknownRegister = ⊥
-IsClosingFault plan passes shards Memory = ⊥
+IsClosingFault plan wanted passes shards UnknownRegister = ⊥
+IsClosingFault plan wanted passes shards Memory = ⊥
 
--- of shards of the plan, with legal journals, this is the first fault
-pub record IsUnfinished (plan : Plan) (passes : List Passed) (fault : ShardFault) : Type 0 where
+-- of shards of the plan, with their journals, this is the first fault
+pub record IsUnfinished (plan : Plan) (wanted : ℕ) (passes : List Passed) (fault : ShardFault) : Type 0 where
   pub shards : List Held
   pub many : length shards ≡ plan.shards
-  pub legal : All (λ shard. (shard.at < plan.shards) × IsLegalJournal plan shard.at shard.journal) shards
-  pub fault_is : IsClosingFault plan passes shards fault
+  pub of_plan : All (λ shard. (shard.at < plan.shards) × IsJournalOf plan shard.at shard.journal) shards
+  pub fault_is : IsClosingFault plan wanted passes shards fault

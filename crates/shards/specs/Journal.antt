@@ -1,5 +1,5 @@
 -- The journal of a shard: what was answered with a receipt, in the order of the answers.
-use Rattle.std.specs.Prelude.{◌≡◌, ◌%◌, ◌==◌, ◌&&◌, ℕ, Bool, true, false, List, [], ◌∷◌, ◌++◌, map, filter, length, Some}
+use Rattle.std.specs.Prelude.{◌≡◌, ◌<◌, ◌%◌, ◌==◌, ◌&&◌, ℕ, Bool, true, false, List, [], ◌∷◌, ◌++◌, map, filter, length, Some, All}
 use Rattle.std.specs.List.{slice_get}
 use Rattle.intervals.specs.declared.operation.Op.{Op}
 use Rattle.intervals.specs.declared.operation.RegId.{RegId}
@@ -61,6 +61,11 @@ EachAfter R before (x ∷ xs) = R before x × EachAfter R (before ++ x ∷ []) x
 -- a legal journal of a shard: each entry is answered so
 abbrev pub IsLegalJournal : Plan → ℕ → List Entry → Type 0
 IsLegalJournal plan at journal = EachAfter (IsAnswered plan at) [] journal
+
+-- a journal of a shard of the plan: it is legal, and each entry is of one of the plan's feeders
+pub record IsJournalOf (plan : Plan) (at : ℕ) (journal : List Entry) : Type 0 where
+  pub legal : IsLegalJournal plan at journal
+  pub feeders : All (λ entry. entry.feeder < plan.feeders) journal
 
 -- an entry of this feeder
 abbrev pub is_by : ℕ → Entry → Bool

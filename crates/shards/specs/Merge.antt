@@ -29,6 +29,6 @@ pub record IsMerge (at : ℕ) (passes : List Passed) (journal : List Entry) : Ty
 abbrev pub IsTold : Passed → ℕ → Numbered → Type 0
 IsTold pass at known = Any (λ own. plain_numbered own ≡ plain_numbered known) (told pass at)
 
--- an entry of a journal that no pass of its feeder submitted there
+-- an entry of a journal that the pass of its feeder did not submit there
 abbrev pub IsStranger : List Passed → ℕ → Numbered → Type 0
-IsStranger passes at known = All (λ pass. pass.feeder ≡ known.entry.feeder → ¬ IsTold pass at known) passes
+IsStranger passes at known = Any (λ pass. (pass.feeder ≡ known.entry.feeder) × (¬ IsTold pass at known)) passes

@@ -1,5 +1,5 @@
 -- For private clauses alone: what the fields of a shard are beside its journal.
-use Rattle.std.specs.Prelude.{◌≡◌, ◌<◌, ◌+◌, ◌*◌, ℕ, List, [], ◌∷◌, length, Some, option_map, map, All, Any}
+use Rattle.std.specs.Prelude.{◌≡◌, ◌<◌, ◌+◌, ◌*◌, ℕ, List, [], ◌∷◌, length, Some, option_map, map, All}
 use Rattle.std.specs.List.{AllByRecursion, slice_get}
 use Rattle.intervals.specs.Terms.{Terms, Claimed}
 use Rattle.register_book.specs.Kept.{claimed_of}
@@ -7,9 +7,10 @@ use Rattle.shards.specs.declared.entry.Entry.{Entry}
 use Rattle.shards.specs.declared.entry.Numbered.{Numbered}
 use Rattle.shards.specs.declared.shard.Shard.{Shard}
 use Rattle.shards.specs.Plan.{Plan}
-use Rattle.shards.specs.Journal.{IsLegalJournal, count_by}
-use Rattle.shards.specs.Pass.{Passed}
-use Rattle.shards.specs.Merge.{IsTold, numbered}
+use Rattle.shards.specs.Journal.{IsJournalOf, count_by}
+use Rattle.shards.specs.Plain.{plain_numbered}
+use Rattle.shards.specs.Pass.{HasFarthest, Passed, told}
+use Rattle.shards.specs.Merge.{IsTold, entries_of, numbered}
 use Rattle.shards.specs.Closing.{Held, Ended, left_by}
 
 -- each book is what the journal leaves of its register: book k is that of register k * shards + at
@@ -25,15 +26,14 @@ unedited claim = record { claim = claim; ops = [] }
 abbrev pub AreCounts : Plan → List Entry → List ℕ → Type 0
 AreCounts plan journal counts = (length counts ≡ plan.feeders) × ((feeder : ℕ) → feeder < plan.feeders → slice_get counts feeder ≡ Some (count_by feeder journal))
 
--- a shard of the plan, whose journal is legal, whose books are what it leaves, and whose counts are those of
--- its entries
+-- a shard of the plan with its journal, whose books are what that leaves, and whose counts are those of its
+-- entries
 pub record IsKept (plan : Plan) (shard : Shard) : Type 0 where
   pub shards : shard.shards ≡ plan.shards
   pub here : shard.at < plan.shards
-  pub legal : IsLegalJournal plan shard.at shard.journal.items
+  pub of_shard : IsJournalOf plan shard.at shard.journal.items
   pub books : AreBooks plan shard.at shard.journal.items (map claimed_of shard.books.items)
   pub counts : AreCounts plan shard.journal.items shard.counts.items
-  pub feeders : All (λ entry. entry.feeder < plan.feeders) shard.journal.items
 
 abbrev pub held_of : Shard → Held
 held_of shard = record { at = shard.at; journal = shard.journal.items }
@@ -46,10 +46,17 @@ abbrev pub Rises : List Numbered → Type 0
 Rises [] = Unit {0}
 Rises (a ∷ rest) = AllByRecursion (λ b. a.number < b.number) rest × Rises rest
 
--- a pass of its feeder submitted the entry at its number
+-- each pass of its feeder submitted the entry at its number
 abbrev pub IsOwned : List Passed → ℕ → Numbered → Type 0
-IsOwned passes at known = Any (λ pass. (pass.feeder ≡ known.entry.feeder) × IsTold pass at known) passes
+IsOwned passes at known = All (λ pass. pass.feeder ≡ known.entry.feeder → IsTold pass at known) passes
 
 -- so it is for each entry of the journal: none is a stranger
 abbrev pub AreOwned : List Passed → ℕ → List Entry → Type 0
 AreOwned passes at journal = All (IsOwned passes at) (numbered 0 journal)
+
+-- a journal of the shard in which the entries of each pass's feeder are the ones that the pass submitted, and
+-- that has each pass's farthest entry at its number
+pub record IsSettledFor (plan : Plan) (passes : List Passed) (at : ℕ) (journal : List Entry) : Type 0 where
+  pub of_shard : IsJournalOf plan at journal
+  pub of_each : All (λ pass. map plain_numbered (entries_of pass.feeder journal) ≡ map plain_numbered (told pass at)) passes
+  pub farthest : All (λ pass. HasFarthest at pass journal) passes

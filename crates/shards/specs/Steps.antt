@@ -14,7 +14,7 @@ use Rattle.shards.specs.declared.entry.Receipt.{Receipt}
 use Rattle.shards.specs.declared.fault.ShardFault.{ShardFault}
 use Rattle.shards.specs.declared.fault.ShardFault.TheVariants.{UnknownRegister, Memory, JournalBehind, ForeignPass}
 use Rattle.shards.specs.Plan.{Plan}
-use Rattle.shards.specs.Journal.{standing_of, IsLegalJournal}
+use Rattle.shards.specs.Journal.{standing_of, IsJournalOf}
 use Rattle.shards.specs.Pass.{Passed, IsPassOf, IsInKeeping, IsBehind, last_in, with_own, with_seen}
 
 abbrev pub entry_of : ℕ → RegId → Edit → Reply → Entry
@@ -43,23 +43,23 @@ pub record IsStanding (plan : Plan) (register : ℕ) (journal : List Entry) (ans
   pub fault : answer.fault ≡ option_map ids_of answer.witness
   pub number : answer.number ≡ length journal
 
--- there is a legal journal whose last entry is the edit with the reply of its receipt, at the receipt's
--- number; without it, it is in keeping with the pass
+-- there is a journal of the shard whose last entry is the edit with the reply of its receipt, at the
+-- receipt's number; without it, it is in keeping with the pass
 pub record IsSubmitted (plan : Plan) (pass : Passed) (register : RegId) (edit : Edit) (receipt : Receipt) : Type 0 where
   pub of_plan : IsPassOf plan pass
   pub known : register.0 < length plan.claims
   pub shard : receipt.shard ≡ register.0 % plan.shards
   pub before : List Entry
-  pub legal : IsLegalJournal plan receipt.shard (before ++ entry_of pass.feeder register edit receipt.reply ∷ [])
+  pub of_shard : IsJournalOf plan receipt.shard (before ++ entry_of pass.feeder register edit receipt.reply ∷ [])
   pub number : receipt.number ≡ length before
   pub keeping : IsInKeeping receipt.shard pass before
 
--- there is a legal journal, in keeping with the pass, of which this is the answer; the pass has then seen
--- its last entry
+-- there is a journal of the shard, in keeping with the pass, of which this is the answer; the pass has then
+-- seen its last entry
 pub record IsLive (plan : Plan) (pass pass' : Passed) (register : ℕ) (answer : Answer) : Type 0 where
   pub of_plan : IsPassOf plan pass
   pub journal : List Entry
-  pub legal : IsLegalJournal plan (register % plan.shards) journal
+  pub of_shard : IsJournalOf plan (register % plan.shards) journal
   pub keeping : IsInKeeping (register % plan.shards) pass journal
   pub standing : IsStanding plan register journal answer
   pub seen : pass' ≡ with_seen pass (register % plan.shards) (last_entry journal)
@@ -75,8 +75,8 @@ IsStateRefusal at pass journal Memory = IsInKeeping at pass journal
 IsStateRefusal at pass journal fault = IsQuestionRefusal at pass journal fault
 
 -- why an auditor refuses an edit or a question: the pass is another auditor's; else the register is not
--- there; else the lock guards another shard, and both numbers are 0, or there is a legal journal that is not in
--- keeping with the pass; else there is one that is, and memory is wanting
+-- there; else the lock guards another shard, and both numbers are 0, or there is a journal of the shard that is
+-- not in keeping with the pass; else there is one that is, and memory is wanting
 abbrev pub IsRefusal : Plan → Passed → ℕ → ShardFault → Type 0
 IsRefusal plan pass register ForeignPass = ¬ IsPassOf plan pass
 IsRefusal plan pass register UnknownRegister = IsPassOf plan pass × (length plan.claims ≤ register)
@@ -85,9 +85,9 @@ IsRefusal plan pass register (JournalBehind shard seen found) =
     × (register < length plan.claims)
     × (shard ≡ register % plan.shards)
     × (((seen ≡ 0) × (found ≡ 0))
-    ⊎ ((journal : List Entry) × IsLegalJournal plan shard journal × (found ≡ length journal) × IsBehind shard pass journal seen))
+    ⊎ ((journal : List Entry) × IsJournalOf plan shard journal × (found ≡ length journal) × IsBehind shard pass journal seen))
 IsRefusal plan pass register Memory =
     IsPassOf plan pass
     × (register < length plan.claims)
-    × ((journal : List Entry) × IsLegalJournal plan (register % plan.shards) journal × IsInKeeping (register % plan.shards) pass journal)
+    × ((journal : List Entry) × IsJournalOf plan (register % plan.shards) journal × IsInKeeping (register % plan.shards) pass journal)
 IsRefusal plan pass register fault = ⊥

@@ -1,10 +1,10 @@
 //! An auditor: a lock for each shard.
 
-ghost use Rattle.std.specs.Prelude.{◌≡◌, ◌⊎◌, ◌<◌, ◌≤◌, ◌%◌, ◌^◌, ◌≢◌, ℕ, List, map, IfOk, IfErr, OnErr, length, vec_capacity, vec_len};
+ghost use Rattle.std.specs.Prelude.{◌≡◌, ◌⊎◌, ◌<◌, ◌≤◌, ◌%◌, ◌^◌, ◌≢◌, ℕ, List, map, IfOk, IfErr, OnOk, OnErr, length, vec_capacity, vec_len};
 ghost use Rattle.std.specs.List.{range_with_len};
 ghost use Rattle.intervals.specs.Terms.{Terms};
 ghost use Rattle.shards.specs.declared.fault.ShardFault.TheVariants.{ForeignPass, JournalBehind as IsJournalBehind, Memory, UnknownRegister};
-ghost use Rattle.shards.specs.Closing.{IsClosed, IsUnfinished};
+ghost use Rattle.shards.specs.Closing.{AreComplete, IsClosed, IsClosedWithSome, IsUnfinished};
 ghost use Rattle.shards.specs.Pass.{IsPassOf, fresh, with_own};
 ghost use Rattle.shards.specs.Plan.{plan_of};
 ghost use Rattle.shards.specs.Steps.{entered, IsLive, IsRefusal, IsSubmitted, entry_of, numbered_entry};
@@ -117,7 +117,29 @@ impl<'t, O: Opening> Auditor<'t, O> {
     /// memory.
     pub fn finish(self, passes: Vec<Pass<'t>>) -> Result<Closed<'t>, Unfinished<'t, O>>
         ensures closed { IfOk result (IsClosed O.plan passes.entry.items) }
-        ensures unfinished { IfErr result (λ unfinished. IsUnfinished O.plan passes.entry.items unfinished.fault) }
+        ensures unfinished { IfErr result (λ unfinished. IsUnfinished O.plan O.plan.feeders passes.entry.items unfinished.fault) }
+        ensures passes { IfErr result (λ unfinished. unfinished.passes.items ≡ passes.entry.items) }
+    {
+        let wanted = self.feeders;
+        self.close(wanted, passes)
+    }
+
+    /// Closes the auditor with the passes that are left, maybe none, where some are lost. What the feeders
+    /// without a pass submitted is taken as it stands. Where it refuses, everything is handed back. It takes no
+    /// memory.
+    pub fn finish_some(self, passes: Vec<Pass<'t>>) -> Result<Closed<'t>, Unfinished<'t, O>>
+        ensures closed { IfOk result (IsClosedWithSome O.plan passes.entry.items) }
+        ensures unfinished { IfErr result (λ unfinished. IsUnfinished O.plan 0 passes.entry.items unfinished.fault) }
+        ensures passes { IfErr result (λ unfinished. unfinished.passes.items ≡ passes.entry.items) }
+    {
+        self.close(0, passes)
+    }
+
+    /// Closes the auditor with passes, of which there must be one of each feeder below `wanted`.
+    fn close(self, wanted: u32, passes: Vec<Pass<'t>>) -> Result<Closed<'t>, Unfinished<'t, O>>
+        ensures closed { IfOk result (IsClosedWithSome O.plan passes.entry.items) }
+        ensures complete { OnOk result (AreComplete wanted passes.entry.items) }
+        ensures unfinished { IfErr result (λ unfinished. IsUnfinished O.plan wanted passes.entry.items unfinished.fault) }
         ensures passes { IfErr result (λ unfinished. unfinished.passes.items ≡ passes.entry.items) }
     {
         let Auditor {
@@ -128,7 +150,7 @@ impl<'t, O: Opening> Auditor<'t, O> {
             room: mut shards,
         } = self;
         take_apart(&mut locks, &mut shards);
-        match closing_fault::<O>(name, feeders, shards.as_slice(), passes.as_slice()) {
+        match closing_fault::<O>(name, feeders, wanted, shards.as_slice(), passes.as_slice()) {
             None => Ok(Closed::new(shards)),
             Some(fault) => {
                 put_together(&mut locks, &mut shards);

@@ -1,11 +1,11 @@
 //! Why an auditor cannot be closed with the passes that are given.
 
-ghost use Rattle.std.specs.Prelude.{◌≡◌, ◌≢◌, ◌↔◌, ◌<◌, ◌^◌, ℕ, All, Contains, IfSome, IsNone, IsTrue, Some, length, map, option_copied};
+ghost use Rattle.std.specs.Prelude.{◌≡◌, ◌≢◌, ◌↔◌, ◌<◌, ◌^◌, ℕ, All, Contains, IfSome, IsNone, IsTrue, MatchBool, Some, length, map, option_copied};
 ghost use Rattle.std.specs.List.{AllPairs, slice_get};
 ghost use Rattle.shards.specs.declared.entry.Numbered.{Numbered};
-ghost use Rattle.shards.specs.Closing.{AreComplete, AreItsPasses, Held, IsClosingFault, IsSettled, IsFirstStranger, IsFirstWithStranger};
-ghost use Rattle.shards.specs.Merge.{IsTold};
-ghost use Rattle.shards.specs.Shard.{AreOwned, IsKept, IsOwned, Rises, held_of};
+ghost use Rattle.shards.specs.Closing.{AreComplete, AreItsPasses, Held, IsClosingFault, IsFirstStranger, IsFirstWithStranger};
+ghost use Rattle.shards.specs.Merge.{IsStranger, IsTold};
+ghost use Rattle.shards.specs.Shard.{AreOwned, IsKept, IsOwned, IsSettledFor, Rises, held_of};
 
 use crate::fitting::{are_its_passes, first_missing, first_unfit, pass_of};
 use crate::same::is_same;
@@ -13,9 +13,11 @@ use crate::shard::Shard;
 use crate::{Entry, Numbered, Opening, Pass, ShardFault};
 
 /// The first fault: S6, S4, S3, S5 in this order, of the least shard, and there of the least feeder or number.
+/// Of the feeders below `wanted` each must have a pass.
 pub fn closing_fault<'t, O: Opening>(
     name: u64,
     feeders: u32,
+    wanted: u32,
     shards: &[Shard<'t>],
     passes: &[Pass<'t>],
 ) -> Option<ShardFault>
@@ -24,14 +26,14 @@ pub fn closing_fault<'t, O: Opening>(
     requires many { length shards.now ≡ O.plan.shards }
     requires kept { All (IsKept O.plan) shards.now }
     requires bound { O.plan.shards < 2 ^ 32 }
-    ensures fault { IfSome result (IsClosingFault O.plan passes.now (map held_of shards.now)) }
-    ensures passes { IsNone result → AreItsPasses O.plan passes.now × AreComplete O.plan.feeders passes.now }
-    ensures none { IsNone result → (place : ℕ) (shard : Held) → slice_get (map held_of shards.now) place ≡ Some shard → (shard.at ≡ place) × IsSettled O.plan passes.now place shard.journal }
+    ensures fault { IfSome result (IsClosingFault O.plan wanted passes.now (map held_of shards.now)) }
+    ensures passes { IsNone result → AreItsPasses O.plan passes.now × AreComplete wanted passes.now }
+    ensures none { IsNone result → (place : ℕ) (shard : Held) → slice_get (map held_of shards.now) place ≡ Some shard → (shard.at ≡ place) × IsSettledFor O.plan passes.now place shard.journal }
 {
     if !are_its_passes::<O>(name, feeders, shards.len(), passes) {
         return Some(ShardFault::ForeignPass);
     }
-    if let Some(feeder) = first_missing(feeders, passes) {
+    if let Some(feeder) = first_missing(wanted, passes) {
         return Some(ShardFault::PassMissing(feeder));
     }
     if let Some((shard, seen, found)) = first_unfit::<O>(feeders, shards, passes) {
@@ -79,14 +81,14 @@ fn stranger_in<'t>(journal: &[Entry<'t>], place: u32, passes: &[Pass<'t>]) -> Op
     None
 }
 
-/// Whether a pass of its feeder submitted the entry at its number.
+/// Whether the pass of its feeder, where there is one, submitted the entry at its number.
 fn is_owned(passes: &[Pass], place: u32, known: &Numbered) -> bool
     requires apart { AllPairs (λ a b. a.feeder ≢ b.feeder) passes.now }
-    ensures { IsTrue result ↔ IsOwned passes.now place known.now }
+    ensures { MatchBool result (IsOwned passes.now place known.now) (IsStranger passes.now place known.now) }
 {
     match pass_of(passes, known.entry.feeder) {
         Some(pass) => is_told(pass, place, known),
-        None => false,
+        None => true,
     }
 }
 

@@ -1,16 +1,21 @@
 //! What the words of this crate come to, whatever the journals.
 
-ghost use Rattle.std.specs.Prelude.{◌≡◌, ℕ, List, [], ◌++◌, map, Some, All, filter, ◌≢◌, ◌<◌, ◌∷◌, Option, length, ◌≤◌, IfSome, IsSomeAnd};
+ghost use Rattle.std.specs.Prelude.{◌≡◌, ◌%◌, ℕ, List, [], ◌++◌, map, Some, All, filter, ◌≢◌, ◌<◌, ◌∷◌, Option, length, ◌≤◌, IfSome, IsSomeAnd};
 ghost use Rattle.std.specs.List.{slice_get};
 ghost use Rattle.intervals.specs.Terms.{Terms};
 ghost use Rattle.intervals.specs.Refusal.{standing};
 ghost use Rattle.shards.specs.declared.entry.Entry.{Entry};
 ghost use Rattle.shards.specs.Plan.{Plan};
-ghost use Rattle.shards.specs.Journal.{IsLegalJournal, asked_in, edits_of, standing_of, is_by};
+ghost use Rattle.shards.specs.Journal.{IsJournalOf, IsLegalJournal, asked_in, edits_of, standing_of, is_by};
 ghost use Rattle.shards.specs.Plain.{plain_entry};
 ghost use Rattle.shards.specs.Pass.{Passed, told, IsPassOf, Sight, fresh, learnt, with_own, with_seen, IsBehind, IsInKeeping, farthest_in, farthest_of};
 ghost use Rattle.shards.specs.Merge.{IsMerge};
+ghost use Rattle.shards.specs.Steps.{IsLive, IsSubmitted};
+ghost use Rattle.intervals.specs.declared.operation.RegId.{RegId};
+ghost use Rattle.intervals.specs.declared.edit.Edit.{Edit};
+ghost use Rattle.shards.specs.declared.entry.Answer.{Answer};
 ghost use Rattle.shards.specs.declared.entry.Numbered.{Numbered};
+ghost use Rattle.shards.specs.declared.entry.Receipt.{Receipt};
 ghost use Rattle.shards.specs.declared.fault.ShardFault.{ShardFault};
 ghost use Rattle.shards.specs.Closing.{Held, IsClosingFault};
 
@@ -40,10 +45,23 @@ pub fn entries_are_as_submitted()
         → All (λ pass. map plain_entry (filter (is_by pass.feeder) journal) ≡ map (λ own. plain_entry own.entry) (told pass at)) passes }
 {}
 
-/// Of one list of shards and passes there is at most one fault.
+/// Where there is one feeder, each entry of a journal is its. A journal that is in keeping with its pass has
+/// exactly as many entries as the pass submitted there: an edit is entered at the number of those before it, and
+/// a question is answered after exactly so many.
+pub fn a_lone_feeder_has_all_entries()
+    ensures all { (plan : Plan) (at : ℕ) (journal : List Entry) → plan.feeders ≡ 1 → IsJournalOf plan at journal → filter (is_by 0) journal ≡ journal }
+    ensures counted { (plan : Plan) (at : ℕ) (pass : Passed) (journal : List Entry) → plan.feeders ≡ 1 → IsPassOf plan pass
+        → IsJournalOf plan at journal → IsInKeeping at pass journal → length journal ≡ length (told pass at) }
+    ensures submitted { (plan : Plan) (pass : Passed) (register : RegId) (edit : Edit) (receipt : Receipt) → plan.feeders ≡ 1
+        → IsSubmitted plan pass register edit receipt → receipt.number ≡ length (told pass receipt.shard) }
+    ensures live { (plan : Plan) (pass pass' : Passed) (register : ℕ) (answer : Answer) → plan.feeders ≡ 1
+        → IsLive plan pass pass' register answer → answer.number ≡ length (told pass (register % plan.shards)) }
+{}
+
+/// Of one list of shards and passes there is at most one fault, however many passes are wanted.
 pub fn one_closing_fault()
-    ensures { (plan : Plan) (passes : List Passed) (shards : List Held) (a b : ShardFault)
-        → IsClosingFault plan passes shards a → IsClosingFault plan passes shards b → a ≡ b }
+    ensures { (plan : Plan) (wanted : ℕ) (passes : List Passed) (shards : List Held) (a b : ShardFault)
+        → IsClosingFault plan wanted passes shards a → IsClosingFault plan wanted passes shards b → a ≡ b }
 {}
 
 /// A pass begins with no entries. One that it submits comes behind those of its shard, and all else that is

@@ -15,10 +15,10 @@
 //! that; `specs/Steps.antt` what an edit and a question come to; `specs/Merge.antt` and `specs/Closing.antt`
 //! what is left at the end. `laws.rt` says what these words come to.
 //!
-//! The value under a shard's lock is a `ShardState`: its type says that the journal is legal, that each book
-//! is what the journal leaves of its register, and that each feeder's count is the number of its entries. A
-//! lock forgets all of a value but its type, so the plan that the journal is legal for is a parameter of the
-//! type: an `Opening`, of which a caller picks one (`opening.rt`).
+//! The value under a shard's lock is a `ShardState`: its type says that the journal is legal and each entry of
+//! one of the feeders, that each book is what the journal leaves of its register, and that each feeder's count
+//! is the number of its entries. A lock forgets all of a value but its type, so the plan that the journal is
+//! legal for is a parameter of the type: an `Opening`, of which a caller picks one (`opening.rt`).
 #![tactic(auto)]
 
 mod auditor;

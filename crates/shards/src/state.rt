@@ -1,7 +1,7 @@
 //! The value under the lock of a shard.
 
 ghost use Rattle.std.specs.Prelude.{◌≡◌, ◌<◌, ◌%◌, ◌++◌, ◌∷◌, [], IfOk, IfErr, OnOk, OnErr, length};
-ghost use Rattle.shards.specs.Journal.{IsAnswered, IsLegalJournal};
+ghost use Rattle.shards.specs.Journal.{IsAnswered, IsJournalOf};
 ghost use Rattle.shards.specs.Pass.{IsInKeeping, IsPassOf, with_own, with_seen};
 ghost use Rattle.shards.specs.Shard.{IsKept, held_of};
 ghost use Rattle.shards.specs.Steps.{entered, IsQuestionRefusal, IsStanding, IsStateRefusal, entry_of, last_entry, numbered_entry};
@@ -12,9 +12,9 @@ use crate::{Answer, Entry, Opening, Pass, Receipt, ShardFault};
 use intervals::{Edit, RegId};
 use std::marker::{Model, PhantomData};
 
-/// The registers of one shard of an opening, with its journal. Its type says that the journal is legal, that
-/// each book is what the journal leaves of its register, and that each feeder's count is the number of its
-/// entries.
+/// The registers of one shard of an opening, with its journal. Its type says that the journal is legal and each
+/// entry of one of the feeders, that each book is what the journal leaves of its register, and that each
+/// feeder's count is the number of its entries.
 #[derive(Drop)]
 pub struct ShardState<'t, O: Opening> {
     shard: Shard<'t>,
@@ -62,7 +62,7 @@ impl<'t, O: Opening> ShardState<'t, O> {
     /// What was answered in the shard, in order.
     pub fn journal(&self) -> &[Entry<'t>]
         ensures journal { result.now ≡ self.now.journal }
-        ensures legal { IsLegalJournal O.plan self.now.at result.now }
+        ensures of_shard { IsJournalOf O.plan self.now.at result.now }
     {
         self.shard.journal.as_slice()
     }
@@ -79,7 +79,7 @@ impl<'t, O: Opening> ShardState<'t, O> {
         requires known { register.0 < length O.plan.claims }
         requires pass { IsPassOf O.plan pass.old }
         ensures journal { IfOk result (λ receipt. self.new ≡ record { at = self.old.at; journal = self.old.journal ++ entry_of pass.old.feeder register edit.entry receipt.reply ∷ [] }) }
-        ensures legal { IsLegalJournal O.plan self.new.at self.new.journal }
+        ensures of_shard { IsJournalOf O.plan self.new.at self.new.journal }
         ensures answered { IfOk result (λ receipt. IsAnswered O.plan self.old.at self.old.journal (entry_of pass.old.feeder register edit.entry receipt.reply)) }
         ensures receipt { IfOk result (λ receipt. (receipt.shard ≡ self.old.at) × (receipt.number ≡ length self.old.journal)) }
         ensures told { IfOk result (λ receipt. pass.new ≡ entered pass.old register edit.entry receipt) }
@@ -97,7 +97,7 @@ impl<'t, O: Opening> ShardState<'t, O> {
         requires here { register.0 % O.plan.shards ≡ self.now.at }
         requires known { register.0 < length O.plan.claims }
         requires pass { IsPassOf O.plan pass.old }
-        ensures legal { IsLegalJournal O.plan self.now.at self.now.journal }
+        ensures of_shard { IsJournalOf O.plan self.now.at self.now.journal }
         ensures answer { IfOk result (IsStanding O.plan register.0 self.now.journal) }
         ensures seen { OnOk result (pass.new ≡ with_seen pass.old self.now.at (last_entry self.now.journal)) }
         ensures keeping { OnOk result (IsInKeeping self.now.at pass.old self.now.journal) }
@@ -112,7 +112,7 @@ impl<'t, O: Opening> ShardState<'t, O> {
     /// Refuses a pass that the journal is not in keeping with.
     fn check(&self, pass: &Pass<'t>) -> Result<(), ShardFault>
         requires { IsPassOf O.plan pass.now }
-        ensures legal { IsLegalJournal O.plan self.now.at self.now.journal }
+        ensures of_shard { IsJournalOf O.plan self.now.at self.now.journal }
         ensures ok { OnOk result (IsInKeeping self.now.at pass.now self.now.journal) }
         ensures refused { IfErr result (IsQuestionRefusal self.now.at pass.now self.now.journal) }
     {

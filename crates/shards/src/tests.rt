@@ -369,22 +369,25 @@ fn put_back(passes: &mut Passes, places: &str, given: Vec<Pass<'static>>) {
     }
 }
 
-/// Closes an auditor with the passes at places, and tells all of what is left, or no more than how many entries
-/// there are. Where that is refused it goes on.
+/// Closes an auditor with the passes at places, all or some, and tells all of what is left, or to `close` no more
+/// than how many entries there are. Where that is refused it goes on.
 fn tell_finish<O: Opening>(
     told: &mut String,
     many: Many,
     auditor: Auditor<'static, O>,
     given: Vec<Pass<'static>>,
-    is_whole: bool,
+    word: &str,
 ) -> Result<Result<(), (Auditor<'static, O>, Vec<Pass<'static>>)>, AllocError> {
-    match auditor.finish(given) {
+    let ended = match word {
+        "finish some" => auditor.finish_some(given),
+        _ => auditor.finish(given),
+    };
+    match ended {
         Ok(closed) => {
             told.push_str("closed")?;
-            if is_whole {
-                tell_closed(told, many, &closed)?;
-            } else {
-                tell_sizes(told, many, &closed)?;
+            match word {
+                "close" => tell_sizes(told, many, &closed)?,
+                _ => tell_closed(told, many, &closed)?,
             }
             Ok(Ok(()))
         }
@@ -490,12 +493,12 @@ fn tell_with<O: Opening + Send + Sync, R: Threads + Wait + AllocGlobal + Abort +
         return Ok(Some(auditor));
     };
     let mut given = taken(alloc, &mut table.passes, places)?;
-    if word != "finish" && word != "close" {
+    if word != "finish" && word != "finish some" && word != "close" {
         tell_threads(rt, told, alloc, &auditor, &mut given, word)?;
         put_back(&mut table.passes, places, given);
         return Ok(Some(auditor));
     }
-    match tell_finish(told, table.many, auditor, given, word == "finish")? {
+    match tell_finish(told, table.many, auditor, given, word)? {
         Ok(()) => Ok(None),
         Err((auditor, given)) => {
             put_back(&mut table.passes, places, given);
@@ -700,9 +703,11 @@ const FIVE: &str = "{:levels [{:name top :registers [
   {:name c :kind :atomic :writers :any} {:name d :kind :regular :writers [0] :initial 0}
   {:name e :kind :atomic :writers :any}]}]}";
 
-/// What passes submit, learn and ask: one register, several a shard, more shards than registers, refused edits.
+/// What passes submit, learn and ask: one register, what another submitted and one has not seen, several registers
+/// a shard, more shards than registers, refused edits.
 const CALLS: &str =
     "one 7 1 2 | 0 writes x0 5 0-1; 1 learns 0; 1 asks x0; 1 reads x0 4 2-3; finish with 1; 1 asks x0; finish with 1 0 => 0/0 holds; learnt; holds 1 of 1; 0/1 fails; S4 PassMissing of feeder 0; fails 2 unwritten 1:2 of 2; closed 0: 0 x0 + 0:0 holds, 1 x0 + 1:2 fails, 1: fails 2, none
+one 7 1 2 | 0 writes x0 1 0-1; 0 writes x0 2 2-3; 0 reads x0 1 4-5; 1 asks x0 => 0/0 holds; 0/1 holds; 0/2 fails; fails 3 crossing of 3
 one 7 1 2 | 0 writes x0 5 0-1; 1 reads x0 5 2-3; 0 counts 0; 1 counts 0; 1 counts 1; finish with 0 1; 0 asks x0 => 0/0 holds; 0/1 holds; 1; 1; 0; closed 0: 0 x0 + 0:0 holds, 1 x0 + 1:2 holds, 1: holds 2, none; is closed
 five 7 3 2 | 0 writes x0 1 0-1; 0 writes x3 1 0-1; 1 writes x4 5 0-1; 1 writes x1 5 0-1; 0 reads x1 5 2-3; 1 learns 0; 1 asks x3; 0 asks x2; finish with 0 1 => 0/0 holds; 0/1 holds; 1/0 holds; 1/1 holds; 1/2 holds; learnt; holds 1 of 2; holds 0 of 0; closed 0: 0 x0 + 0:0 holds, 0 x3 + 0:0 holds, 1: 1 x4 + 1:0 holds, 1 x1 + 1:0 holds, 0 x1 + 0:2 holds, 2: 3: holds 1, holds 2, holds 0, holds 1, holds 1, none
 five 7 8 1 | 0 writes x4 1 0-1; gate; 0 asks x3; gate; 0 counts 4; 0 counts 8; finish with 0 => 4/0 holds; 1 inside, 1 outside, 0 in 4, 0 out; holds 0 of 0; 2 inside, 2 outside, 0 in 3, 0 out; 1; 0; closed 0: 1: 2: 3: 4: 0 x4 + 0:0 holds, 5: 6: 7: 8: holds 0, holds 0, holds 0, holds 0, holds 1, none
@@ -737,11 +742,21 @@ five 7 2 2 | 0 writes x0 1 0-1; 0 writes x0 2 2-3; other 2 writes x0 9 0-1; othe
 five 7 1 2 | 1 writes x0 1 0-1; 0 writes x0 2 2-3; 0 writes x0 3 4-5; 1 writes x0 4 6-7; other 3 writes x0 1 0-1 a; other 2 writes x0 2 2-3 b; other 2 writes x0 3 4-5; other 3 writes x0 4 6-7; finish with 2 3; finish with 2 1; finish with 0 3; finish with 1 0 => 0/0 holds; 0/1 holds; 0/2 holds; 0/3 holds; 0/0 holds; 0/1 holds; 0/2 holds; 0/3 holds; S5 Stranger of feeder 1 in shard 0 at 0; S5 Stranger of feeder 0 in shard 0 at 1; S5 Stranger of feeder 1 in shard 0 at 0; closed 0: 1 x0 + 1:0 holds, 0 x0 + 0:2 holds, 0 x0 + 0:4 holds, 1 x0 + 1:6 holds, 1: holds 4, holds 0, holds 0, holds 0, holds 0, none
 five 7 2 1 | 0 writes x1 1 0-1; 0 writes x1 2 2-3; 0 writes x0 1 0-1; 0 writes x0 2 2-3; other 1 writes x1 1 0-1 a; other 1 writes x1 2 2-3; other 1 writes x0 1 0-1 a; other 1 writes x0 2 2-3; finish with 1; finish with 0 => 1/0 holds; 1/1 holds; 0/0 holds; 0/1 holds; 1/0 holds; 1/1 holds; 0/0 holds; 0/1 holds; S5 Stranger of feeder 0 in shard 0 at 0; closed 0: 0 x0 + 0:0 holds, 0 x0 + 0:2 holds, 1: 0 x1 + 0:0 holds, 0 x1 + 0:2 holds, 2: holds 2, holds 2, holds 0, holds 0, holds 0, none";
 
+/// Passes that are lost or of another auditor.
+const LOST: &str =
+    "one 7 1 2 | 0 writes x0 5 0-1; finish with 1; finish some with 1 => 0/0 holds; S4 PassMissing of feeder 0; closed 0: 0 x0 + 0:0 holds, 1: holds 1, none
+one 1 1 1 and 2 1 1 | 2 writes x0 5 0-1; 2 asks x0; 0 learns 2; 2 learns 0; 0 writes x1 5 0-1; 0 asks x1; 0 counts 0; 2 counts 0; 0 asks x0 => S6 ForeignPass; S6 ForeignPass; S6 ForeignPass; S6 ForeignPass; S1 UnknownRegister; S1 UnknownRegister; 0; 0; holds 0 of 0
+one 1 1 1 | 0 writes x0 5 0-1; other 0 asks x0 => 0/0 holds; S3 JournalBehind in shard 0 at 0 of 0
+one 1 1 1 | 0 writes x0 5 0-1; 0 writes x0 6 2-3; other 1 writes x0 7 0-1; other 1 writes x0 6 2-3; finish with 1; finish some with 1; finish with 0 => 0/0 holds; 0/1 holds; 0/0 holds; 0/1 holds; S5 Stranger of feeder 0 in shard 0 at 0; S5 Stranger of feeder 0 in shard 0 at 0; closed 0: 0 x0 + 0:0 holds, 0 x0 + 0:2 holds, 1: holds 2, none
+five 7 2 3 | 2 writes x1 1 0-1; 0 writes x0 1 0-1; 1 writes x0 2 2-3; 0 writes x0 3 4-5; finish some with 9 => 1/0 holds; 0/0 holds; 0/1 holds; 0/2 holds; closed 0: 0 x0 + 0:0 holds, 1 x0 + 1:2 holds, 0 x0 + 0:4 holds, 1: 2 x1 + 2:0 holds, 2: holds 3, holds 1, holds 0, holds 0, holds 0, none
+five 7 2 3 and 8 2 3 | 0 writes x0 1 0-1; 1 writes x0 2 2-3; 1 writes x1 4 0-1; other 4 writes x0 8 0-1; other 4 writes x1 9 0-1; finish some with 6; finish some with 1 4; finish some with 4 2; finish some with 5 3; finish some with 1 2 => 0/0 holds; 0/1 holds; 1/0 holds; 0/0 holds; 1/0 holds; S6 ForeignPass; S6 ForeignPass; S3 JournalBehind in shard 0 at 0 of 2; S3 JournalBehind in shard 0 at 0 of 2; closed 0: 0 x0 + 0:0 holds, 1 x0 + 1:2 holds, 1: 1 x1 + 1:0 holds, 2: holds 2, holds 1, holds 0, holds 0, holds 0, none
+five 7 1 3 | 0 writes x0 1 0-1; 1 writes x0 2 2-3; 1 writes x0 3 4-5; other 3 writes x0 1 0-1; other 4 writes x0 9 2-3; other 4 writes x0 3 4-5; finish some with 4; finish some with 3 2 => 0/0 holds; 0/1 holds; 0/2 holds; 0/0 holds; 0/1 holds; 0/2 holds; S5 Stranger of feeder 1 in shard 0 at 1; closed 0: 0 x0 + 0:0 holds, 1 x0 + 1:2 holds, 1 x0 + 1:4 holds, 1: holds 3, holds 0, holds 0, holds 0, holds 0, none";
+
 /// Feeders in threads.
 const THREADS: &str =
     "one 7 1 2 | hand on with 0 1; 0 asks x0; finish with 0 1 => 0/0 holds, holds 1 of 1, 0/1 fails; fails 2 unwritten 1:2 of 2; closed 0: 0 x0 + 0:0 holds, 1 x0 + 1:2 fails, 1: fails 2, none
 five 7 3 4 | mingle with 0 1 2 3; close with 3 2 1 0 => no fault; closed 800 entries
-five 7 2 2 | meet with 0 1; finish with 0 1 => 0 failures; closed 0: 0 x0 + 0:0 holds, 1: 1 x1 + 1:0 holds, 2: holds 1, holds 1, holds 0, holds 0, holds 0, none
+five 7 2 2 | hold with 0 1; close with 0 1 => 0 failures; closed 1000 entries
 one 7 1 2 | alone with 0 1; close with 1 0 => 0 failures; closed 100 entries
 one 7 1 2 | leave with 0 1; finish with 1 0 => 0 failures; closed 0: 0 x0 + 0:0 holds, 1 x0 + 1:0 holds, 1: holds 2, none";
 
@@ -776,6 +791,11 @@ fn passes_know_their_journals(rt: HostRuntime) -> Result<(), Fail> {
 #[test]
 fn the_first_fault_of_a_closing_is_told(rt: HostRuntime) -> Result<(), Fail> {
     each_is_told(&rt, CLOSING)
+}
+
+#[test]
+fn passes_may_be_lost(rt: HostRuntime) -> Result<(), Fail> {
+    each_is_told(&rt, LOST)
 }
 
 #[test]

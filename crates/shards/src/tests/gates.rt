@@ -52,28 +52,41 @@ impl Gate for Counting {
     }
 }
 
-/// Holds each of two feeders inside until both are there.
+/// Holds feeder 0 inside until feeder 1 has made a thousand calls, and feeder 1 until feeder 0 is there.
 #[derive(Drop)]
-pub struct Meeting {
-    pub inside: AtomicU64,
+pub struct Holding {
+    pub begun: AtomicU64,
+    pub calls: AtomicU64,
     pub missed: AtomicU64,
 }
 
-impl Gate for Meeting {
-    fn inside(&self, _shard: u32, _feeder: u32) {
-        self.inside.fetch_add(1, SeqCst);
-        if !is_reached(&self.inside, 2) {
+impl Gate for Holding {
+    fn inside(&self, _shard: u32, feeder: u32) {
+        if feeder == 0 {
+            self.begun.store(1, SeqCst);
+        }
+        let (count, wanted) = match feeder {
+            0 => (&self.calls, 1000),
+            _ => (&self.begun, 1),
+        };
+        if !is_reached(count, wanted) {
             self.missed.fetch_add(1, SeqCst);
+            count.store(wanted, SeqCst);
         }
     }
 
-    fn outside(&self, _feeder: u32) {}
+    fn outside(&self, feeder: u32) {
+        if feeder == 1 {
+            self.calls.fetch_add(1, SeqCst);
+        }
+    }
 }
 
-/// Holds feeder 0 outside until feeder 1 is inside.
+/// Holds feeder 0 outside after each of its calls until feeder 1 was inside once more.
 #[derive(Drop)]
 pub struct Leaving {
     pub begun: AtomicU64,
+    pub left: AtomicU64,
     pub inside: AtomicU64,
     pub missed: AtomicU64,
 }
@@ -81,15 +94,18 @@ pub struct Leaving {
 impl Gate for Leaving {
     fn inside(&self, _shard: u32, feeder: u32) {
         if feeder == 0 {
-            self.begun.store(1, SeqCst);
+            self.begun.fetch_add(1, SeqCst);
         } else {
-            self.inside.store(1, SeqCst);
+            self.inside.fetch_add(1, SeqCst);
         }
     }
 
     fn outside(&self, feeder: u32) {
-        if feeder == 0 && !is_reached(&self.inside, 1) {
-            self.missed.fetch_add(1, SeqCst);
+        if feeder == 0 {
+            let left = self.left.fetch_add(1, SeqCst).wrapping_add(1);
+            if !is_reached(&self.inside, left) {
+                self.missed.fetch_add(1, SeqCst);
+            }
         }
     }
 }

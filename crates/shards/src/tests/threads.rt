@@ -1,6 +1,6 @@
 //! Feeders in threads of their own.
 
-use super::gates::{Alone, Leaving, Meeting, is_reached};
+use super::gates::{Alone, Holding, Leaving, is_reached};
 use super::{submitted, tell_use, words_of};
 use crate::{Auditor, Gate, NoGate, Opening, Pass, Seen, ShardFault};
 use intervals::{Act, Edit, Moment, Op, OpId, Parts, RegId, Value};
@@ -93,17 +93,18 @@ fn feed_two<O: Opening + Send + Sync, R: Threads + Wait + Abort + Sync, G: Gate>
     )
 }
 
-/// Each of two feeders is held in its shard until both are there.
-fn meet<O: Opening + Send + Sync, R: Threads + Wait + Abort + Sync>(
+/// Feeder 0 is held in its shard until feeder 1 has made a thousand calls in another.
+fn hold<O: Opening + Send + Sync, R: Threads + Wait + Abort + Sync>(
     rt: &R,
     auditor: &Auditor<'static, O>,
     passes: (Pass<'static>, Pass<'static>),
 ) -> (Fed, Fed, u64) {
-    let gate = Meeting {
-        inside: AtomicU64::new(0),
+    let gate = Holding {
+        begun: AtomicU64::new(0),
+        calls: AtomicU64::new(0),
         missed: AtomicU64::new(0),
     };
-    let (a, b) = feed_two(rt, auditor, &gate, passes, (0, 1), 1);
+    let (a, b) = feed_two(rt, auditor, &gate, passes, (0, 1), 500);
     (a, b, gate.missed.load(SeqCst))
 }
 
@@ -121,17 +122,33 @@ fn alone<O: Opening + Send + Sync, R: Threads + Wait + Abort + Sync>(
     (a, b, gate.overlaps.load(SeqCst))
 }
 
+/// An edit and a question, each once feeder 0 has begun its own.
+fn follow<O: Opening, R: Wait + Abort>(
+    rt: &R,
+    auditor: &Auditor<'static, O>,
+    gate: &Leaving,
+    pass: &mut Pass<'static>,
+) -> Result<(), ShardFault> {
+    let _is_begun = is_reached(&gate.begun, 1);
+    let edit = written(pass.feeder(), 0);
+    submitted(rt, auditor, gate, pass, RegId(0), edit)?;
+    let _is_begun = is_reached(&gate.begun, 2);
+    auditor.standing(rt, gate, pass, RegId(0))?;
+    Ok(())
+}
+
 fn feed_later<O: Opening, R: Wait + Abort>(
     rt: &R,
     auditor: &Auditor<'static, O>,
     gate: &Leaving,
     pass: Pass<'static>,
 ) -> Fed {
-    let _is_begun = is_reached(&gate.begun, 1);
-    feed(rt, auditor, gate, pass, RegId(0), 1)
+    let mut pass = pass;
+    let fault = follow(rt, auditor, gate, &mut pass).err();
+    Fed { pass, fault }
 }
 
-/// Feeder 0 is held outside until feeder 1 is in the shard that it left.
+/// Feeder 0 is held outside, after an edit and after a question, until feeder 1 is in the shard that it left.
 fn leave<O: Opening + Send + Sync, R: Threads + Wait + Abort + Sync>(
     rt: &R,
     auditor: &Auditor<'static, O>,
@@ -139,6 +156,7 @@ fn leave<O: Opening + Send + Sync, R: Threads + Wait + Abort + Sync>(
 ) -> (Fed, Fed, u64) {
     let gate = Leaving {
         begun: AtomicU64::new(0),
+        left: AtomicU64::new(0),
         inside: AtomicU64::new(0),
         missed: AtomicU64::new(0),
     };
@@ -285,7 +303,7 @@ fn hand_on<O: Opening + Send + Sync, R: Threads + Wait + Abort + Sync>(
     )
 }
 
-/// An edit and a question, then something is taken over and something handed over.
+/// An edit and a question; after each tenth one something is taken over and something handed over.
 fn mingle<O: Opening, R: Wait + Abort>(
     rt: &R,
     alloc: Global,
@@ -298,7 +316,10 @@ fn mingle<O: Opening, R: Wait + Abort>(
     let register = RegId(at.wrapping_add(feeder) % 5);
     submitted(rt, auditor, &NoGate, pass, register, written(feeder, at))?;
     auditor.standing(rt, &NoGate, pass, RegId(at % 5))?;
-    if (at ^ feeder) & 1 == 0 {
+    if at % 10 != 9 {
+        return Ok(());
+    }
+    if (at / 10 ^ feeder) & 1 == 0 {
         take_over(rt, &mails.even, pass)?;
         hand_over(rt, alloc, &mails.odd, pass)
     } else {
@@ -432,8 +453,8 @@ pub fn tell_threads<O: Opening + Send + Sync, R: Threads + Wait + Abort + Sync>(
     match word {
         "hand on" => tell_hand_on(rt, told, alloc, auditor, passes),
         "mingle" => tell_crowd(rt, told, alloc, auditor, passes),
-        "meet" => {
-            let fed = meet(rt, auditor, two_of(passes)?);
+        "hold" => {
+            let fed = hold(rt, auditor, two_of(passes)?);
             tell_gate(told, passes, fed)
         }
         "alone" => {

@@ -1,16 +1,11 @@
-use Rattle.std.proofs.Common.{ℕ, refl, subst}
-use Rattle.shards.specs.Closing.{AreComplete}
-use Rattle.shards.proofs.Merged.{finished}
+use Rattle.std.proofs.Common.{refl}
+use Rattle.shards.proofs.Merged.{settled}
 use Rattle.shards.proofs.closing.closing_fault.Goals as goal
 
 pub returns-in_err-shard-clause-none : goal.returns-in_err-shard-clause-none
 returns-in_err-shard-clause-none g c = λ none.
-    let its = c.if-not-are_its_passes.ensures.0 refl in
-    let complete = subst (λ (feeders : ℕ). AreComplete feeders c.args.passes.now) c.requires.feeders (c.in_default.ensures.none refl) in
-    finished _ c.args.passes.now its.apart complete c.args.shards.now c.requires.kept (c.in_default-first_unfit.ensures.none refl) (c.in_default-first_unfit.ensures.rises refl) (c.in_err-shard.ensures.none refl)
+    settled _ c.args.passes.now c.args.shards.now c.requires.kept (c.in_default-first_unfit.ensures.none refl) (c.in_default-first_unfit.ensures.rises refl) (c.in_err-shard.ensures.none refl)
 
 pub returns-clause-fault : goal.returns-clause-fault
 returns-clause-fault g c =
-    let its = c.if-not-are_its_passes.ensures.0 refl in
-    let complete = subst (λ (feeders : ℕ). AreComplete feeders c.args.passes.now) c.requires.feeders (c.in_default.ensures.none refl) in
-    (its, complete, c.in_default-first_unfit.ensures.none refl, (c.in_ok-shard.known, c.in_ok-shard.ensures.stranger, refl, refl))
+    (c.if-not-are_its_passes.ensures.0 refl, c.in_default.ensures.none refl, c.in_default-first_unfit.ensures.none refl, (c.in_ok-shard.known, c.in_ok-shard.ensures.stranger, refl, refl))

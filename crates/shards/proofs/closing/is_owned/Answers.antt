@@ -1,9 +1,10 @@
-use Rattle.shards.proofs.Strangers.{told_from_owned, owned_from_told}
+use Rattle.std.proofs.Common.{refl}
+use Rattle.shards.proofs.Strangers.{owned_by, owned_by_none}
 use Rattle.shards.proofs.closing.is_owned.Goals as goal
 
 pub returns-in-Some : goal.returns-in-Some
 returns-in-Some c =
-    let found = c.in-Some.ensures.found in (
-      λ t. owned_from_told _ _ _ c.in-Some.pass.now found.1 found.0 (c.is_told.ensures.0 t),
-      λ h. c.is_told.ensures.1 (told_from_owned _ _ _ c.in-Some.pass.now c.requires.apart found.1 found.0 h),
-    )
+    owned_by c.is_told.result c.args.passes.now c.args.place c.args.known.now c.in-Some.pass.now c.requires.apart c.in-Some.ensures.found.1 c.in-Some.ensures.found.0 c.is_told.ensures
+
+pub returns-in-None : goal.returns-in-None
+returns-in-None c = owned_by_none c.args.passes.now c.args.place c.args.known.now (c.in-None.ensures.none refl)

@@ -1,14 +1,13 @@
-use Rattle.std.proofs.Common.{refl, arith}
-use Rattle.std.proofs.lemmas.Bool.{false≢true}
+use Rattle.std.proofs.Common.{arith}
 use Rattle.shards.specs.Shard.{IsOwned}
 use Rattle.shards.proofs.Strangers.{lesser_more, lesser_all, first_stranger_from}
 use Rattle.shards.proofs.closing.stranger_in.Goals as goal
 
 pub returns-then-not-is_owned-clause-stranger : goal.returns-then-not-is_owned-clause-stranger
-returns-then-not-is_owned-clause-stranger c = first_stranger_from _ _ _ _ _ (omega arith) c.loop-number.invariant (λ owned. false≢true (c.if-not-is_owned.ensures.1 owned))
+returns-then-not-is_owned-clause-stranger c = first_stranger_from _ _ _ _ _ (omega arith) c.loop-number.invariant c.if-not-is_owned.ensures
 
 pub loop-number-preserved : goal.loop-number-preserved
-loop-number-preserved c = lesser_more _ _ (IsOwned c.args.passes.now c.args.place) _ c.loop-number.invariant (c.if-not-is_owned.ensures.0 refl)
+loop-number-preserved c = lesser_more _ _ (IsOwned c.args.passes.now c.args.place) _ c.loop-number.invariant c.if-not-is_owned.ensures
 
 pub returns-clause-none : goal.returns-clause-none
 returns-clause-none c = λ e. lesser_all _ _ (IsOwned c.args.passes.now c.args.place) (omega arith) c.loop-number.invariant
