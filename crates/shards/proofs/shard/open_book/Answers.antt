@@ -18,6 +18,6 @@ returns-in_ok-push-clause-books c =
     ap (map claimed_of) c.in_ok-push.ensures.items
     ∙ map-append claimed_of c.args.books.now.items (c.in_ok-new.field-0 ∷ [])
     ∙ ap (λ (more : List Claimed). map claimed_of c.args.books.now.items ++ more)
-    (ap (λ (held : Kept). claimed_of held ∷ []) c.in_ok-new.ensures
+    (ap (λ (held : Kept). claimed_of held ∷ []) c.in_ok-new.ensures.made
     ∙ sym (ap (λ (claim : Option Terms). option_to_list (option_map unedited claim))
     (slice_get-map (λ register. register.claim) c.args.tower.now.registers c.args.id.0 ∙ sym c.in-Some.ensures)))
