@@ -73,9 +73,9 @@ module _
       let many : length closed ≡ 1 = finished.many in
       let settled : IsSettled alone_plan passes 0 journal = finished.finished 0 (omega arith) in
       let runs : Runs [] [] journal traced.doings =
-      runs_alone stands_alone (reply_is alone_claim) (stood alone_claim) journal traced.doings settled.legal (of_one_feeder passes closed finished) (traced.entries 0 (omega arith)) in
+      runs_alone stands_alone (reply_is alone_claim) (stood alone_claim) journal traced.doings settled.of_shard.legal (of_one_feeder passes closed finished) (traced.entries 0 (omega arith)) in
       let steps : map taken_of traced.doings ≡ steps_of 0 traced.items = traced.done.for_steps in
-      let ops_are : standing_of 0 journal ≡ standing alone_claim [] (edits_of 0 journal) = stands_alone journal settled.legal in
+      let ops_are : standing_of 0 journal ≡ standing alone_claim [] (edits_of 0 journal) = stands_alone journal settled.of_shard.legal in
       let held : Claimed = left_by journal 0 alone_claim in
       let book : book_of closed 0 ≡ Some held = finished.books 0 in
       let same : (Holds alone_claim (standing alone_claim [] (edits_of 0 journal)) ↔ Holds alone_claim (standing_after (map taken_of traced.doings)))

@@ -9,7 +9,8 @@ use Rattle.shards.specs.Plan.{Plan}
 use Rattle.shards.specs.Pass.{IsPassOf, IsSightOf, Passed, fresh, told}
 use Rattle.feeders.specs.declared.log.Line.{Line}
 use Rattle.feeders.specs.Steps.{Taken}
-use Rattle.feeders.specs.Doings.{Doing, IsAnsweredAfter, entered_in, entry_in, lines_at, lines_from, taken_of, what_of}
+use Rattle.feeders.specs.Doings.{Doing, IsAnsweredAfter, entered_in, entry_in, lines_at, lines_from, own_after, taken_of, what_of}
+use Rattle.feeders.specs.Setting.{IsStart, Start, first_start}
 use Rattle.feeders.specs.Progress.{HasDone}
 
 each_after_push : {X : Type 0} (R : List X → X → Type 0) (before xs : List X) (x : X) → EachAfter R before xs → R (before ++ xs) x → EachAfter R before (xs ++ x ∷ [])
@@ -53,11 +54,9 @@ told_nothing shards doing pass none = record {
 pub goes_on : (plan : Plan) (old new : Passed) (lines more : List Line) (place : ℕ) (doing : Doing)
     → IsTold plan.shards doing old new
     → more ≡ lines ++ lines_at place (what_of doing)
-    → ((doings : List Doing) → ((at : ℕ) → at < plan.shards → told old at ≡ entered_in plan.shards old.feeder at doings) → IsAnsweredAfter plan old.feeder doings doing)
-    → (feeder : ℕ) (steps : List Taken) → place ≡ length steps → HasDone plan feeder old lines steps → HasDone plan feeder new more (steps ++ taken_of doing ∷ [])
-goes_on plan old new lines more place doing told_is noted answered feeder steps at has =
-    let own : (n : ℕ) → n < plan.shards → told old n ≡ entered_in plan.shards old.feeder n has.doings =
-    λ n within. has.own n within ∙ ap (λ (f : ℕ). entered_in plan.shards f n has.doings) (sym has.feeder_is) in
+    → ((start : Start) (doings : List Doing) → old.feeder ≡ start.feeder → ((at : ℕ) → at < plan.shards → told old at ≡ own_after plan.shards start at doings) → IsAnsweredAfter plan start doings doing)
+    → (start : Start) (steps : List Taken) → place ≡ length steps → HasDone plan start old lines steps → HasDone plan start new more (steps ++ taken_of doing ∷ [])
+goes_on plan old new lines more place doing told_is noted answered start steps at has =
     let many : length has.doings ≡ length steps = sym (length-map has.doings taken_of) ∙ ap length has.done.for_steps in
     let behind : place ≡ 0 + length has.doings = omega arith in
     record {
@@ -68,16 +67,16 @@ goes_on plan old new lines more place doing told_is noted answered feeder steps 
             ∙ ap (λ (front : List Line). front ++ lines_at place (what_of doing)) has.done.noted
             ∙ ap (λ (n : ℕ). lines_from 0 has.doings ++ lines_at n (what_of doing)) behind
             ∙ sym (lines_on 0 has.doings doing);
-        answers = each_after_push (IsAnsweredAfter plan feeder) [] has.doings doing has.done.answers
-            (subst (λ (f : ℕ). IsAnsweredAfter plan f has.doings doing) has.feeder_is (answered has.doings own));
+        answers = each_after_push (IsAnsweredAfter plan start) [] has.doings doing has.done.answers (answered start has.doings has.feeder_is has.own);
       };
       feeder_is = told_is.feeder_is ∙ has.feeder_is;
       of_plan = (told_is.sight plan has.of_plan.0, told_is.many ∙ has.of_plan.1, subst (λ (f : ℕ). f < plan.feeders) (sym told_is.feeder_is) has.of_plan.2);
       own = λ n within.
           told_is.own n within
           ∙ ap (λ (f : ℕ). told old n ++ option_to_list (entry_in plan.shards f n doing)) has.feeder_is
-          ∙ ap (λ (front : List Numbered). front ++ option_to_list (entry_in plan.shards feeder n doing)) (has.own n within)
-          ∙ sym (entered_on plan.shards feeder n has.doings doing);
+          ∙ ap (λ (front : List Numbered). front ++ option_to_list (entry_in plan.shards start.feeder n doing)) (has.own n within)
+          ∙ append_assoc (start.had n) (entered_in plan.shards start.feeder n has.doings) (option_to_list (entry_in plan.shards start.feeder n doing))
+          ∙ ap (λ (back : List Numbered). start.had n ++ back) (sym (entered_on plan.shards start.feeder n has.doings doing));
     }
 
 -- a fresh pass of one of the feeders is the plan's
@@ -88,12 +87,20 @@ fresh_is_of plan pass is known = (
   known,
 )
 
+-- a fresh pass is as it is at the first start
+pub first_is_start : (plan : Plan) (pass : Passed) → pass ≡ fresh plan pass.feeder → pass.feeder < plan.feeders → ((at : ℕ) → told (fresh plan pass.feeder) at ≡ []) → IsStart plan (first_start pass.feeder) pass
+first_is_start plan pass is known none = record {
+  of_plan = fresh_is_of plan pass is known;
+  feeder_is = refl;
+  had = λ at within. ap (λ (p : Passed). told p at) is ∙ none at;
+}
+
 -- before any
-pub nothing_done : (plan : Plan) (pass : Passed) (lines : List Line) → IsPassOf plan pass → ((at : ℕ) → told pass at ≡ []) → lines ≡ [] → HasDone plan pass.feeder pass lines []
-nothing_done plan pass lines is none empty = record {
+pub nothing_done : (plan : Plan) (start : Start) (pass : Passed) (lines : List Line) → IsStart plan start pass → lines ≡ [] → HasDone plan start pass lines []
+nothing_done plan start pass lines is empty = record {
   doings = [];
   done = record { for_steps = refl; noted = empty; answers = tt };
-  feeder_is = refl;
-  of_plan = is;
-  own = λ at within. none at;
+  feeder_is = is.feeder_is;
+  of_plan = is.of_plan;
+  own = λ at within. is.had at within ∙ sym (append-nil (start.had at));
 }

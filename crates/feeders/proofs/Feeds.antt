@@ -1,41 +1,46 @@
 -- What a feeder was fed: its first byte, and where its reading breaks off.
-use Rattle.std.proofs.Common.{◌≡◌, ◌≢◌, ◌⊎◌, inl, inr, ℕ, false, List, [], ◌∷◌, ◌++◌, length, length-append, Option, Some, None, refl, sym, subst, ◌∙◌, arith, append-nil, IsTrue}
+use Rattle.std.proofs.Common.{◌≡◌, ◌≢◌, ◌⊎◌, inl, inr, ℕ, false, List, [], ◌∷◌, ◌++◌, length, length-append, Option, Some, None, refl, sym, ap, subst, ◌∙◌, arith, append-nil, IsTrue}
 use Rattle.edn_reader.specs.declared.fault.EdnFault.{EdnFault}
 use Rattle.edn_reader.specs.declared.fault.EdnFault.TheVariants as edn
 use Rattle.edn_reader.specs.Grammar.{Piece}
 use Rattle.edn_reader.specs.Text.{IsViable}
 use Rattle.edn_reader.specs.Fault.{AreElementsSoFar}
 use Rattle.edn_reader.specs.Splitting.{Splitting, StandsAfter}
-use Rattle.tower_file.specs.Contents.{Contents}
-use Rattle.jepsen_form.specs.declared.item.MomentField.{MomentField}
+use Rattle.jepsen_form.specs.Item.{IsItem}
 use Rattle.shards.specs.Plan.{Plan}
 use Rattle.shards.specs.Pass.{Passed}
 use Rattle.feeders.specs.declared.feeder.Course.{Course}
-use Rattle.feeders.specs.declared.feeder.Course.TheVariants.{Open, Broke, Ended}
+use Rattle.feeders.specs.declared.feeder.Course.TheVariants.{Open, Paused, Ending, Broke, Ended}
 use Rattle.feeders.specs.declared.intake.Intake.{Intake}
 use Rattle.feeders.specs.declared.log.Broken.{Broken}
+use Rattle.feeders.specs.declared.pending.Pending.{Pending}
+use Rattle.feeders.specs.declared.pending.Pending.TheVariants.{Nothing}
 use Rattle.feeders.specs.Broken.{AreElements, broken_by, is_of_reading}
 use Rattle.feeders.specs.Kept.{Holds}
 use Rattle.feeders.specs.Readers.{broke_reading}
 use Rattle.feeders.specs.Progress.{HasDone, IsAhead, IsAt}
 use Rattle.feeders.specs.Steps.{steps_of}
 use Rattle.feeders.specs.Feeding.{Feeding, IsFedUpTo, IsUpTo}
-use Rattle.feeders.specs.Intake.{CanGoOn, HasBroken, HasEnded, HasFed, HasTaken}
-use Rattle.feeders.proofs.Pieces.{taken_is}
+use Rattle.feeders.specs.Intake.{CanGoOn, HasBroken, HasEnded, HasFed, HasTaken, IsAtEnd}
+use Rattle.feeders.specs.Pending.{CanSettleAs, IsPending, IsPendingAs, IsSettled}
+use Rattle.feeders.specs.Setting.{Setting, Start, setting_of}
+use Rattle.feeders.proofs.Pieces.{all_fed, can_more, fed_more, none_holds, none_waiting, taken_is, zip_join}
 
-pub open_fed : (plan : Plan) (feeder : ℕ) (bytes : List ℕ) (feeding : Feeding) (pass : Passed) → feeding.course ≡ Open → IsFedUpTo plan feeder bytes feeding pass
-    → HasFed plan feeding.tower feeding.chosen feeder bytes [] feeding.intake pass
-open_fed plan feeder bytes feeding pass is fed = subst (λ (c : Course). IsUpTo c plan feeding.tower feeding.chosen feeder bytes feeding.intake pass) is fed
+-- How far it has come, by its course.
+pub by_course : (plan : Plan) (start : Start) (bytes next : List ℕ) (feeding : Feeding) (pass : Passed) (course : Course) → feeding.course ≡ course → IsFedUpTo plan start bytes next feeding pass
+    → IsUpTo course (setting_of plan feeding.tower feeding.chosen start) bytes next feeding.intake pass
+by_course plan start bytes next feeding pass course is fed = subst (λ (c : Course). IsUpTo c (setting_of plan feeding.tower feeding.chosen start) bytes next feeding.intake pass) is fed
 
-pub broke_fed : (plan : Plan) (feeder : ℕ) (bytes : List ℕ) (feeding : Feeding) (pass : Passed) → feeding.course ≡ Broke → IsFedUpTo plan feeder bytes feeding pass
-    → HasBroken plan feeding.tower feeding.chosen feeder bytes feeding.intake pass
-broke_fed plan feeder bytes feeding pass is fed = subst (λ (c : Course). IsUpTo c plan feeding.tower feeding.chosen feeder bytes feeding.intake pass) is fed
+-- One that is open takes whatever comes next.
+pub open_next : (plan : Plan) (start : Start) (bytes next : List ℕ) (feeding : Feeding) (pass : Passed) → feeding.course ≡ Open → IsFedUpTo plan start bytes [] feeding pass → IsFedUpTo plan start bytes next feeding pass
+open_next plan start bytes next feeding pass is fed =
+    subst (λ (c : Course). IsUpTo c (setting_of plan feeding.tower feeding.chosen start) bytes next feeding.intake pass) (sym is) (by_course plan start bytes [] feeding pass Open is fed)
 
 -- A feeder whose trace broke has gone through it, and there is none of which it was fed a front and which it has ended.
-pub over_fed : (plan : Plan) (feeder : ℕ) (bytes : List ℕ) (feeding : Feeding) (pass : Passed) → (feeding.course ≡ Broke) ⊎ (feeding.course ≡ Ended) → IsFedUpTo plan feeder bytes feeding pass
-    → HasEnded plan feeding.tower feeding.chosen feeder bytes feeding.intake pass
-over_fed plan feeder bytes feeding pass (inl broke) fed = broke_fed plan feeder bytes feeding pass broke fed bytes [] (sym (append-nil bytes))
-over_fed plan feeder bytes feeding pass (inr ended) fed = absurd (subst (λ (c : Course). IsUpTo c plan feeding.tower feeding.chosen feeder bytes feeding.intake pass) ended fed)
+pub over_fed : (plan : Plan) (start : Start) (bytes : List ℕ) (feeding : Feeding) (pass : Passed) → (feeding.course ≡ Broke) ⊎ (feeding.course ≡ Ended) → IsFedUpTo plan start bytes [] feeding pass
+    → HasEnded (setting_of plan feeding.tower feeding.chosen start) bytes feeding.intake pass
+over_fed plan start bytes feeding pass (inl broke) fed = by_course plan start bytes [] feeding pass Broke broke fed bytes [] (sym (append-nil bytes))
+over_fed plan start bytes feeding pass (inr ended) fed = absurd (by_course plan start bytes [] feeding pass Ended ended fed)
 
 -- Nothing was taken yet.
 pub nothing_taken : (intake : Intake) → ((next : List ℕ) → StandsAfter [] next [] intake.splitter) → Holds [] intake.kept → intake.progress.place ≡ 0 → HasTaken [] [] [] intake
@@ -46,47 +51,78 @@ nothing_taken intake stands holds place = record {
   place = omega (arith, place);
 }
 
-pub can_begin : (intake : Intake) → ((next : List ℕ) → StandsAfter [] next [] intake.splitter) → Holds [] intake.kept → intake.progress.place ≡ 0 → IsAhead intake.progress → CanGoOn [] intake
-can_begin intake stands holds place ahead = record {
-  bytes = [];
-  pieces = [];
-  taken = nothing_taken intake stands holds place;
-  ahead = ahead;
-  counted = omega (arith, place);
-  fits = omega (arith, taken_is [] [] [] intake.splitter (stands []));
-}
+pub can_begin : (intake : Intake) → intake.pending ≡ Nothing → ((next : List ℕ) → StandsAfter [] next [] intake.splitter) → Holds [] intake.kept → intake.progress.place ≡ 0 → IsAhead intake.progress → CanGoOn [] intake
+can_begin intake none stands holds place ahead =
+    let taken : intake.splitter.taken ≡ 0 = taken_is [] [] [] intake.splitter (stands []) in
+    record {
+      bytes = [];
+      pieces = [];
+      stands = stands [];
+      holds = none_holds intake.pending [] intake.kept none holds;
+      low = omega (arith, holds.long);
+      place = omega (arith, place);
+      counted = omega (arith, place);
+      fits = omega (arith, taken);
+      settle = record { by = subst (λ (p : Pending). CanSettleAs p intake) (sym none) ahead };
+    }
 
-module _ (plan : Plan) (tower : Contents) (chosen : MomentField) where
-  pub fed_nothing : (feeder : ℕ) (intake : Intake) (pass : Passed) → ((next : List ℕ) → StandsAfter [] next [] intake.splitter) → Holds [] intake.kept → intake.progress.place ≡ 0
-      → intake.progress.log.broken ≡ None → IsAt plan feeder [] intake.progress pass → HasFed plan tower chosen feeder [] [] intake pass
-  fed_nothing feeder intake pass stands holds place unbroken at = record {
+module _ (setting : Setting) where
+  pub fed_nothing : (intake : Intake) (pass : Passed) → intake.pending ≡ Nothing → ((next : List ℕ) → StandsAfter [] next [] intake.splitter) → Holds [] intake.kept → intake.progress.place ≡ 0
+      → intake.progress.log.broken ≡ None → IsAt setting.plan setting.start [] intake.progress pass → HasFed setting [] [] intake pass
+  fed_nothing intake pass none stands holds place unbroken at = record {
     pieces = [];
+    waiting = [];
     items = [];
     taken = nothing_taken intake stands holds place;
     read = tt;
-    is_at = at;
+    pending = subst (λ (p : Pending). IsPendingAs p setting [] [] intake pass) (sym none) (refl, at);
     unbroken = unbroken;
   }
 
   -- The reading breaks off behind what was fed.
-  pub broke_off : (feeder : ℕ) (bytes : List ℕ) (broken : Broken) (old new : Intake) (pass : Passed)
+  pub broke_off : (bytes : List ℕ) (broken : Broken) (old new : Intake) (pass : Passed) → old.pending ≡ Nothing
       → ((bytes : List ℕ) (pieces : List Piece) (splitting : Splitting) → StandsAfter bytes [] pieces splitting → IsViable bytes)
       → ((bytes : List ℕ) (pieces : List Piece) (splitting : Splitting) → StandsAfter bytes [] pieces splitting → AreElementsSoFar bytes pieces)
       → IsTrue (is_of_reading broken.code) → broken.place ≡ old.splitter.taken → new.progress.log.lines ≡ old.progress.log.lines → new.progress.log.broken ≡ Some broken
-      → HasFed plan tower chosen feeder bytes [] old pass → HasEnded plan tower chosen feeder bytes new pass
-  broke_off feeder bytes broken old new pass viable so_far reading place lines set fed =
-      let stands = fed.taken.stands in
-      let long = taken_is bytes [] fed.pieces old.splitter stands in
+      → HasFed setting bytes [] old pass → HasEnded setting bytes new pass
+  broke_off bytes broken old new pass none viable so_far reading place lines set fed =
+      let taken = all_fed setting bytes [] old pass none fed in
+      let long = taken_is bytes [] fed.pieces old.splitter taken.stands in
       record {
         items = fed.items;
         are = record {
           pieces = fed.pieces;
           elements = subst (λ (b : Option Broken). AreElements bytes b fed.pieces) (sym set)
-              (inr (reading, place ∙ long, viable bytes fed.pieces old.splitter stands, so_far bytes fed.pieces old.splitter stands));
+              (inr (reading, place ∙ long, viable bytes fed.pieces old.splitter taken.stands, so_far bytes fed.pieces old.splitter taken.stands));
           read = fed.read;
         };
-        done = subst (λ l. HasDone plan feeder pass l.items (steps_of feeder fed.items)) (sym lines) fed.is_at.done;
+        done = subst (λ l. HasDone setting.plan setting.start pass l.items (steps_of setting.start.feeder fed.items)) (sym lines) (none_waiting setting bytes [] old pass none fed).1.done;
       }
+
+  -- Its end was taken, and what waited is settled.
+  pub ended : (bytes : List ℕ) (old : Intake) (new : Intake) (pass after : Passed) → (at : IsAtEnd setting bytes old pass) → IsSettled setting at.items at.waiting new.progress after
+      → new.progress.log.broken ≡ old.progress.log.broken → HasEnded setting bytes new after
+  ended bytes old new pass after at settled broken = record {
+    items = at.items ++ settled.0;
+    are = record {
+      pieces = at.pieces ++ at.waiting;
+      elements = subst (λ (b : Option Broken). AreElements bytes b (at.pieces ++ at.waiting)) (sym broken) at.elements;
+      read = zip_join (IsItem setting.tower setting.chosen) at.pieces at.items at.waiting settled.0 at.read settled.1;
+    };
+    done = settled.2.done;
+  }
+
+  pub ends_waiting : (bytes : List ℕ) (old new : Intake) (pass after : Passed) → (at : IsAtEnd setting bytes old pass) → IsPending setting at.items at.waiting new after
+      → new.progress.log.broken ≡ old.progress.log.broken → IsAtEnd setting bytes new after
+  ends_waiting bytes old new pass after at waits broken = record {
+    pieces = at.pieces;
+    waiting = at.waiting;
+    items = at.items;
+    elements = subst (λ (b : Option Broken). AreElements bytes b (at.pieces ++ at.waiting)) (sym broken) at.elements;
+    read = at.read;
+    pending = waits;
+    by_text = ap broke_reading broken ∙ at.by_text;
+  }
 
 -- What breaks a text is not its reading.
 breaks_no_reading : (fault : EdnFault) → broke_reading (broken_by fault) ≡ false
@@ -98,7 +134,7 @@ breaks_no_reading (edn.OddMap place) = refl
 breaks_no_reading (edn.TagWithoutElement place) = refl
 breaks_no_reading (edn.Memory place) = refl
 
-broken_by_text : (fault : EdnFault) (broken : Option Broken) → broken_by fault ≡ broken → broke_reading broken ≡ false
+pub broken_by_text : (fault : EdnFault) (broken : Option Broken) → broken_by fault ≡ broken → broke_reading broken ≡ false
 broken_by_text fault broken is = rw (sym is) (breaks_no_reading fault)
 
 -- What broke texts of two lengths at once is not the reading of either.
@@ -109,16 +145,34 @@ broke_both (Some broken) input other pieces pieces' apart (inl (fault, of, befor
 broke_both (Some broken) input other pieces pieces' apart (inr reading) (inl (fault, of, before, is)) = broken_by_text fault (Some broken) is
 broke_both (Some broken) input other pieces pieces' apart (inr (code, place, viable, so_far)) (inr (other_code, other_place, other_viable, other_so_far)) = absurd (apart (sym place ∙ other_place))
 
-broke_by_text : (plan : Plan) (tower : Contents) (chosen : MomentField) (feeder : ℕ) (bytes : List ℕ) (intake : Intake) (pass : Passed)
-    → HasBroken plan tower chosen feeder bytes intake pass → broke_reading intake.progress.log.broken ≡ false
-broke_by_text plan tower chosen feeder bytes intake pass broken =
+broke_by_text : (setting : Setting) (bytes : List ℕ) (intake : Intake) (pass : Passed) → HasBroken setting bytes intake pass → broke_reading intake.progress.log.broken ≡ false
+broke_by_text setting bytes intake pass broken =
     let one = broken (bytes ++ []) [] refl in
     let two = broken (bytes ++ 0 ∷ []) (0 ∷ []) refl in
     broke_both intake.progress.log.broken (bytes ++ []) (bytes ++ 0 ∷ []) one.are.pieces two.are.pieces
     (λ same. omega (arith, same, length-append bytes [], length-append bytes (0 ∷ []))) one.are.elements two.are.elements
 
 -- The same of a feeder that was fed so far and is over.
-pub over_by_text : (plan : Plan) (feeder : ℕ) (bytes : List ℕ) (feeding : Feeding) (pass : Passed) → (feeding.course ≡ Broke) ⊎ (feeding.course ≡ Ended) → IsFedUpTo plan feeder bytes feeding pass
+pub over_by_text : (plan : Plan) (start : Start) (bytes : List ℕ) (feeding : Feeding) (pass : Passed) → (feeding.course ≡ Broke) ⊎ (feeding.course ≡ Ended) → IsFedUpTo plan start bytes [] feeding pass
     → broke_reading feeding.intake.progress.log.broken ≡ false
-over_by_text plan feeder bytes feeding pass (inl broke) fed = broke_by_text plan feeding.tower feeding.chosen feeder bytes feeding.intake pass (broke_fed plan feeder bytes feeding pass broke fed)
-over_by_text plan feeder bytes feeding pass (inr ended) fed = absurd (subst (λ (c : Course). IsUpTo c plan feeding.tower feeding.chosen feeder bytes feeding.intake pass) ended fed)
+over_by_text plan start bytes feeding pass (inl broke) fed =
+    broke_by_text (setting_of plan feeding.tower feeding.chosen start) bytes feeding.intake pass (by_course plan start bytes [] feeding pass Broke broke fed)
+over_by_text plan start bytes feeding pass (inr ended) fed = absurd (by_course plan start bytes [] feeding pass Ended ended fed)
+
+-- A feeder that is not over, and whose end was not taken.
+pub can_feed : (feeding : Feeding) (piece : List ℕ) (course : Course) → feeding.course ≡ course → ((course ≡ Broke) ⊎ (course ≡ Ended) → ⊥) → course ≢ Ending
+    → (course ≡ Open → CanGoOn [] feeding.intake) → (course ≡ Paused → CanGoOn piece feeding.intake) → CanGoOn piece feeding.intake
+can_feed feeding piece Open is going on at_open paused = can_more [] piece feeding.intake (at_open refl)
+can_feed feeding piece Paused is going on at_open paused = paused refl
+can_feed feeding piece Ending is going on at_open paused = absurd (on refl)
+can_feed feeding piece Broke is going on at_open paused = absurd (going (inl refl))
+can_feed feeding piece Ended is going on at_open paused = absurd (going (inr refl))
+
+pub fed_before : (plan : Plan) (start : Start) (bytes piece : List ℕ) (feeding : Feeding) (pass : Passed) (course : Course) → feeding.course ≡ course → ((course ≡ Broke) ⊎ (course ≡ Ended) → ⊥) → course ≢ Ending
+    → IsFedUpTo plan start bytes piece feeding pass → HasFed (setting_of plan feeding.tower feeding.chosen start) bytes piece feeding.intake pass
+fed_before plan start bytes piece feeding pass Open is going on fed =
+    fed_more (setting_of plan feeding.tower feeding.chosen start) bytes [] piece feeding.intake pass (by_course plan start bytes piece feeding pass Open is fed)
+fed_before plan start bytes piece feeding pass Paused is going on fed = by_course plan start bytes piece feeding pass Paused is fed
+fed_before plan start bytes piece feeding pass Ending is going on fed = absurd (on refl)
+fed_before plan start bytes piece feeding pass Broke is going on fed = absurd (going (inl refl))
+fed_before plan start bytes piece feeding pass Ended is going on fed = absurd (going (inr refl))

@@ -20,6 +20,7 @@ use Rattle.feeders.specs.Ending.{MayEnd, ended_by}
 use Rattle.feeders.specs.Progress.{AreFedBy, AreReadAndFed, IsFed}
 use Rattle.feeders.specs.Readers.{AreReadOf}
 use Rattle.feeders.specs.Run.{EachNumbered, IsRun, IsTraced, plan_of_run}
+use Rattle.feeders.specs.Setting.{first_start, setting_of}
 
 -- the entries of the pass's feeder in the journal of a shard are those that the pass submitted there
 abbrev IsMergedAt : List Ended → ℕ → Passed → Type 0
@@ -38,7 +39,7 @@ merged_of plan closed feds is = merged_each plan.shards closed feds
     (λ at below. recursion_from_All (IsMergedAt closed at) (map (λ fed. fed.pass) feds) (is.finished at (omega (arith, is.many))).merge.of_each)
 
 module _ {X : Type 0} (of : X → List ℕ) (plan : Plan) (tower : Contents) (chosen : MomentField) (closed : List Ended) where
-  one_traced : (feeder : ℕ) (trace : List ℕ) (fed : Fed) → IsFed plan tower chosen feeder trace fed → IsMergedBelow plan.shards closed fed
+  one_traced : (feeder : ℕ) (trace : List ℕ) (fed : Fed) → IsFed (setting_of plan tower chosen (first_start feeder)) trace fed → IsMergedBelow plan.shards closed fed
       → IsTraced plan tower chosen closed feeder trace fed.log
   one_traced feeder trace fed is merged = record {
     items = is.items;
@@ -52,7 +53,7 @@ module _ {X : Type 0} (of : X → List ℕ) (plan : Plan) (tower : Contents) (ch
   }
 
   each_traced : (number : ℕ) (traces : List X) (feds : List Fed)
-      → AreFedBy (λ feeder trace fed. IsFed plan tower chosen feeder (of trace) fed) (map (fresh plan) (range_with_len number (length traces))) traces feds → AllByRecursion (IsMergedBelow plan.shards closed) feds
+      → AreFedBy (λ feeder trace fed. IsFed (setting_of plan tower chosen (first_start feeder)) (of trace) fed) (map (fresh plan) (range_with_len number (length traces))) traces feds → AllByRecursion (IsMergedBelow plan.shards closed) feds
       → EachNumbered (IsTraced plan tower chosen closed) number (map of traces) (map (λ fed. fed.log) feds)
   each_traced number [] [] are merged = tt
   each_traced number [] (fed ∷ feds) are merged = absurd are
@@ -61,13 +62,13 @@ module _ {X : Type 0} (of : X → List ℕ) (plan : Plan) (tower : Contents) (ch
 
 -- a run: the passes that an auditor gave, what was fed with them, and what it left
 pub run_of : {X : Type 0} (of : X → List ℕ) (plan : Plan) (tower : Contents) (chosen : MomentField) (shards : ℕ) (traces : List X) (opened : List Passed) (feds : List Fed) (passes : List Passed) (logs : List Log) (closed : List Ended)
-    → plan ≡ plan_of 0 tower shards (length traces) → opened ≡ map (fresh plan) (range_with_len 0 (length traces)) → AreFedBy (λ feeder trace fed. IsFed plan tower chosen feeder (of trace) fed) opened traces feds
+    → plan ≡ plan_of 0 tower shards (length traces) → opened ≡ map (fresh plan) (range_with_len 0 (length traces)) → AreFedBy (λ feeder trace fed. IsFed (setting_of plan tower chosen (first_start feeder)) (of trace) fed) opened traces feds
     → passes ≡ map (λ fed. fed.pass) feds → logs ≡ map (λ fed. fed.log) feds → IsClosed plan passes closed
     → IsRun tower chosen shards (map of traces) closed logs
 run_of {X} of plan tower chosen shards traces opened feds passes logs closed opening fresh_ones fed passes_are logs_are is =
     let same : plan ≡ plan_of_run tower shards (map of traces) = opening ∙ ap (plan_of 0 tower shards) (sym (length-map traces of)) in
     let traced : EachNumbered (IsTraced plan tower chosen closed) 0 (map of traces) (map (λ (fed : Fed). fed.log) feds) =
-    each_traced of plan tower chosen closed 0 traces feds (subst (λ (ps : List Passed). AreFedBy (λ feeder trace fed. IsFed plan tower chosen feeder (of trace) fed) ps traces feds) fresh_ones fed)
+    each_traced of plan tower chosen closed 0 traces feds (subst (λ (ps : List Passed). AreFedBy (λ feeder trace fed. IsFed (setting_of plan tower chosen (first_start feeder)) (of trace) fed) ps traces feds) fresh_ones fed)
     (merged_of plan closed feds (subst (λ (ps : List Passed). IsClosed plan ps closed) passes_are is)) in
     record {
       passes = passes;
@@ -77,14 +78,14 @@ run_of {X} of plan tower chosen shards traces opened feds passes logs closed ope
     }
 
 module _ {X : Type 0} (of : X → List ℕ) (plan : Plan) (tower : Contents) (chosen : MomentField) where
-  as_many : (number : ℕ) (traces : List X) (feds : List Fed) → AreFedBy (λ feeder trace fed. IsFed plan tower chosen feeder (of trace) fed) (map (fresh plan) (range_with_len number (length traces))) traces feds → length feds ≡ length traces
+  as_many : (number : ℕ) (traces : List X) (feds : List Fed) → AreFedBy (λ feeder trace fed. IsFed (setting_of plan tower chosen (first_start feeder)) (of trace) fed) (map (fresh plan) (range_with_len number (length traces))) traces feds → length feds ≡ length traces
   as_many number [] [] are = refl
   as_many number [] (fed ∷ feds) are = absurd are
   as_many number (trace ∷ traces) [] are = absurd are
   as_many number (trace ∷ traces) (fed ∷ feds) are = ap suc (as_many (number + 1) traces feds are.1)
 
   -- each pass is the auditor's, and its feeder is its place
-  passed_at : (number : ℕ) (traces : List X) (feds : List Fed) → AreFedBy (λ feeder trace fed. IsFed plan tower chosen feeder (of trace) fed) (map (fresh plan) (range_with_len number (length traces))) traces feds
+  passed_at : (number : ℕ) (traces : List X) (feds : List Fed) → AreFedBy (λ feeder trace fed. IsFed (setting_of plan tower chosen (first_start feeder)) (of trace) fed) (map (fresh plan) (range_with_len number (length traces))) traces feds
       → (i : ℕ) (d : Passed) → i < length (map (λ fed. fed.pass) feds) → IsPassOf plan (get_or (map (λ fed. fed.pass) feds) i d) × ((get_or (map (λ fed. fed.pass) feds) i d).feeder ≡ number + i)
   passed_at number [] [] are i d below = absurd (omega arith)
   passed_at number [] (fed ∷ feds) are i d below = absurd are
@@ -94,7 +95,7 @@ module _ {X : Type 0} (of : X → List ℕ) (plan : Plan) (tower : Contents) (ch
       let rest : IsPassOf plan (get_or (map (λ (fed : Fed). fed.pass) feds) i d) × ((get_or (map (λ (fed : Fed). fed.pass) feds) i d).feeder ≡ number + 1 + i) = passed_at (number + 1) traces feds are.1 i d (omega arith) in
       (rest.0, rest.1 ∙ omega arith)
 
-  its_passes : (traces : List X) (feds : List Fed) → AreFedBy (λ feeder trace fed. IsFed plan tower chosen feeder (of trace) fed) (map (fresh plan) (range_with_len 0 (length traces))) traces feds → AreItsPasses plan (map (λ fed. fed.pass) feds)
+  its_passes : (traces : List X) (feds : List Fed) → AreFedBy (λ feeder trace fed. IsFed (setting_of plan tower chosen (first_start feeder)) (of trace) fed) (map (fresh plan) (range_with_len 0 (length traces))) traces feds → AreItsPasses plan (map (λ fed. fed.pass) feds)
   its_passes traces feds are = record {
     each = λ k d below. (passed_at 0 traces feds are k d below).0;
     apart = λ i j d lesser below same.
@@ -103,15 +104,15 @@ module _ {X : Type 0} (of : X → List ℕ) (plan : Plan) (tower : Contents) (ch
         omega (arith, first, second, same, lesser);
   }
 
-  complete : (traces : List X) (feds : List Fed) → plan.feeders ≡ length traces → AreFedBy (λ feeder trace fed. IsFed plan tower chosen feeder (of trace) fed) (map (fresh plan) (range_with_len 0 (length traces))) traces feds → AreComplete plan.feeders (map (λ fed. fed.pass) feds)
+  complete : (traces : List X) (feds : List Fed) → plan.feeders ≡ length traces → AreFedBy (λ feeder trace fed. IsFed (setting_of plan tower chosen (first_start feeder)) (of trace) fed) (map (fresh plan) (range_with_len 0 (length traces))) traces feds → AreComplete plan.feeders (map (λ fed. fed.pass) feds)
   complete traces feds many are feeder below =
       let passes : List Passed = map (λ (fed : Fed). fed.pass) feds in
       let within : feeder < length passes = omega (arith, length-map feds (λ (fed : Fed). fed.pass), as_many 0 traces feds are) in
       let there : Contains passes (get_or passes feeder (fresh plan 0)) = Contains-get_or passes feeder (fresh plan 0) within in
       (there.0, get_or passes feeder (fresh plan 0), there.1, there.2, (passed_at 0 traces feds are feeder (fresh plan 0) within).1 ∙ omega arith)
 
-closing_ends : (plan : Plan) (passes : List Passed) (shards : List Held) (fault : ShardFault) → AreItsPasses plan passes → AreComplete plan.feeders passes → IsClosingFault plan passes shards fault → MayEnd (ended_by fault)
-closing_ends plan passes shards faults.UnknownRegister its all is = tt
+closing_ends : (plan : Plan) (passes : List Passed) (shards : List Held) (fault : ShardFault) → AreItsPasses plan passes → AreComplete plan.feeders passes → IsClosingFault plan plan.feeders passes shards fault → MayEnd (ended_by fault)
+closing_ends plan passes shards faults.UnknownRegister its all is = absurd is
 closing_ends plan passes shards faults.Memory its all is = tt
 closing_ends plan passes shards (faults.JournalBehind at seen found) its all is = tt
 closing_ends plan passes shards (faults.PassMissing feeder) its all is = is.1.1 (all feeder is.1.0)
@@ -120,10 +121,10 @@ closing_ends plan passes shards faults.ForeignPass its all is = is its
 
 -- why a run ends where its auditor is not finished: the passes are the auditor's, one for each feeder
 pub may_end : {X : Type 0} (of : X → List ℕ) (plan : Plan) (tower : Contents) (chosen : MomentField) (traces : List X) (opened : List Passed) (feds : List Fed) (passes : List Passed) (fault : ShardFault)
-    → plan.feeders ≡ length traces → opened ≡ map (fresh plan) (range_with_len 0 (length traces)) → AreFedBy (λ feeder trace fed. IsFed plan tower chosen feeder (of trace) fed) opened traces feds
-    → passes ≡ map (λ fed. fed.pass) feds → IsUnfinished plan passes fault → MayEnd (ended_by fault)
+    → plan.feeders ≡ length traces → opened ≡ map (fresh plan) (range_with_len 0 (length traces)) → AreFedBy (λ feeder trace fed. IsFed (setting_of plan tower chosen (first_start feeder)) (of trace) fed) opened traces feds
+    → passes ≡ map (λ fed. fed.pass) feds → IsUnfinished plan plan.feeders passes fault → MayEnd (ended_by fault)
 may_end {X} of plan tower chosen traces opened feds passes fault many fresh_ones fed passes_are unfinished =
-    let are : AreFedBy (λ feeder trace fed. IsFed plan tower chosen feeder (of trace) fed) (map (fresh plan) (range_with_len 0 (length traces))) traces feds = subst (λ (ps : List Passed). AreFedBy (λ feeder trace fed. IsFed plan tower chosen feeder (of trace) fed) ps traces feds) fresh_ones fed in
+    let are : AreFedBy (λ feeder trace fed. IsFed (setting_of plan tower chosen (first_start feeder)) (of trace) fed) (map (fresh plan) (range_with_len 0 (length traces))) traces feds = subst (λ (ps : List Passed). AreFedBy (λ feeder trace fed. IsFed (setting_of plan tower chosen (first_start feeder)) (of trace) fed) ps traces feds) fresh_ones fed in
     closing_ends plan passes unfinished.shards fault
     (subst (AreItsPasses plan) (sym passes_are) (its_passes of plan tower chosen traces feds are))
     (subst (AreComplete plan.feeders) (sym passes_are) (complete of plan tower chosen traces feds many are)) unfinished.fault_is
@@ -132,7 +133,7 @@ may_end {X} of plan tower chosen traces opened feds passes fault many fresh_ones
 pub record WereRead (plan : Plan) (tower : Contents) (chosen : MomentField) (passes : List Passed) (lefts : List (Option (List ℕ))) (feds : List Fed) : Type 0 where
   pub traces : List (List ℕ)
   pub are_read : AreReadOf lefts (map (λ fed. fed.log) feds) traces
-  pub are_fed : AreFedBy (λ feeder trace fed. IsFed plan tower chosen feeder trace fed) passes traces feds
+  pub are_fed : AreFedBy (λ feeder trace fed. IsFed (setting_of plan tower chosen (first_start feeder)) trace fed) passes traces feds
   pub many : length traces ≡ length lefts
 
 pub read_of : (plan : Plan) (tower : Contents) (chosen : MomentField) (passes : List Passed) (lefts : List (Option (List ℕ))) (feds : List Fed)

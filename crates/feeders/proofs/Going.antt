@@ -1,4 +1,4 @@
--- A feeder with one more element.
+-- A feeder with one more element: paired, and then carried out.
 use Rattle.std.proofs.Common.{◌≡◌, ◌≢◌, ℕ, ◌+◌, ◌<◌, List, [], ◌∷◌, ◌++◌, length, Option, Result, Ok, Err, OnOk, refl, sym, ap, subst, ◌∙◌, arith}
 use Rattle.std.proofs.lemmas.List.{length_push}
 use Rattle.jepsen_form.specs.declared.fault.FormFault.{FormFault}
@@ -10,70 +10,92 @@ use Rattle.pairing.specs.Accepted.{Placed, accepted}
 use Rattle.pairing.specs.Step.{step_of}
 use Rattle.pairing.specs.Known.{Known, StandsAfter}
 use Rattle.shards.specs.Plan.{Plan}
-use Rattle.shards.specs.Pass.{Passed, fresh, told}
-use Rattle.feeders.specs.declared.fault.RunFault.{RunFault}
+use Rattle.shards.specs.Pass.{Passed}
 use Rattle.feeders.specs.declared.log.Code.TheVariants.{Form}
+use Rattle.feeders.specs.declared.log.Line.{Line}
 use Rattle.feeders.specs.declared.log.Log.{Log}
 use Rattle.feeders.specs.declared.progress.Progress.{Progress}
 use Rattle.feeders.specs.Steps.{Taken, by_pairing, placed, step_behind, steps_of}
-use Rattle.feeders.specs.Progress.{GoesOn, HasDone, IsAt}
-use Rattle.feeders.proofs.Doing.{fresh_is_of, nothing_done}
+use Rattle.feeders.specs.Progress.{GoesOn, HasDone, IsAt, IsKept, IsPaired}
+use Rattle.feeders.specs.Setting.{IsStart, Start}
+use Rattle.feeders.proofs.Doing.{nothing_done}
 use Rattle.feeders.proofs.Items.{not_placed, one_step_each, placed_on, steps_on}
 
 -- before the first element
-pub at_first : (plan : Plan) (feeder : ℕ) (pass : Passed) (progress : Progress) → pass ≡ fresh plan feeder → feeder < plan.feeders → progress.place ≡ 0 → progress.pairing.feeder ≡ feeder
-    → StandsAfter progress.pairing [] → progress.log.lines.items ≡ [] → ((at : ℕ) → told (fresh plan feeder) at ≡ []) → IsAt plan feeder [] progress pass
-at_first plan feeder pass progress is known place of stands empty none =
-    let same : pass.feeder ≡ feeder = ap (λ (p : Passed). p.feeder) is in
-    let of_plan = fresh_is_of plan pass (is ∙ ap (fresh plan) (sym same)) (omega (arith, same, known)) in
-    record {
-      place = place;
-      feeder_is = of;
-      pairing = stands;
-      done = subst (λ (f : ℕ). HasDone plan f pass progress.log.lines.items []) same (nothing_done plan pass progress.log.lines.items of_plan (λ at. ap (λ (p : Passed). told p at) is ∙ none at) empty);
-    }
+pub at_first : (plan : Plan) (start : Start) (pass : Passed) (progress : Progress) → IsStart plan start pass → progress.place ≡ 0 → progress.pairing.feeder ≡ start.feeder
+    → StandsAfter progress.pairing [] → progress.log.lines.items ≡ [] → IsAt plan start [] progress pass
+at_first plan start pass progress is place of stands empty = record {
+  place = place;
+  feeder_is = of;
+  pairing = stands;
+  done = nothing_done plan start pass progress.log.lines.items is empty;
+}
 
 -- one place further
 further : (place : ℕ) (items : List (Result Item FormFault)) (item : Result Item FormFault) → place ≡ length items → place + 1 ≡ length (items ++ item ∷ [])
 further place items item is = omega (arith, is, length_push items item)
 
 -- what was done behind one element more
-done_on : (plan : Plan) (feeder : ℕ) (items : List (Result Item FormFault)) (item : Result Item FormFault) (old new : Passed) (log more : Log) (place : ℕ) (step : Taken)
-    → place ≡ length items → step ≡ step_behind feeder items item → GoesOn plan old log new more place step
-    → HasDone plan feeder old log.lines.items (steps_of feeder items) → HasDone plan feeder new more.lines.items (steps_of feeder (items ++ item ∷ []))
-done_on plan feeder items item old new log more place step at is goes done =
-    subst (HasDone plan feeder new more.lines.items) (sym (steps_on feeder items item))
-    (subst (λ (s : Taken). HasDone plan feeder new more.lines.items (steps_of feeder items ++ s ∷ [])) is
-    (goes feeder (steps_of feeder items) (at ∙ sym (one_step_each feeder items)) done))
+done_on : (plan : Plan) (start : Start) (items : List (Result Item FormFault)) (item : Result Item FormFault) (old new : Passed) (log more : Log) (place : ℕ) (step : Taken)
+    → place ≡ length items → step ≡ step_behind start.feeder items item → GoesOn plan old log new more place step
+    → HasDone plan start old log.lines.items (steps_of start.feeder items) → HasDone plan start new more.lines.items (steps_of start.feeder (items ++ item ∷ []))
+done_on plan start items item old new log more place step at is goes done =
+    subst (HasDone plan start new more.lines.items) (sym (steps_on start.feeder items item))
+    (subst (λ (s : Taken). HasDone plan start new more.lines.items (steps_of start.feeder items ++ s ∷ [])) is
+    (goes start (steps_of start.feeder items) (at ∙ sym (one_step_each start.feeder items)) done))
 
--- an element that is refused by its form
-pub unformed : (plan : Plan) (old : Progress) (pass : Passed) (log : Log) (fault : FormFault) → GoesOn plan pass old.log pass log old.place (Err (Form fault))
-    → (feeder : ℕ) (items : List (Result Item FormFault)) → IsAt plan feeder items old pass → IsAt plan feeder (items ++ Err fault ∷ []) (record old { place = old.place + 1; log = log }) pass
-unformed plan old pass log fault goes feeder items at = record {
-  place = further old.place items (Err fault) at.place;
+-- an element that is refused by its form is paired with that refusal
+pub unformed : (plan : Plan) (progress : Progress) (fault : FormFault) (start : Start) (items : List (Result Item FormFault)) (pass : Passed)
+    → IsAt plan start items progress pass → IsPaired plan start items (Err fault) (Err (Form fault)) progress pass
+unformed plan progress fault start items pass at = record {
+  place = at.place;
   feeder_is = at.feeder_is;
-  pairing = subst (StandsAfter old.pairing) (sym (not_placed items fault)) at.pairing;
-  done = done_on plan feeder items (Err fault) pass pass old.log log old.place (Err (Form fault)) at.place refl goes at.done;
+  pairing = subst (StandsAfter progress.pairing) (sym (not_placed items fault)) at.pairing;
+  step_is = refl;
+  done = at.done;
 }
 
--- an item
-pub paired : (plan : Plan) (old : Progress) (pairing : Known) (pass new : Passed) (log : Log) (item : Item) (step : Result (Option Step) PairFault) (result : Result (Unit {0}) RunFault)
+-- an item is paired with the step that the pairing gives
+pub paired : (plan : Plan) (old : Progress) (pairing : Known) (item : Item) (step : Result (Option Step) PairFault)
     → step ≢ Err pairs.Memory
     → (step ≢ Err pairs.Memory → (items : List Placed) → StandsAfter old.pairing items → step ≡ step_of old.pairing.feeder (accepted items) old.place item)
     → (step ≢ Err pairs.Memory → (items : List Placed) → StandsAfter old.pairing items → StandsAfter pairing (items ++ record { place = old.place; item = item } ∷ []))
     → pairing.feeder ≡ old.pairing.feeder
-    → OnOk result (GoesOn plan pass old.log new log old.place (by_pairing step))
-    → OnOk result ((feeder : ℕ) (items : List (Result Item FormFault)) → IsAt plan feeder items old pass → IsAt plan feeder (items ++ Ok item ∷ []) (record old { place = old.place + 1; pairing = pairing; log = log }) new)
-paired plan old pairing pass new log item step (Err fault) other gives stands same followed = tt
-paired plan old pairing pass new log item step (Ok done) other gives stands same followed = λ feeder items at.
-    let is : step ≡ step_of feeder (accepted (placed items)) (length items) item =
+    → (start : Start) (items : List (Result Item FormFault)) (pass : Passed) → IsAt plan start items old pass → IsPaired plan start items (Ok item) (by_pairing step) (record old { pairing = pairing }) pass
+paired plan old pairing item step other gives stands same start items pass at =
+    let is : step ≡ step_of start.feeder (accepted (placed items)) (length items) item =
     gives other (placed items) at.pairing
     ∙ ap (λ (f : ℕ). step_of f (accepted (placed items)) old.place item) at.feeder_is
-    ∙ ap (λ (n : ℕ). step_of feeder (accepted (placed items)) n item) at.place in
+    ∙ ap (λ (n : ℕ). step_of start.feeder (accepted (placed items)) n item) at.place in
     record {
-      place = further old.place items (Ok item) at.place;
+      place = at.place;
       feeder_is = same ∙ at.feeder_is;
       pairing = subst (StandsAfter pairing) (sym (placed_on items item))
           (subst (λ (n : ℕ). StandsAfter pairing (placed items ++ record { place = n; item = item } ∷ [])) at.place (stands other (placed items) at.pairing));
-      done = done_on plan feeder items (Ok item) pass new old.log log old.place (by_pairing step) at.place (ap by_pairing is) followed at.done;
+      step_is = ap by_pairing is;
+      done = at.done;
     }
+
+-- its step is carried out
+pub carried : (plan : Plan) (old : Progress) (pass new : Passed) (log : Log) (step : Taken) → GoesOn plan pass old.log new log old.place step
+    → (start : Start) (items : List (Result Item FormFault)) (item : Result Item FormFault) → IsPaired plan start items item step old pass
+    → IsAt plan start (items ++ item ∷ []) (record old { place = old.place + 1; log = log }) new
+carried plan old pass new log step goes start items item paired = record {
+  place = further old.place items item paired.place;
+  feeder_is = paired.feeder_is;
+  pairing = paired.pairing;
+  done = done_on plan start items item pass new old.log log old.place step paired.place paired.step_is goes paired.done;
+}
+
+-- or it is not, and the element stays paired
+pub still_paired : (plan : Plan) (old : Progress) (pass new : Passed) (log : Log) (step : Taken) → IsKept old.log log → new ≡ pass
+    → (start : Start) (items : List (Result Item FormFault)) (item : Result Item FormFault) → IsPaired plan start items item step old pass
+    → IsPaired plan start items item step (record old { log = log }) new
+still_paired plan old pass new log step kept same start items item paired = record {
+  place = paired.place;
+  feeder_is = paired.feeder_is;
+  pairing = paired.pairing;
+  step_is = paired.step_is;
+  done = subst (λ (p : Passed). HasDone plan start p log.lines.items (steps_of start.feeder items)) (sym same)
+      (subst (λ (lines : List Line). HasDone plan start pass lines (steps_of start.feeder items)) (sym kept.lines) paired.done);
+}

@@ -1,7 +1,8 @@
 -- The last bytes with a piece more.
-use Rattle.std.proofs.Common.{◌≡◌, ℕ, zero, suc, ◌+◌, ◌-◌, ◌≤◌, List, [], ◌∷◌, ◌++◌, length, drop, Result, Ok, Err, OnOk, is_ok, if◌then◌else◌, refl, sym, ap, ◌∙◌, arith, length-append, length-drop}
+use Rattle.std.proofs.Common.{◌≡◌, ℕ, zero, suc, ◌+◌, ◌-◌, ◌≤◌, List, [], ◌∷◌, ◌++◌, length, drop, Result, Ok, Err, IsOk, is_ok, if◌then◌else◌, refl, sym, ap, ◌∙◌, arith, append_assoc, length-append, length-drop}
 use Rattle.std.proofs.Math.Seq.{drop-append-add}
-use Rattle.std.proofs.lemmas.List.{drop-append-le}
+use Rattle.std.specs.Prelude.{replicate}
+use Rattle.std.proofs.lemmas.List.{drop-append-le, length-replicate}
 use Rattle.std.specs.declared.alloc.AllocError.{AllocError}
 use Rattle.feeders.specs.declared.kept.Kept.{Kept}
 use Rattle.feeders.specs.Kept.{Holds}
@@ -44,9 +45,39 @@ holds_anew taken piece end passed new long within from items = record {
   last = items ∙ ap (λ (n : ℕ). drop n piece) (omega (arith, from)) ∙ in_piece taken piece end new.from long (omega (arith, from));
 }
 
-pub taken_anew : (piece cleared more : List ℕ) (old : Kept) (end passed : ℕ) (new : Kept) (result : Result (Unit {0}) AllocError) → end ≡ old.from + length old.bytes.items → passed ≤ length piece
+pub taken_anew : (piece cleared more : List ℕ) (old : Kept) (end passed : ℕ) (new : Kept) (result : Result (Unit {0}) AllocError) → IsOk result → end ≡ old.from + length old.bytes.items → passed ≤ length piece
     → new.from ≡ end + passed → new.bytes.items ≡ (if is_ok result then cleared ++ more else cleared) → cleared ≡ [] → more ≡ drop passed piece
-    → OnOk result ((taken : List ℕ) → Holds taken old → Holds (taken ++ piece) new)
-taken_anew piece cleared more old end passed new (Err fault) is within from items none rest = tt
-taken_anew piece cleared more old end passed new (Ok done) is within from items none rest = λ taken holds.
+    → (taken : List ℕ) → Holds taken old → Holds (taken ++ piece) new
+taken_anew piece cleared more old end passed new (Err fault) ok is within from items none rest taken holds = absurd cc
+taken_anew piece cleared more old end passed new (Ok done) ok is within from items none rest taken holds =
     holds_anew taken piece end passed new (omega (arith, is, holds.long)) within from (items ∙ ap (λ (xs : List ℕ). xs ++ more) none ∙ rest)
+
+-- A piece more, for which there was room.
+pub taken_more : (piece : List ℕ) (old new : Kept) (result : Result (Unit {0}) AllocError) → IsOk result → new.from ≡ old.from
+    → new.bytes.items ≡ (if is_ok result then old.bytes.items ++ piece else old.bytes.items) → (taken : List ℕ) → Holds taken old → Holds (taken ++ piece) new
+taken_more piece old new (Err fault) ok from items taken holds = absurd cc
+taken_more piece old new (Ok done) ok from items taken holds = holds_more taken piece old new from items holds
+
+-- The kept bytes from a place on.
+pub from_kept : (taken : List ℕ) (kept : Kept) (start : ℕ) → kept.from ≤ start → Holds taken kept → drop (start - kept.from) kept.bytes.items ≡ drop start taken
+from_kept taken kept start low holds =
+    ap (drop (start - kept.from)) holds.last ∙ drop_twice (start - kept.from) kept.from taken ∙ ap (λ (n : ℕ). drop n taken) (omega (arith, low))
+
+-- With a piece more the kept bytes from a place on are those of both.
+pub kept_on : (old new : Kept) (piece : List ℕ) (keep : ℕ) → ((taken : List ℕ) → Holds taken old → Holds (taken ++ piece) new) → old.from ≤ keep → new.from ≤ keep
+    → (drop (keep - new.from) new.bytes.items ≡ drop (keep - old.from) (old.bytes.items ++ piece)) × (new.from + length new.bytes.items ≡ old.from + length old.bytes.items + length piece)
+kept_on old new piece keep holds low new_low =
+    let before : List ℕ = replicate old.from 0 in
+    let some : List ℕ = before ++ old.bytes.items in
+    let many : length before ≡ old.from = length-replicate old.from 0 in
+    let first : Holds some old = record {
+      long = omega (arith, many, length-append before old.bytes.items);
+      last = sym (ap (λ (n : ℕ). drop n some) (sym many ∙ sym (omega arith)) ∙ drop-append-add before old.bytes.items 0);
+    } in
+    let both = holds some first in (
+      from_kept (some ++ piece) new keep new_low both
+          ∙ ap (drop keep) (append_assoc before old.bytes.items piece)
+          ∙ ap (λ (n : ℕ). drop n (before ++ (old.bytes.items ++ piece))) (omega (arith, many, low))
+          ∙ drop-append-add before (old.bytes.items ++ piece) (keep - old.from),
+      omega (arith, both.long, length-append some piece, length-append before old.bytes.items, many),
+    )

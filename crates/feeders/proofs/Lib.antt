@@ -4,6 +4,9 @@ pub mod Doing
 pub mod Holding
 pub mod Going
 pub mod Lending
+pub mod Naming
+pub mod Settling
+pub mod Fronts
 pub mod Reading
 pub mod Telling
 pub mod Split
@@ -17,5 +20,8 @@ pub mod TextsEntries
 pub mod TextsRun
 pub mod Sourcing
 pub mod Pieces
+pub mod Taking
 pub mod Feeds
+pub mod AtEnd
+pub mod Adding
 pub mod Streaming

@@ -6,27 +6,27 @@ use Rattle.edn_reader.specs.declared.fault.EdnFault.TheVariants as edn
 use Rattle.edn_reader.specs.Grammar.{Piece}
 use Rattle.edn_reader.specs.Text.{IsFront}
 use Rattle.edn_reader.specs.Fault.{IsMemory, FaultOf, AreElementsBefore}
-use Rattle.tower_file.specs.Contents.{Contents}
 use Rattle.jepsen_form.specs.declared.fault.FormFault.{FormFault}
 use Rattle.jepsen_form.specs.declared.item.Item.{Item}
-use Rattle.jepsen_form.specs.declared.item.MomentField.{MomentField}
 use Rattle.jepsen_form.specs.Item.{IsItem}
-use Rattle.shards.specs.Plan.{Plan}
-use Rattle.shards.specs.Pass.{Passed}
+use Rattle.shards.specs.Plan.{Plan, claims_of}
+use Rattle.shards.specs.Pass.{IsPassOf, Passed}
 use Rattle.feeders.specs.declared.fed.Fed.{Fed}
 use Rattle.feeders.specs.declared.log.Broken.{Broken}
 use Rattle.feeders.specs.declared.progress.Progress.{Progress}
 use Rattle.feeders.specs.Broken.{AreElements, broken_by}
-use Rattle.feeders.specs.Steps.{steps_of}
-use Rattle.feeders.specs.Progress.{HasDone, IsAt, IsFed}
+use Rattle.feeders.specs.Setting.{Setting, Start}
+use Rattle.feeders.specs.Steps.{IsKnownStep, Taken, steps_of}
+use Rattle.feeders.specs.Progress.{HasDone, IsAt, IsFed, IsPaired}
+use Rattle.feeders.proofs.Naming.{ItemsName, StepsAreOn, known_step}
 
 -- the state is that of the elements up to a place
-pub record HasRead (plan : Plan) (tower : Contents) (chosen : MomentField) (feeder : ℕ) (trace : List ℕ) (at : ℕ) (progress : Progress) (pass : Passed) : Type 0 where
+pub record HasRead (setting : Setting) (trace : List ℕ) (at : ℕ) (progress : Progress) (pass : Passed) : Type 0 where
   pub pieces : List Piece
   pub front : IsFront trace pieces at
   pub items : List (Result Item FormFault)
-  pub read : AllZip (IsItem tower chosen) pieces items
-  pub is_at : IsAt plan feeder items progress pass
+  pub read : AllZip (IsItem setting.tower setting.chosen) pieces items
+  pub is_at : IsAt setting.plan setting.start items progress pass
 
 -- two lists that go together, with one more each
 pub zip_push : {A B : Type 0} (R : A → B → Type 0) (xs : List A) (ys : List B) (x : A) (y : B) → AllZip R xs ys → R x y → AllZip R (xs ++ x ∷ []) (ys ++ y ∷ [])
@@ -35,37 +35,47 @@ zip_push R [] (first ∷ ys) x y both is = absurd both
 zip_push R (first ∷ xs) [] x y both is = absurd both
 zip_push R (first ∷ xs) (other ∷ ys) x y both is = (both.0, zip_push R xs ys x y both.1 is)
 
-pub begun : (plan : Plan) (tower : Contents) (chosen : MomentField) (feeder : ℕ) (trace : List ℕ) (progress : Progress) (pass : Passed) → IsFront trace [] 0 → IsAt plan feeder [] progress pass → HasRead plan tower chosen feeder trace 0 progress pass
-begun plan tower chosen feeder trace progress pass front at = record { pieces = []; front = front; items = []; read = tt; is_at = at }
+pub begun : (setting : Setting) (trace : List ℕ) (progress : Progress) (pass : Passed) → IsFront trace [] 0 → IsAt setting.plan setting.start [] progress pass → HasRead setting trace 0 progress pass
+begun setting trace progress pass front at = record { pieces = []; front = front; items = []; read = tt; is_at = at }
 
-pub read_on : (plan : Plan) (tower : Contents) (chosen : MomentField) (feeder : ℕ) (trace : List ℕ) (at to : ℕ) (old new : Progress) (pass after : Passed) (piece : Piece) (item : Result Item FormFault)
-    → HasRead plan tower chosen feeder trace at old pass
+pub read_on : (setting : Setting) (trace : List ℕ) (at to : ℕ) (old mid new : Progress) (pass after : Passed) (piece : Piece) (item : Result Item FormFault) (step : Taken)
+    → HasRead setting trace at old pass
     → ((pieces : List Piece) → IsFront trace pieces at → IsFront trace (pieces ++ piece ∷ []) to)
-    → IsItem tower chosen piece item
-    → ((of : ℕ) (items : List (Result Item FormFault)) → IsAt plan of items old pass → IsAt plan of (items ++ item ∷ []) new after)
-    → HasRead plan tower chosen feeder trace to new after
-read_on plan tower chosen feeder trace at to old new pass after piece item so_far goes is taken = record {
+    → IsItem setting.tower setting.chosen piece item
+    → ((plan : Plan) (start : Start) (items : List (Result Item FormFault)) (pass : Passed) → IsAt plan start items old pass → IsPaired plan start items item step mid pass)
+    → ((start : Start) (items : List (Result Item FormFault)) (item : Result Item FormFault) → IsPaired setting.plan start items item step mid pass → IsAt setting.plan start (items ++ item ∷ []) new after)
+    → HasRead setting trace to new after
+read_on setting trace at to old mid new pass after piece item step so_far goes is paired carried = record {
   pieces = so_far.pieces ++ piece ∷ [];
   front = goes so_far.pieces so_far.front;
   items = so_far.items ++ item ∷ [];
-  read = zip_push (IsItem tower chosen) so_far.pieces so_far.items piece item so_far.read is;
-  is_at = taken feeder so_far.items so_far.is_at;
+  read = zip_push (IsItem setting.tower setting.chosen) so_far.pieces so_far.items piece item so_far.read is;
+  is_at = carried setting.start so_far.items item (paired setting.plan setting.start so_far.items pass so_far.is_at);
 }
 
-pub ends : (plan : Plan) (tower : Contents) (chosen : MomentField) (feeder : ℕ) (trace : List ℕ) (at : ℕ) (progress : Progress) (before : Passed) (broken : Option Broken) (fed : Fed)
-    → HasRead plan tower chosen feeder trace at progress before
+-- the register of its step is one of the plan's, and the pass is the plan's
+pub read_known : (setting : Setting) (trace : List ℕ) (at : ℕ) (old mid : Progress) (pass : Passed) (piece : Piece) (item : Result Item FormFault) (step : Taken) → ItemsName → StepsAreOn
+    → setting.plan.claims ≡ claims_of setting.tower → HasRead setting trace at old pass → IsItem setting.tower setting.chosen piece item
+    → ((plan : Plan) (start : Start) (items : List (Result Item FormFault)) (pass : Passed) → IsAt plan start items old pass → IsPaired plan start items item step mid pass)
+    → IsPassOf setting.plan pass × IsKnownStep setting.plan step
+read_known setting trace at old mid pass piece item step name on claims so_far is paired =
+    let one = paired setting.plan setting.start so_far.items pass so_far.is_at in
+    (one.done.of_plan, known_step setting.plan setting.tower setting.chosen name on setting.start.feeder so_far.pieces so_far.items piece item step claims so_far.read is one.step_is)
+
+pub ends : (setting : Setting) (trace : List ℕ) (at : ℕ) (progress : Progress) (before : Passed) (broken : Option Broken) (fed : Fed)
+    → HasRead setting trace at progress before
     → ((pieces : List Piece) → IsFront trace pieces at → AreElements trace broken pieces)
     → fed.pass ≡ before → fed.log.lines ≡ progress.log.lines → fed.log.broken ≡ broken
-    → IsFed plan tower chosen feeder trace fed
-ends plan tower chosen feeder trace at progress before broken fed so_far elements pass lines is = record {
+    → IsFed setting trace fed
+ends setting trace at progress before broken fed so_far elements pass lines is = record {
   items = so_far.items;
   are = record {
     pieces = so_far.pieces;
     elements = subst (λ (b : Option Broken). AreElements trace b so_far.pieces) (sym is) (elements so_far.pieces so_far.front);
     read = so_far.read;
   };
-  done = subst (λ (p : Passed). HasDone plan feeder p fed.log.lines.items (steps_of feeder so_far.items)) (sym pass)
-      (subst (λ l. HasDone plan feeder before l.items (steps_of feeder so_far.items)) (sym lines) so_far.is_at.done);
+  done = subst (λ (p : Passed). HasDone setting.plan setting.start p fed.log.lines.items (steps_of setting.start.feeder so_far.items)) (sym pass)
+      (subst (λ l. HasDone setting.plan setting.start before l.items (steps_of setting.start.feeder so_far.items)) (sym lines) so_far.is_at.done);
 }
 
 pub no_memory : (fault : EdnFault) (broken : Broken) → broken_by fault ≡ Some broken → ¬ IsMemory fault

@@ -1,7 +1,5 @@
 -- What was read of a reader, and fed.
 use Rattle.std.proofs.Common.{◌≡◌, ◌⊎◌, inl, inr, ℕ, Bool, true, false, List, [], Option, Some, None, IfSome, refl, sym, subst, ap, ◌∙◌, append-nil}
-use Rattle.tower_file.specs.Contents.{Contents}
-use Rattle.jepsen_form.specs.declared.item.MomentField.{MomentField}
 use Rattle.shards.specs.Plan.{Plan}
 use Rattle.shards.specs.Pass.{Passed}
 use Rattle.feeders.specs.declared.fed.Fed.{Fed}
@@ -15,15 +13,16 @@ use Rattle.feeders.specs.Feeding.{Feeding, IsFedUpTo}
 use Rattle.feeders.specs.Intake.{HasBroken, HasEnded}
 use Rattle.feeders.specs.Progress.{HasDone, IsFed, IsReadAndFed}
 use Rattle.feeders.specs.Readers.{IsReadOf, IsReadUpTo, broke_reading}
+use Rattle.feeders.specs.Setting.{Setting, Start}
 use Rattle.feeders.specs.Source.{IsGiven}
 use Rattle.feeders.specs.Steps.{AreItems, steps_of}
 use Rattle.feeders.proofs.Sourcing.{given_front}
 
 -- the bytes that a source gave are fed
-pub record HasStreamed (plan : Plan) (feeder : ℕ) (first left : Option (List ℕ)) (past : Bool) (feeding : Feeding) (pass : Passed) : Type 0 where
+pub record HasStreamed (plan : Plan) (start : Start) (first left : Option (List ℕ)) (past : Bool) (feeding : Feeding) (pass : Passed) : Type 0 where
   pub bytes : List ℕ
   pub given : IsGiven first bytes left past
-  pub fed : IsFedUpTo plan feeder bytes feeding pass
+  pub fed : IsFedUpTo plan start bytes [] feeding pass
 
 -- all that there was
 whole_of : (first : Option (List ℕ)) (bytes : List ℕ) (broken : Option Broken) → IfSome first (λ all. all ≡ bytes) → IsReadOf first broken bytes
@@ -34,43 +33,43 @@ whole_of (Some all) bytes broken is = up_to (broke_reading broken)
     up_to false = sym is
     up_to true = ([], is ∙ sym (append-nil bytes))
 
-module _ (plan : Plan) (tower : Contents) (chosen : MomentField) where
+module _ (setting : Setting) where
   -- a feeder's pass and log are handed out
-  handed : (feeder : ℕ) (trace : List ℕ) (pass : Passed) (log : Log) (fed : Fed) → fed.pass ≡ pass → fed.log ≡ log
-      → IsFed plan tower chosen feeder trace (record { pass = pass; log = log }) → IsFed plan tower chosen feeder trace fed
-  handed feeder trace pass log fed pass_is log_is is = record {
+  handed : (trace : List ℕ) (pass : Passed) (log : Log) (fed : Fed) → fed.pass ≡ pass → fed.log ≡ log
+      → IsFed setting trace (record { pass = pass; log = log }) → IsFed setting trace fed
+  handed trace pass log fed pass_is log_is is = record {
     items = is.items;
-    are = subst (λ (l : Log). AreItems tower chosen trace l.broken is.items) (sym log_is) is.are;
-    done = subst (λ (p : Passed). HasDone plan feeder p fed.log.lines.items (steps_of feeder is.items)) (sym pass_is)
-        (subst (λ (l : Log). HasDone plan feeder pass l.lines.items (steps_of feeder is.items)) (sym log_is) is.done);
+    are = subst (λ (l : Log). AreItems setting.tower setting.chosen trace l.broken is.items) (sym log_is) is.are;
+    done = subst (λ (p : Passed). HasDone setting.plan setting.start p fed.log.lines.items (steps_of setting.start.feeder is.items)) (sym pass_is)
+        (subst (λ (l : Log). HasDone setting.plan setting.start pass l.lines.items (steps_of setting.start.feeder is.items)) (sym log_is) is.done);
   }
 
   -- the source came to its end
-  pub read_whole : (feeder : ℕ) (first : Option (List ℕ)) (bytes : List ℕ) (intake : Intake) (pass : Passed) (fed : Fed) → IfSome first (λ all. all ≡ bytes)
-      → HasEnded plan tower chosen feeder bytes intake pass → fed.pass ≡ pass → fed.log ≡ intake.progress.log → IsReadAndFed plan tower chosen feeder first fed
-  read_whole feeder first bytes intake pass fed all ended pass_is log_is = record {
+  pub read_whole : (first : Option (List ℕ)) (bytes : List ℕ) (intake : Intake) (pass : Passed) (fed : Fed) → IfSome first (λ all. all ≡ bytes)
+      → HasEnded setting bytes intake pass → fed.pass ≡ pass → fed.log ≡ intake.progress.log → IsReadAndFed setting first fed
+  read_whole first bytes intake pass fed all ended pass_is log_is = record {
     trace = bytes;
     of = whole_of first bytes fed.log.broken all;
-    is_fed = handed feeder bytes pass intake.progress.log fed pass_is log_is ended;
+    is_fed = handed bytes pass intake.progress.log fed pass_is log_is ended;
   }
 
   -- the trace broke in what was given
-  pub broke_within : (feeder : ℕ) (first left : Option (List ℕ)) (past : Bool) (bytes : List ℕ) (intake : Intake) (pass : Passed) (fed : Fed) → IsGiven first bytes left past
-      → HasBroken plan tower chosen feeder bytes intake pass → fed.pass ≡ pass → fed.log ≡ intake.progress.log → IsReadAndFed plan tower chosen feeder first fed
-  broke_within feeder None left past bytes intake pass fed given broken pass_is log_is =
-      read_whole feeder None bytes intake pass fed tt (broken bytes [] (sym (append-nil bytes))) pass_is log_is
-  broke_within feeder (Some all) left past bytes intake pass fed given broken pass_is log_is =
+  pub broke_within : (first left : Option (List ℕ)) (past : Bool) (bytes : List ℕ) (intake : Intake) (pass : Passed) (fed : Fed) → IsGiven first bytes left past
+      → HasBroken setting bytes intake pass → fed.pass ≡ pass → fed.log ≡ intake.progress.log → IsReadAndFed setting first fed
+  broke_within None left past bytes intake pass fed given broken pass_is log_is =
+      read_whole None bytes intake pass fed tt (broken bytes [] (sym (append-nil bytes))) pass_is log_is
+  broke_within (Some all) left past bytes intake pass fed given broken pass_is log_is =
       let front = given_front all bytes left past given in
-      read_whole feeder (Some all) all intake pass fed refl (broken all front.0 front.1) pass_is log_is
+      read_whole (Some all) all intake pass fed refl (broken all front.0 front.1) pass_is log_is
 
   -- the reading broke off
-  pub read_up_to : (feeder : ℕ) (first left : Option (List ℕ)) (past : Bool) (bytes : List ℕ) (broken : Broken) (intake : Intake) (pass : Passed) (fed : Fed)
+  pub read_up_to : (first left : Option (List ℕ)) (past : Bool) (bytes : List ℕ) (broken : Broken) (intake : Intake) (pass : Passed) (fed : Fed)
       → IsGiven first bytes left past → is_of_reading broken.code ≡ true → intake.progress.log.broken ≡ Some broken
-      → HasEnded plan tower chosen feeder bytes intake pass → fed.pass ≡ pass → fed.log ≡ intake.progress.log → IsReadAndFed plan tower chosen feeder first fed
-  read_up_to feeder first left past bytes broken intake pass fed given reading set ended pass_is log_is = record {
+      → HasEnded setting bytes intake pass → fed.pass ≡ pass → fed.log ≡ intake.progress.log → IsReadAndFed setting first fed
+  read_up_to first left past bytes broken intake pass fed given reading set ended pass_is log_is = record {
     trace = bytes;
     of = subst (λ (b : Option Broken). IsReadOf first b bytes) (sym (ap (λ (l : Log). l.broken) log_is ∙ set)) (up_to first given);
-    is_fed = handed feeder bytes pass intake.progress.log fed pass_is log_is ended;
+    is_fed = handed bytes pass intake.progress.log fed pass_is log_is ended;
   }
     where
       up_to : (first : Option (List ℕ)) → IsGiven first bytes left past → IsReadOf first (Some broken) bytes

@@ -11,7 +11,9 @@ use Rattle.shards.specs.declared.entry.Receipt.{Receipt}
 use Rattle.shards.specs.Plan.{Plan}
 use Rattle.shards.specs.Pass.{HasEntry, IsSightOf, Passed, last_in, told, with_own, with_seen}
 use Rattle.shards.specs.Steps.{IsLive, IsSubmitted, entered as with_entry, entry_of, last_entry, numbered_entry}
-use Rattle.feeders.specs.Doings.{Doing, IsAnsweredAfter, answered, entered, entered_in}
+use Rattle.shards.specs.Journal.{count_by}
+use Rattle.feeders.specs.Doings.{Doing, IsAnsweredAfter, answered, entered, own_after}
+use Rattle.feeders.specs.Setting.{Start}
 use Rattle.feeders.proofs.Doing.{IsTold}
 
 -- an entry comes behind those of its shard, and the other shards keep theirs
@@ -73,12 +75,12 @@ told_answered plan old new register answer live seen = record {
 
 pub answered_after : (plan : Plan) (old new : Passed) (register : RegId) (answer : Answer) → 0 < plan.shards
     → IsLive plan old new register.0 answer
-    → (doings : List Doing) → ((at : ℕ) → at < plan.shards → told old at ≡ entered_in plan.shards old.feeder at doings)
-    → IsAnsweredAfter plan old.feeder doings (answered register answer)
-answered_after plan old new register answer some live doings own = record {
+    → (start : Start) (doings : List Doing) → old.feeder ≡ start.feeder → ((at : ℕ) → at < plan.shards → told old at ≡ own_after plan.shards start at doings)
+    → IsAnsweredAfter plan start doings (answered register answer)
+answered_after plan old new register answer some live start doings feeder own = record {
   journal = live.journal;
-  legal = live.legal;
+  of_shard = live.of_shard;
   standing = live.standing;
-  own = live.keeping.count ∙ ap length (own (register.0 % plan.shards) (omega arith));
+  own = ap (λ (f : ℕ). count_by f live.journal) (sym feeder) ∙ live.keeping.count ∙ ap length (own (register.0 % plan.shards) (omega arith));
   last = subst (λ (known : List Numbered). IfSome (last_in known) (HasEntry live.journal)) (own (register.0 % plan.shards) (omega arith)) live.keeping.last;
 }

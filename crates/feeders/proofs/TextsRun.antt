@@ -159,6 +159,6 @@ module _ (tower : Contents) (chosen : MomentField) (shards : ℕ) (traces : List
       let stands : held.ops ≡ standing_of register (journal_of closed at) =
       left register (journal_of closed at) (slice_get (plan_of_run tower shards traces).claims register) held
       (subst (λ (m : ℕ). option_map (left_by (journal_of closed (register % m)) register) (slice_get (plan_of_run tower shards traces).claims register) ≡ Some held) (sym run.finished.many) (sym (run.finished.books register) ∙ is)) in
-      let last = last_settled (plan_of_run tower shards traces) at register (journal_of closed at) (run.finished.finished at lt).legal in
+      let last = last_settled (plan_of_run tower shards traces) at register (journal_of closed at) (run.finished.finished at lt).of_shard.legal in
       subst (All (IsLentByTrace tower chosen traces logs register (journal_of closed at))) (sym stands)
       (λ k d l. elements_of register at (get_or (standing_of register (journal_of closed at)) k d) (last k d l))

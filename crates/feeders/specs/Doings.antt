@@ -10,13 +10,14 @@ use Rattle.shards.specs.declared.entry.Entry.{Entry}
 use Rattle.shards.specs.declared.entry.Numbered.{Numbered}
 use Rattle.shards.specs.Plan.{Plan}
 use Rattle.shards.specs.Pass.{HasEntry, last_in}
-use Rattle.shards.specs.Journal.{EachAfter, IsLegalJournal, count_by}
+use Rattle.shards.specs.Journal.{EachAfter, IsJournalOf, count_by}
 use Rattle.shards.specs.Steps.{IsStanding, entry_of, numbered_entry}
 use Rattle.feeders.specs.declared.log.Code.{Code}
 use Rattle.feeders.specs.declared.log.Code.TheVariants.{Register}
 use Rattle.feeders.specs.declared.log.Line.{Line}
 use Rattle.feeders.specs.declared.log.What.{What}
 use Rattle.feeders.specs.declared.log.What.TheVariants.{Refused, Answered}
+use Rattle.feeders.specs.Setting.{Start}
 use Rattle.feeders.specs.Steps.{Taken}
 
 -- what became of one element: it was refused by its form or by the pairing; nothing was to be done; its edit was
@@ -68,25 +69,29 @@ abbrev pub lines_from : ℕ → List Doing → List Line
 lines_from place [] = []
 lines_from place (doing ∷ doings) = lines_at place (what_of doing) ++ lines_from (place + 1) doings
 
--- the answer is the standing of its register after a legal journal of its shard, which has as many of the
--- feeder's entries as it entered there before, and the last of these at its number
-pub record IsAnswerAfter (plan : Plan) (feeder : ℕ) (before : List Doing) (register : RegId) (answer : Answer) : Type 0 where
+-- the feeder's own entries in a shard after these doings: those that it began with, and those that it entered
+abbrev pub own_after : ℕ → Start → ℕ → List Doing → List Numbered
+own_after shards start at doings = start.had at ++ entered_in shards start.feeder at doings
+
+-- the answer is the standing of its register after a legal journal of its shard, by feeders of the plan alone, which has
+-- as many of the feeder's entries as it had of its own there before, and the last of these at its number
+pub record IsAnswerAfter (plan : Plan) (start : Start) (before : List Doing) (register : RegId) (answer : Answer) : Type 0 where
   pub journal : List Entry
-  pub legal : IsLegalJournal plan (register.0 % plan.shards) journal
+  pub of_shard : IsJournalOf plan (register.0 % plan.shards) journal
   pub standing : IsStanding plan register.0 journal answer
-  pub own : count_by feeder journal ≡ length (entered_in plan.shards feeder (register.0 % plan.shards) before)
-  pub last : IfSome (last_in (entered_in plan.shards feeder (register.0 % plan.shards) before)) (HasEntry journal)
+  pub own : count_by start.feeder journal ≡ length (own_after plan.shards start (register.0 % plan.shards) before)
+  pub last : IfSome (last_in (own_after plan.shards start (register.0 % plan.shards) before)) (HasEntry journal)
 
 -- a question was answered so; of the rest its step and its entry say it all
-abbrev pub IsAnsweredAfter : Plan → ℕ → List Doing → Doing → Type 0
-IsAnsweredAfter plan feeder before (refused code) = Unit {0}
-IsAnsweredAfter plan feeder before nothing = Unit {0}
-IsAnsweredAfter plan feeder before (entered register edit number reply) = Unit {0}
-IsAnsweredAfter plan feeder before (answered register answer) = IsAnswerAfter plan feeder before register answer
+abbrev pub IsAnsweredAfter : Plan → Start → List Doing → Doing → Type 0
+IsAnsweredAfter plan start before (refused code) = Unit {0}
+IsAnsweredAfter plan start before nothing = Unit {0}
+IsAnsweredAfter plan start before (entered register edit number reply) = Unit {0}
+IsAnsweredAfter plan start before (answered register answer) = IsAnswerAfter plan start before register answer
 
 -- the doings are for these steps, one for each; the lines are what is noted of them; and each question was
 -- answered after what was done before it
-pub record AreDone (plan : Plan) (feeder : ℕ) (steps : List Taken) (lines : List Line) (doings : List Doing) : Type 0 where
+pub record AreDone (plan : Plan) (start : Start) (steps : List Taken) (lines : List Line) (doings : List Doing) : Type 0 where
   pub for_steps : map taken_of doings ≡ steps
   pub noted : lines ≡ lines_from 0 doings
-  pub answers : EachAfter (IsAnsweredAfter plan feeder) [] doings
+  pub answers : EachAfter (IsAnsweredAfter plan start) [] doings

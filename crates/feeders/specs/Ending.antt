@@ -13,11 +13,11 @@ ended_by (shards.PassMissing feeder) = Shard (shards.PassMissing feeder)
 ended_by (shards.Stranger shard feeder number) = Shard (shards.Stranger shard feeder number)
 ended_by shards.ForeignPass = Shard shards.ForeignPass
 
--- why a run may end so: memory is wanting, the tower has no such register, a journal is behind a feeder's pass,
--- or it has a stranger; the passes are the auditor's, one for each feeder
+-- why a run may end so: out of memory, a journal is behind a feeder's pass, or it has a stranger. The registers of the
+-- steps are the tower's, and the passes the auditor's, one for each feeder
 abbrev pub MayEnd : RunFault → Type 0
 MayEnd Memory = Unit {0}
-MayEnd (Shard shards.UnknownRegister) = Unit {0}
+MayEnd (Shard shards.UnknownRegister) = ⊥
 MayEnd (Shard shards.Memory) = ⊥
 MayEnd (Shard (shards.JournalBehind shard seen found)) = Unit {0}
 MayEnd (Shard (shards.PassMissing feeder)) = ⊥

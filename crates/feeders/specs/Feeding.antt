@@ -5,9 +5,10 @@ use Rattle.jepsen_form.specs.declared.item.MomentField.{MomentField}
 use Rattle.shards.specs.Plan.{Plan}
 use Rattle.shards.specs.Pass.{Passed}
 use Rattle.feeders.specs.declared.feeder.Course.{Course}
-use Rattle.feeders.specs.declared.feeder.Course.TheVariants.{Open, Broke, Ended, Failed}
+use Rattle.feeders.specs.declared.feeder.Course.TheVariants.{Open, Paused, Ending, Broke, Ended}
 use Rattle.feeders.specs.declared.intake.Intake.{Intake}
-use Rattle.feeders.specs.Intake.{HasBroken, HasFed}
+use Rattle.feeders.specs.Intake.{HasBroken, HasFed, IsAtEnd}
+use Rattle.feeders.specs.Setting.{Setting, Start, setting_of}
 
 -- A feeder: how it reads its trace, what it has taken of it, and whether it goes on.
 pub record Feeding : Type 0 where
@@ -16,14 +17,15 @@ pub record Feeding : Type 0 where
   pub intake : Intake
   pub course : Course
 
--- the same, by whether it goes on
-abbrev pub IsUpTo : Course → Plan → Contents → MomentField → ℕ → List ℕ → Intake → Passed → Type 0
-IsUpTo Open plan tower chosen feeder bytes intake pass = HasFed plan tower chosen feeder bytes [] intake pass
-IsUpTo Broke plan tower chosen feeder bytes intake pass = HasBroken plan tower chosen feeder bytes intake pass
-IsUpTo Ended plan tower chosen feeder bytes intake pass = ⊥
-IsUpTo (Failed fault) plan tower chosen feeder bytes intake pass = ⊥
+-- these bytes were taken, by whether it goes on; where it is paused it goes on with those that come next
+abbrev pub IsUpTo : Course → Setting → List ℕ → List ℕ → Intake → Passed → Type 0
+IsUpTo Open setting bytes next intake pass = HasFed setting bytes [] intake pass
+IsUpTo Paused setting bytes next intake pass = HasFed setting bytes next intake pass
+IsUpTo Ending setting bytes next intake pass = IsAtEnd setting bytes intake pass
+IsUpTo Broke setting bytes next intake pass = HasBroken setting bytes intake pass
+IsUpTo Ended setting bytes next intake pass = ⊥
 
--- It was given these bytes of its trace, as the feeder of this number: the elements that have ended in them are fed, or the
--- trace broke in them.
-abbrev pub IsFedUpTo : Plan → ℕ → List ℕ → Feeding → Passed → Type 0
-IsFedUpTo plan feeder bytes feeding pass = IsUpTo feeding.course plan feeding.tower feeding.chosen feeder bytes feeding.intake pass
+-- It has taken these bytes of its trace, from this start on, and goes on with those that come next: the elements that have
+-- ended in them are fed, or the trace broke in them.
+abbrev pub IsFedUpTo : Plan → Start → List ℕ → List ℕ → Feeding → Passed → Type 0
+IsFedUpTo plan start bytes next feeding pass = IsUpTo feeding.course (setting_of plan feeding.tower feeding.chosen start) bytes next feeding.intake pass

@@ -3,16 +3,17 @@ use Rattle.std.specs.Prelude.{◌≡◌, ◌≤◌, ◌<◌, ◌+◌, ◌^◌, �
 use Rattle.std.specs.List.{AllZip}
 use Rattle.edn_reader.specs.Grammar.{Piece}
 use Rattle.edn_reader.specs.Splitting.{StandsAfter, keep}
-use Rattle.tower_file.specs.Contents.{Contents}
 use Rattle.jepsen_form.specs.declared.fault.FormFault.{FormFault}
 use Rattle.jepsen_form.specs.declared.item.Item.{Item}
-use Rattle.jepsen_form.specs.declared.item.MomentField.{MomentField}
 use Rattle.jepsen_form.specs.Item.{IsItem}
-use Rattle.shards.specs.Plan.{Plan}
 use Rattle.shards.specs.Pass.{Passed}
 use Rattle.feeders.specs.declared.intake.Intake.{Intake}
+use Rattle.feeders.specs.Broken.{AreElements}
 use Rattle.feeders.specs.Kept.{Holds}
-use Rattle.feeders.specs.Progress.{IsAhead, IsAt, IsFed}
+use Rattle.feeders.specs.Pending.{CanSettle, HoldsAs, IsPending}
+use Rattle.feeders.specs.Progress.{IsFed}
+use Rattle.feeders.specs.Readers.{IsNotOfReading}
+use Rattle.feeders.specs.Setting.{Setting}
 
 -- After bytes, before those that come next, the splitter has told these elements, and what is kept has all bytes that it
 -- may still want. No more elements were counted than bytes came before these.
@@ -26,41 +27,54 @@ pub record HasTaken (bytes next : List ℕ) (pieces : List Piece) (intake : Inta
 pub record CanGoOn (next : List ℕ) (intake : Intake) : Type 0 where
   pub bytes : List ℕ
   pub pieces : List Piece
-  pub taken : HasTaken bytes next pieces intake
-  pub ahead : IsAhead intake.progress
+  pub stands : StandsAfter bytes next pieces intake.splitter
+  pub holds : HoldsAs intake.pending bytes intake.kept
+  pub low : intake.kept.from ≤ keep intake.splitter
+  pub place : intake.progress.place ≤ keep intake.splitter
   pub counted : intake.progress.place ≤ intake.splitter.taken
   pub fits : intake.splitter.taken < 2 ^ 64
+  pub settle : CanSettle intake
 
--- The elements that have ended in the bytes are fed.
-pub record HasFed (plan : Plan) (tower : Contents) (chosen : MomentField) (feeder : ℕ) (bytes next : List ℕ) (intake : Intake) (pass : Passed) : Type 0 where
+-- The elements that have ended in the bytes are fed, but for one at most, which waits.
+pub record HasFed (setting : Setting) (bytes next : List ℕ) (intake : Intake) (pass : Passed) : Type 0 where
   pub pieces : List Piece
+  pub waiting : List Piece
   pub items : List (Result Item FormFault)
-  pub taken : HasTaken bytes next pieces intake
-  pub read : AllZip (IsItem tower chosen) pieces items
-  pub is_at : IsAt plan feeder items intake.progress pass
+  pub taken : HasTaken bytes next (pieces ++ waiting) intake
+  pub read : AllZip (IsItem setting.tower setting.chosen) pieces items
+  pub pending : IsPending setting items waiting intake pass
   pub unbroken : intake.progress.log.broken ≡ None
 
 -- The trace is fed, up to its end or to where it broke.
-abbrev pub HasEnded : Plan → Contents → MomentField → ℕ → List ℕ → Intake → Passed → Type 0
-HasEnded plan tower chosen feeder trace intake pass = IsFed plan tower chosen feeder trace (record { pass = pass; log = intake.progress.log })
+abbrev pub HasEnded : Setting → List ℕ → Intake → Passed → Type 0
+HasEnded setting trace intake pass = IsFed setting trace (record { pass = pass; log = intake.progress.log })
+
+-- The end of the trace was taken: its elements are fed, but for the last one where it waits.
+pub record IsAtEnd (setting : Setting) (trace : List ℕ) (intake : Intake) (pass : Passed) : Type 0 where
+  pub pieces : List Piece
+  pub waiting : List Piece
+  pub items : List (Result Item FormFault)
+  pub elements : AreElements trace intake.progress.log.broken (pieces ++ waiting)
+  pub read : AllZip (IsItem setting.tower setting.chosen) pieces items
+  pub pending : IsPending setting items waiting intake pass
+  pub by_text : IsNotOfReading intake.progress.log
 
 -- Each trace that begins so is fed: it broke in these bytes.
-abbrev pub HasBroken : Plan → Contents → MomentField → ℕ → List ℕ → Intake → Passed → Type 0
-HasBroken plan tower chosen feeder bytes intake pass = (trace more : List ℕ) → trace ≡ bytes ++ more → HasEnded plan tower chosen feeder trace intake pass
+abbrev pub HasBroken : Setting → List ℕ → Intake → Passed → Type 0
+HasBroken setting bytes intake pass = (trace more : List ℕ) → trace ≡ bytes ++ more → HasEnded setting trace intake pass
 
 -- So many bytes of a piece are fed; or the trace broke in it, or in what comes next.
-abbrev pub GoesTo : Plan → Contents → MomentField → ℕ → List ℕ → List ℕ → List ℕ → Option ℕ → Intake → Passed → Type 0
-GoesTo plan tower chosen feeder bytes piece next None intake pass = HasBroken plan tower chosen feeder (bytes ++ (piece ++ next)) intake pass
-GoesTo plan tower chosen feeder bytes piece next (Some used) intake pass = HasFed plan tower chosen feeder (bytes ++ take used piece) (drop used piece ++ next) intake pass
+abbrev pub GoesTo : Setting → List ℕ → List ℕ → List ℕ → Option ℕ → Intake → Passed → Type 0
+GoesTo setting bytes piece next None intake pass = HasBroken setting (bytes ++ (piece ++ next)) intake pass
+GoesTo setting bytes piece next (Some used) intake pass = HasFed setting (bytes ++ take used piece) (drop used piece ++ next) intake pass
 
--- So many bytes of a piece were used, or an element ended before them; and it can go on with the rest.
-abbrev pub HasUsed : List ℕ → Intake → Option ℕ → Intake → Type 0
-HasUsed piece old None new = Unit {0}
-HasUsed piece old (Some used) new =
-    (used ≤ length piece) × (new.splitter.taken ≡ old.splitter.taken + used) × CanGoOn (drop used piece) new
-    × (0 < length piece → old.splitter.taken + old.progress.place < new.splitter.taken + new.progress.place)
+-- So many bytes of a piece were used, and it can go on with the rest.
+pub record HasUsed (piece : List ℕ) (old : Intake) (used : ℕ) (new : Intake) : Type 0 where
+  pub within : used ≤ length piece
+  pub taken : new.splitter.taken ≡ old.splitter.taken + used
+  pub can : CanGoOn (drop used piece) new
 
 -- All of a piece is fed; or the trace broke in it.
-abbrev pub GoesOver : Bool → Plan → Contents → MomentField → ℕ → List ℕ → Intake → Passed → Type 0
-GoesOver true plan tower chosen feeder bytes intake pass = HasFed plan tower chosen feeder bytes [] intake pass
-GoesOver false plan tower chosen feeder bytes intake pass = HasBroken plan tower chosen feeder bytes intake pass
+abbrev pub GoesOver : Bool → Setting → List ℕ → Intake → Passed → Type 0
+GoesOver true setting bytes intake pass = HasFed setting bytes [] intake pass
+GoesOver false setting bytes intake pass = HasBroken setting bytes intake pass

@@ -1,4 +1,5 @@
 -- what the public clauses speak of
+pub mod Setting
 pub mod Steps
 pub mod Prefixes
 pub mod Broken
@@ -7,10 +8,12 @@ pub mod Run
 pub mod Readers
 pub mod Feeding
 pub mod Intake
+pub mod Adding
 pub mod Ending
 pub mod Texts
 -- words of private clauses
 pub mod Progress
+pub mod Pending
 pub mod Kept
 pub mod Lending
 pub mod Source

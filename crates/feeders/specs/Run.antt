@@ -10,6 +10,7 @@ use Rattle.shards.specs.Pass.{Passed}
 use Rattle.shards.specs.Merge.{entries_of}
 use Rattle.shards.specs.Closing.{Ended, IsClosed, journal_of}
 use Rattle.feeders.specs.declared.log.Log.{Log}
+use Rattle.feeders.specs.Setting.{first_start}
 use Rattle.feeders.specs.Steps.{AreItems, steps_of}
 use Rattle.feeders.specs.Doings.{Doing, AreDone, entered_in}
 
@@ -27,7 +28,7 @@ pub record IsTraced (plan : Plan) (tower : Contents) (chosen : MomentField) (clo
   pub items : List (Result Item FormFault)
   pub are : AreItems tower chosen trace log.broken items
   pub doings : List Doing
-  pub done : AreDone plan feeder (steps_of feeder items) log.lines.items doings
+  pub done : AreDone plan (first_start feeder) (steps_of feeder items) log.lines.items doings
   pub entries : (at : ℕ) → at < plan.shards
       → map plain_numbered (entries_of feeder (journal_of closed at)) ≡ map plain_numbered (entered_in plan.shards feeder at doings)
 

@@ -1,5 +1,5 @@
 -- The steps of a trace: what each of its elements comes to, by those before it.
-use Rattle.std.specs.Prelude.{ℕ, ◌+◌, List, [], ◌∷◌, ◌++◌, length, Option, Result, Ok, Err}
+use Rattle.std.specs.Prelude.{ℕ, ◌+◌, ◌<◌, List, [], ◌∷◌, ◌++◌, length, Option, Some, None, Result, Ok, Err}
 use Rattle.std.specs.List.{AllZip}
 use Rattle.edn_reader.specs.Grammar.{Piece}
 use Rattle.tower_file.specs.Contents.{Contents}
@@ -9,8 +9,10 @@ use Rattle.jepsen_form.specs.declared.item.MomentField.{MomentField}
 use Rattle.jepsen_form.specs.Item.{IsItem}
 use Rattle.pairing.specs.declared.fault.PairFault.{PairFault}
 use Rattle.pairing.specs.declared.step.Step.{Step}
+use Rattle.pairing.specs.declared.step.Step.TheVariants as steps
 use Rattle.pairing.specs.Accepted.{Placed, accepted}
 use Rattle.pairing.specs.Step.{step_of}
+use Rattle.shards.specs.Plan.{Plan}
 use Rattle.feeders.specs.declared.log.Broken.{Broken}
 use Rattle.feeders.specs.declared.log.Code.{Code}
 use Rattle.feeders.specs.declared.log.Code.TheVariants.{Form, Pair}
@@ -55,3 +57,10 @@ steps_behind feeder before (item ∷ items) = step_behind feeder before item ∷
 -- the steps of a feeder's trace, one for each element, in order: the place of a step is its number
 abbrev pub steps_of : ℕ → List (Result Item FormFault) → List Taken
 steps_of feeder items = steps_behind feeder [] items
+
+-- the register of a step is one of the plan's
+abbrev pub IsKnownStep : Plan → Taken → Type 0
+IsKnownStep plan (Err code) = Unit {0}
+IsKnownStep plan (Ok None) = Unit {0}
+IsKnownStep plan (Ok (Some (steps.Edit register edit))) = register.0 < length plan.claims
+IsKnownStep plan (Ok (Some (steps.Ask register))) = register.0 < length plan.claims

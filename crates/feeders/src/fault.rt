@@ -21,10 +21,10 @@ pub enum RunFault {
 
 /// Why a piece of a trace was not taken whole.
 #[derive(Clone, Copy, Debug, PartialEq, Eq, Error)]
-#[error("{fault} behind {used} bytes")]
+#[error("{fault} after {used} bytes")]
 pub struct FeedFault {
     pub fault: RunFault,
-    /// How many bytes of the piece lie before the element whose step was not carried out, or that was not kept.
+    /// How many bytes of the piece were taken: the feeder goes on with the one after them.
     pub used: usize,
 }
 

@@ -1,22 +1,24 @@
 //! A feeder whose trace comes in pieces.
 
-ghost use Rattle.std.specs.Prelude.{◌≡◌, ◌≢◌, ◌+◌, ◌≤◌, ◌<◌, ◌^◌, ◌++◌, [], ℕ, List, length, Err, Ok, Some, IfErr, OnOk, IsTrue, ◌↔◌};
-ghost use Rattle.shards.specs.Pass.{Passed, fresh};
-ghost use Rattle.shards.specs.Plan.{Plan};
-ghost use Rattle.feeders.specs.declared.fault.RunFault.{RunFault as ARunFault};
+ghost use Rattle.std.specs.Prelude.{◌≡◌, ◌≢◌, ◌+◌, ◌≤◌, ◌<◌, ◌^◌, ◌++◌, [], ℕ, List, length, take, drop, Ok, Some, IfErr, OnErr, OnOk, IsTrue, ◌↔◌, ◌⊎◌};
+ghost use Rattle.shards.specs.Pass.{Passed};
+ghost use Rattle.shards.specs.Plan.{Plan, claims_of};
 ghost use Rattle.feeders.specs.Broken.{is_of_reading};
 ghost use Rattle.feeders.specs.Ending.{MayEnd};
 ghost use Rattle.feeders.specs.Feeding.{IsFedUpTo};
-ghost use Rattle.feeders.specs.Intake.{HasEnded};
+ghost use Rattle.feeders.specs.Intake.{CanGoOn, HasEnded, IsAtEnd};
 ghost use Rattle.feeders.specs.Readers.{IsNotOfReading};
+ghost use Rattle.feeders.specs.Setting.{IsStart, Start, setting_of};
 
-use crate::fault::{FeedFault, RunFault};
+use crate::fault::FeedFault;
 use crate::fed::Fed;
 use crate::intake::Intake;
 use crate::kept::Kept;
 use crate::log::{BreakCode, Broken, Log};
 use crate::pages::Pages;
+use crate::pending::Pending;
 use crate::progress::Progress;
+use crate::site::Site;
 use edn_reader::Splitter;
 use edn_reader::laws::{no_fault_so_far, told_so_far};
 use jepsen_form::MomentField;
@@ -29,16 +31,23 @@ use tower_file::Tower;
 /// Whether a feeder goes on.
 #[derive(Clone, Copy, Debug, PartialEq, Eq)]
 pub enum Course {
+    /// It takes any piece, and the end.
     Open,
+    /// Memory or a shard refused: it goes on with the rest of the piece.
+    Paused,
+    /// Memory or a shard refused when its trace had ended: it goes on with the end.
+    Ending,
     /// Its trace broke.
     Broke,
     /// Its trace was ended.
     Ended,
-    Failed(RunFault),
 }
 
 /// Feeds a trace that comes in pieces, which may be cut anywhere, to the registers of a tower. It holds the bytes of an
 /// element that has not ended, and puts the texts that its steps lend on pages.
+///
+/// Where memory or a shard refuses, nothing is lost: after a fault of [`feed`](Feeder::feed) it is fed the rest of the
+/// piece, from the byte after those that were used, and after one of [`end`](Feeder::end) it is ended again.
 #[derive(Drop)]
 pub struct Feeder<'t> {
     field: MomentField,
@@ -50,15 +59,17 @@ pub struct Feeder<'t> {
 
 impl<'t> Model for Feeder<'t> {
     ghost use Rattle.std.specs.Prelude.{◌≡◌, []};
-    ghost use Rattle.feeders.specs.declared.feeder.Course.TheVariants.{Open};
+    ghost use Rattle.feeders.specs.declared.feeder.Course.TheVariants.{Open, Ending};
+    ghost use Rattle.feeders.specs.declared.pending.Pending.TheVariants.{Nothing};
     ghost use Rattle.feeders.specs.Feeding.{Feeding};
     ghost use Rattle.feeders.specs.Intake.{CanGoOn};
+    ghost use Rattle.feeders.specs.Pending.{CanSettle};
 
     ghost Value = { Feeding };
 
     ghost view = { λ f. record { chosen = f.field; tower = f.tower.now; intake = f.intake; course = f.course } };
 
-    ghost invariant = { λ f. f.course ≡ Open → CanGoOn [] f.intake };
+    ghost invariant = { λ f. (f.course ≡ Open → CanGoOn [] f.intake × (f.intake.pending ≡ Nothing)) × (f.course ≡ Ending → CanSettle f.intake) };
 }
 
 impl<'t> Feeder<'t> {
@@ -72,7 +83,7 @@ impl<'t> Feeder<'t> {
     ) -> Feeder<'t>
         ensures read { (result.chosen ≡ field) × (result.tower ≡ tower.now) }
         ensures going { (result.course ≡ Course.Open) × (result.intake.splitter.taken ≡ 0) }
-        ensures fed { (plan : Plan) (pass : Passed) → pass ≡ fresh plan feeder → feeder < plan.feeders → IsFedUpTo plan feeder [] result pass }
+        ensures fed { (plan : Plan) (start : Start) (pass : Passed) → IsStart plan start pass → start.feeder ≡ feeder → IsFedUpTo plan start [] [] result pass }
     {
         Feeder {
             field,
@@ -82,13 +93,15 @@ impl<'t> Feeder<'t> {
                 splitter: Splitter::new(alloc),
                 kept: Kept::new(alloc),
                 progress: Progress::new(alloc, feeder),
+                pending: Pending::Nothing,
             },
             course: Course::Open,
         }
     }
 
     /// Takes the next piece of the trace: its steps are carried out as soon as their elements have ended. Once the trace
-    /// broke or was ended it changes nothing. A fault is answered for good.
+    /// broke or was ended it changes nothing. After a fault it is fed the rest of the piece, and goes on with the element
+    /// that had ended last, where that was not carried out.
     pub fn feed<O: Opening, R: Wait, G: Gate>(
         &mut self,
         rt: &R,
@@ -99,39 +112,51 @@ impl<'t> Feeder<'t> {
         piece: &[u8],
     ) -> Result<(), FeedFault>
         requires some { 0 < O.plan.shards }
+        requires rest { self.old.course ≡ Course.Paused → CanGoOn piece.now self.old.intake }
+        requires not_ending { self.old.course ≢ Course.Ending }
         requires fits { self.old.intake.splitter.taken + length piece.now < 2 ^ 64 }
-        ensures fed { OnOk result ((feeder : ℕ) (bytes : List ℕ) → IsFedUpTo O.plan feeder bytes self.old pass.old → IsFedUpTo O.plan feeder (bytes ++ piece.now) self.new pass.new) }
+        ensures fed { OnOk result ((start : Start) (bytes : List ℕ) → IsFedUpTo O.plan start bytes piece.now self.old pass.old → IsFedUpTo O.plan start (bytes ++ piece.now) [] self.new pass.new) }
         ensures taken { OnOk result (self.new.course ≡ Course.Open → self.new.intake.splitter.taken ≡ self.old.intake.splitter.taken + length piece.now) }
         ensures read { (self.new.chosen ≡ self.old.chosen) × (self.new.tower ≡ self.old.tower) }
-        ensures goes_on { OnOk result (self.new.course ≡ Course.Open → self.old.course ≡ Course.Open) }
+        ensures goes_on { OnOk result ((self.new.course ≢ Course.Paused) × (self.new.course ≢ Course.Ending)) }
+        ensures stays { OnOk result ((self.new.course ≡ Course.Open) ⊎ (self.new.course ≡ Course.Broke) ⊎ (self.old.course ≡ Course.Ended)) }
         ensures over { self.old.course ≡ Course.Broke → (result ≡ Ok tt) × (self.new ≡ self.old) × (pass.new ≡ pass.old) }
         ensures ended { self.old.course ≡ Course.Ended → (result ≡ Ok tt) × (self.new ≡ self.old) × (pass.new ≡ pass.old) }
-        ensures failed { (fault : ARunFault) → self.old.course ≡ Course.Failed fault → (result ≡ Err (record { fault = fault; used = 0 })) × (self.new ≡ self.old) × (pass.new ≡ pass.old) }
-        ensures fault { IfErr result (λ failed. (failed.used ≤ length piece.now) × (self.new.course ≡ Course.Failed failed.fault)
-            × ((feeder : ℕ) (bytes : List ℕ) → IsFedUpTo O.plan feeder bytes self.old pass.old → MayEnd failed.fault)) }
+        ensures used { IfErr result (λ failed. (failed.used ≤ length piece.now) × (self.new.intake.splitter.taken ≡ self.old.intake.splitter.taken + failed.used)) }
+        ensures paused { IfErr result (λ failed. (self.new.course ≡ Course.Paused) × CanGoOn (drop failed.used piece.now) self.new.intake) }
+        ensures waits { IfErr result (λ failed. (start : Start) (bytes : List ℕ) → IsFedUpTo O.plan start bytes piece.now self.old pass.old
+            → IsFedUpTo O.plan start (bytes ++ take failed.used piece.now) (drop failed.used piece.now) self.new pass.new) }
+        ensures fault { IfErr result (λ failed. (start : Start) (bytes : List ℕ) → IsFedUpTo O.plan start bytes piece.now self.old pass.old
+            → O.plan.claims ≡ claims_of self.old.tower → MayEnd failed.fault) }
     {
-        match self.course {
-            Course::Failed(fault) => return Err(FeedFault { fault, used: 0 }),
-            Course::Broke | Course::Ended => return Ok(()),
-            Course::Open => {}
+        if self.is_over() {
+            return Ok(());
         }
-        let taken = self.intake.take_piece(
-            rt, alloc, auditor, gate, self.tower, self.field, self.pages, pass, piece,
-        );
-        match taken {
-            Ok(true) => Ok(()),
+        let site = Site {
+            rt,
+            alloc,
+            auditor,
+            gate,
+            tower: self.tower,
+            field: self.field,
+        };
+        match self.intake.take_piece(site, self.pages, pass, piece) {
+            Ok(true) => {
+                self.course = Course::Open;
+                Ok(())
+            }
             Ok(false) => {
                 self.course = Course::Broke;
                 Ok(())
             }
             Err(failed) => {
-                self.course = Course::Failed(failed.fault);
+                self.course = Course::Paused;
                 Err(failed)
             }
         }
     }
 
-    /// Takes the end of the trace. Once the trace broke or was ended it changes nothing. A fault is answered for good.
+    /// Takes the end of the trace. Once the trace broke or was ended it changes nothing. After a fault it is called again.
     pub fn end<O: Opening, R: Wait, G: Gate>(
         &mut self,
         rt: &R,
@@ -141,34 +166,88 @@ impl<'t> Feeder<'t> {
         pass: &mut Pass<'t>,
     ) -> Result<(), FeedFault>
         requires some { 0 < O.plan.shards }
-        ensures fed { OnOk result ((feeder : ℕ) (bytes : List ℕ) → IsFedUpTo O.plan feeder bytes self.old pass.old → HasEnded O.plan self.old.tower self.old.chosen feeder bytes self.new.intake pass.new) }
+        requires rest { self.old.course ≡ Course.Paused → CanGoOn [] self.old.intake }
+        ensures fed { OnOk result ((start : Start) (bytes : List ℕ) → IsFedUpTo O.plan start bytes [] self.old pass.old
+            → HasEnded (setting_of O.plan self.old.tower self.old.chosen start) bytes self.new.intake pass.new) }
         ensures read { (self.new.chosen ≡ self.old.chosen) × (self.new.tower ≡ self.old.tower) }
-        ensures by_text { OnOk result ((feeder : ℕ) (bytes : List ℕ) → IsFedUpTo O.plan feeder bytes self.old pass.old → IsNotOfReading self.new.intake.progress.log) }
-        ensures closed { OnOk result (self.new.course ≢ Course.Open) }
+        ensures by_text { OnOk result ((start : Start) (bytes : List ℕ) → IsFedUpTo O.plan start bytes [] self.old pass.old → IsNotOfReading self.new.intake.progress.log) }
+        ensures closed { OnOk result ((self.new.course ≡ Course.Ended) ⊎ (self.new.course ≡ Course.Broke)) }
         ensures closes { OnOk result (self.old.course ≡ Course.Open → self.new.course ≡ Course.Ended) }
         ensures over { self.old.course ≡ Course.Broke → (result ≡ Ok tt) × (self.new ≡ self.old) × (pass.new ≡ pass.old) }
         ensures ended { self.old.course ≡ Course.Ended → (result ≡ Ok tt) × (self.new ≡ self.old) × (pass.new ≡ pass.old) }
-        ensures failed { (fault : ARunFault) → self.old.course ≡ Course.Failed fault → (result ≡ Err (record { fault = fault; used = 0 })) × (self.new ≡ self.old) × (pass.new ≡ pass.old) }
-        ensures fault { IfErr result (λ failed. (failed.used ≡ 0) × (self.new.course ≡ Course.Failed failed.fault)
-            × ((feeder : ℕ) (bytes : List ℕ) → IsFedUpTo O.plan feeder bytes self.old pass.old → MayEnd failed.fault)) }
+        ensures used { IfErr result (λ failed. failed.used ≡ 0) }
+        ensures rest { self.new.course ≡ Course.Paused → CanGoOn [] self.new.intake }
+        ensures waits { IfErr result (λ failed. (start : Start) (bytes : List ℕ) → IsFedUpTo O.plan start bytes [] self.old pass.old
+            → IsFedUpTo O.plan start bytes [] self.new pass.new) }
+        ensures fault { IfErr result (λ failed. (start : Start) (bytes : List ℕ) → IsFedUpTo O.plan start bytes [] self.old pass.old
+            → O.plan.claims ≡ claims_of self.old.tower → MayEnd failed.fault) }
     {
-        match self.course {
-            Course::Failed(fault) => return Err(FeedFault { fault, used: 0 }),
-            Course::Broke | Course::Ended => return Ok(()),
-            Course::Open => {}
+        if self.is_over() {
+            return Ok(());
         }
-        let taken = self.intake.take_end(
-            rt, alloc, auditor, gate, self.tower, self.field, self.pages, pass,
-        );
-        match taken {
+        let site = Site {
+            rt,
+            alloc,
+            auditor,
+            gate,
+            tower: self.tower,
+            field: self.field,
+        };
+        if self.is_ending() {
+            return self.settle_last(site, pass);
+        }
+        if let Err(fault) = self.intake.take_end(site, self.pages, pass) {
+            return Err(FeedFault { fault, used: 0 });
+        }
+        self.course = Course::Ending;
+        self.settle_last(site, pass)
+    }
+
+    /// Goes on with the last element of a trace whose end was taken.
+    fn settle_last<O: Opening, R: Wait, G: Gate>(
+        &mut self,
+        site: Site<'_, 't, O, R, G>,
+        pass: &mut Pass<'t>,
+    ) -> Result<(), FeedFault>
+        requires some { 0 < O.plan.shards }
+        requires ending { self.old.course ≡ Course.Ending }
+        ensures fed { OnOk result ((start : Start) (bytes : List ℕ) → IsAtEnd (setting_of O.plan site.entry.tower.now site.entry.field start) bytes self.old.intake pass.old
+            → HasEnded (setting_of O.plan site.entry.tower.now site.entry.field start) bytes self.new.intake pass.new × IsNotOfReading self.new.intake.progress.log) }
+        ensures read { (self.new.chosen ≡ self.old.chosen) × (self.new.tower ≡ self.old.tower) }
+        ensures closes { OnOk result (self.new.course ≡ Course.Ended) }
+        ensures ending { OnErr result (self.new.course ≡ Course.Ending) }
+        ensures used { IfErr result (λ failed. failed.used ≡ 0) }
+        ensures waits { OnErr result ((start : Start) (bytes : List ℕ) → IsAtEnd (setting_of O.plan site.entry.tower.now site.entry.field start) bytes self.old.intake pass.old
+            → IsAtEnd (setting_of O.plan site.entry.tower.now site.entry.field start) bytes self.new.intake pass.new) }
+        ensures fault { IfErr result (λ failed. (start : Start) (bytes : List ℕ) → IsAtEnd (setting_of O.plan site.entry.tower.now site.entry.field start) bytes self.old.intake pass.old
+            → O.plan.claims ≡ claims_of site.entry.tower.now → MayEnd failed.fault) }
+    {
+        match self.intake.settle(site, self.pages, pass) {
             Ok(()) => {
                 self.course = Course::Ended;
                 Ok(())
             }
-            Err(fault) => {
-                self.course = Course::Failed(fault);
-                Err(FeedFault { fault, used: 0 })
-            }
+            Err(fault) => Err(FeedFault { fault, used: 0 }),
+        }
+    }
+
+    /// Whether the end of the trace was taken, and its last element waits.
+    fn is_ending(&self) -> bool
+        ensures { IsTrue result ↔ (self.now.course ≡ Course.Ending) }
+    {
+        match self.course {
+            Course::Ending => true,
+            Course::Open | Course::Paused | Course::Broke | Course::Ended => false,
+        }
+    }
+
+    /// Whether the trace broke or was ended.
+    fn is_over(&self) -> bool
+        ensures { IsTrue result ↔ (self.now.course ≡ Course.Broke) ⊎ (self.now.course ≡ Course.Ended) }
+    {
+        match self.course {
+            Course::Broke | Course::Ended => true,
+            Course::Open | Course::Paused | Course::Ending => false,
         }
     }
 
@@ -185,7 +264,7 @@ impl<'t> Feeder<'t> {
     {
         match self.course {
             Course::Broke => true,
-            Course::Open | Course::Ended | Course::Failed(_) => false,
+            Course::Open | Course::Paused | Course::Ending | Course::Ended => false,
         }
     }
 
@@ -193,7 +272,7 @@ impl<'t> Feeder<'t> {
     pub fn break_off(&mut self, code: BreakCode)
         requires going { self.old.course ≡ Course.Open }
         requires reading { IsTrue (is_of_reading code) }
-        ensures fed { (plan : Plan) (feeder : ℕ) (bytes : List ℕ) (pass : Passed) → IsFedUpTo plan feeder bytes self.old pass → HasEnded plan self.old.tower self.old.chosen feeder bytes self.new.intake pass }
+        ensures fed { (plan : Plan) (start : Start) (bytes : List ℕ) (pass : Passed) → IsFedUpTo plan start bytes [] self.old pass → HasEnded (setting_of plan self.old.tower self.old.chosen start) bytes self.new.intake pass }
         ensures broken { self.new.intake.progress.log.broken ≡ Some (record { code = code; place = self.old.intake.splitter.taken }) }
         ensures read { (self.new.chosen ≡ self.old.chosen) × (self.new.tower ≡ self.old.tower) }
         ensures closes { self.new.course ≡ Course.Ended }

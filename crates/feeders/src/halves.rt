@@ -2,6 +2,7 @@
 
 ghost use Rattle.std.specs.Prelude.{◌≡◌, ◌≤◌, ◌<◌, All, IfErr, IfOk, length, map, take, drop, vec_len};
 ghost use Rattle.std.specs.Thread.{IsSync};
+ghost use Rattle.shards.specs.Plan.{claims_of};
 ghost use Rattle.feeders.specs.Ending.{MayEnd};
 ghost use Rattle.feeders.specs.Progress.{AreFed, AreFresh, AreReadAndFed};
 ghost use Rattle.feeders.specs.Readers.{IsNotOfReading};
@@ -10,6 +11,7 @@ use crate::fault::RunFault;
 use crate::fed::Fed;
 use crate::log::Log;
 use crate::pages::Pages;
+use crate::site::Site;
 use crate::stream::feed_reader;
 use crate::trace::feed_trace;
 use jepsen_form::MomentField;
@@ -34,6 +36,7 @@ pub fn feed_all<'t, O: Opening + Send + Sync, R: Threads + Wait + Sync, G: Gate>
     traces: &[&'t [u8]],
 ) -> Result<Vec<Fed<'t>>, RunFault>
     requires some { 0 < O.plan.shards }
+    requires of_tower { O.plan.claims ≡ claims_of tower.now }
     requires fresh { AreFresh O.plan passes.items }
     requires each { vec_len passes ≡ length traces.now }
     ensures fed { IfOk result (λ feds. AreFed O.plan tower.now field passes.entry.items traces.entry.now feds.items) }
@@ -48,13 +51,13 @@ pub fn feed_all<'t, O: Opening + Send + Sync, R: Threads + Wait + Sync, G: Gate>
     let (first, second) = join(
         rt,
         || -> Result<Vec<Fed>, RunFault>
-            requires { IsSync R.row × (0 < O.plan.shards) × AreFresh O.plan passes.items × (vec_len passes ≡ length front.now) }
+            requires { IsSync R.row × (0 < O.plan.shards) × (O.plan.claims ≡ claims_of tower.now) × AreFresh O.plan passes.items × (vec_len passes ≡ length front.now) }
             ensures fed { IfOk result (λ feds. AreFed O.plan tower.entry.now field passes.entry.items front.entry.now feds.items) }
             ensures by_text { IfOk result (λ feds. All (λ fed. IsNotOfReading fed.log) feds.items) }
             ensures fault { IfErr result MayEnd }
         { feed_all(rt, alloc, auditor, gate, tower, field, passes, front) },
         || -> Result<Vec<Fed>, RunFault>
-            requires { IsSync R.row × (0 < O.plan.shards) × AreFresh O.plan rest.items × (vec_len rest ≡ length back.now) }
+            requires { IsSync R.row × (0 < O.plan.shards) × (O.plan.claims ≡ claims_of tower.now) × AreFresh O.plan rest.items × (vec_len rest ≡ length back.now) }
             ensures fed { IfOk result (λ feds. AreFed O.plan tower.entry.now field rest.entry.items back.entry.now feds.items) }
             ensures by_text { IfOk result (λ feds. All (λ fed. IsNotOfReading fed.log) feds.items) }
             ensures fault { IfErr result MayEnd }
@@ -78,6 +81,7 @@ fn feed_alone<'t, O: Opening, R: Wait, G: Gate>(
     traces: &[&'t [u8]],
 ) -> Result<Vec<Fed<'t>>, RunFault>
     requires some { 0 < O.plan.shards }
+    requires of_tower { O.plan.claims ≡ claims_of tower.now }
     requires fresh { AreFresh O.plan passes.items }
     requires each { vec_len passes ≡ length traces.now }
     requires few { length traces.now < 2 }
@@ -92,7 +96,15 @@ fn feed_alone<'t, O: Opening, R: Wait, G: Gate>(
     let Some(pass) = passes.pop() else {
         return Ok(feds);
     };
-    feds.push(feed_trace(rt, alloc, auditor, gate, tower, field, pass, trace)?)?;
+    let site = Site {
+        rt,
+        alloc,
+        auditor,
+        gate,
+        tower,
+        field,
+    };
+    feds.push(feed_trace(site, pass, trace)?)?;
     Ok(feds)
 }
 
@@ -115,6 +127,7 @@ pub fn read_all<
     mut readers: Vec<S>,
 ) -> Result<Vec<Fed<'t>>, RunFault>
     requires some { 0 < O.plan.shards }
+    requires of_tower { O.plan.claims ≡ claims_of tower.now }
     requires fresh { AreFresh O.plan passes.items }
     requires each { vec_len passes ≡ vec_len readers }
     ensures fed { IfOk result (λ feds. AreReadAndFed O.plan tower.now field passes.entry.items (map S.remaining readers.items) feds.items) }
@@ -131,7 +144,7 @@ pub fn read_all<
     let (first, second) = join(
         rt,
         || -> Result<Vec<Fed>, RunFault>
-            requires { IsSync R.row × (0 < O.plan.shards) × AreFresh O.plan passes.items × (vec_len passes ≡ vec_len readers) }
+            requires { IsSync R.row × (0 < O.plan.shards) × (O.plan.claims ≡ claims_of tower.now) × AreFresh O.plan passes.items × (vec_len passes ≡ vec_len readers) }
             ensures fed { IfOk result (λ feds. AreReadAndFed O.plan tower.entry.now field passes.entry.items (map S.remaining readers.items) feds.items) }
             ensures fault { IfErr result MayEnd }
         {
@@ -140,7 +153,7 @@ pub fn read_all<
             )
         },
         || -> Result<Vec<Fed>, RunFault>
-            requires { IsSync R.row × (0 < O.plan.shards) × AreFresh O.plan rest.items × (vec_len rest ≡ vec_len back) }
+            requires { IsSync R.row × (0 < O.plan.shards) × (O.plan.claims ≡ claims_of tower.now) × AreFresh O.plan rest.items × (vec_len rest ≡ vec_len back) }
             ensures fed { IfOk result (λ feds. AreReadAndFed O.plan tower.entry.now field rest.entry.items (map S.remaining back.items) feds.items) }
             ensures fault { IfErr result MayEnd }
         { read_all(rt, alloc, auditor, gate, tower, field, pages, rest, back) },
@@ -164,6 +177,7 @@ fn read_alone<'t, O: Opening, R: Wait, G: Gate, S: Read + Drop>(
     mut readers: Vec<S>,
 ) -> Result<Vec<Fed<'t>>, RunFault>
     requires some { 0 < O.plan.shards }
+    requires of_tower { O.plan.claims ≡ claims_of tower.now }
     requires fresh { AreFresh O.plan passes.items }
     requires each { vec_len passes ≡ vec_len readers }
     requires few { vec_len readers < 2 }

@@ -1,181 +1,334 @@
 //! What was taken of a trace that comes in pieces.
 
-ghost use Rattle.std.specs.Prelude.{◌≡◌, ◌+◌, ◌≤◌, ◌<◌, ◌^◌, ◌++◌, [], ℕ, List, length, None, Ok, true, IfErr, IfOk, OnOk};
-ghost use Rattle.shards.specs.Pass.{IsPassOf};
+ghost use Rattle.std.specs.Prelude.{◌≡◌, ◌+◌, ◌≤◌, ◌<◌, ◌^◌, ◌++◌, ◌∷◌, ◌-◌, [], ℕ, List, Result, length, take, drop, vec_len, vec_capacity, None, Ok, true, IfErr, IfOk, IfSome, OnErr, OnOk};
+ghost use Rattle.std.specs.List.{AllZip};
+ghost use Rattle.edn_reader.specs.Grammar.{Piece as APiece};
+ghost use Rattle.edn_reader.specs.Splitting.{IsLast};
+ghost use Rattle.jepsen_form.specs.declared.fault.FormFault.{FormFault as AFormFault};
+ghost use Rattle.jepsen_form.specs.declared.item.Item.{Item as AnItem};
+ghost use Rattle.jepsen_form.specs.Item.{IsItem};
+ghost use Rattle.shards.specs.Pass.{Passed};
+ghost use Rattle.shards.specs.Plan.{Plan, claims_of};
 ghost use Rattle.feeders.specs.Ending.{MayEnd};
-ghost use Rattle.feeders.specs.Intake.{CanGoOn, GoesOver, GoesTo, HasEnded, HasFed, HasUsed};
+ghost use Rattle.feeders.specs.Intake.{CanGoOn, GoesOver, GoesTo, HasFed, HasUsed, IsAtEnd};
+ghost use Rattle.feeders.specs.Kept.{Holds};
+ghost use Rattle.feeders.specs.Pending.{CanReadBehind, CanSettle, IsBeside, IsPending, IsSettled, IsToBeCarriedOut, IsToBePaired, count_of};
+ghost use Rattle.feeders.specs.Progress.{IsAhead, IsAt};
 ghost use Rattle.feeders.specs.Readers.{IsNotOfReading};
+ghost use Rattle.feeders.specs.Setting.{Setting, Start, setting_of};
 
-use crate::element::take_element;
 use crate::fault::{FeedFault, RunFault};
 use crate::kept::Kept;
 use crate::log::broken_by;
 use crate::pages::Pages;
+use crate::pending::{Pending, read_pending};
 use crate::progress::Progress;
+use crate::site::Site;
 use edn_reader::Splitter;
 use edn_reader::laws::each_is_element;
-use jepsen_form::MomentField;
-use shards::{Auditor, Gate, Opening, Pass};
-use std::alloc::Global;
+use intervals::Memory;
+use jepsen_form::laws::items_name_registers_of_the_tower;
+use pairing::laws::steps_are_on_named_registers;
+use shards::{Gate, Opening, Pass};
 use std::sync::Wait;
-use tower_file::Tower;
 
-/// The bytes so far, of which those are kept that an element may still want, and what their elements came to.
+/// The bytes so far, of which those are kept that an element may still want, what their elements came to, and the last of
+/// these where it is not carried out yet.
 #[derive(Drop)]
 pub struct Intake<'t> {
     pub splitter: Splitter,
     pub kept: Kept,
     pub progress: Progress<'t>,
+    pub pending: Pending<'t>,
 }
 
 impl<'t> Intake<'t> {
-    /// Takes a piece up to the end of the next element or to its own, and answers how many of its bytes were used; none
-    /// where the trace broke.
-    pub fn take_next<O: Opening, R: Wait, G: Gate>(
+    /// Reads the element that is whole, from its kept bytes, which are then let go.
+    fn read_whole<O: Opening, R: Wait, G: Gate>(
         &mut self,
-        rt: &R,
-        alloc: Global,
-        auditor: &Auditor<'t, O>,
-        gate: &G,
-        tower: &Tower,
-        field: MomentField,
+        site: Site<'_, 't, O, R, G>,
+        pages: &'t Pages,
+    ) -> Result<(), Memory>
+        requires can { CanSettle self.old }
+        ensures pending { (plan : Plan) (start : Start) (items : List (Result AnItem AFormFault)) (waiting : List APiece) (pass : Passed)
+            → IsPending (setting_of plan site.entry.tower.now site.entry.field start) items waiting self.old pass
+            → IsPending (setting_of plan site.entry.tower.now site.entry.field start) items waiting self.new pass }
+        ensures goes { OnOk result (IsToBePaired self.new.pending) }
+        ensures refused { OnErr result (count_of self.old.pending ≡ 1) }
+        ensures can { CanSettle self.new }
+        ensures beside { IsBeside self.old self.new }
+        ensures place { self.new.progress.place ≡ self.old.progress.place }
+        ensures count { count_of self.new.pending ≡ count_of self.old.pending }
+    {
+        let Pending::Whole(start) = self.pending else {
+            return Ok(());
+        };
+        let element = self.splitter.lend(self.kept.text(start));
+        let pending = read_pending(site, pages, &mut self.progress, element)?;
+        self.pending = pending;
+        self.kept.restart(self.splitter.taken() as usize);
+        Ok(())
+    }
+
+    /// Pairs the element that was read.
+    fn pair_lent(&mut self) -> Result<(), Memory>
+        requires can { CanSettle self.old }
+        requires read { IsToBePaired self.old.pending }
+        ensures pending { (setting : Setting) (items : List (Result AnItem AFormFault)) (waiting : List APiece) (pass : Passed)
+            → IsPending setting items waiting self.old pass → IsPending setting items waiting self.new pass }
+        ensures goes { OnOk result (IsToBeCarriedOut self.new.pending) }
+        ensures refused { OnErr result (count_of self.old.pending ≡ 1) }
+        ensures can { CanSettle self.new }
+        ensures beside { IsBeside self.old self.new }
+        ensures place { self.new.progress.place ≡ self.old.progress.place }
+        ensures count { count_of self.new.pending ≡ count_of self.old.pending }
+    {
+        if let Pending::Lent(item) = self.pending {
+            let step = self.progress.pair(item)?;
+            self.pending = Pending::Paired(step);
+        }
+        Ok(())
+    }
+
+    /// Carries out the step of the element that was paired.
+    fn carry_out<O: Opening, R: Wait, G: Gate>(
+        &mut self,
+        site: Site<'_, 't, O, R, G>,
+        pass: &mut Pass<'t>,
+    ) -> Result<(), RunFault>
+        requires some { 0 < O.plan.shards }
+        requires can { CanSettle self.old }
+        requires paired { IsToBeCarriedOut self.old.pending }
+        ensures settled { OnOk result (self.new.pending ≡ Pending.Nothing) }
+        ensures done { OnOk result ((start : Start) (items : List (Result AnItem AFormFault)) (waiting : List APiece)
+            → IsPending (setting_of O.plan site.entry.tower.now site.entry.field start) items waiting self.old pass.old
+            → IsSettled (setting_of O.plan site.entry.tower.now site.entry.field start) items waiting self.new.progress pass.new) }
+        ensures waits { OnErr result ((setting : Setting) (items : List (Result AnItem AFormFault)) (waiting : List APiece)
+            → setting.plan ≡ O.plan → IsPending setting items waiting self.old pass.old → IsPending setting items waiting self.new pass.new) }
+        ensures can { CanSettle self.new }
+        ensures beside { IsBeside self.old self.new }
+        ensures place { OnOk result (self.new.progress.place ≡ self.old.progress.place + count_of self.old.pending) }
+        ensures refused { OnErr result ((self.new.progress.place ≡ self.old.progress.place) × (count_of self.old.pending ≡ 1) × (count_of self.new.pending ≡ 1)) }
+        ensures fault { IfErr result (λ fault. (start : Start) (items : List (Result AnItem AFormFault)) (waiting pieces : List APiece)
+            → IsPending (setting_of O.plan site.entry.tower.now site.entry.field start) items waiting self.old pass.old
+            → AllZip (IsItem site.entry.tower.now site.entry.field) pieces items → O.plan.claims ≡ claims_of site.entry.tower.now → MayEnd fault) }
+    {
+        items_name_registers_of_the_tower();
+        steps_are_on_named_registers();
+        if let Pending::Paired(step) = self.pending {
+            if let Err(fault) = self.progress.carry_out(site, pass, step) {
+                return Err(fault);
+            }
+            self.pending = Pending::Nothing;
+        }
+        Ok(())
+    }
+
+    /// Goes on with the element that ended last, from where it stands, until its step is carried out.
+    pub fn settle<O: Opening, R: Wait, G: Gate>(
+        &mut self,
+        site: Site<'_, 't, O, R, G>,
+        pages: &'t Pages,
+        pass: &mut Pass<'t>,
+    ) -> Result<(), RunFault>
+        requires some { 0 < O.plan.shards }
+        requires can { CanSettle self.old }
+        ensures settled { OnOk result (self.new.pending ≡ Pending.Nothing) }
+        ensures done { OnOk result ((start : Start) (items : List (Result AnItem AFormFault)) (waiting : List APiece)
+            → IsPending (setting_of O.plan site.entry.tower.now site.entry.field start) items waiting self.old pass.old
+            → IsSettled (setting_of O.plan site.entry.tower.now site.entry.field start) items waiting self.new.progress pass.new) }
+        ensures waits { OnErr result ((start : Start) (items : List (Result AnItem AFormFault)) (waiting : List APiece)
+            → IsPending (setting_of O.plan site.entry.tower.now site.entry.field start) items waiting self.old pass.old
+            → IsPending (setting_of O.plan site.entry.tower.now site.entry.field start) items waiting self.new pass.new) }
+        ensures can { CanSettle self.new }
+        ensures beside { IsBeside self.old self.new }
+        ensures place { OnOk result (self.new.progress.place ≡ self.old.progress.place + count_of self.old.pending) }
+        ensures refused { OnErr result ((self.new.progress.place ≡ self.old.progress.place) × (count_of self.old.pending ≡ 1) × (count_of self.new.pending ≡ 1)) }
+        ensures fault { IfErr result (λ fault. (start : Start) (items : List (Result AnItem AFormFault)) (waiting pieces : List APiece)
+            → IsPending (setting_of O.plan site.entry.tower.now site.entry.field start) items waiting self.old pass.old
+            → AllZip (IsItem site.entry.tower.now site.entry.field) pieces items → O.plan.claims ≡ claims_of site.entry.tower.now → MayEnd fault) }
+    {
+        self.read_whole(site, pages)?;
+        self.pair_lent()?;
+        self.carry_out(site, pass)
+    }
+
+    /// Takes the front of a piece, with which an element ended that begins at a place.
+    fn take_whole<O: Opening, R: Wait, G: Gate>(
+        &mut self,
+        site: Site<'_, 't, O, R, G>,
+        pages: &'t Pages,
+        front: &[u8],
+        start: usize,
+    ) -> Result<(), Memory>
+        requires room { vec_len self.old.kept.bytes + length front.now ≤ vec_capacity self.old.kept.bytes }
+        requires ahead { IsAhead self.old.progress }
+        requires can { CanReadBehind start front.now self.old }
+        ensures pending { (plan : Plan) (begun : Start) (items : List (Result AnItem AFormFault)) (pass : Passed) (last : APiece)
+            → IsLast self.old.splitter last → last.text ≡ drop (start - self.old.kept.from) (self.old.kept.bytes.items ++ front.now)
+            → IsAt plan begun items self.old.progress pass
+            → IsPending (setting_of plan site.entry.tower.now site.entry.field begun) items (last ∷ []) self.new pass }
+        ensures can { CanSettle self.new }
+        ensures holds { (taken : List ℕ) → Holds taken self.old.kept → Holds (taken ++ front.now) self.new.kept }
+        ensures low { self.new.kept.from ≤ self.old.splitter.taken }
+        ensures beside { (self.new.splitter ≡ self.old.splitter) × (self.new.progress.log.broken ≡ self.old.progress.log.broken) }
+        ensures place { self.new.progress.place ≡ self.old.progress.place }
+        ensures count { count_of self.new.pending ≡ 1 }
+    {
+        let end = self.kept.end();
+        if start < end {
+            self.kept.take(front, start);
+            self.pending = Pending::Whole(start);
+            return Ok(());
+        }
+        let element = self.splitter.lend(&front[start - end..]);
+        match read_pending(site, pages, &mut self.progress, element) {
+            Ok(pending) => {
+                self.pending = pending;
+                self.kept.restart(end + front.len());
+                Ok(())
+            }
+            Err(memory) => {
+                self.kept.take(front, start);
+                self.pending = Pending::Whole(start);
+                Err(memory)
+            }
+        }
+    }
+
+    /// Takes a piece up to the end of the next element, whose step is carried out, or to its own, and answers how many of
+    /// its bytes were used; none where the trace broke.
+    fn take_next<O: Opening, R: Wait, G: Gate>(
+        &mut self,
+        site: Site<'_, 't, O, R, G>,
         pages: &'t Pages,
         pass: &mut Pass<'t>,
         piece: &[u8],
-    ) -> Result<Option<usize>, RunFault>
+    ) -> Result<Option<usize>, FeedFault>
         requires some { 0 < O.plan.shards }
+        requires settled { self.old.pending ≡ Pending.Nothing }
         requires can { CanGoOn piece.now self.old }
         requires fits { self.old.splitter.taken + length piece.now < 2 ^ 64 }
-        ensures used { IfOk result (λ used. HasUsed piece.now self.old used self.new) }
-        ensures goes { IfOk result (λ used. (feeder : ℕ) (bytes next : List ℕ) → HasFed O.plan tower.now field feeder bytes (piece.now ++ next) self.old pass.old
-            → GoesTo O.plan tower.now field feeder bytes piece.now next used self.new pass.new) }
-        ensures fault { IfErr result (λ fault. IsPassOf O.plan pass.old → MayEnd fault) }
+        ensures used { IfOk result (λ used. IfSome used (λ used. HasUsed piece.now self.old used self.new × (self.new.pending ≡ Pending.Nothing)
+            × (0 < length piece.now → self.old.splitter.taken + self.old.progress.place < self.new.splitter.taken + self.new.progress.place))) }
+        ensures goes { IfOk result (λ used. (start : Start) (bytes next : List ℕ) → HasFed (setting_of O.plan site.entry.tower.now site.entry.field start) bytes (piece.now ++ next) self.old pass.old
+            → GoesTo (setting_of O.plan site.entry.tower.now site.entry.field start) bytes piece.now next used self.new pass.new) }
+        ensures refused { IfErr result (λ failed. HasUsed piece.now self.old failed.used self.new) }
+        ensures waits { IfErr result (λ failed. (start : Start) (bytes next : List ℕ) → HasFed (setting_of O.plan site.entry.tower.now site.entry.field start) bytes (piece.now ++ next) self.old pass.old
+            → HasFed (setting_of O.plan site.entry.tower.now site.entry.field start) (bytes ++ take failed.used piece.now) (drop failed.used piece.now ++ next) self.new pass.new) }
+        ensures fault { IfErr result (λ failed. (start : Start) (bytes next : List ℕ) → HasFed (setting_of O.plan site.entry.tower.now site.entry.field start) bytes (piece.now ++ next) self.old pass.old
+            → O.plan.claims ≡ claims_of site.entry.tower.now → MayEnd failed.fault) }
     {
         each_is_element();
-        match self.splitter.take(piece) {
-            Ok(taken) => {
-                match taken.whole {
-                    None => {
-                        let keep = self.splitter.keep_from() as usize;
-                        self.kept.take(piece, keep)?;
-                    }
-                    Some((start, end)) => {
-                        let text = self.kept.text(start as usize, &piece[..taken.used])?;
-                        let element = self.splitter.lend(text);
-                        take_element(
-                            rt,
-                            alloc,
-                            auditor,
-                            gate,
-                            tower,
-                            field,
-                            pages,
-                            pass,
-                            &mut self.progress,
-                            element,
-                        )?;
-                        self.kept.restart(end as usize);
-                    }
-                }
-                Ok(Some(taken.used))
-            }
+        if self.kept.make_room(piece.len()).is_err() {
+            return Err(FeedFault {
+                fault: RunFault::Memory,
+                used: 0,
+            });
+        }
+        let before = self.splitter.taken() as usize;
+        let taken = match self.splitter.take(piece) {
+            Ok(taken) => taken,
             Err(fault) => {
-                let Some(broken) = broken_by(fault) else {
-                    return Err(RunFault::Memory);
-                };
-                self.progress.log.broken = Some(broken);
-                Ok(None)
+                if let Some(broken) = broken_by(fault) {
+                    self.progress.log.broken = Some(broken);
+                    return Ok(None);
+                }
+                let used = self.splitter.taken() as usize - before;
+                let keep = self.splitter.keep_from() as usize;
+                self.kept.take(&piece[..used], keep);
+                return Err(FeedFault {
+                    fault: RunFault::Memory,
+                    used,
+                });
             }
+        };
+        let Some((start, _)) = taken.whole else {
+            self.kept.take(piece, self.splitter.keep_from() as usize);
+            return Ok(Some(taken.used));
+        };
+        let used = taken.used;
+        if let Err(memory) = self.take_whole(site, pages, &piece[..used], start as usize) {
+            return Err(FeedFault {
+                fault: RunFault::from(memory),
+                used,
+            });
+        }
+        match self.settle(site, pages, pass) {
+            Ok(()) => Ok(Some(used)),
+            Err(fault) => Err(FeedFault { fault, used }),
         }
     }
 
     /// Takes a piece whole, and answers whether the trace goes on; it does not where it broke.
     pub fn take_piece<O: Opening, R: Wait, G: Gate>(
         &mut self,
-        rt: &R,
-        alloc: Global,
-        auditor: &Auditor<'t, O>,
-        gate: &G,
-        tower: &Tower,
-        field: MomentField,
+        site: Site<'_, 't, O, R, G>,
         pages: &'t Pages,
         pass: &mut Pass<'t>,
         piece: &[u8],
     ) -> Result<bool, FeedFault>
         requires some { 0 < O.plan.shards }
-        requires can { CanGoOn [] self.old }
+        requires can { CanGoOn piece.now self.old }
         requires fits { self.old.splitter.taken + length piece.now < 2 ^ 64 }
-        ensures can { result ≡ Ok true → CanGoOn [] self.new × (self.new.splitter.taken ≡ self.old.splitter.taken + length piece.now) }
-        ensures goes { IfOk result (λ on. (feeder : ℕ) (bytes : List ℕ) → HasFed O.plan tower.now field feeder bytes [] self.old pass.old
-            → GoesOver on O.plan tower.now field feeder (bytes ++ piece.now) self.new pass.new) }
-        ensures fault { IfErr result (λ failed. (failed.used ≤ length piece.now)
-            × ((feeder : ℕ) (bytes : List ℕ) → HasFed O.plan tower.now field feeder bytes [] self.old pass.old → MayEnd failed.fault)) }
+        ensures can { result ≡ Ok true → CanGoOn [] self.new × (self.new.pending ≡ Pending.Nothing) × (self.new.splitter.taken ≡ self.old.splitter.taken + length piece.now) }
+        ensures goes { IfOk result (λ on. (start : Start) (bytes : List ℕ) → HasFed (setting_of O.plan site.entry.tower.now site.entry.field start) bytes piece.now self.old pass.old
+            → GoesOver on (setting_of O.plan site.entry.tower.now site.entry.field start) (bytes ++ piece.now) self.new pass.new) }
+        ensures refused { IfErr result (λ failed. HasUsed piece.now self.old failed.used self.new) }
+        ensures waits { IfErr result (λ failed. (start : Start) (bytes : List ℕ) → HasFed (setting_of O.plan site.entry.tower.now site.entry.field start) bytes piece.now self.old pass.old
+            → HasFed (setting_of O.plan site.entry.tower.now site.entry.field start) (bytes ++ take failed.used piece.now) (drop failed.used piece.now) self.new pass.new) }
+        ensures fault { IfErr result (λ failed. (start : Start) (bytes : List ℕ) → HasFed (setting_of O.plan site.entry.tower.now site.entry.field start) bytes piece.now self.old pass.old
+            → O.plan.claims ≡ claims_of site.entry.tower.now → MayEnd failed.fault) }
     {
+        if let Err(fault) = self.settle(site, pages, pass) {
+            return Err(FeedFault { fault, used: 0 });
+        }
         let mut at = 0;
         while at < piece.len() {
-            let taken = self.take_next(
-                rt,
-                alloc,
-                auditor,
-                gate,
-                tower,
-                field,
-                pages,
-                pass,
-                &piece[at..],
-            );
-            let used = match taken {
-                Ok(used) => used,
-                Err(fault) => return Err(FeedFault { fault, used: at }),
-            };
-            match used {
-                Some(used) => at += used,
-                None => return Ok(false),
+            match self.take_next(site, pages, pass, &piece[at..]) {
+                Ok(Some(used)) => at += used,
+                Ok(None) => return Ok(false),
+                Err(failed) => {
+                    return Err(FeedFault {
+                        fault: failed.fault,
+                        used: at + failed.used,
+                    });
+                }
             }
         }
         Ok(true)
     }
 
-    /// Takes the end of the trace.
+    /// Takes the end of the trace, behind which nothing comes. The element that ends with it then waits.
     pub fn take_end<O: Opening, R: Wait, G: Gate>(
         &mut self,
-        rt: &R,
-        alloc: Global,
-        auditor: &Auditor<'t, O>,
-        gate: &G,
-        tower: &Tower,
-        field: MomentField,
+        site: Site<'_, 't, O, R, G>,
         pages: &'t Pages,
         pass: &mut Pass<'t>,
     ) -> Result<(), RunFault>
         requires some { 0 < O.plan.shards }
         requires can { CanGoOn [] self.old }
-        ensures ends { OnOk result ((feeder : ℕ) (bytes : List ℕ) → HasFed O.plan tower.now field feeder bytes [] self.old pass.old → HasEnded O.plan tower.now field feeder bytes self.new pass.new) }
+        ensures ends { OnOk result ((start : Start) (bytes : List ℕ) → HasFed (setting_of O.plan site.entry.tower.now site.entry.field start) bytes [] self.old pass.old
+            → IsAtEnd (setting_of O.plan site.entry.tower.now site.entry.field start) bytes self.new pass.new) }
         ensures by_text { OnOk result (self.old.progress.log.broken ≡ None → IsNotOfReading self.new.progress.log) }
-        ensures fault { IfErr result (λ fault. IsPassOf O.plan pass.old → MayEnd fault) }
+        ensures can { CanSettle self.new }
+        ensures still { OnErr result (CanGoOn [] self.new × (self.new.splitter.taken ≡ self.old.splitter.taken)) }
+        ensures open { OnErr result (self.old.pending ≡ Pending.Nothing → self.new.pending ≡ Pending.Nothing) }
+        ensures waits { OnErr result ((start : Start) (bytes : List ℕ) → HasFed (setting_of O.plan site.entry.tower.now site.entry.field start) bytes [] self.old pass.old
+            → HasFed (setting_of O.plan site.entry.tower.now site.entry.field start) bytes [] self.new pass.new) }
+        ensures fault { IfErr result (λ fault. (start : Start) (bytes : List ℕ) → HasFed (setting_of O.plan site.entry.tower.now site.entry.field start) bytes [] self.old pass.old
+            → O.plan.claims ≡ claims_of site.entry.tower.now → MayEnd fault) }
     {
         each_is_element();
+        if let Err(fault) = self.settle(site, pages, pass) {
+            return Err(fault);
+        }
         match self.splitter.end() {
-            Ok(whole) => match whole {
-                None => Ok(()),
-                Some(span) => {
-                    let text = self.kept.text(span.0 as usize, &[])?;
-                    let element = self.splitter.lend(text);
-                    take_element(
-                        rt,
-                        alloc,
-                        auditor,
-                        gate,
-                        tower,
-                        field,
-                        pages,
-                        pass,
-                        &mut self.progress,
-                        element,
-                    )?;
-                    Ok(())
-                }
-            },
+            Ok(None) => Ok(()),
+            Ok(Some((start, _))) => {
+                self.pending = Pending::Whole(start as usize);
+                Ok(())
+            }
             Err(fault) => {
                 let Some(broken) = broken_by(fault) else {
                     return Err(RunFault::Memory);

@@ -1,6 +1,6 @@
 //! The last bytes of a trace that comes in pieces.
 
-ghost use Rattle.std.specs.Prelude.{◌≡◌, ◌+◌, ◌≤◌, ◌<◌, ◌^◌, ◌++◌, List, [], ℕ, length, drop, vec_len, IfOk, OnOk};
+ghost use Rattle.std.specs.Prelude.{◌≡◌, ◌+◌, ◌-◌, ◌≤◌, ◌<◌, ◌^◌, ◌++◌, List, [], ℕ, length, drop, vec_len, vec_capacity, OnOk, OnErr};
 ghost use Rattle.feeders.specs.Kept.{Holds};
 
 use std::alloc::{AllocError, Global};
@@ -23,43 +23,56 @@ impl Kept {
         }
     }
 
-    /// The bytes from a place on, up to the end of a piece that comes next. Those that lie in the piece alone are not
-    /// copied.
-    pub fn text<'a>(&'a mut self, start: usize, piece: &'a [u8]) -> Result<&'a [u8], AllocError>
-        requires low { self.old.from ≤ start }
-        requires high { start ≤ self.old.from + vec_len self.old.bytes + length piece.now }
-        requires fits { self.old.from + vec_len self.old.bytes + length piece.now < 2 ^ 64 }
-        ensures { IfOk result (λ text. (taken : List ℕ) → Holds taken self.old → text.now ≡ drop start (taken ++ piece.now)) }
+    /// How many bytes were taken.
+    pub fn end(&self) -> usize
+        requires { self.now.from + vec_len self.now.bytes < 2 ^ 64 }
+        ensures { result ≡ self.now.from + vec_len self.now.bytes }
     {
-        let end = self.from + self.bytes.len();
-        if end <= start {
-            return Ok(&piece[start - end..]);
-        }
-        self.bytes.extend_from_slice(piece)?;
-        Ok(&self.bytes[start - self.from..])
+        self.from + self.bytes.len()
     }
 
-    /// Takes a piece, and lets go what is before a place.
-    pub fn take(&mut self, piece: &[u8], keep: usize) -> Result<(), AllocError>
+    /// Makes room for so many bytes more.
+    pub fn make_room(&mut self, more: usize) -> Result<(), AllocError>
+        ensures kept { (self.new.from ≡ self.old.from) × (self.new.bytes.items ≡ self.old.bytes.items) }
+        ensures room { OnOk result (vec_len self.new.bytes + more ≤ vec_capacity self.new.bytes) }
+        ensures refused { OnErr result (vec_capacity self.old.bytes < vec_len self.old.bytes + more) }
+    {
+        self.bytes.reserve(more)
+    }
+
+    /// The bytes from a place on.
+    pub fn text(&self, start: usize) -> &[u8]
+        requires low { self.now.from ≤ start }
+        requires high { start ≤ self.now.from + vec_len self.now.bytes }
+        ensures { result.now ≡ drop (start - self.now.from) self.now.bytes.items }
+    {
+        &self.bytes[start - self.from..]
+    }
+
+    /// Takes a piece, for which there is room, and lets go what is before a place.
+    pub fn take(&mut self, piece: &[u8], keep: usize)
         requires fits { self.old.from + vec_len self.old.bytes + length piece.now < 2 ^ 64 }
-        ensures holds { OnOk result ((taken : List ℕ) → Holds taken self.old → Holds (taken ++ piece.now) self.new) }
-        ensures low { OnOk result (self.old.from ≤ keep → self.new.from ≤ keep) }
-        ensures let_go { OnOk result (self.old.from + vec_len self.old.bytes < keep → keep ≤ self.old.from + vec_len self.old.bytes + length piece.now → self.new.from ≡ keep) }
+        requires room { vec_len self.old.bytes + length piece.now ≤ vec_capacity self.old.bytes }
+        ensures holds { (taken : List ℕ) → Holds taken self.old → Holds (taken ++ piece.now) self.new }
+        ensures low { self.old.from ≤ keep → self.new.from ≤ keep }
+        ensures let_go { self.old.from + vec_len self.old.bytes < keep → keep ≤ self.old.from + vec_len self.old.bytes + length piece.now → self.new.from ≡ keep }
     {
         let end = self.from + self.bytes.len();
         if keep <= end {
-            return self.bytes.extend_from_slice(piece);
+            let _ = self.bytes.extend_from_slice(piece);
+            return;
         }
         let passed = piece.len().min(keep - end);
         self.bytes.clear();
         self.from = end + passed;
-        self.bytes.extend_from_slice(&piece[passed..])
+        let _ = self.bytes.extend_from_slice(&piece[passed..]);
     }
 
     /// Lets go all bytes, of which there were so many.
     pub fn restart(&mut self, end: usize)
         ensures holds { (taken : List ℕ) → length taken ≡ end → Holds taken self.new }
         ensures from { self.new.from ≡ end }
+        ensures empty { self.new.bytes.items ≡ [] }
     {
         self.bytes.clear();
         self.from = end;

@@ -13,6 +13,14 @@ ghost use Rattle.shards.specs.declared.entry.Entry.{Entry};
 ghost use Rattle.shards.specs.Plan.{Plan};
 ghost use Rattle.shards.specs.Journal.{IsLegalJournal, standing_of};
 ghost use Rattle.shards.specs.Closing.{Ended, book_of, journal_of};
+ghost use Rattle.intervals.specs.declared.operation.RegId.{RegId};
+ghost use Rattle.shards.specs.declared.entry.Answer.{Answer};
+ghost use Rattle.shards.specs.Pass.{Passed};
+ghost use Rattle.feeders.specs.declared.intake.Intake.{Intake};
+ghost use Rattle.feeders.specs.Adding.{HasAdded};
+ghost use Rattle.feeders.specs.Doings.{Doing, IsAnswerAfter, entered_in};
+ghost use Rattle.feeders.specs.Intake.{HasFed};
+ghost use Rattle.feeders.specs.Setting.{Setting, first_start};
 ghost use Rattle.feeders.specs.declared.log.Broken.{Broken};
 ghost use Rattle.feeders.specs.declared.log.Log.{Log};
 ghost use Rattle.feeders.specs.Broken.{AreElements};
@@ -22,8 +30,9 @@ ghost use Rattle.feeders.specs.Prefixes.{PlainTaken, plain_steps};
 ghost use Rattle.feeders.specs.Run.{IsRun};
 ghost use Rattle.feeders.specs.Texts.{Part, text_of, IsLastSettled, IsSlice, Reading, IsOfStep, IsLentByTrace};
 
-use edn_reader::laws::elements_of_a_prefix;
+use edn_reader::laws::{elements_of_a_prefix, told_so_far};
 use jepsen_form::laws::one_item;
+use shards::laws::a_lone_feeder_has_all_entries;
 
 /// Each text of an operation that stands after a legal journal is what the last of its accepted edits that makes
 /// something of this text makes of it, and so it is where there is none.
@@ -63,4 +72,21 @@ pub fn steps_of_a_prefix()
 {
     elements_of_a_prefix();
     one_item();
+}
+
+/// What a feeder has added to its pass and its log, whether its last call was refused or not, is that of the elements which
+/// have ended in the bytes that it has taken, but for one at most, which waits.
+pub fn what_a_feeder_has_added()
+    ensures { (setting : Setting) (bytes next : List ℕ) (intake : Intake) (pass : Passed) → HasFed setting bytes next intake pass → HasAdded setting bytes next pass intake.progress.log }
+{
+    told_so_far();
+}
+
+/// Where there is one feeder, and its pass had no entries before, its questions are answered after exactly as many entries
+/// of the shard as it had entered there before.
+pub fn one_trace_alone_is_answered_after_its_own_entries()
+    ensures { (plan : Plan) (before : List Doing) (register : RegId) (answer : Answer) → plan.feeders ≡ 1 → IsAnswerAfter plan (first_start 0) before register answer
+        → answer.number ≡ length (entered_in plan.shards 0 (register.0 % plan.shards) before) }
+{
+    a_lone_feeder_has_all_entries();
 }

@@ -11,7 +11,6 @@
 //! what is done for them and noted, and `specs/Run.antt` what a run leaves. `laws` says what these words come to.
 #![tactic(auto)]
 
-mod element;
 mod fault;
 mod fed;
 mod feeder;
@@ -21,8 +20,10 @@ mod kept;
 pub mod laws;
 mod log;
 mod pages;
+mod pending;
 mod progress;
 mod run;
+mod site;
 mod source;
 mod stream;
 mod trace;

@@ -1,21 +1,22 @@
 //! What is noted of a trace.
 
-ghost use Rattle.std.specs.Prelude.{◌≡◌, ◌∷◌, ◌++◌, ◌<◌, [], IfErr, OnOk, Ok, Err, Some};
+ghost use Rattle.std.specs.Prelude.{◌≡◌, ◌∷◌, ◌++◌, ◌<◌, [], IfErr, OnErr, OnOk, Ok, Err, Some, length};
 ghost use Rattle.pairing.specs.declared.step.Step.TheVariants.{Edit as ToEdit, Ask};
 ghost use Rattle.shards.specs.Pass.{IsPassOf, Passed};
 ghost use Rattle.feeders.specs.Broken.{broken_by as break_of};
-ghost use Rattle.feeders.specs.Steps.{by_pairing};
+ghost use Rattle.feeders.specs.Steps.{IsKnownStep};
 ghost use Rattle.feeders.specs.Ending.{MayEnd};
-ghost use Rattle.feeders.specs.Progress.{GoesOn};
+ghost use Rattle.feeders.specs.Progress.{GoesOn, IsKept};
 
 use crate::fault::RunFault;
+use crate::site::Site;
 use edn_reader::EdnFault;
 use intervals::{Edit, Refusal, RegId};
 use jepsen_form::FormFault;
 use pairing::{PairFault, Step};
 use register_book::Reply;
 use shards::laws::what_was_told_stays;
-use shards::{Answer, Auditor, Gate, Opening, Pass};
+use shards::{Answer, Gate, Opening, Pass};
 use std::sync::Wait;
 
 /// Why an element of a trace was refused: by its form, by the pairing, or by its register.
@@ -76,47 +77,23 @@ pub struct Log<'t> {
 }
 
 impl<'t> Log<'t> {
-    /// Carries out the step of the element at a place, or notes why it is refused. Where it answers a fault the
-    /// run is over: what was done then stands for nothing.
-    pub fn follow<O: Opening, R: Wait, G: Gate>(
+    /// Carries out the step of the element at a place.
+    pub fn carry_out<O: Opening, R: Wait, G: Gate>(
         &mut self,
-        rt: &R,
-        auditor: &Auditor<'t, O>,
-        gate: &G,
-        pass: &mut Pass<'t>,
-        place: u64,
-        step: Result<Option<Step<'t>>, PairFault>,
-    ) -> Result<(), RunFault>
-        requires some { 0 < O.plan.shards }
-        ensures done { OnOk result (GoesOn O.plan pass.old self.old pass.new self.new place (by_pairing step.entry)) }
-        ensures broken { OnOk result (self.new.broken ≡ self.old.broken) }
-        ensures fault { IfErr result (λ fault. IsPassOf O.plan pass.old → MayEnd fault) }
-    {
-        match step {
-            Ok(step) => self.carry_out(rt, auditor, gate, pass, place, step),
-            Err(fault) => self.refuse::<O>(place, Code::Pair(fault)),
-        }
-    }
-
-    fn carry_out<O: Opening, R: Wait, G: Gate>(
-        &mut self,
-        rt: &R,
-        auditor: &Auditor<'t, O>,
-        gate: &G,
+        site: Site<'_, 't, O, R, G>,
         pass: &mut Pass<'t>,
         place: u64,
         step: Option<Step<'t>>,
     ) -> Result<(), RunFault>
         requires some { 0 < O.plan.shards }
         ensures done { OnOk result (GoesOn O.plan pass.old self.old pass.new self.new place (Ok step.entry)) }
-        ensures broken { OnOk result (self.new.broken ≡ self.old.broken) }
-        ensures fault { IfErr result (λ fault. IsPassOf O.plan pass.old → MayEnd fault) }
+        ensures kept { OnErr result (IsKept self.old self.new × (pass.new ≡ pass.old)) }
+        ensures broken { self.new.broken ≡ self.old.broken }
+        ensures fault { IfErr result (λ fault. IsPassOf O.plan pass.old → IsKnownStep O.plan (Ok step.entry) → MayEnd fault) }
     {
         match step {
-            Some(Step::Edit(register, edit)) => {
-                self.submit(rt, auditor, gate, pass, place, register, edit)
-            }
-            Some(Step::Ask(register)) => self.ask(rt, auditor, gate, pass, place, register),
+            Some(Step::Edit(register, edit)) => self.submit(site, pass, place, register, edit),
+            Some(Step::Ask(register)) => self.ask(site, pass, place, register),
             None => Ok(()),
         }
     }
@@ -124,7 +101,8 @@ impl<'t> Log<'t> {
     /// Notes that the element at a place is refused before it reaches a register.
     pub fn refuse<O: Opening>(&mut self, place: u64, code: Code) -> Result<(), RunFault>
         ensures done { OnOk result ((pass : Passed) → GoesOn O.plan pass self.old pass self.new place (Err code)) }
-        ensures broken { OnOk result (self.new.broken ≡ self.old.broken) }
+        ensures kept { OnErr result (IsKept self.old self.new) }
+        ensures broken { self.new.broken ≡ self.old.broken }
         ensures fault { IfErr result MayEnd }
     {
         self.lines.push(Line {
@@ -137,9 +115,7 @@ impl<'t> Log<'t> {
     /// Has an edit entered. Room for its line is made first.
     fn submit<O: Opening, R: Wait, G: Gate>(
         &mut self,
-        rt: &R,
-        auditor: &Auditor<'t, O>,
-        gate: &G,
+        site: Site<'_, 't, O, R, G>,
         pass: &mut Pass<'t>,
         place: u64,
         register: RegId,
@@ -147,12 +123,15 @@ impl<'t> Log<'t> {
     ) -> Result<(), RunFault>
         requires some { 0 < O.plan.shards }
         ensures done { OnOk result (GoesOn O.plan pass.old self.old pass.new self.new place (Ok (Some (ToEdit register edit.entry)))) }
-        ensures broken { OnOk result (self.new.broken ≡ self.old.broken) }
-        ensures fault { IfErr result (λ fault. IsPassOf O.plan pass.old → MayEnd fault) }
+        ensures kept { OnErr result (IsKept self.old self.new × (pass.new ≡ pass.old)) }
+        ensures broken { self.new.broken ≡ self.old.broken }
+        ensures fault { IfErr result (λ fault. IsPassOf O.plan pass.old → register.0 < length O.plan.claims → MayEnd fault) }
     {
         what_was_told_stays();
         self.lines.reserve(1)?;
-        let receipt = auditor.submit(rt, gate, pass, register, edit)?;
+        let receipt = site
+            .auditor
+            .submit(site.rt, site.gate, pass, register, edit)?;
         if let Reply::Refused(refusal) = receipt.reply {
             self.lines.push_reserved(Line {
                 event: place,
@@ -162,23 +141,23 @@ impl<'t> Log<'t> {
         Ok(())
     }
 
+    /// Notes the answer to a question. Room for its line is made first.
     fn ask<O: Opening, R: Wait, G: Gate>(
         &mut self,
-        rt: &R,
-        auditor: &Auditor<'t, O>,
-        gate: &G,
+        site: Site<'_, 't, O, R, G>,
         pass: &mut Pass<'t>,
         place: u64,
         register: RegId,
     ) -> Result<(), RunFault>
         requires some { 0 < O.plan.shards }
         ensures done { OnOk result (GoesOn O.plan pass.old self.old pass.new self.new place (Ok (Some (Ask register)))) }
-        ensures broken { OnOk result (self.new.broken ≡ self.old.broken) }
-        ensures fault { IfErr result (λ fault. IsPassOf O.plan pass.old → MayEnd fault) }
+        ensures kept { OnErr result (IsKept self.old self.new × (pass.new ≡ pass.old)) }
+        ensures broken { self.new.broken ≡ self.old.broken }
+        ensures fault { IfErr result (λ fault. IsPassOf O.plan pass.old → register.0 < length O.plan.claims → MayEnd fault) }
     {
         what_was_told_stays();
         self.lines.reserve(1)?;
-        let answer = auditor.standing(rt, gate, pass, register)?;
+        let answer = site.auditor.standing(site.rt, site.gate, pass, register)?;
         self.lines.push_reserved(Line {
             event: place,
             what: What::Answered(register, answer),

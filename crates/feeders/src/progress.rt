@@ -1,23 +1,23 @@
 //! A feeder between two elements.
 
-ghost use Rattle.std.specs.Prelude.{◌≡◌, ◌↔◌, ◌+◌, ◌<◌, ◌^◌, ◌∷◌, ◌++◌, [], ℕ, List, Result, IfErr, OnOk, Ok, Err, None, Some, IsTrue, false, is_some};
+ghost use Rattle.std.specs.Prelude.{◌≡◌, ◌+◌, ◌<◌, ◌^◌, ◌∷◌, ◌++◌, [], ℕ, List, Result, IfErr, IfOk, OnErr, OnOk, Err, None, Some, IsTrue, ◌↔◌};
 ghost use Rattle.jepsen_form.specs.declared.fault.FormFault.{FormFault as AFormFault};
 ghost use Rattle.jepsen_form.specs.declared.item.Item.{Item as AnItem};
-ghost use Rattle.shards.specs.Pass.{IsPassOf, Passed, fresh};
+ghost use Rattle.shards.specs.Pass.{IsPassOf, Passed};
 ghost use Rattle.shards.specs.Plan.{Plan};
 ghost use Rattle.feeders.specs.Ending.{MayEnd};
-ghost use Rattle.feeders.specs.Lending.{is_lent, LendsNone};
-ghost use Rattle.feeders.specs.Progress.{IsAhead, IsAt};
-ghost use Rattle.feeders.specs.Texts.{brought};
+ghost use Rattle.feeders.specs.Progress.{IsAhead, IsAt, IsPaired, IsUpTo};
+ghost use Rattle.feeders.specs.Setting.{IsStart, Start};
+ghost use Rattle.feeders.specs.Steps.{IsKnownStep, by_pairing};
 
 use crate::fault::RunFault;
 use crate::fed::Fed;
 use crate::log::{Broken, Code, Log};
-use intervals::Edit;
+use crate::site::Site;
+use intervals::Memory;
 use jepsen_form::{FormFault, Item};
 use pairing::{PairFault, Pairing, Step};
-use shards::laws::what_was_told_stays;
-use shards::{Auditor, Gate, Opening, Pass};
+use shards::{Gate, Opening, Pass};
 use std::alloc::Global;
 use std::sync::Wait;
 
@@ -36,9 +36,8 @@ impl<'t> Progress<'t> {
         ensures place { result.place ≡ 0 }
         ensures unbroken { result.log.broken ≡ None }
         ensures ahead { IsAhead result }
-        ensures at { (plan : Plan) (pass : Passed) → pass ≡ fresh plan feeder → feeder < plan.feeders → IsAt plan feeder [] result pass }
+        ensures at { (plan : Plan) (start : Start) (pass : Passed) → IsStart plan start pass → start.feeder ≡ feeder → IsAt plan start [] result pass }
     {
-        what_was_told_stays();
         Progress {
             place: 0,
             pairing: Pairing::new(alloc, feeder),
@@ -49,106 +48,54 @@ impl<'t> Progress<'t> {
         }
     }
 
-    /// Takes the next element, as it was read. Where it answers a fault the run is over: the state then stands
-    /// for no trace.
-    pub fn take<O: Opening, R: Wait, G: Gate>(
+    /// Pairs the next element, as it was read: its step, or why it is refused.
+    pub fn pair<'p>(
         &mut self,
-        rt: &R,
-        auditor: &Auditor<'t, O>,
-        gate: &G,
+        item: Result<Item<'p>, FormFault>,
+    ) -> Result<Result<Option<Step<'p>>, Code>, Memory>
+        requires ahead { IsAhead self.old }
+        ensures place { self.new.place ≡ self.old.place }
+        ensures last { OnOk result (IsUpTo self.new) }
+        ensures paired { IfOk result (λ step. (plan : Plan) (start : Start) (items : List (Result AnItem AFormFault)) (pass : Passed) → IsAt plan start items self.old pass → IsPaired plan start items item.entry step self.new pass) }
+        ensures log { self.new.log ≡ self.old.log }
+        ensures kept { OnErr result (self.new ≡ self.old) }
+    {
+        match item {
+            Err(fault) => Ok(Err(Code::Form(fault))),
+            Ok(item) => {
+                let step = self.pairing.take(item, self.place);
+                if wants_memory(&step) {
+                    return Err(Memory);
+                }
+                Ok(with_code(step))
+            }
+        }
+    }
+
+    /// Carries out the step of the element that was paired last, or notes why it is refused.
+    pub fn carry_out<O: Opening, R: Wait, G: Gate>(
+        &mut self,
+        site: Site<'_, 't, O, R, G>,
         pass: &mut Pass<'t>,
-        item: Result<Item<'t>, FormFault>,
+        step: Result<Option<Step<'t>>, Code>,
     ) -> Result<(), RunFault>
         requires some { 0 < O.plan.shards }
         requires place { self.old.place + 1 < 2 ^ 64 }
-        requires ahead { IsAhead self.old }
+        requires last { IsUpTo self.old }
         ensures place { OnOk result (self.new.place ≡ self.old.place + 1) }
         ensures ahead { OnOk result (IsAhead self.new) }
-        ensures taken { OnOk result ((feeder : ℕ) (items : List (Result AnItem AFormFault)) → IsAt O.plan feeder items self.old pass.old → IsAt O.plan feeder (items ++ item.entry ∷ []) self.new pass.new) }
-        ensures broken { OnOk result (self.new.log.broken ≡ self.old.log.broken) }
-        ensures fault { IfErr result (λ fault. IsPassOf O.plan pass.old → MayEnd fault) }
+        ensures done { OnOk result ((start : Start) (items : List (Result AnItem AFormFault)) (item : Result AnItem AFormFault) → IsPaired O.plan start items item step.entry self.old pass.old → IsAt O.plan start (items ++ item ∷ []) self.new pass.new) }
+        ensures kept { OnErr result ((start : Start) (items : List (Result AnItem AFormFault)) (item : Result AnItem AFormFault) → IsPaired O.plan start items item step.entry self.old pass.old → IsPaired O.plan start items item step.entry self.new pass.new) }
+        ensures refused { OnErr result ((self.new.place ≡ self.old.place) × IsUpTo self.new) }
+        ensures broken { self.new.log.broken ≡ self.old.log.broken }
+        ensures fault { IfErr result (λ fault. IsPassOf O.plan pass.old → IsKnownStep O.plan step.entry → MayEnd fault) }
     {
-        match item {
-            Err(fault) => self.log.refuse::<O>(self.place, Code::Form(fault))?,
-            Ok(item) => self.pair(rt, auditor, gate, pass, item)?,
+        match step {
+            Ok(step) => self.log.carry_out(site, pass, self.place, step)?,
+            Err(code) => self.log.refuse::<O>(self.place, code)?,
         }
         self.place += 1;
         Ok(())
-    }
-
-    /// The same of an element whose step lends no text, so that the item may lie elsewhere.
-    pub fn take_unlent<O: Opening, R: Wait, G: Gate>(
-        &mut self,
-        rt: &R,
-        auditor: &Auditor<'t, O>,
-        gate: &G,
-        pass: &mut Pass<'t>,
-        item: Result<Item, FormFault>,
-    ) -> Result<(), RunFault>
-        requires some { 0 < O.plan.shards }
-        requires place { self.old.place + 1 < 2 ^ 64 }
-        requires ahead { IsAhead self.old }
-        requires unlent { is_lent item ≡ false }
-        ensures place { OnOk result (self.new.place ≡ self.old.place + 1) }
-        ensures ahead { OnOk result (IsAhead self.new) }
-        ensures taken { OnOk result ((feeder : ℕ) (items : List (Result AnItem AFormFault)) → IsAt O.plan feeder items self.old pass.old → IsAt O.plan feeder (items ++ item.entry ∷ []) self.new pass.new) }
-        ensures broken { OnOk result (self.new.log.broken ≡ self.old.log.broken) }
-        ensures fault { IfErr result (λ fault. IsPassOf O.plan pass.old → MayEnd fault) }
-    {
-        match item {
-            Err(fault) => self.log.refuse::<O>(self.place, Code::Form(fault))?,
-            Ok(item) => self.pair_unlent(rt, auditor, gate, pass, item)?,
-        }
-        self.place += 1;
-        Ok(())
-    }
-
-    fn pair_unlent<O: Opening, R: Wait, G: Gate>(
-        &mut self,
-        rt: &R,
-        auditor: &Auditor<'t, O>,
-        gate: &G,
-        pass: &mut Pass<'t>,
-        item: Item,
-    ) -> Result<(), RunFault>
-        requires some { 0 < O.plan.shards }
-        requires ahead { IsAhead self.old }
-        requires unlent { is_some (brought item) ≡ false }
-        ensures place { OnOk result (self.new.place ≡ self.old.place) }
-        ensures last { OnOk result (self.new.pairing.last ≡ Some self.old.place) }
-        ensures taken { OnOk result ((feeder : ℕ) (items : List (Result AnItem AFormFault)) → IsAt O.plan feeder items self.old pass.old → IsAt O.plan feeder (items ++ Ok item.entry ∷ []) (record self.new { place = self.new.place + 1 }) pass.new) }
-        ensures broken { OnOk result (self.new.log.broken ≡ self.old.log.broken) }
-        ensures fault { IfErr result (λ fault. IsPassOf O.plan pass.old → MayEnd fault) }
-    {
-        let step = self.pairing.take(item, self.place);
-        if wants_memory(&step) {
-            return Err(RunFault::Memory);
-        }
-        self.log
-            .follow(rt, auditor, gate, pass, self.place, unlent(step))
-    }
-
-    fn pair<O: Opening, R: Wait, G: Gate>(
-        &mut self,
-        rt: &R,
-        auditor: &Auditor<'t, O>,
-        gate: &G,
-        pass: &mut Pass<'t>,
-        item: Item<'t>,
-    ) -> Result<(), RunFault>
-        requires some { 0 < O.plan.shards }
-        requires ahead { IsAhead self.old }
-        ensures place { OnOk result (self.new.place ≡ self.old.place) }
-        ensures last { OnOk result (self.new.pairing.last ≡ Some self.old.place) }
-        ensures taken { OnOk result ((feeder : ℕ) (items : List (Result AnItem AFormFault)) → IsAt O.plan feeder items self.old pass.old → IsAt O.plan feeder (items ++ Ok item.entry ∷ []) (record self.new { place = self.new.place + 1 }) pass.new) }
-        ensures broken { OnOk result (self.new.log.broken ≡ self.old.log.broken) }
-        ensures fault { IfErr result (λ fault. IsPassOf O.plan pass.old → MayEnd fault) }
-    {
-        let step = self.pairing.take(item, self.place);
-        if wants_memory(&step) {
-            return Err(RunFault::Memory);
-        }
-        self.log.follow(rt, auditor, gate, pass, self.place, step)
     }
 
     /// What was done, up to the end of the trace or to where it broke.
@@ -173,16 +120,12 @@ fn wants_memory(step: &Result<Option<Step>, PairFault>) -> bool
     matches!(step, Err(PairFault::Memory))
 }
 
-/// The same step, where it lends no text.
-fn unlent<'t>(step: Result<Option<Step>, PairFault>) -> Result<Option<Step<'t>>, PairFault>
-    ensures { LendsNone step.entry → result ≡ step.entry }
+/// What the pairing answered, with its refusal as a code.
+fn with_code<'p>(step: Result<Option<Step<'p>>, PairFault>) -> Result<Option<Step<'p>>, Code>
+    ensures { result ≡ by_pairing step.entry }
 {
     match step {
-        Ok(Some(Step::Edit(register, Edit::Withdraw(id)))) => {
-            Ok(Some(Step::Edit(register, Edit::Withdraw(id))))
-        }
-        Ok(Some(Step::Ask(register))) => Ok(Some(Step::Ask(register))),
-        Ok(_) => Ok(None),
-        Err(fault) => Err(fault),
+        Ok(step) => Ok(step),
+        Err(fault) => Err(Code::Pair(fault)),
     }
 }

@@ -2,8 +2,10 @@
 
 ghost use Rattle.std.specs.Prelude.{◌≡◌, ◌<◌, IfErr, IfOk};
 ghost use Rattle.shards.specs.Pass.{fresh};
+ghost use Rattle.shards.specs.Plan.{claims_of};
 ghost use Rattle.feeders.specs.Ending.{MayEnd};
 ghost use Rattle.feeders.specs.Progress.{IsReadAndFed};
+ghost use Rattle.feeders.specs.Setting.{first_start, setting_of};
 
 use crate::fault::RunFault;
 use crate::fed::Fed;
@@ -11,6 +13,7 @@ use crate::feeder::Feeder;
 use crate::pages::Pages;
 use crate::source::Source;
 use jepsen_form::MomentField;
+use shards::laws::what_was_told_stays;
 use shards::{Auditor, Gate, Opening, Pass};
 use std::alloc::Global;
 use std::io::Read;
@@ -34,11 +37,13 @@ pub fn feed_reader<'t, O: Opening, R: Wait, G: Gate, S: Read + Drop>(
     reader: S,
 ) -> Result<Fed<'t>, RunFault>
     requires some { 0 < O.plan.shards }
+    requires of_tower { O.plan.claims ≡ claims_of tower.now }
     requires fresh { pass ≡ fresh O.plan pass.feeder }
     requires known { pass.feeder < O.plan.feeders }
-    ensures fed { IfOk result (IsReadAndFed O.plan tower.now field pass.entry.feeder (S.remaining reader)) }
+    ensures fed { IfOk result (IsReadAndFed (setting_of O.plan tower.now field (first_start pass.entry.feeder)) (S.remaining reader)) }
     ensures fault { IfErr result MayEnd }
 {
+    what_was_told_stays();
     let mut room = Vec::new(alloc);
     room.resize(PIECE, 0)?;
     let buffer = room.as_mut_slice();
@@ -51,7 +56,10 @@ pub fn feed_reader<'t, O: Opening, R: Wait, G: Gate, S: Read + Drop>(
                     feeder.end(rt, alloc, auditor, gate, &mut pass)?;
                     return Ok(feeder.into_fed(pass));
                 }
-                feeder.feed(rt, alloc, auditor, gate, &mut pass, &buffer[..count])?;
+                let piece = &buffer[..count];
+                if let Err(failed) = feeder.feed(rt, alloc, auditor, gate, &mut pass, piece) {
+                    return Err(failed.fault);
+                }
                 if feeder.has_broken() {
                     return Ok(feeder.into_fed(pass));
                 }

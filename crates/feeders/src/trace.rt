@@ -2,47 +2,51 @@
 
 ghost use Rattle.std.specs.Prelude.{◌≡◌, ◌<◌, IfErr, IfOk};
 ghost use Rattle.shards.specs.Pass.{fresh};
+ghost use Rattle.shards.specs.Plan.{claims_of};
 ghost use Rattle.feeders.specs.Ending.{MayEnd};
 ghost use Rattle.feeders.specs.Progress.{IsFed};
 ghost use Rattle.feeders.specs.Readers.{IsNotOfReading};
+ghost use Rattle.feeders.specs.Setting.{first_start, setting_of};
 
 use crate::fault::RunFault;
 use crate::fed::Fed;
 use crate::log::broken_by;
 use crate::progress::Progress;
+use crate::site::Site;
 use edn_reader::Reader;
-use jepsen_form::{MomentField, read_item};
-use shards::{Auditor, Gate, Opening, Pass};
-use std::alloc::Global;
+use jepsen_form::laws::items_name_registers_of_the_tower;
+use jepsen_form::read_item;
+use pairing::laws::steps_are_on_named_registers;
+use shards::laws::what_was_told_stays;
+use shards::{Gate, Opening, Pass};
 use std::sync::Wait;
-use tower_file::Tower;
 
-/// Reads a trace up to its end or to where it breaks, and carries its steps out in order. A moment stands
-/// under `:index` or under `:time`, as the field says.
+/// Reads a trace up to its end or to where it breaks, and carries its steps out in order.
 pub fn feed_trace<'t, O: Opening, R: Wait, G: Gate>(
-    rt: &R,
-    alloc: Global,
-    auditor: &Auditor<'t, O>,
-    gate: &G,
-    tower: &Tower,
-    field: MomentField,
+    site: Site<'_, 't, O, R, G>,
     mut pass: Pass<'t>,
     trace: &'t [u8],
 ) -> Result<Fed<'t>, RunFault>
     requires some { 0 < O.plan.shards }
+    requires of_tower { O.plan.claims ≡ claims_of site.tower.now }
     requires fresh { pass ≡ fresh O.plan pass.feeder }
     requires known { pass.feeder < O.plan.feeders }
-    ensures fed { IfOk result (IsFed O.plan tower.now field pass.entry.feeder trace.entry.now) }
+    ensures fed { IfOk result (IsFed (setting_of O.plan site.entry.tower.now site.entry.field (first_start pass.entry.feeder)) trace.entry.now) }
     ensures by_text { IfOk result (λ fed. IsNotOfReading fed.log) }
     ensures fault { IfErr result MayEnd }
 {
-    let mut reader = Reader::new(alloc, trace);
-    let mut progress = Progress::new(alloc, pass.feeder());
+    what_was_told_stays();
+    items_name_registers_of_the_tower();
+    steps_are_on_named_registers();
+    let mut reader = Reader::new(site.alloc, trace);
+    let mut progress = Progress::new(site.alloc, pass.feeder());
     loop {
         match reader.next() {
             Ok(Some(element)) => {
-                let item = read_item(element, field, tower);
-                progress.take(rt, auditor, gate, &mut pass, item)?;
+                let step = progress.pair(read_item(element, site.field, site.tower))?;
+                if let Err(fault) = progress.carry_out(site, &mut pass, step) {
+                    return Err(fault);
+                }
             }
             Ok(None) => return Ok(progress.end(pass, None)),
             Err(fault) => {

@@ -21,6 +21,7 @@ use Rattle.shards.specs.contracts.auditor.Auditor as Auditor
 use Rattle.shards.specs.contracts.pass.Pass as Pass
 use Rattle.tower_file.specs.contracts.tower.Tower as Tower
 use Rattle.feeders.specs.contracts.halves.feed_all.{O-row, R-row, G-row}
+use Rattle.feeders.specs.Setting.{first_start, setting_of}
 use Rattle.feeders.proofs.Split.{fed_parts}
 use Rattle.feeders.proofs.halves.+feed_all+fn-feed_all-join+arg2+fn-feed_all-join+arg3.Goals as goal
 
@@ -32,7 +33,7 @@ returns-clause-fed g t c =
     let parts = c.split_at.result in
     let front : AreFed plan c.args.tower.now c.args.field c.passes_from.new.passes.items parts.0.now c.in_ok-feds.feds.items = search rules in
     let back : AreFed plan c.args.tower.now c.args.field c.in_ok-rest.rest.items parts.1.now c.in_ok-more.more.items = search rules in
-    fed_parts (λ feeder trace fed. IsFed plan c.args.tower.now c.args.field feeder trace.now fed) (length traces / 2) passes c.passes_from.new.passes.items c.in_ok-rest.rest.items traces parts.0.now parts.1.now
+    fed_parts (λ feeder trace fed. IsFed (setting_of plan c.args.tower.now c.args.field (first_start feeder)) trace.now fed) (length traces / 2) passes c.passes_from.new.passes.items c.in_ok-rest.rest.items traces parts.0.now parts.1.now
     c.in_ok-feds.feds.items c.in_ok-more.more.items c.append.new.self.items c.in_ok-rest.ensures.front c.in_ok-rest.ensures.rest c.split_at.ensures.front_len
     c.split_at.ensures.front c.split_at.ensures.back c.in_ok-append.ensures.items front back
 

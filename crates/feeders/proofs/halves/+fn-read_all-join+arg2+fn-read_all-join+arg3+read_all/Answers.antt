@@ -24,6 +24,7 @@ use Rattle.shards.specs.contracts.pass.Pass as Pass
 use Rattle.tower_file.specs.contracts.tower.Tower as Tower
 use Rattle.feeders.specs.contracts.pages.Pages as Pages
 use Rattle.feeders.specs.contracts.halves.read_all.{O-row, R-row, G-row, S-row}
+use Rattle.feeders.specs.Setting.{first_start, setting_of}
 use Rattle.feeders.proofs.Split.{fed_parts}
 use Rattle.feeders.proofs.halves.+fn-read_all-join+arg2+fn-read_all-join+arg3+read_all.Goals as goal
 
@@ -41,7 +42,7 @@ returns-clause-fed g t c =
     let is_front = ap (map remaining) c.in_ok-back.ensures.items ∙ sym (take-map remaining half readers) in
     let is_back = ap (map remaining) c.in_ok-back.ensures.tail ∙ sym (drop-map remaining half readers) in
     let long : length (map remaining front_readers) ≡ half = length-map front_readers remaining ∙ ap length c.in_ok-back.ensures.items ∙ length-take-le half readers (omega (arith, c.len-half.ensures)) in
-    fed_parts (λ feeder left fed. IsReadAndFed plan c.args.tower.now c.args.field feeder left fed) half passes c.passes_from.new.passes.items c.in_ok-rest.rest.items (map remaining readers)
+    fed_parts (λ feeder left fed. IsReadAndFed (setting_of plan c.args.tower.now c.args.field (first_start feeder)) left fed) half passes c.passes_from.new.passes.items c.in_ok-rest.rest.items (map remaining readers)
     (map remaining front_readers) (map remaining back_readers) c.in_ok-feds.feds.items c.in_ok-more.more.items c.append.new.self.items
     (c.in_ok-rest.ensures.front ∙ ap (λ n. take n passes) (sym long)) (c.in_ok-rest.ensures.rest ∙ ap (λ n. drop n passes) (sym long)) long is_front is_back c.in_ok-append.ensures.items front back
 

@@ -1,50 +1,86 @@
-use Rattle.std.proofs.Common.{◌∙◌, ◌++◌, Ok, take, ap, subst}
+use Rattle.std.proofs.Common.{◌∙◌, ◌++◌, [], Ok, take, ap, refl, sym, subst, rules}
 use Rattle.tower_file.specs.Contents.{Contents}
 use Rattle.jepsen_form.specs.declared.item.MomentField.{MomentField}
+use Rattle.shards.specs.Plan.{claims_of}
+use Rattle.feeders.specs.declared.feeder.Course.TheVariants.{Broke}
 use Rattle.feeders.specs.Progress.{IsReadAndFed}
-use Rattle.feeders.proofs.Feeds.{broke_fed}
+use Rattle.feeders.specs.Setting.{first_start, setting_of}
+use Rattle.feeders.proofs.Doing.{first_is_start}
+use Rattle.feeders.proofs.Feeds.{by_course, open_next}
 use Rattle.feeders.proofs.Streaming.{broke_within, code_of_reading, read_up_to, read_whole}
 use Rattle.feeders.proofs.stream.feed_reader.Goals as goal
+
+pub loop-count-init : goal.loop-count-init
+loop-count-init g c =
+    let plan = g.O.Opening.plan in
+    let start = first_start c.args.pass.feeder in
+    record {
+      room = search rules;
+      going = c.new-feeder.ensures.going.0;
+      chosen = c.new-feeder.ensures.read.0;
+      tower = c.new-feeder.ensures.read.1;
+      counted = search rules;
+      limit = search rules;
+      so_far = record {
+        bytes = [];
+        given = c.new-source.ensures.given (g.S.Read.remaining c.args.reader) refl;
+        fed = c.new-feeder.ensures.fed plan start c.args.pass (first_is_start plan c.args.pass c.requires.fresh c.requires.known (c.what_was_told_stays.ensures.fresh plan c.args.pass.feeder)) (sym c.feeder.ensures);
+      };
+    }
+
+pub returns-in-Err-feed-clause-fault : goal.returns-in-Err-feed-clause-fault
+returns-in-Err-feed-clause-fault g c =
+    let plan = g.O.Opening.plan in
+    let start = first_start c.args.pass.feeder in
+    let state = c.loop-count.invariant in
+    let so_far = state.so_far in
+    let piece = take c.in-Ok.count c.next.new.buffer in
+    c.in-Err-feed.ensures.fault start so_far.bytes (open_next plan start so_far.bytes piece c.loop-count.feeder c.loop-count.pass state.going so_far.fed)
+    (c.requires.of_tower ∙ ap claims_of (sym state.tower))
 
 pub returns-then-count-eq0-clause-fed : goal.returns-then-count-eq0-clause-fed
 returns-then-count-eq0-clause-fed g c =
     let plan = g.O.Opening.plan in
+    let start = first_start c.args.pass.feeder in
     let old = c.loop-count.feeder in
     let state = c.loop-count.invariant in
     let so_far = state.so_far in
     let left = g.S.Read.remaining c.args.reader in
-    subst (λ (tower : Contents). IsReadAndFed plan tower c.args.field c.args.pass.feeder left c.into_fed.result) state.tower
-    (subst (λ (chosen : MomentField). IsReadAndFed plan old.tower chosen c.args.pass.feeder left c.into_fed.result) state.chosen
-    (read_whole plan old.tower old.chosen c.args.pass.feeder left so_far.bytes c.end.new.self.intake c.end.new.pass c.into_fed.result
+    subst (λ (tower : Contents). IsReadAndFed (setting_of plan tower c.args.field start) left c.into_fed.result) state.tower
+    (subst (λ (chosen : MomentField). IsReadAndFed (setting_of plan old.tower chosen start) left c.into_fed.result) state.chosen
+    (read_whole (setting_of plan old.tower old.chosen start) left so_far.bytes c.end.new.self.intake c.end.new.pass c.into_fed.result
     (c.in-Ok.ensures.end (ap Ok c.if-count-eq0.true) left so_far.bytes so_far.given)
-    (c.in_ok-end-in-Ok.ensures.fed c.args.pass.feeder so_far.bytes so_far.fed) c.into_fed.ensures.0 c.into_fed.ensures.1))
+    (c.in_ok-end-in-Ok.ensures.fed start so_far.bytes so_far.fed) c.into_fed.ensures.0 c.into_fed.ensures.1))
 
 pub returns-then-has_broken-clause-fed : goal.returns-then-has_broken-clause-fed
 returns-then-has_broken-clause-fed g c =
     let plan = g.O.Opening.plan in
+    let start = first_start c.args.pass.feeder in
     let old = c.feed.new.self in
     let state = c.loop-count.invariant in
     let so_far = state.so_far in
     let left = g.S.Read.remaining c.args.reader in
-    let bytes = so_far.bytes ++ take c.in-Ok.count c.next.new.buffer in
-    let fed = c.in_ok-feed-in-Ok.ensures.fed c.args.pass.feeder so_far.bytes so_far.fed in
-    subst (λ (tower : Contents). IsReadAndFed plan tower c.args.field c.args.pass.feeder left c.into_fed-then-has_broken.result) (c.in_ok-feed-in-Ok.ensures.read.1 ∙ state.tower)
-    (subst (λ (chosen : MomentField). IsReadAndFed plan old.tower chosen c.args.pass.feeder left c.into_fed-then-has_broken.result) (c.in_ok-feed-in-Ok.ensures.read.0 ∙ state.chosen)
-    (broke_within plan old.tower old.chosen c.args.pass.feeder left (g.S.Read.remaining c.next.new.self.reader) c.next.new.self.past bytes old.intake c.feed.new.pass c.into_fed-then-has_broken.result
+    let piece = take c.in-Ok.count c.next.new.buffer in
+    let bytes = so_far.bytes ++ piece in
+    let fed = c.in_default.ensures.fed start so_far.bytes (open_next plan start so_far.bytes piece c.loop-count.feeder c.loop-count.pass state.going so_far.fed) in
+    subst (λ (tower : Contents). IsReadAndFed (setting_of plan tower c.args.field start) left c.into_fed-then-has_broken.result) (c.in_default.ensures.read.1 ∙ state.tower)
+    (subst (λ (chosen : MomentField). IsReadAndFed (setting_of plan old.tower chosen start) left c.into_fed-then-has_broken.result) (c.in_default.ensures.read.0 ∙ state.chosen)
+    (broke_within (setting_of plan old.tower old.chosen start) left (g.S.Read.remaining c.next.new.self.reader) c.next.new.self.past bytes old.intake c.feed.new.pass c.into_fed-then-has_broken.result
     (c.in-Ok.ensures.given left so_far.bytes so_far.given)
-    (broke_fed plan c.args.pass.feeder bytes old c.feed.new.pass (c.has_broken.ensures.0 c.if-has_broken.true) fed)
+    (by_course plan start bytes [] old c.feed.new.pass Broke (c.has_broken.ensures.0 c.if-has_broken.true) fed)
     c.into_fed-then-has_broken.ensures.0 c.into_fed-then-has_broken.ensures.1))
 
 pub returns-in-Err-clause-fed : goal.returns-in-Err-clause-fed
 returns-in-Err-clause-fed g c =
     let plan = g.O.Opening.plan in
+    let start = first_start c.args.pass.feeder in
     let old = c.loop-count.feeder in
     let state = c.loop-count.invariant in
     let so_far = state.so_far in
     let left = g.S.Read.remaining c.args.reader in
-    subst (λ (tower : Contents). IsReadAndFed plan tower c.args.field c.args.pass.feeder left c.into_fed-in-Err.result) state.tower
-    (subst (λ (chosen : MomentField). IsReadAndFed plan old.tower chosen c.args.pass.feeder left c.into_fed-in-Err.result) state.chosen
-    (read_up_to plan old.tower old.chosen c.args.pass.feeder left (g.S.Read.remaining c.next.new.self.reader) c.next.new.self.past so_far.bytes
+    subst (λ (tower : Contents). IsReadAndFed (setting_of plan tower c.args.field start) left c.into_fed-in-Err.result) state.tower
+    (subst (λ (chosen : MomentField). IsReadAndFed (setting_of plan old.tower chosen start) left c.into_fed-in-Err.result) state.chosen
+    (read_up_to (setting_of plan old.tower old.chosen start) left (g.S.Read.remaining c.next.new.self.reader) c.next.new.self.past so_far.bytes
     (record { code = c.in-Err.code; place = old.intake.splitter.taken }) c.break_off.new.self.intake c.loop-count.pass c.into_fed-in-Err.result
     (c.in-Err.ensures.none_given left so_far.bytes so_far.given) (code_of_reading c.in-Err.code c.in-Err.ensures.code) c.break_off.ensures.broken
-    (c.break_off.ensures.fed plan c.args.pass.feeder so_far.bytes c.loop-count.pass so_far.fed) c.into_fed-in-Err.ensures.0 c.into_fed-in-Err.ensures.1))
+    (c.break_off.ensures.fed plan start so_far.bytes c.loop-count.pass so_far.fed) c.into_fed-in-Err.ensures.0 c.into_fed-in-Err.ensures.1))

@@ -2,6 +2,7 @@
 use Rattle.std.proofs.Common.{◌≡◌, ◌-◌, ◌≤◌, length}
 use Rattle.feeders.specs.declared.feeder.Course.TheVariants.{Open}
 use Rattle.feeders.specs.declared.source.TheConstants.{CALL_LIMIT}
+use Rattle.feeders.specs.Setting.{first_start}
 use Rattle.feeders.proofs.Streaming.{HasStreamed}
 use Rattle.feeders.proofs.stream.feed_reader.Given as goal
 
@@ -13,7 +14,7 @@ invariant-loop-count g l = record {
   tower : l.feeder.tower ≡ l.fn.tower;
   counted : l.feeder.intake.splitter.taken ≡ l.source.given;
   limit : l.source.given ≤ 1073741824;
-  so_far : HasStreamed g.O.Opening.plan l.fn.pass.feeder (g.S.Read.remaining l.fn.reader) (g.S.Read.remaining l.source.reader) l.source.past l.feeder l.pass;
+  so_far : HasStreamed g.O.Opening.plan (first_start l.fn.pass.feeder) (g.S.Read.remaining l.fn.reader) (g.S.Read.remaining l.source.reader) l.source.past l.feeder l.pass;
 }
 
 abbrev pub decreases-loop-count : goal.decreases-loop-count

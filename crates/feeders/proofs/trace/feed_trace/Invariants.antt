@@ -1,6 +1,7 @@
 -- the state is that of the elements up to the reader's place
 use Rattle.std.proofs.Common.{◌≡◌, ◌≤◌, ◌-◌, length}
 use Rattle.feeders.specs.Progress.{IsAhead}
+use Rattle.feeders.specs.Setting.{first_start, setting_of}
 use Rattle.feeders.proofs.Reading.{HasRead}
 use Rattle.feeders.proofs.trace.feed_trace.Given as goal
 
@@ -10,7 +11,7 @@ invariant-loop-element g l = record {
   within : l.reader.at ≤ length l.trace;
   place : l.progress.place ≤ l.reader.at;
   ahead : IsAhead l.progress;
-  so_far : HasRead g.O.Opening.plan l.tower l.field l.fn.pass.feeder l.trace l.reader.at l.progress l.pass;
+  so_far : HasRead (setting_of g.O.Opening.plan l.site.tower.now l.site.field (first_start l.fn.pass.feeder)) l.trace l.reader.at l.progress l.pass;
 }
 
 abbrev pub decreases-loop-element : goal.decreases-loop-element

@@ -1,13 +1,17 @@
-use Rattle.std.proofs.Common.{Some, ap, ◌∙◌, refl}
+use Rattle.std.proofs.Common.{◌≡◌, [], Some, sym, subst, refl}
+use Rattle.feeders.specs.declared.feeder.Course.TheVariants.{Open}
 use Rattle.feeders.specs.Feeding.{Feeding}
-use Rattle.feeders.proofs.Feeds.{broke_off, open_fed}
+use Rattle.feeders.specs.Intake.{HasFed}
+use Rattle.feeders.specs.Setting.{setting_of}
+use Rattle.feeders.proofs.Feeds.{broke_off, by_course}
 use Rattle.feeders.proofs.feeder.Feeder.break_off.Goals as goal
 
 pub returns-clause-fed : goal.returns-clause-fed
-returns-clause-fed c plan feeder bytes pass fed =
-    let intake = c.self.inside.intake in
-    broke_off plan c.args.self.now.tower c.args.self.now.chosen feeder bytes (record { code = c.args.code; place = c.taken.result }) c.args.self.now.intake
-    (record { splitter = intake.splitter; kept = intake.kept; progress = record intake.progress { log = record { lines = intake.progress.log.lines; broken = Some (record { code = c.args.code; place = c.taken.result }) } } }) pass
-    c.no_fault_so_far.ensures c.told_so_far.ensures c.requires.reading (c.taken.ensures ∙ ap (λ (f : Feeding). f.intake.splitter.taken) c.self.view_is)
-    (ap (λ (f : Feeding). f.intake.progress.log.lines) c.self.view_is) refl
-    (open_fed plan feeder bytes c.args.self.now pass c.requires.going fed)
+returns-clause-fed c plan start bytes pass fed =
+    let setting = setting_of plan c.args.self.now.tower c.args.self.now.chosen start in
+    let old = c.self.inside.intake in
+    broke_off setting bytes (record { code = c.args.code; place = c.taken.result }) old
+    (record { splitter = old.splitter; kept = old.kept; progress = record old.progress { log = record { lines = old.progress.log.lines; broken = Some (record { code = c.args.code; place = c.taken.result }) } }; pending = old.pending }) pass
+    (c.self.invariant.0 (subst (λ (f : Feeding). f.course ≡ Open) (sym c.self.view_is) c.requires.going)).1
+    c.no_fault_so_far.ensures c.told_so_far.ensures c.requires.reading c.taken.ensures refl refl
+    (subst (λ (f : Feeding). HasFed setting bytes [] f.intake pass) (sym c.self.view_is) (by_course plan start bytes [] c.args.self.now pass Open c.requires.going fed))

@@ -1,71 +1,118 @@
-use Rattle.std.proofs.Common.{ℕ, [], Option, Some, Ok, refl, sym, subst, ◌∙◌, arith, append-nil}
-use Rattle.edn_reader.specs.Grammar.{Piece}
-use Rattle.edn_reader.specs.Splitting.{Finishes}
-use Rattle.feeders.specs.Lending.{TakesOne}
-use Rattle.feeders.proofs.Pieces.{can_lend_last, ended_at, ended_none, ended_one, taken_is, text_ends}
+use Rattle.std.proofs.Common.{◌≡◌, ◌≤◌, ◌∙◌, ℕ, List, [], Option, Some, None, Ok, refl, sym, subst, ap, arith}
+use Rattle.edn_reader.specs.Splitting.{EndsOn, Splitting}
+use Rattle.feeders.specs.declared.intake.Intake.{Intake}
+use Rattle.feeders.specs.declared.pending.Pending.TheVariants.{Whole}
+use Rattle.feeders.specs.Intake.{CanGoOn, HasFed}
+use Rattle.feeders.specs.Pending.{count_of}
+use Rattle.feeders.specs.Setting.{setting_of}
+use Rattle.feeders.proofs.AtEnd.{can_end_none, can_end_one, ends_at, ends_none, ends_one, wants_at_end}
+use Rattle.feeders.proofs.Pieces.{can_beside, fed_settled, fed_waits}
+use Rattle.feeders.proofs.Taking.{fed_roomed, settled_place}
 use Rattle.feeders.proofs.intake.Intake.take_end.Goals as goal
 
-pub text-requires-clause-low : goal.text-requires-clause-low
-text-requires-clause-low g c =
+pub returns-in-Err-clause-still : goal.returns-in-Err-clause-still
+returns-in-Err-clause-still g c =
+    let old = c.args.self.now in
+    let e = c.in-Err.ensures in
     let can = c.requires.can in
-    let ends : Finishes can.bytes can.pieces c.args.self.now.splitter (Ok (Some c.in-Some.span)) c.end.new.self =
-    subst (λ (w : Option (ℕ × ℕ)). Finishes can.bytes can.pieces c.args.self.now.splitter (Ok w) c.end.new.self) c.in-Some.is (c.in-Ok.ensures.ends can.bytes can.pieces (can.taken.stands can.bytes [] (sym (append-nil can.bytes)))) in
-    omega (arith, can.taken.low, ends.1)
+    (can_beside [] old c.settle.new.self e.beside (omega (arith, e.refused.0, can.place)) (omega (arith, e.refused.0, can.counted)) e.can can, ap (λ (s : Splitting). s.taken) e.beside.splitter)
 
-pub text-requires-clause-high : goal.text-requires-clause-high
-text-requires-clause-high g c =
-    let can = c.requires.can in
-    let ends : Finishes can.bytes can.pieces c.args.self.now.splitter (Ok (Some c.in-Some.span)) c.end.new.self =
-    subst (λ (w : Option (ℕ × ℕ)). Finishes can.bytes can.pieces c.args.self.now.splitter (Ok w) c.end.new.self) c.in-Some.is (c.in-Ok.ensures.ends can.bytes can.pieces (can.taken.stands can.bytes [] (sym (append-nil can.bytes)))) in
-    omega (arith, can.taken.holds.long, ends.0, ends.2.1.1)
+pub returns-in-Err-clause-open : goal.returns-in-Err-clause-open
+returns-in-Err-clause-open g c none = let one : count_of c.args.self.now.pending ≡ 1 = c.in-Err.ensures.refused.1 in absurd (omega (arith, one, ap count_of none))
 
-pub text-requires-clause-fits : goal.text-requires-clause-fits
-text-requires-clause-fits g c =
-    let can = c.requires.can in
-    omega (arith, can.taken.holds.long, can.fits, taken_is can.bytes [] can.pieces c.args.self.now.splitter can.taken.stands)
+pub returns-in-Err-clause-waits : goal.returns-in-Err-clause-waits
+returns-in-Err-clause-waits g c start bytes fed =
+    let e = c.in-Err.ensures in
+    fed_waits (setting_of g.O.Opening.plan c.args.site.tower.now c.args.site.field start) bytes [] c.args.self.now c.settle.new.self c.args.pass.now c.settle.new.pass fed
+    (e.waits start fed.items fed.waiting fed.pending) e.beside (omega (arith, e.refused.0, c.requires.can.place))
 
-pub lend-element-requires-clause-fits : goal.lend-element-requires-clause-fits
-lend-element-requires-clause-fits g c =
-    let can = c.requires.can in
-    let ends : Finishes can.bytes can.pieces c.args.self.now.splitter (Ok (Some c.in-Some.span)) c.end.new.self =
-    subst (λ (w : Option (ℕ × ℕ)). Finishes can.bytes can.pieces c.args.self.now.splitter (Ok w) c.end.new.self) c.in-Some.is (c.in-Ok.ensures.ends can.bytes can.pieces (can.taken.stands can.bytes [] (sym (append-nil can.bytes)))) in
-    let long = text_ends can.bytes [] c.in_ok-text-in-Some.text.now 0 c.in-Some.span.0 (c.in_ok-text-in-Some.ensures can.bytes can.taken.holds) (omega arith) (omega (arith, ends.0, ends.2.1.1)) in
-    omega (arith, long, can.fits, taken_is can.bytes [] can.pieces c.args.self.now.splitter can.taken.stands, ends.2.1.0, ends.2.4.1)
+pub returns-in-Ok-None-clause-ends : goal.returns-in-Ok-None-clause-ends
+returns-in-Ok-None-clause-ends g c start bytes fed =
+    let setting = setting_of g.O.Opening.plan c.args.site.tower.now c.args.site.field start in
+    let old = c.args.self.now in
+    let mid = c.settle.new.self in
+    let e = c.in_default.ensures in
+    let place = settled_place old mid.progress.place [] c.requires.can e.place in
+    let new : Intake = record { splitter = c.end.new.self; kept = mid.kept; progress = mid.progress; pending = mid.pending } in
+    ends_none setting bytes mid new c.settle.new.pass e.settled refl refl
+    (subst (λ (w : Option (ℕ × ℕ)). EndsOn mid.splitter (Ok w) c.end.new.self) c.in-Ok-None.field-0-is c.in-Ok-None.ensures.ends)
+    (fed_settled setting bytes [] old mid c.args.pass.now c.settle.new.pass fed (e.done start fed.items fed.waiting fed.pending) e.beside place.0 e.settled)
 
-pub lend-element-requires-clause-element : goal.lend-element-requires-clause-element
-lend-element-requires-clause-element g c =
-    let can = c.requires.can in
-    let ends : Finishes can.bytes can.pieces c.args.self.now.splitter (Ok (Some c.in-Some.span)) c.end.new.self =
-    subst (λ (w : Option (ℕ × ℕ)). Finishes can.bytes can.pieces c.args.self.now.splitter (Ok w) c.end.new.self) c.in-Some.is (c.in-Ok.ensures.ends can.bytes can.pieces (can.taken.stands can.bytes [] (sym (append-nil can.bytes)))) in
-    can_lend_last can.bytes c.in_ok-text-in-Some.text.now can.pieces c.in-Some.span c.args.self.now.splitter c.end.new.self ends c.each_is_element.ensures (c.in_ok-text-in-Some.ensures can.bytes can.taken.holds)
+pub returns-in-Ok-Some-clause-ends : goal.returns-in-Ok-Some-clause-ends
+returns-in-Ok-Some-clause-ends g c start bytes fed =
+    let setting = setting_of g.O.Opening.plan c.args.site.tower.now c.args.site.field start in
+    let old = c.args.self.now in
+    let mid = c.settle.new.self in
+    let e = c.in_default.ensures in
+    let place = settled_place old mid.progress.place [] c.requires.can e.place in
+    let span : ℕ × ℕ = (c.in-Ok-Some.start, c.in-Ok-Some.field-0-0-1) in
+    let new : Intake = record { splitter = c.end.new.self; kept = mid.kept; progress = mid.progress; pending = Whole c.in-Ok-Some.start } in
+    ends_one setting bytes span mid new c.settle.new.pass e.settled refl refl refl
+    (subst (λ (w : Option (ℕ × ℕ)). EndsOn mid.splitter (Ok w) c.end.new.self) c.in-Ok-Some.field-0-is c.in-Ok-Some.ensures.ends)
+    (fed_settled setting bytes [] old mid c.args.pass.now c.settle.new.pass fed (e.done start fed.items fed.waiting fed.pending) e.beside place.0 e.settled)
 
-pub take_element-requires-clause-place : goal.take_element-requires-clause-place
-take_element-requires-clause-place g c =
-    let can = c.requires.can in
-    let ends : Finishes can.bytes can.pieces c.args.self.now.splitter (Ok (Some c.in-Some.span)) c.end.new.self =
-    subst (λ (w : Option (ℕ × ℕ)). Finishes can.bytes can.pieces c.args.self.now.splitter (Ok w) c.end.new.self) c.in-Some.is (c.in-Ok.ensures.ends can.bytes can.pieces (can.taken.stands can.bytes [] (sym (append-nil can.bytes)))) in
-    omega (arith, can.taken.place, ends.0, ends.1, ends.2.1.1, can.fits, taken_is can.bytes [] can.pieces c.args.self.now.splitter can.taken.stands)
+pub returns-in-Ok-Some-clause-can : goal.returns-in-Ok-Some-clause-can
+returns-in-Ok-Some-clause-can g c =
+    let old = c.args.self.now in
+    let mid = c.settle.new.self in
+    let e = c.in_default.ensures in
+    let place = settled_place old mid.progress.place [] c.requires.can e.place in
+    let span : ℕ × ℕ = (c.in-Ok-Some.start, c.in-Ok-Some.field-0-0-1) in
+    let new : Intake = record { splitter = c.end.new.self; kept = mid.kept; progress = mid.progress; pending = Whole c.in-Ok-Some.start } in
+    can_end_one span mid new e.settled refl refl refl
+    (subst (λ (w : Option (ℕ × ℕ)). EndsOn mid.splitter (Ok w) c.end.new.self) c.in-Ok-Some.field-0-is c.in-Ok-Some.ensures.ends)
+    c.each_is_element.ensures (can_beside [] old mid e.beside place.0 place.1 e.can c.requires.can)
 
-pub returns-in-None-clause-ends : goal.returns-in-None-clause-ends
-returns-in-None-clause-ends g c feeder bytes fed =
-    ended_none g.O.Opening.plan c.args.tower.now c.args.field feeder bytes c.args.self.now c.args.self.now c.args.pass.now
-    (λ pieces is. (subst (λ (w : Option (ℕ × ℕ)). Finishes bytes pieces c.args.self.now.splitter (Ok w) c.end.new.self) c.in-None.is (c.in-Ok.ensures.ends bytes pieces is)).0) refl fed
+pub returns-in-Ok-None-clause-can : goal.returns-in-Ok-None-clause-can
+returns-in-Ok-None-clause-can g c =
+    let old = c.args.self.now in
+    let mid = c.settle.new.self in
+    let e = c.in_default.ensures in
+    let place = settled_place old mid.progress.place [] c.requires.can e.place in
+    can_end_none mid (record { splitter = c.end.new.self; kept = mid.kept; progress = mid.progress; pending = mid.pending }) e.settled refl (λ ahead. ahead) (can_beside [] old mid e.beside place.0 place.1 e.can c.requires.can)
 
-pub returns-in_ok-take_element-in-Some-clause-ends : goal.returns-in_ok-take_element-in-Some-clause-ends
-returns-in_ok-take_element-in-Some-clause-ends g c feeder bytes fed =
-    ended_one g.O.Opening.plan c.args.tower.now c.args.field feeder bytes c.in_ok-text-in-Some.text.now c.in-Some.span.0 c.in-Some.span.1 c.args.self.now
-    (record { splitter = c.end.new.self; kept = c.args.self.now.kept; progress = c.take_element.new.progress }) c.args.pass.now c.take_element.new.pass
-    (λ pieces is.
-    let ends : Finishes bytes pieces c.args.self.now.splitter (Ok (Some c.in-Some.span)) c.end.new.self =
-    subst (λ (w : Option (ℕ × ℕ)). Finishes bytes pieces c.args.self.now.splitter (Ok w) c.end.new.self) c.in-Some.is (c.in-Ok.ensures.ends bytes pieces is) in
-    (ends.0, (ends.2.0, ends.2.1, ends.2.2, ends.2.4)))
-    c.in_ok-text-in-Some.ensures
-    (λ last is same. subst (λ (p : Piece). TakesOne g.O.Opening.plan c.args.tower.now c.args.field p c.args.self.now.progress c.args.pass.now c.take_element.new.progress c.take_element.new.pass) (c.lend-element.ensures last is same) c.in_ok-take_element-in-Some.ensures.taken)
-    c.in_ok-take_element-in-Some.ensures.broken fed
+pub returns-in-Some-clause-ends : goal.returns-in-Some-clause-ends
+returns-in-Some-clause-ends g c start bytes fed =
+    let setting = setting_of g.O.Opening.plan c.args.site.tower.now c.args.site.field start in
+    let old = c.args.self.now in
+    let mid = c.settle.new.self in
+    let e = c.in_default.ensures in
+    let broken = c.in-Some.broken in
+    let place = settled_place old mid.progress.place [] c.requires.can e.place in
+    let new : Intake = record { splitter = c.end.new.self; kept = mid.kept; progress = record mid.progress { log = record { lines = mid.progress.log.lines; broken = Some broken } }; pending = mid.pending } in
+    ends_at setting bytes c.in-Err-end.fault broken mid new c.settle.new.pass e.settled refl refl (sym c.broken_by.ensures ∙ c.in-Some.is) c.in-Err-end.ensures.ends
+    (fed_settled setting bytes [] old mid c.args.pass.now c.settle.new.pass fed (e.done start fed.items fed.waiting fed.pending) e.beside place.0 e.settled)
 
-pub returns-in-Some-broken_by-clause-ends : goal.returns-in-Some-broken_by-clause-ends
-returns-in-Some-broken_by-clause-ends g c feeder bytes fed =
-    ended_at g.O.Opening.plan c.args.tower.now c.args.field feeder bytes c.in-Err.fault c.in-Some-broken_by.broken c.args.self.now
-    (record { splitter = c.end.new.self; kept = c.args.self.now.kept; progress = record c.args.self.now.progress { log = record { lines = c.args.self.now.progress.log.lines; broken = Some c.in-Some-broken_by.broken } } }) c.args.pass.now
-    (λ pieces is. (c.in-Err.ensures.ends bytes pieces is).1)
-    (sym c.broken_by.ensures ∙ c.in-Some-broken_by.is) refl refl fed
+pub returns-in-Some-clause-can : goal.returns-in-Some-clause-can
+returns-in-Some-clause-can g c =
+    let old = c.args.self.now in
+    let mid = c.settle.new.self in
+    let e = c.in_default.ensures in
+    let broken = c.in-Some.broken in
+    let place = settled_place old mid.progress.place [] c.requires.can e.place in
+    can_end_none mid (record { splitter = c.end.new.self; kept = mid.kept; progress = record mid.progress { log = record { lines = mid.progress.log.lines; broken = Some broken } }; pending = mid.pending }) e.settled refl (λ ahead. ahead)
+    (can_beside [] old mid e.beside place.0 place.1 e.can c.requires.can)
+
+pub returns-in_default-broken_by-clause-still : goal.returns-in_default-broken_by-clause-still
+returns-in_default-broken_by-clause-still g c =
+    let old = c.args.self.now in
+    let mid = c.settle.new.self in
+    let e = c.in_default.ensures in
+    let place = settled_place old mid.progress.place [] c.requires.can e.place in
+    let can = can_beside [] old mid e.beside place.0 place.1 e.can c.requires.can in
+    let same : c.end.new.self ≡ mid.splitter =
+    wants_at_end c.in-Err-end.fault mid.splitter c.end.new.self (sym c.broken_by.ensures ∙ c.in_default-broken_by.is) c.in-Err-end.ensures.ends can.bytes can.pieces can.stands in
+    (subst (λ (s : Splitting). CanGoOn [] (record mid { splitter = s })) (sym same) can, ap (λ (s : Splitting). s.taken) same ∙ ap (λ (s : Splitting). s.taken) e.beside.splitter)
+
+pub returns-in_default-broken_by-clause-waits : goal.returns-in_default-broken_by-clause-waits
+returns-in_default-broken_by-clause-waits g c start bytes fed =
+    let old = c.args.self.now in
+    let mid = c.settle.new.self in
+    let e = c.in_default.ensures in
+    let place = settled_place old mid.progress.place [] c.requires.can e.place in
+    let can = can_beside [] old mid e.beside place.0 place.1 e.can c.requires.can in
+    let same : c.end.new.self ≡ mid.splitter =
+    wants_at_end c.in-Err-end.fault mid.splitter c.end.new.self (sym c.broken_by.ensures ∙ c.in_default-broken_by.is) c.in-Err-end.ensures.ends can.bytes can.pieces can.stands in
+    let setting = setting_of g.O.Opening.plan c.args.site.tower.now c.args.site.field start in
+    subst (λ (s : Splitting). HasFed setting bytes [] (record mid { splitter = s }) c.settle.new.pass) (sym same)
+    (fed_settled setting bytes [] old mid c.args.pass.now c.settle.new.pass fed (e.done start fed.items fed.waiting fed.pending) e.beside place.0 e.settled)

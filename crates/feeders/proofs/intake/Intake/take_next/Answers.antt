@@ -1,95 +1,364 @@
-use Rattle.std.proofs.Common.{ℕ, [], Option, Some, subst, sym, refl, ◌≤◌, ◌∙◌, ◌++◌, arith, length-take-le}
+use Rattle.std.proofs.Common.{◌≡◌, ◌≤◌, ◌∙◌, ◌++◌, ◌-◌, ◌+◌, ◌<◌, ℕ, List, [], ◌∷◌, Option, Some, None, Ok, length, take, drop, append-nil, refl, sym, subst, ap, arith, length-take-le}
 use Rattle.edn_reader.specs.Grammar.{Piece}
-use Rattle.edn_reader.specs.Splitting.{TakesUpTo}
-use Rattle.feeders.specs.Lending.{TakesOne}
-use Rattle.feeders.proofs.Pieces.{taken_is, known_more, text_ends, used_all, used_one, can_lend, fed_all, fed_one, broke_at}
+use Rattle.edn_reader.specs.Splitting.{Splitting, StandsAfter, TakesUpTo, keep}
+use Rattle.feeders.specs.declared.intake.Intake.{Intake}
+use Rattle.feeders.specs.Intake.{CanGoOn, HasFed, HasUsed}
+use Rattle.feeders.specs.Pending.{count_of}
+use Rattle.feeders.specs.Setting.{setting_of}
+use Rattle.feeders.proofs.Pieces.{broke_at, counted_on, fed_along, fed_settled, fed_waits, holds_none, holds_same, known_more, taken_is}
+use Rattle.feeders.proofs.Taking.{EndsOne, IsTaken, TookNone, can_read_behind, fed_on, fed_roomed, fed_taken, keeps_fault, settled_place, takes_all, takes_some, used_beside, used_on, used_one, wants_memory}
 use Rattle.feeders.proofs.intake.Intake.take_next.Goals as goal
 
-pub take-requires-in-None : goal.take-requires-in-None
-take-requires-in-None g c =
+pub returns-then-is_err-clause-waits : goal.returns-then-is_err-clause-waits
+returns-then-is_err-clause-waits g c start bytes next fed =
+    let old = c.args.self.now in
+    let setting = setting_of g.O.Opening.plan c.args.site.tower.now c.args.site.field start in
+    let new : Intake = record { splitter = old.splitter; kept = c.make_room.new.self; progress = old.progress; pending = old.pending } in
+    fed_along setting bytes (bytes ++ take 0 c.args.piece.now) (c.args.piece.now ++ next) (drop 0 c.args.piece.now ++ next) new c.args.pass.now (sym (append-nil bytes)) refl
+    (fed_roomed setting bytes (c.args.piece.now ++ next) old new c.args.pass.now c.requires.settled refl refl refl c.make_room.ensures.kept.0 c.make_room.ensures.kept.1 fed)
+
+pub returns-in-Some-clause-goes : goal.returns-in-Some-clause-goes
+returns-in-Some-clause-goes g c start bytes next =
+    let old = c.args.self.now in
+    let broken = c.in-Some.broken in
+    broke_at (setting_of g.O.Opening.plan c.args.site.tower.now c.args.site.field start) bytes (c.args.piece.now ++ next) c.in-Err.fault broken old
+    (record { splitter = c.take.new.self; kept = c.make_room.new.self; progress = record old.progress { log = record { lines = old.progress.log.lines; broken = Some broken } }; pending = old.pending }) c.args.pass.now
+    c.requires.settled (keeps_fault c.in-Err.fault broken old.splitter c.take.new.self c.args.piece.now (sym c.broken_by.ensures ∙ c.in-Some.is) c.in-Err.ensures.takes bytes next)
+    (sym c.broken_by.ensures ∙ c.in-Some.is) refl refl
+
+pub overflow_sub-used : goal.overflow_sub-used
+overflow_sub-used g c =
     let can = c.requires.can in
-    let many = taken_is can.bytes c.args.piece.now can.pieces c.args.self.now.splitter can.taken.stands in
-    record { fits = omega (arith, can.taken.holds.long, many, c.requires.fits) }
+    let piece : List ℕ = c.args.piece.now in
+    let old = c.args.self.now.splitter in
+    let wants = wants_memory c.in-Err.fault old c.take.new.self piece (sym c.broken_by.ensures ∙ c.in_default.is) c.in-Err.ensures.takes in
+    let goes = (wants.1 can.bytes [] can.pieces (known_more can.bytes piece [] can.pieces old can.stands)).1 in
+    omega (arith, goes.0, goes.2, taken_is can.bytes piece can.pieces old can.stands, c.taken.ensures, c.taken-before.ensures)
 
-pub text-requires-clause-low : goal.text-requires-clause-low
-text-requires-clause-low g c =
+pub slice_bounds-take-end : goal.slice_bounds-take-end
+slice_bounds-take-end g c =
     let can = c.requires.can in
-    let takes = subst (λ (w : Option (ℕ × ℕ)). TakesUpTo can.bytes c.args.piece.now [] can.pieces c.args.self.now.splitter c.in-Ok.taken.used w c.take.new.self) c.in-Some.is
-    (c.in-Ok.ensures.takes can.bytes [] can.pieces (known_more can.bytes c.args.piece.now [] can.pieces c.args.self.now.splitter can.taken.stands)) in
-    omega (arith, can.taken.low, takes.2)
+    let piece : List ℕ = c.args.piece.now in
+    let old = c.args.self.now in
+    let wants = wants_memory c.in-Err.fault old.splitter c.take.new.self piece (sym c.broken_by.ensures ∙ c.in_default.is) c.in-Err.ensures.takes in
+    let goes = (wants.1 can.bytes [] can.pieces (known_more can.bytes piece [] can.pieces old.splitter can.stands)).1 in
+    let long = taken_is can.bytes piece can.pieces old.splitter can.stands in
+    sym (length-take-le (c.taken.result - c.taken-before.result) piece (omega (arith, goes.0, goes.1, goes.2, long, c.taken.ensures, c.taken-before.ensures)))
 
-pub text-requires-clause-high : goal.text-requires-clause-high
-text-requires-clause-high g c =
+pub take-requires-in-Err-clause-fits : goal.take-requires-in-Err-clause-fits
+take-requires-in-Err-clause-fits g c =
     let can = c.requires.can in
-    let takes = subst (λ (w : Option (ℕ × ℕ)). TakesUpTo can.bytes c.args.piece.now [] can.pieces c.args.self.now.splitter c.in-Ok.taken.used w c.take.new.self) c.in-Some.is
-    (c.in-Ok.ensures.takes can.bytes [] can.pieces (known_more can.bytes c.args.piece.now [] can.pieces c.args.self.now.splitter can.taken.stands)) in
-    omega (arith, can.taken.holds.long, length-take-le c.in-Ok.taken.used c.args.piece.now takes.0, takes.1, takes.4.1.1)
+    let piece : List ℕ = c.args.piece.now in
+    let old = c.args.self.now in
+    let wants = wants_memory c.in-Err.fault old.splitter c.take.new.self piece (sym c.broken_by.ensures ∙ c.in_default.is) c.in-Err.ensures.takes in
+    let goes = (wants.1 can.bytes [] can.pieces (known_more can.bytes piece [] can.pieces old.splitter can.stands)).1 in
+    let long = taken_is can.bytes piece can.pieces old.splitter can.stands in
+    let holds = holds_none old.pending can.bytes old.kept c.requires.settled can.holds in
+    let within : c.taken.result - c.taken-before.result ≤ length piece = omega (arith, goes.0, goes.1, goes.2, long, c.taken.ensures, c.taken-before.ensures) in
+    omega (arith, c.requires.fits, long, holds.long, within, length-take-le (c.taken.result - c.taken-before.result) piece within, c.make_room.ensures.kept.0, ap length c.make_room.ensures.kept.1)
 
-pub text-requires-clause-fits : goal.text-requires-clause-fits
-text-requires-clause-fits g c =
+pub returns-in-Err-clause-refused : goal.returns-in-Err-clause-refused
+returns-in-Err-clause-refused g c =
     let can = c.requires.can in
-    let many = taken_is can.bytes c.args.piece.now can.pieces c.args.self.now.splitter can.taken.stands in
-    omega (arith, can.taken.holds.long, many, c.requires.fits, length-take-le c.in-Ok.taken.used c.args.piece.now c.in-Ok.ensures.counted.0, c.in-Ok.ensures.counted.0)
+    let piece : List ℕ = c.args.piece.now in
+    let old = c.args.self.now in
+    let wants = wants_memory c.in-Err.fault old.splitter c.take.new.self piece (sym c.broken_by.ensures ∙ c.in_default.is) c.in-Err.ensures.takes in
+    let goes = (wants.1 can.bytes [] can.pieces (known_more can.bytes piece [] can.pieces old.splitter can.stands)).1 in
+    let long = taken_is can.bytes piece can.pieces old.splitter can.stands in
+    let used = c.taken.result - c.taken-before.result in
+    let new : Intake = record { splitter = c.take.new.self; kept = c.take-in-Err.new.self; progress = old.progress; pending = old.pending } in
+    let on : TookNone piece used old new =
+    takes_some piece used wants.0 old new wants.1 can (omega (arith, c.taken.ensures, c.taken-before.ensures))
+    (λ taken held. c.take-in-Err.ensures.holds taken (holds_same taken old.kept c.make_room.new.self c.make_room.ensures.kept.0 c.make_room.ensures.kept.1 held))
+    (λ low. subst (λ (n : ℕ). c.take-in-Err.new.self.from ≤ n) c.keep_from-keep.ensures (c.take-in-Err.ensures.low (omega (arith, low, c.keep_from-keep.ensures, c.make_room.ensures.kept.0))))
+    refl c.requires.settled c.requires.fits in
+    used_on piece used old new on c.requires.settled can
 
-pub lend-element-requires-clause-fits : goal.lend-element-requires-clause-fits
-lend-element-requires-clause-fits g c =
+pub returns-in-Err-clause-waits : goal.returns-in-Err-clause-waits
+returns-in-Err-clause-waits g c start bytes next fed =
     let can = c.requires.can in
-    let many = taken_is can.bytes c.args.piece.now can.pieces c.args.self.now.splitter can.taken.stands in
-    let takes = subst (λ (w : Option (ℕ × ℕ)). TakesUpTo can.bytes c.args.piece.now [] can.pieces c.args.self.now.splitter c.in-Ok.taken.used w c.take.new.self) c.in-Some.is
-    (c.in-Ok.ensures.takes can.bytes [] can.pieces (known_more can.bytes c.args.piece.now [] can.pieces c.args.self.now.splitter can.taken.stands)) in
-    let ends = text_ends can.bytes c.args.piece.now c.in_ok-text-in-Some.text.now c.in-Ok.taken.used c.in-Some.start (c.in_ok-text-in-Some.ensures can.bytes can.taken.holds) takes.0 (omega (arith, takes.1, takes.4.1.1)) in
-    omega (arith, ends, takes.0, many, c.requires.fits, takes.4.1.0, takes.4.4.1)
+    let piece : List ℕ = c.args.piece.now in
+    let old = c.args.self.now in
+    let wants = wants_memory c.in-Err.fault old.splitter c.take.new.self piece (sym c.broken_by.ensures ∙ c.in_default.is) c.in-Err.ensures.takes in
+    let goes = (wants.1 can.bytes [] can.pieces (known_more can.bytes piece [] can.pieces old.splitter can.stands)).1 in
+    let long = taken_is can.bytes piece can.pieces old.splitter can.stands in
+    let used = c.taken.result - c.taken-before.result in
+    let new : Intake = record { splitter = c.take.new.self; kept = c.take-in-Err.new.self; progress = old.progress; pending = old.pending } in
+    let on : TookNone piece used old new =
+    takes_some piece used wants.0 old new wants.1 can (omega (arith, c.taken.ensures, c.taken-before.ensures))
+    (λ taken held. c.take-in-Err.ensures.holds taken (holds_same taken old.kept c.make_room.new.self c.make_room.ensures.kept.0 c.make_room.ensures.kept.1 held))
+    (λ low. subst (λ (n : ℕ). c.take-in-Err.new.self.from ≤ n) c.keep_from-keep.ensures (c.take-in-Err.ensures.low (omega (arith, low, c.keep_from-keep.ensures, c.make_room.ensures.kept.0))))
+    refl c.requires.settled c.requires.fits in
+    fed_on (setting_of g.O.Opening.plan c.args.site.tower.now c.args.site.field start) piece used old new c.args.pass.now bytes next on c.requires.settled fed
 
-pub lend-element-requires-clause-element : goal.lend-element-requires-clause-element
-lend-element-requires-clause-element g c =
+pub take-requires-in_default-whole-clause-fits : goal.take-requires-in_default-whole-clause-fits
+take-requires-in_default-whole-clause-fits g c =
     let can = c.requires.can in
-    let takes = subst (λ (w : Option (ℕ × ℕ)). TakesUpTo can.bytes c.args.piece.now [] can.pieces c.args.self.now.splitter c.in-Ok.taken.used w c.take.new.self) c.in-Some.is
-    (c.in-Ok.ensures.takes can.bytes [] can.pieces (known_more can.bytes c.args.piece.now [] can.pieces c.args.self.now.splitter can.taken.stands)) in
-    can_lend can.bytes c.args.piece.now [] c.in_ok-text-in-Some.text.now can.pieces c.in-Ok.taken.used (c.in-Some.start, c.in-Some.end) c.args.self.now.splitter c.take.new.self takes
-    c.each_is_element.ensures (c.in_ok-text-in-Some.ensures can.bytes can.taken.holds)
+    let old = c.args.self.now in
+    let holds = holds_none old.pending can.bytes old.kept c.requires.settled can.holds in
+    omega (arith, c.requires.fits, taken_is can.bytes c.args.piece.now can.pieces old.splitter can.stands, holds.long, c.make_room.ensures.kept.0, ap length c.make_room.ensures.kept.1)
 
-pub take_element-requires-clause-place : goal.take_element-requires-clause-place
-take_element-requires-clause-place g c =
+pub returns-in_default-whole-clause-used : goal.returns-in_default-whole-clause-used
+returns-in_default-whole-clause-used g c =
     let can = c.requires.can in
-    let many = taken_is can.bytes c.args.piece.now can.pieces c.args.self.now.splitter can.taken.stands in
-    let takes = subst (λ (w : Option (ℕ × ℕ)). TakesUpTo can.bytes c.args.piece.now [] can.pieces c.args.self.now.splitter c.in-Ok.taken.used w c.take.new.self) c.in-Some.is
-    (c.in-Ok.ensures.takes can.bytes [] can.pieces (known_more can.bytes c.args.piece.now [] can.pieces c.args.self.now.splitter can.taken.stands)) in
-    omega (arith, can.taken.place, takes.0, takes.1, takes.2, takes.4.1.1, many, c.requires.fits)
+    let piece : List ℕ = c.args.piece.now in
+    let old = c.args.self.now in
+    let used = c.in-Ok.taken.used in
+    let new : Intake = record { splitter = c.take.new.self; kept = c.take-in_default-whole.new.self; progress = old.progress; pending = old.pending } in
+    let takes : (bytes next : List ℕ) (pieces : List Piece) → StandsAfter bytes (piece ++ next) pieces old.splitter → TakesUpTo bytes piece next pieces old.splitter used None new.splitter =
+    λ bytes next pieces stands. subst (λ (w : Option (ℕ × ℕ)). TakesUpTo bytes piece next pieces old.splitter used w new.splitter) c.in_default-whole.is (c.in-Ok.ensures.takes bytes next pieces stands) in
+    let on : TookNone piece used old new =
+    takes_all piece used old new c.in-Ok.ensures.counted takes can
+    (λ taken held. c.take-in_default-whole.ensures.holds taken (holds_same taken old.kept c.make_room.new.self c.make_room.ensures.kept.0 c.make_room.ensures.kept.1 held))
+    (λ low. subst (λ (n : ℕ). c.take-in_default-whole.new.self.from ≤ n) c.keep_from.ensures (c.take-in_default-whole.ensures.low (omega (arith, low, c.keep_from.ensures, c.make_room.ensures.kept.0))))
+    refl c.requires.settled c.requires.fits in
+    let goes = takes can.bytes [] can.pieces (known_more can.bytes piece [] can.pieces old.splitter can.stands) in
+    (used_on piece used old new on c.requires.settled can, c.requires.settled, λ some. omega (arith, some, goes.0, on.taken))
 
-pub returns-in_ok-take-in-None-clause-used : goal.returns-in_ok-take-in-None-clause-used
-returns-in_ok-take-in-None-clause-used g c =
-    used_all c.args.piece.now c.in-Ok.taken.used c.args.self.now (record { splitter = c.take.new.self; kept = c.take-in-None.new.self; progress = c.args.self.now.progress }) c.requires.can c.requires.fits
-    (λ bytes next pieces stands. subst (λ (w : Option (ℕ × ℕ)). TakesUpTo bytes c.args.piece.now next pieces c.args.self.now.splitter c.in-Ok.taken.used w c.take.new.self) c.in-None.is
-    (c.in-Ok.ensures.takes bytes next pieces stands))
-    c.in-Ok.ensures.counted c.in_ok-take-in-None.ensures.holds (λ low. subst (λ (n : ℕ). c.take-in-None.new.self.from ≤ n) c.keep_from-keep.ensures (c.in_ok-take-in-None.ensures.low (subst (λ (n : ℕ). c.args.self.now.kept.from ≤ n) (sym c.keep_from-keep.ensures) low))) refl
+pub returns-in_default-whole-clause-goes : goal.returns-in_default-whole-clause-goes
+returns-in_default-whole-clause-goes g c start bytes next fed =
+    let can = c.requires.can in
+    let piece : List ℕ = c.args.piece.now in
+    let old = c.args.self.now in
+    let used = c.in-Ok.taken.used in
+    let new : Intake = record { splitter = c.take.new.self; kept = c.take-in_default-whole.new.self; progress = old.progress; pending = old.pending } in
+    let takes : (bytes next : List ℕ) (pieces : List Piece) → StandsAfter bytes (piece ++ next) pieces old.splitter → TakesUpTo bytes piece next pieces old.splitter used None new.splitter =
+    λ bytes next pieces stands. subst (λ (w : Option (ℕ × ℕ)). TakesUpTo bytes piece next pieces old.splitter used w new.splitter) c.in_default-whole.is (c.in-Ok.ensures.takes bytes next pieces stands) in
+    let on : TookNone piece used old new =
+    takes_all piece used old new c.in-Ok.ensures.counted takes can
+    (λ taken held. c.take-in_default-whole.ensures.holds taken (holds_same taken old.kept c.make_room.new.self c.make_room.ensures.kept.0 c.make_room.ensures.kept.1 held))
+    (λ low. subst (λ (n : ℕ). c.take-in_default-whole.new.self.from ≤ n) c.keep_from.ensures (c.take-in_default-whole.ensures.low (omega (arith, low, c.keep_from.ensures, c.make_room.ensures.kept.0))))
+    refl c.requires.settled c.requires.fits in
+    fed_on (setting_of g.O.Opening.plan c.args.site.tower.now c.args.site.field start) piece used old new c.args.pass.now bytes next on c.requires.settled fed
 
-pub returns-in_ok-take-in-None-clause-goes : goal.returns-in_ok-take-in-None-clause-goes
-returns-in_ok-take-in-None-clause-goes g c feeder bytes next =
-    fed_all g.O.Opening.plan c.args.tower.now c.args.field feeder bytes c.args.piece.now next c.in-Ok.taken.used c.args.self.now (record { splitter = c.take.new.self; kept = c.take-in-None.new.self; progress = c.args.self.now.progress }) c.args.pass.now
-    (λ pieces stands. subst (λ (w : Option (ℕ × ℕ)). TakesUpTo bytes c.args.piece.now next pieces c.args.self.now.splitter c.in-Ok.taken.used w c.take.new.self) c.in-None.is
-    (c.in-Ok.ensures.takes bytes next pieces stands))
-    c.in_ok-take-in-None.ensures.holds (λ low. subst (λ (n : ℕ). c.take-in-None.new.self.from ≤ n) c.keep_from-keep.ensures (c.in_ok-take-in-None.ensures.low (subst (λ (n : ℕ). c.args.self.now.kept.from ≤ n) (sym c.keep_from-keep.ensures) low))) refl
+pub take_whole-requires-clause-can : goal.take_whole-requires-clause-can
+take_whole-requires-clause-can g c κs lives =
+    let can = c.requires.can in
+    let piece : List ℕ = c.args.piece.now in
+    let old = c.args.self.now in
+    let used = c.in-Ok.taken.used in
+    let span : ℕ × ℕ = (c.in-Some-whole.start, c.in-Some-whole.field-0-1) in
+    let mid : Intake = record { splitter = c.take.new.self; kept = c.make_room.new.self; progress = old.progress; pending = old.pending } in
+    let ends : EndsOne piece used span old mid =
+    λ bytes next pieces stands. subst (λ (w : Option (ℕ × ℕ)). TakesUpTo bytes piece next pieces old.splitter used w mid.splitter) c.in-Some-whole.is (c.in-Ok.ensures.takes bytes next pieces stands) in
+    can_read_behind piece used span old mid ends c.each_is_element.ensures c.in-Ok.ensures.counted c.make_room.ensures.kept.0 c.make_room.ensures.kept.1 refl c.requires.settled can c.requires.fits
 
-pub returns-in_ok-take_element-in-Some-clause-used : goal.returns-in_ok-take_element-in-Some-clause-used
-returns-in_ok-take_element-in-Some-clause-used g c =
-    used_one c.args.piece.now c.in-Ok.taken.used (c.in-Some.start, c.in-Some.end) c.args.self.now (record { splitter = c.take.new.self; kept = c.restart.new.self; progress = c.take_element.new.progress }) c.requires.can c.requires.fits
-    (λ bytes next pieces stands. subst (λ (w : Option (ℕ × ℕ)). TakesUpTo bytes c.args.piece.now next pieces c.args.self.now.splitter c.in-Ok.taken.used w c.take.new.self) c.in-Some.is
-    (c.in-Ok.ensures.takes bytes next pieces stands))
-    c.in-Ok.ensures.counted c.restart.ensures.holds c.restart.ensures.from c.in_ok-take_element-in-Some.ensures.place c.in_ok-take_element-in-Some.ensures.ahead
+pub returns-in-Err-take_whole-clause-refused : goal.returns-in-Err-take_whole-clause-refused
+returns-in-Err-take_whole-clause-refused g c =
+    let can = c.requires.can in
+    let piece : List ℕ = c.args.piece.now in
+    let old = c.args.self.now in
+    let used = c.in-Ok.taken.used in
+    let span : ℕ × ℕ = (c.in-Some-whole.start, c.in-Some-whole.field-0-1) in
+    let mid : Intake = record { splitter = c.take.new.self; kept = c.make_room.new.self; progress = old.progress; pending = old.pending } in
+    let ends : EndsOne piece used span old mid =
+    λ bytes next pieces stands. subst (λ (w : Option (ℕ × ℕ)). TakesUpTo bytes piece next pieces old.splitter used w mid.splitter) c.in-Some-whole.is (c.in-Ok.ensures.takes bytes next pieces stands) in
+    let new = c.take_whole.new.self in
+    let is : IsTaken piece used old mid new =
+    record {
+      can = c.take_whole.ensures.can;
+      holds = c.take_whole.ensures.holds;
+      low = c.take_whole.ensures.low;
+      splitter = c.take_whole.ensures.beside.0;
+      broken = c.take_whole.ensures.beside.1;
+      place = c.take_whole.ensures.place;
+      from = c.make_room.ensures.kept.0;
+      items = c.make_room.ensures.kept.1;
+      progress = refl;
+      counted = c.in-Ok.ensures.counted;
+      fits = omega (arith, c.in-Ok.ensures.counted.0, c.in-Ok.ensures.counted.1, c.requires.fits);
+    } in
+    used_one piece used span old mid new is ends c.requires.settled can
 
-pub returns-in_ok-take_element-in-Some-clause-goes : goal.returns-in_ok-take_element-in-Some-clause-goes
-returns-in_ok-take_element-in-Some-clause-goes g c feeder bytes next =
-    fed_one g.O.Opening.plan c.args.tower.now c.args.field feeder bytes c.args.piece.now next c.in_ok-text-in-Some.text.now c.in-Ok.taken.used (c.in-Some.start, c.in-Some.end) c.args.self.now
-    (record { splitter = c.take.new.self; kept = c.restart.new.self; progress = c.take_element.new.progress }) c.args.pass.now c.take_element.new.pass
-    (λ pieces stands. subst (λ (w : Option (ℕ × ℕ)). TakesUpTo bytes c.args.piece.now next pieces c.args.self.now.splitter c.in-Ok.taken.used w c.take.new.self) c.in-Some.is
-    (c.in-Ok.ensures.takes bytes next pieces stands))
-    c.in_ok-text-in-Some.ensures
-    (λ last is same. subst (λ (p : Piece). TakesOne g.O.Opening.plan c.args.tower.now c.args.field p c.args.self.now.progress c.args.pass.now c.take_element.new.progress c.take_element.new.pass) (c.lend-element.ensures last is same) c.in_ok-take_element-in-Some.ensures.taken)
-    c.restart.ensures.holds c.restart.ensures.from c.in_ok-take_element-in-Some.ensures.place c.in_ok-take_element-in-Some.ensures.broken
+pub returns-in-Err-take_whole-clause-waits : goal.returns-in-Err-take_whole-clause-waits
+returns-in-Err-take_whole-clause-waits g c start bytes next fed =
+    let can = c.requires.can in
+    let piece : List ℕ = c.args.piece.now in
+    let old = c.args.self.now in
+    let used = c.in-Ok.taken.used in
+    let span : ℕ × ℕ = (c.in-Some-whole.start, c.in-Some-whole.field-0-1) in
+    let mid : Intake = record { splitter = c.take.new.self; kept = c.make_room.new.self; progress = old.progress; pending = old.pending } in
+    let ends : EndsOne piece used span old mid =
+    λ bytes next pieces stands. subst (λ (w : Option (ℕ × ℕ)). TakesUpTo bytes piece next pieces old.splitter used w mid.splitter) c.in-Some-whole.is (c.in-Ok.ensures.takes bytes next pieces stands) in
+    let new = c.take_whole.new.self in
+    let is : IsTaken piece used old mid new =
+    record {
+      can = c.take_whole.ensures.can;
+      holds = c.take_whole.ensures.holds;
+      low = c.take_whole.ensures.low;
+      splitter = c.take_whole.ensures.beside.0;
+      broken = c.take_whole.ensures.beside.1;
+      place = c.take_whole.ensures.place;
+      from = c.make_room.ensures.kept.0;
+      items = c.make_room.ensures.kept.1;
+      progress = refl;
+      counted = c.in-Ok.ensures.counted;
+      fits = omega (arith, c.in-Ok.ensures.counted.0, c.in-Ok.ensures.counted.1, c.requires.fits);
+    } in
+    let setting = setting_of g.O.Opening.plan c.args.site.tower.now c.args.site.field start in
+    let waits : HasFed setting (bytes ++ take used piece) (drop used piece ++ next) new c.args.pass.now =
+    fed_taken setting piece used span old mid new c.args.pass.now bytes next is ends c.each_is_element.ensures c.requires.settled
+    (λ items last is text at. c.take_whole.ensures.pending g.O.Opening.plan start items c.args.pass.now last is text at) fed in
+    waits
 
-pub returns-in-Some-broken_by-clause-goes : goal.returns-in-Some-broken_by-clause-goes
-returns-in-Some-broken_by-clause-goes g c feeder bytes next =
-    broke_at g.O.Opening.plan c.args.tower.now c.args.field feeder bytes (c.args.piece.now ++ next) c.in-Err.fault c.in-Some-broken_by.broken c.args.self.now
-    (record { splitter = c.take.new.self; kept = c.args.self.now.kept; progress = record c.args.self.now.progress { log = record { lines = c.args.self.now.progress.log.lines; broken = Some c.in-Some-broken_by.broken } } }) c.args.pass.now
-    (λ pieces stands. (c.in-Err.ensures.takes bytes next pieces stands).1)
-    (sym c.broken_by.ensures ∙ c.in-Some-broken_by.is) refl refl
+pub returns-in-Ok-settle-clause-used : goal.returns-in-Ok-settle-clause-used
+returns-in-Ok-settle-clause-used g c =
+    let can = c.requires.can in
+    let piece : List ℕ = c.args.piece.now in
+    let old = c.args.self.now in
+    let used = c.in-Ok.taken.used in
+    let span : ℕ × ℕ = (c.in-Some-whole.start, c.in-Some-whole.field-0-1) in
+    let mid : Intake = record { splitter = c.take.new.self; kept = c.make_room.new.self; progress = old.progress; pending = old.pending } in
+    let ends : EndsOne piece used span old mid =
+    λ bytes next pieces stands. subst (λ (w : Option (ℕ × ℕ)). TakesUpTo bytes piece next pieces old.splitter used w mid.splitter) c.in-Some-whole.is (c.in-Ok.ensures.takes bytes next pieces stands) in
+    let new = c.take_whole.new.self in
+    let is : IsTaken piece used old mid new =
+    record {
+      can = c.take_whole.ensures.can;
+      holds = c.take_whole.ensures.holds;
+      low = c.take_whole.ensures.low;
+      splitter = c.take_whole.ensures.beside.0;
+      broken = c.take_whole.ensures.beside.1;
+      place = c.take_whole.ensures.place;
+      from = c.make_room.ensures.kept.0;
+      items = c.make_room.ensures.kept.1;
+      progress = refl;
+      counted = c.in-Ok.ensures.counted;
+      fits = omega (arith, c.in-Ok.ensures.counted.0, c.in-Ok.ensures.counted.1, c.requires.fits);
+    } in
+    let first = used_one piece used span old mid new is ends c.requires.settled can in
+    let place = settled_place new c.settle.new.self.progress.place (drop used piece) first.can c.in-Ok-settle.ensures.place in
+    let goes = ends can.bytes [] can.pieces (known_more can.bytes piece [] can.pieces old.splitter can.stands) in
+    let counts = c.take_whole.ensures.count in
+    let second = used_beside piece used old new c.settle.new.self first c.in-Ok-settle.ensures.beside c.in-Ok-settle.ensures.can place.0 place.1 in (
+      second,
+      c.in-Ok-settle.ensures.settled,
+      λ some. omega (arith, second.taken, c.in-Ok-settle.ensures.place, counts, c.take_whole.ensures.place),
+    )
+
+pub returns-in-Ok-settle-clause-goes : goal.returns-in-Ok-settle-clause-goes
+returns-in-Ok-settle-clause-goes g c start bytes next fed =
+    let can = c.requires.can in
+    let piece : List ℕ = c.args.piece.now in
+    let old = c.args.self.now in
+    let used = c.in-Ok.taken.used in
+    let span : ℕ × ℕ = (c.in-Some-whole.start, c.in-Some-whole.field-0-1) in
+    let mid : Intake = record { splitter = c.take.new.self; kept = c.make_room.new.self; progress = old.progress; pending = old.pending } in
+    let ends : EndsOne piece used span old mid =
+    λ bytes next pieces stands. subst (λ (w : Option (ℕ × ℕ)). TakesUpTo bytes piece next pieces old.splitter used w mid.splitter) c.in-Some-whole.is (c.in-Ok.ensures.takes bytes next pieces stands) in
+    let new = c.take_whole.new.self in
+    let is : IsTaken piece used old mid new =
+    record {
+      can = c.take_whole.ensures.can;
+      holds = c.take_whole.ensures.holds;
+      low = c.take_whole.ensures.low;
+      splitter = c.take_whole.ensures.beside.0;
+      broken = c.take_whole.ensures.beside.1;
+      place = c.take_whole.ensures.place;
+      from = c.make_room.ensures.kept.0;
+      items = c.make_room.ensures.kept.1;
+      progress = refl;
+      counted = c.in-Ok.ensures.counted;
+      fits = omega (arith, c.in-Ok.ensures.counted.0, c.in-Ok.ensures.counted.1, c.requires.fits);
+    } in
+    let setting = setting_of g.O.Opening.plan c.args.site.tower.now c.args.site.field start in
+    let waits : HasFed setting (bytes ++ take used piece) (drop used piece ++ next) new c.args.pass.now =
+    fed_taken setting piece used span old mid new c.args.pass.now bytes next is ends c.each_is_element.ensures c.requires.settled
+    (λ items last is text at. c.take_whole.ensures.pending g.O.Opening.plan start items c.args.pass.now last is text at) fed in
+    let first = used_one piece used span old mid new is ends c.requires.settled can in
+    let place = settled_place new c.settle.new.self.progress.place (drop used piece) first.can c.in-Ok-settle.ensures.place in
+    fed_settled setting (bytes ++ take used piece) (drop used piece ++ next) new c.settle.new.self c.args.pass.now c.settle.new.pass waits
+    (c.in-Ok-settle.ensures.done start waits.items waits.waiting waits.pending) c.in-Ok-settle.ensures.beside place.0 c.in-Ok-settle.ensures.settled
+
+pub returns-in-Err-settle-clause-refused : goal.returns-in-Err-settle-clause-refused
+returns-in-Err-settle-clause-refused g c =
+    let can = c.requires.can in
+    let piece : List ℕ = c.args.piece.now in
+    let old = c.args.self.now in
+    let used = c.in-Ok.taken.used in
+    let span : ℕ × ℕ = (c.in-Some-whole.start, c.in-Some-whole.field-0-1) in
+    let mid : Intake = record { splitter = c.take.new.self; kept = c.make_room.new.self; progress = old.progress; pending = old.pending } in
+    let ends : EndsOne piece used span old mid =
+    λ bytes next pieces stands. subst (λ (w : Option (ℕ × ℕ)). TakesUpTo bytes piece next pieces old.splitter used w mid.splitter) c.in-Some-whole.is (c.in-Ok.ensures.takes bytes next pieces stands) in
+    let new = c.take_whole.new.self in
+    let is : IsTaken piece used old mid new =
+    record {
+      can = c.take_whole.ensures.can;
+      holds = c.take_whole.ensures.holds;
+      low = c.take_whole.ensures.low;
+      splitter = c.take_whole.ensures.beside.0;
+      broken = c.take_whole.ensures.beside.1;
+      place = c.take_whole.ensures.place;
+      from = c.make_room.ensures.kept.0;
+      items = c.make_room.ensures.kept.1;
+      progress = refl;
+      counted = c.in-Ok.ensures.counted;
+      fits = omega (arith, c.in-Ok.ensures.counted.0, c.in-Ok.ensures.counted.1, c.requires.fits);
+    } in
+    let first = used_one piece used span old mid new is ends c.requires.settled can in
+    let same = c.in-Err-settle.ensures.refused.0 in
+    used_beside piece used old new c.settle.new.self first c.in-Err-settle.ensures.beside c.in-Err-settle.ensures.can (omega (arith, same, first.can.place)) (omega (arith, same, first.can.counted))
+
+pub returns-in-Err-settle-clause-waits : goal.returns-in-Err-settle-clause-waits
+returns-in-Err-settle-clause-waits g c start bytes next fed =
+    let can = c.requires.can in
+    let piece : List ℕ = c.args.piece.now in
+    let old = c.args.self.now in
+    let used = c.in-Ok.taken.used in
+    let span : ℕ × ℕ = (c.in-Some-whole.start, c.in-Some-whole.field-0-1) in
+    let mid : Intake = record { splitter = c.take.new.self; kept = c.make_room.new.self; progress = old.progress; pending = old.pending } in
+    let ends : EndsOne piece used span old mid =
+    λ bytes next pieces stands. subst (λ (w : Option (ℕ × ℕ)). TakesUpTo bytes piece next pieces old.splitter used w mid.splitter) c.in-Some-whole.is (c.in-Ok.ensures.takes bytes next pieces stands) in
+    let new = c.take_whole.new.self in
+    let is : IsTaken piece used old mid new =
+    record {
+      can = c.take_whole.ensures.can;
+      holds = c.take_whole.ensures.holds;
+      low = c.take_whole.ensures.low;
+      splitter = c.take_whole.ensures.beside.0;
+      broken = c.take_whole.ensures.beside.1;
+      place = c.take_whole.ensures.place;
+      from = c.make_room.ensures.kept.0;
+      items = c.make_room.ensures.kept.1;
+      progress = refl;
+      counted = c.in-Ok.ensures.counted;
+      fits = omega (arith, c.in-Ok.ensures.counted.0, c.in-Ok.ensures.counted.1, c.requires.fits);
+    } in
+    let setting = setting_of g.O.Opening.plan c.args.site.tower.now c.args.site.field start in
+    let waits : HasFed setting (bytes ++ take used piece) (drop used piece ++ next) new c.args.pass.now =
+    fed_taken setting piece used span old mid new c.args.pass.now bytes next is ends c.each_is_element.ensures c.requires.settled
+    (λ items last is text at. c.take_whole.ensures.pending g.O.Opening.plan start items c.args.pass.now last is text at) fed in
+    let first = used_one piece used span old mid new is ends c.requires.settled can in
+    fed_waits setting (bytes ++ take used piece) (drop used piece ++ next) new c.settle.new.self c.args.pass.now c.settle.new.pass waits
+    (c.in-Err-settle.ensures.waits start waits.items waits.waiting waits.pending) c.in-Err-settle.ensures.beside (omega (arith, c.in-Err-settle.ensures.refused.0, first.can.place))
+
+pub returns-in-Err-settle-clause-fault : goal.returns-in-Err-settle-clause-fault
+returns-in-Err-settle-clause-fault g c start bytes next fed claims =
+    let can = c.requires.can in
+    let piece : List ℕ = c.args.piece.now in
+    let old = c.args.self.now in
+    let used = c.in-Ok.taken.used in
+    let span : ℕ × ℕ = (c.in-Some-whole.start, c.in-Some-whole.field-0-1) in
+    let mid : Intake = record { splitter = c.take.new.self; kept = c.make_room.new.self; progress = old.progress; pending = old.pending } in
+    let ends : EndsOne piece used span old mid =
+    λ bytes next pieces stands. subst (λ (w : Option (ℕ × ℕ)). TakesUpTo bytes piece next pieces old.splitter used w mid.splitter) c.in-Some-whole.is (c.in-Ok.ensures.takes bytes next pieces stands) in
+    let new = c.take_whole.new.self in
+    let is : IsTaken piece used old mid new =
+    record {
+      can = c.take_whole.ensures.can;
+      holds = c.take_whole.ensures.holds;
+      low = c.take_whole.ensures.low;
+      splitter = c.take_whole.ensures.beside.0;
+      broken = c.take_whole.ensures.beside.1;
+      place = c.take_whole.ensures.place;
+      from = c.make_room.ensures.kept.0;
+      items = c.make_room.ensures.kept.1;
+      progress = refl;
+      counted = c.in-Ok.ensures.counted;
+      fits = omega (arith, c.in-Ok.ensures.counted.0, c.in-Ok.ensures.counted.1, c.requires.fits);
+    } in
+    let setting = setting_of g.O.Opening.plan c.args.site.tower.now c.args.site.field start in
+    let waits : HasFed setting (bytes ++ take used piece) (drop used piece ++ next) new c.args.pass.now =
+    fed_taken setting piece used span old mid new c.args.pass.now bytes next is ends c.each_is_element.ensures c.requires.settled
+    (λ items last is text at. c.take_whole.ensures.pending g.O.Opening.plan start items c.args.pass.now last is text at) fed in
+    c.in-Err-settle.ensures.fault start waits.items waits.waiting waits.pieces waits.pending waits.read claims

@@ -8,4 +8,4 @@ returns-in-None-clause-done g c =
     let plan = g.O.Opening.plan in
     let lines = c.args.self.now.lines.items in
     rw c.in-None.is (goes_on plan c.args.pass.now c.args.pass.now lines lines c.args.place nothing
-    (told_nothing plan.shards nothing c.args.pass.now (λ feeder at. refl)) (sym (append-nil lines)) (λ doings own. tt))
+    (told_nothing plan.shards nothing c.args.pass.now (λ feeder at. refl)) (sym (append-nil lines)) (λ start doings feeder own. tt))

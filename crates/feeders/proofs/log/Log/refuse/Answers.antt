@@ -7,4 +7,4 @@ pub returns-clause-done : goal.returns-clause-done
 returns-clause-done g c pass =
     let plan = g.O.Opening.plan in
     goes_on plan pass pass c.args.self.now.lines.items c.push.new.self.items c.args.place (refused c.args.code)
-    (told_nothing plan.shards (refused c.args.code) pass (λ feeder at. refl)) c.in_ok-push.ensures.items (λ doings own. tt)
+    (told_nothing plan.shards (refused c.args.code) pass (λ feeder at. refl)) c.in_ok-push.ensures.items (λ start doings feeder own. tt)

@@ -13,7 +13,7 @@ returns-in-Refused-clause-done g c =
     goes_on plan c.args.pass.now c.submit.new.pass lines c.push_reserved.new.self.items c.args.place (entered c.args.register c.args.edit receipt.number receipt.reply)
     (told_entered plan c.args.pass.now c.submit.new.pass c.args.register c.args.edit receipt c.requires.some c.in_ok-receipt.ensures.submitted c.in_ok-receipt.ensures.told
     c.what_was_told_stays.ensures.own c.what_was_told_stays.ensures.others)
-    noted (λ doings own. tt)
+    noted (λ start doings feeder own. tt)
 
 pub returns-in_default-clause-done : goal.returns-in_default-clause-done
 returns-in_default-clause-done g c =
@@ -24,4 +24,4 @@ returns-in_default-clause-done g c =
     goes_on plan c.args.pass.now c.submit.new.pass lines c.reserve.new.self.items c.args.place (entered c.args.register c.args.edit receipt.number receipt.reply)
     (told_entered plan c.args.pass.now c.submit.new.pass c.args.register c.args.edit receipt c.requires.some c.in_ok-receipt.ensures.submitted c.in_ok-receipt.ensures.told
     c.what_was_told_stays.ensures.own c.what_was_told_stays.ensures.others)
-    noted (λ doings own. tt)
+    noted (λ start doings feeder own. tt)

@@ -1,10 +1,18 @@
-use Rattle.std.proofs.Common.{◌≢◌, Err}
+use Rattle.std.proofs.Common.{◌≢◌, Ok, Err, subst, sym}
 use Rattle.pairing.specs.declared.fault.PairFault.TheVariants as pairs
-use Rattle.feeders.proofs.Going.{paired}
+use Rattle.feeders.specs.declared.log.Code.TheVariants.{Form}
+use Rattle.feeders.specs.Progress.{IsPaired}
+use Rattle.feeders.specs.Steps.{Taken}
+use Rattle.feeders.proofs.Going.{paired, unformed}
 use Rattle.feeders.proofs.progress.Progress.pair.Goals as goal
 
-pub returns-clause-taken : goal.returns-clause-taken
-returns-clause-taken g c =
+pub returns-in-Err-clause-paired : goal.returns-in-Err-clause-paired
+returns-in-Err-clause-paired c plan start items pass at =
+    subst (λ i. IsPaired plan start items i (Err (Form c.in-Err.fault)) c.args.self.now pass) (sym c.in-Err.is) (unformed plan c.args.self.now c.in-Err.fault start items pass at)
+
+pub returns-else-wants_memory-clause-paired : goal.returns-else-wants_memory-clause-paired
+returns-else-wants_memory-clause-paired c plan start items pass at =
     let other : c.take-step.result ≢ Err pairs.Memory = λ is. let yes = c.wants_memory.ensures.1 is in let no = c.if-wants_memory.false in cc in
-    paired g.O.Opening.plan c.args.self.now c.take-step.new.self c.args.pass.now c.follow.new.pass c.follow.new.self c.args.item c.take-step.result c.follow.result other
-    c.take-step.ensures.step c.take-step.ensures.stands c.take-step.ensures.feeder c.follow.ensures.done
+    subst (λ i. IsPaired plan start items i c.with_code.result (record c.args.self.now { pairing = c.take-step.new.self }) pass) (sym c.in-Ok.is)
+    (subst (λ (s : Taken). IsPaired plan start items (Ok c.in-Ok.item) s (record c.args.self.now { pairing = c.take-step.new.self }) pass) (sym c.with_code.ensures)
+    (paired plan c.args.self.now c.take-step.new.self c.in-Ok.item c.take-step.result other c.take-step.ensures.step c.take-step.ensures.stands c.take-step.ensures.feeder start items pass at))

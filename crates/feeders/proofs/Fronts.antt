@@ -1,0 +1,67 @@
+-- The front of a piece, with which an element ended.
+use Rattle.std.proofs.Common.{◌≡◌, ℕ, ◌+◌, ◌-◌, ◌≤◌, ◌<◌, ◌^◌, List, [], ◌∷◌, ◌++◌, length, take, drop, Result, refl, sym, ap, subst, ◌∙◌, arith, length-append, length-drop}
+use Rattle.std.proofs.Math.Seq.{drop-append-add}
+use Rattle.std.proofs.lemmas.List.{take_all}
+use Rattle.edn_reader.specs.Grammar.{Piece}
+use Rattle.edn_reader.specs.Splitting.{IsLast, Splitting, keep}
+use Rattle.jepsen_form.specs.declared.fault.FormFault.{FormFault}
+use Rattle.jepsen_form.specs.declared.item.Item.{Item}
+use Rattle.shards.specs.Pass.{Passed}
+use Rattle.feeders.specs.declared.intake.Intake.{Intake}
+use Rattle.feeders.specs.declared.kept.Kept.{Kept}
+use Rattle.feeders.specs.declared.pending.Pending.{Pending}
+use Rattle.feeders.specs.declared.pending.Pending.TheVariants.{Whole}
+use Rattle.feeders.specs.declared.progress.Progress.{Progress}
+use Rattle.feeders.specs.Kept.{Holds}
+use Rattle.feeders.specs.Pending.{CanRead, CanReadBehind, CanSettle, CanSettleAs, IsBetween, IsPending, IsPendingAs, IsReadAs}
+use Rattle.feeders.specs.Progress.{IsAhead, IsAt}
+use Rattle.feeders.specs.Setting.{Setting}
+use Rattle.feeders.proofs.Settling.{read_ahead}
+
+-- The bytes of an element that lies in the front alone.
+pub front_text : (kept : Kept) (front : List ℕ) (start end : ℕ) → end ≡ kept.from + length kept.bytes.items → end ≤ start
+    → drop (start - kept.from) (kept.bytes.items ++ front) ≡ take (length front - (start - end)) (drop (start - end) front)
+front_text kept front start end is low =
+    ap (λ (n : ℕ). drop n (kept.bytes.items ++ front)) (omega (arith, is, low))
+    ∙ drop-append-add kept.bytes.items front (start - end)
+    ∙ sym (take_all (length front - (start - end)) (drop (start - end) front) (omega (arith, length-drop (start - end) front)))
+
+-- The element waits, with its bytes.
+pub whole_waits : (setting : Setting) (items : List (Result Item FormFault)) (pass : Passed) (old new : Intake) (start : ℕ) (text : List ℕ) (last : Piece)
+    → IsLast old.splitter last → last.text ≡ text → IsAt setting.plan setting.start items old.progress pass
+    → new.pending ≡ Whole start → new.splitter ≡ old.splitter → new.progress ≡ old.progress → drop (start - new.kept.from) new.kept.bytes.items ≡ text
+    → IsPending setting items (last ∷ []) new pass
+whole_waits setting items pass old new start text last is text_is at pending same progress kept =
+    subst (λ (p : Pending). IsPendingAs p setting items (last ∷ []) new pass) (sym pending)
+    (last, refl, (subst (λ (s : Splitting). IsLast s last) (sym same) is, text_is ∙ sym kept), subst (λ (p : Progress). IsAt setting.plan setting.start items p pass) (sym progress) at)
+
+between_behind : (old new : Intake) (start : ℕ) (front : List ℕ) → CanReadBehind start front old → new.splitter ≡ old.splitter → new.progress.place ≡ old.progress.place → IsBetween new
+between_behind old new start front can same place = record {
+  keep_is = ap keep same ∙ can.keep_is ∙ ap (λ (s : Splitting). s.taken) (sym same);
+  counted = omega (arith, place, can.counted, ap (λ (s : Splitting). s.taken) same);
+  fits = omega (arith, can.fits, ap (λ (s : Splitting). s.taken) same);
+}
+
+pub can_whole : (old new : Intake) (start : ℕ) (front : List ℕ) → CanReadBehind start front old → IsAhead old.progress → new.pending ≡ Whole start → new.splitter ≡ old.splitter
+    → new.progress ≡ old.progress → new.kept.from ≤ start → drop (start - new.kept.from) new.kept.bytes.items ≡ drop (start - old.kept.from) (old.kept.bytes.items ++ front)
+    → new.kept.from + length new.kept.bytes.items ≡ old.kept.from + length old.kept.bytes.items + length front → CanSettle new
+can_whole old new start front can ahead pending same progress low kept long = record {
+  by = subst (λ (p : Pending). CanSettleAs p new) (sym pending) (
+    subst IsAhead (sym progress) ahead,
+    record {
+      low = low;
+      high = omega (arith, long, can.high);
+      element = (can.element.0, subst (λ (s : Splitting). IsLast s can.element.0) (sym same) can.element.1, can.element.2, can.element.3 ∙ sym kept);
+      starts = ap (λ (s : Splitting). s.ended.start) same ∙ can.starts;
+      ends = ap (λ (s : Splitting). s.taken) same ∙ can.ends ∙ sym long;
+    },
+    between_behind old new start front can same (ap (λ (p : Progress). p.place) progress),
+  );
+}
+
+-- It was read at once.
+pub can_read_at_once : (old new : Intake) (start : ℕ) (front : List ℕ) (setting : Setting) (piece : Piece) → CanReadBehind start front old → IsAhead old.progress → new.splitter ≡ old.splitter
+    → IsReadAs setting.tower setting.chosen piece old.progress new.progress new.pending → CanSettle new
+can_read_at_once old new start front setting piece can ahead same read = record {
+  by = read_ahead new.pending setting piece old.progress new read ahead (between_behind old new start front can same);
+}

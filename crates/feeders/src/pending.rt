@@ -1,0 +1,97 @@
+//! The element that ended last, until its step is carried out.
+
+ghost use Rattle.std.specs.Prelude.{◌≡◌, ◌<◌, ◌+◌, ◌^◌, ◌++◌, ◌∷◌, [], ℕ, List, Result, IfOk, OnErr, false, length};
+ghost use Rattle.edn_reader.specs.Lent.{piece_of};
+ghost use Rattle.jepsen_form.specs.declared.fault.FormFault.{FormFault as AFormFault};
+ghost use Rattle.jepsen_form.specs.declared.item.Item.{Item as AnItem};
+ghost use Rattle.jepsen_form.specs.Item.{answer_with};
+ghost use Rattle.shards.specs.Pass.{Passed};
+ghost use Rattle.shards.specs.Plan.{Plan};
+ghost use Rattle.feeders.specs.Lending.{LendsNone, is_lent as lends};
+ghost use Rattle.feeders.specs.Pending.{IsReadAs};
+ghost use Rattle.feeders.specs.Progress.{IsAhead};
+ghost use Rattle.feeders.specs.Setting.{Start};
+
+use crate::log::Code;
+use crate::pages::Pages;
+use crate::progress::Progress;
+use crate::site::Site;
+use edn_reader::Element;
+use intervals::{Edit, Memory};
+use jepsen_form::laws::one_item;
+use jepsen_form::{FormFault, Item, Stage, read_item};
+use pairing::Step;
+use shards::{Gate, Opening};
+use std::sync::Wait;
+
+/// What a feeder has of the element that ended last, as long as its step is not carried out.
+#[derive(Clone, Copy)]
+pub enum Pending<'t> {
+    Nothing,
+    /// It ended, and its bytes are kept from this place on.
+    Whole(usize),
+    /// It was read, and its text lies on a page.
+    Lent(Result<Item<'t>, FormFault>),
+    /// It was paired: its step, or why it is refused.
+    Paired(Result<Option<Step<'t>>, Code>),
+}
+
+/// Reads an element. Where its step lends its text that is put on a page first, and the item lends it from there; where
+/// it does not the element is paired at once, since its item may not outlive its bytes.
+pub fn read_pending<'t, O: Opening, R: Wait, G: Gate>(
+    site: Site<'_, 't, O, R, G>,
+    pages: &'t Pages,
+    progress: &mut Progress<'t>,
+    element: Element,
+) -> Result<Pending<'t>, Memory>
+    requires ahead { IsAhead progress.old }
+    ensures read { IfOk result (IsReadAs site.entry.tower.now site.entry.field (piece_of element.entry) progress.old progress.new) }
+    ensures kept { OnErr result (progress.new ≡ progress.old) }
+{
+    one_item();
+    let item = read_item(element, site.field, site.tower);
+    if is_lent(&item) {
+        let page = pages.push(site.rt, site.alloc, element.text())?;
+        return Ok(Pending::Lent(from_page(item, page)));
+    }
+    let step = progress.pair(item)?;
+    Ok(Pending::Paired(unlent(step)))
+}
+
+/// The same answer, whose item lends its text from a page.
+fn from_page<'t>(item: Result<Item, FormFault>, page: &'t [u8]) -> Result<Item<'t>, FormFault>
+    ensures { result ≡ answer_with page.entry item.entry }
+{
+    match item {
+        Ok(item) => Ok(item.with_text(page)),
+        Err(fault) => Err(fault),
+    }
+}
+
+/// Whether the step of an element lends its text.
+fn is_lent(item: &Result<Item, FormFault>) -> bool
+    ensures { result ≡ lends item.now }
+{
+    match item {
+        Ok(Item::Event(event)) => match event.answer {
+            Stage::Invoke | Stage::Ok => true,
+            Stage::Fail | Stage::Info => false,
+        },
+        Ok(Item::Amend { .. }) => true,
+        Ok(Item::Withdraw { .. } | Item::Ask(_) | Item::Skipped) | Err(_) => false,
+    }
+}
+
+/// A step that lends no text, for as long as may be.
+fn unlent<'t>(step: Result<Option<Step>, Code>) -> Result<Option<Step<'t>>, Code>
+    ensures { LendsNone step.entry → result ≡ step.entry }
+{
+    match step {
+        Ok(Some(Step::Edit(register, Edit::Withdraw(id)))) => {
+            Ok(Some(Step::Edit(register, Edit::Withdraw(id))))
+        }
+        Ok(Some(Step::Ask(register))) => Ok(Some(Step::Ask(register))),
+        Ok(_) => Ok(None),
+        Err(code) => Err(code),
+    }
+}

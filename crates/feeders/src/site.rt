@@ -1,0 +1,17 @@
+//! What a feeder is lent for the whole of a run.
+
+use jepsen_form::MomentField;
+use shards::{Auditor, Opening};
+use std::alloc::Global;
+use tower_file::Tower;
+
+/// Where a feeder's steps go, and how the elements of its trace are read.
+#[derive_where(Clone, Copy)]
+pub struct Site<'a, 't, O: Opening, R, G> {
+    pub rt: &'a R,
+    pub alloc: Global,
+    pub auditor: &'a Auditor<'t, O>,
+    pub gate: &'a G,
+    pub tower: &'a Tower,
+    pub field: MomentField,
+}
