@@ -1,6 +1,7 @@
 //! Rows of traces that are fed. A row is a block of lines: the gates, the shards and the tower, the traces, and what
 //! is found at each gate.
 
+mod again;
 mod gates;
 mod pages;
 mod readers;
