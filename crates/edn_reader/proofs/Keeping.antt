@@ -25,7 +25,7 @@ abbrev pub Rising : List Open → ℕ → Type 0
 Rising [] place = Unit {0}
 Rising (item ∷ opens) place = (item.place ≤ place) × Rising opens item.place
 
-inside_forward : {opener : Opener} {room p q : ℕ} {a b : List ℕ} {odd : Bool} → StandsIn opener room p a odd q b → p ≤ q
+pub inside_forward : {opener : Opener} {room p q : ℕ} {a b : List ℕ} {odd : Bool} → StandsIn opener room p a odd q b → p ≤ q
 inside_forward (within w els gap) = omega (arith, elements_forward els, gap_forward gap)
 inside_forward (waiting w gap) = gap_forward gap
 

@@ -1,24 +1,24 @@
 -- What a splitter has told are the elements that have ended in the bytes that it has taken, whatever follows them.
-use Rattle.std.proofs.Common.{◌≡◌, ◌⊎◌, inl, inr, ℕ, ◌+◌, ◌-◌, ◌<◌, ◌≤◌, List, [], ◌∷◌, ◌++◌, length, drop, refl, sym, ap, subst, ◌∙◌, arith, append-nil, length-append, length-drop}
+use Rattle.std.proofs.Common.{◌≡◌, ◌⊎◌, inl, inr, ℕ, ◌+◌, ◌-◌, ◌<◌, ◌≤◌, List, [], ◌∷◌, ◌++◌, length, drop, refl, sym, ap, subst, ◌∙◌, arith, append-nil, length-append}
 use Rattle.std.proofs.Math.Seq.{drop-append_seam}
 use Rattle.std.proofs.lemmas.Bool.{cases_lt}
 use Rattle.edn_reader.specs.declared.element.ElementKind.{ElementKind}
 use Rattle.edn_reader.specs.declared.element.Core.{Core}
 use Rattle.edn_reader.specs.declared.nesting.Open.{Open}
+use Rattle.edn_reader.specs.declared.step.Span.{Span}
 use Rattle.edn_reader.specs.declared.token.Token.{Token}
 use Rattle.edn_reader.specs.Grammar.{Piece, IsElement, IsElementAt, IsElements, none, next}
-use Rattle.edn_reader.specs.Text.{IsFront, StandsOpen}
-use Rattle.edn_reader.specs.Fault.{IsBeginning, AreElementsSoFar}
+use Rattle.edn_reader.specs.Text.{IsFront, StandsOpen, outermost, opened}
+use Rattle.edn_reader.specs.Fault.{IsBeginning, AreElementsSoFar, AreElementsUpTo}
 use Rattle.edn_reader.specs.Token.{lexed}
 use Rattle.edn_reader.specs.Resuming.{resumed}
-use Rattle.edn_reader.specs.Taking.{Taken, on, ends, fails, piece_in}
 use Rattle.edn_reader.specs.Splitting.{Splitting, IsAfter, StandsAfter}
-use Rattle.edn_reader.proofs.Places.{cancel_end, core_within, moved_element, moved_elements}
-use Rattle.edn_reader.proofs.Runs.{goes, front_taken}
-use Rattle.edn_reader.proofs.Unique.{ending_stands, ending_end, front_fewer, agree}
-use Rattle.edn_reader.proofs.Ended.{stands_end}
+use Rattle.edn_reader.proofs.Places.{cancel_end, core_within, moved_element, gap_forward, token_forward, elements_forward}
+use Rattle.edn_reader.proofs.Keeping.{inside_forward}
+use Rattle.edn_reader.proofs.Runs.{Leads, here, further, one_run, given_more, leads_outermost, leads_stands}
+use Rattle.edn_reader.proofs.Unique.{agree}
 use Rattle.edn_reader.proofs.Resuming.{one_taken}
-use Rattle.edn_reader.proofs.Reading.{Says, says, elements_within, front_of}
+use Rattle.edn_reader.proofs.Reading.{elements_within, front_of}
 
 -- ---- where elements end
 
@@ -43,59 +43,64 @@ elements_end : {room p q : ℕ} {a b : List ℕ} (pieces : List Piece) → IsEle
 elements_end [] none = refl
 elements_end (piece ∷ pieces) (next gap element whole els) = elements_end pieces els ∙ ap (λ (n : ℕ). place_behind n pieces) (one_ends piece.text element whole)
 
-elements_forward : {room p q : ℕ} {a b : List ℕ} {pieces : List Piece} → IsElements room p a pieces q b → p ≤ q
-elements_forward {b = b} els = let m = moved_elements els b (λ h. h, λ h. h, λ h. h) in omega (arith, m.2.place)
+-- The elements that have ended before what stands open end no later.
+front_low : {p : ℕ} {input rest : List ℕ} {pieces : List Piece} {opens : List Open} → StandsOpen input pieces opens p rest → place_behind 0 pieces ≤ p
+front_low {pieces = pieces} (outermost els gap) = omega (arith, elements_end pieces els, gap_forward gap)
+front_low (opened s token room inside) = omega (arith, front_low s, token_forward token, inside_forward inside)
 
--- The first of them end no later than all.
-firsts_end : {room p q : ℕ} {a b : List ℕ} (firsts others : List Piece) → IsElements room p a (firsts ++ others) q b → place_behind p firsts ≤ q
-firsts_end [] others els = elements_forward els
-firsts_end (piece ∷ firsts) others (next {ended = here} gap element whole els) =
-    let place : place_behind here firsts ≡ place_behind (piece.start + length piece.text) firsts = ap (λ (n : ℕ). place_behind n firsts) (one_ends piece.text element whole) in
-    omega (arith, place, firsts_end firsts others els)
+-- ---- runs
 
-none_left : (b : List ℕ) → length b ≡ 0 → b ≡ []
-none_left [] e = refl
-none_left (x ∷ b) e = absurd (omega arith)
+forward : {p q : ℕ} {a b : List ℕ} {ao bo : List Open} {ag bg : List Span} → Leads p a ao ag q b bo bg → p ≤ q
+forward here = omega arith
+forward (further after e run) = omega (arith, forward run)
 
--- Where the next token ends with the input, no front that ends sooner has more elements than stand before that token.
-fewer : (input : List ℕ) (pieces others : List Piece) (opens : List Open) (p q : ℕ) (a b : List ℕ) (there : ℕ) (t : Taken) → front_taken p a opens ≡ t → StandsOpen input pieces opens p a
-    → Says input pieces q b t → q ≡ length input → there < q → IsFront input others there → length others ≤ length pieces
-fewer input pieces others opens p q a b there (on after) e s says place le front =
-    let empty : b ≡ [] = none_left b (omega (arith, stands_end says, place)) in
-    front_fewer (omega arith) front (ending_end (subst (λ (r : List ℕ). StandsOpen input pieces after q r) empty says))
-fewer input pieces others opens p q a b there (fails fault) e s says place le front = front_fewer (omega arith) front (ending_stands s (ap goes e))
-fewer input pieces others opens p q a b there (ends span) e s (low, some, same, els) place le front = fewer_by (cases_lt (length pieces) (length others)) where
-  all : List Piece
-  all = pieces ++ piece_in input span ∷ []
+-- A run has gone nowhere, or past its first token.
+past_token : {p q : ℕ} {a b : List ℕ} {ao bo : List Open} {ag bg : List Span} → Leads p a ao ag q b bo bg → (ag ≡ bg) ⊎ (p + (lexed a).1 ≤ q)
+past_token here = inl refl
+past_token (further after e run) = inr (forward run)
 
-  fewer_by : (length pieces < length others) ⊎ (length others ≤ length pieces) → length others ≤ length pieces
-  fewer_by (inl more) =
-      let m = agree all others (omega arith) (omega arith) els front (omega (arith, more, length-append pieces (piece_in input span ∷ []))) in
-      let behind : IsElements 64 0 input (all ++ m.0) there (drop there input) = subst (λ (xs : List Piece). IsFront input xs there) m.1 front in
-      absurd (omega (arith, le, elements_end all els, firsts_end all m.0 behind))
-  fewer_by (inr few) = few
+-- A front that ends sooner than the next token has no more elements than stand before that token.
+fewer : {p there : ℕ} {input a : List ℕ} {pieces others : List Piece} {opens : List Open} → StandsOpen input pieces opens p a → there < p + (lexed a).1 → IsFront input others there
+    → length others ≤ length pieces
+fewer stands sooner front =
+    let o = leads_stands stands in
+    let f = leads_outermost front [] (omega arith) in
+    elim (one_run o.run f.run) [
+      | inl more ↦ (elim (past_token more) [
+        | inl same ↦ omega (arith, o.many, f.many, ap length same)
+        | inr past ↦ absurd (omega (arith, past, sooner))
+      ])
+      | inr more ↦ (let m = given_more more in omega (arith, o.many, f.many, ap length m.1, length-append f.spans m.0))
+    ]
+
+-- ---- up to the end of the bytes
+
+pub elements_up_to : (bytes coming : List ℕ) (pieces : List Piece) (splitting : Splitting) → StandsAfter bytes coming pieces splitting → AreElementsUpTo bytes coming pieces
+elements_up_to bytes coming pieces splitting stands = ((place_behind 0 pieces, within, whatever), most) where
+  begun : ℕ
+  begun = splitting.begun.start
+
+  after : (more : List ℕ) → IsAfter bytes (bytes ++ (coming ++ more)) pieces splitting
+  after more = stands (bytes ++ (coming ++ more)) more refl
+
+  whatever : (more : List ℕ) → IsFront (bytes ++ (coming ++ more)) pieces (place_behind 0 pieces)
+  whatever more = let f = front_of (after more).stands.stands in subst (IsFront (bytes ++ (coming ++ more)) pieces) (elements_end pieces f.1) f.1
+
+  within : place_behind 0 pieces ≤ length bytes
+  within = omega (arith, front_low (after []).stands.stands, (after []).stands.low)
+
+  most : (more : List ℕ) (others : List Piece) (there : ℕ) → IsFront (bytes ++ (coming ++ more)) others there → there < length bytes → IsBeginning others pieces
+  most more others there front lt =
+      let w = (after more).stands in
+      let size = ap (λ (x : Token × ℕ). x.1) w.token in
+      agree others pieces (omega arith) (omega arith) front (whatever more) (fewer w.stands (omega (arith, lt, w.low, size)) front)
 
 -- ---- the elements so far
 
 pub elements_so_far : (bytes : List ℕ) (pieces : List Piece) (splitting : Splitting) → StandsAfter bytes [] pieces splitting → AreElementsSoFar bytes pieces
-elements_so_far bytes pieces splitting stands = ((at, within, whatever), longest) where
-  begun : ℕ
-  begun = splitting.begun.start
-
-  front : (more : List ℕ) → (place : ℕ) × IsFront (bytes ++ more) pieces place
-  front more = front_of (stands (bytes ++ more) more refl).stands.stands
-
-  at : ℕ
-  at = place_behind 0 pieces
-
-  whatever : (more : List ℕ) → IsFront (bytes ++ more) pieces at
-  whatever more = let f = front more in subst (IsFront (bytes ++ more) pieces) (elements_end pieces f.1) f.1
-
-  low : (others : List Piece) (there : ℕ) → ((more : List ℕ) → IsFront (bytes ++ more) others there) → there ≤ length bytes
-  low others there fronts = omega (arith, elements_within (fronts []), length-append bytes [])
-
-  within : at ≤ length bytes
-  within = low pieces at whatever
+elements_so_far bytes pieces splitting stands = (up_to.0, longest) where
+  up_to : AreElementsUpTo bytes [] pieces
+  up_to = elements_up_to bytes [] pieces splitting stands
 
   input : List ℕ
   input = bytes ++ 97 ∷ []
@@ -103,25 +108,13 @@ elements_so_far bytes pieces splitting stands = ((at, within, whatever), longest
   after : IsAfter bytes input pieces splitting
   after = stands input (97 ∷ []) refl
 
-  a : List ℕ
-  a = drop begun input
-
-  size : (lexed a).1 ≡ length bytes - begun + 1
+  size : (lexed (drop splitting.begun.start input)).1 ≡ length bytes - splitting.begun.start + 1
   size =
       ap (λ (x : Token × ℕ). x.1) after.stands.token
-      ∙ ap (λ (n : ℕ). length bytes - begun + n) (ap (λ (xs : List ℕ). (resumed splitting.begun.part xs).1) (drop-append_seam bytes (97 ∷ [])) ∙ one_taken splitting.begun.part)
-
-  long : length input ≡ length bytes + 1
-  long = omega (arith, length-append bytes (97 ∷ []))
-
-  few : (others : List Piece) (there : ℕ) → there ≤ length bytes → IsFront input others there → length others ≤ length pieces
-  few others there le f =
-      let some : 0 < length a = omega (arith, length-drop begun input, long, after.stands.low) in
-      let place : begun + (lexed a).1 ≡ length input = omega (arith, size, long, after.stands.low) in
-      fewer input pieces others splitting.opens begun (begun + (lexed a).1) a (drop (lexed a).1 a) there (front_taken begun a splitting.opens) refl after.stands.stands
-      (says input pieces splitting.opens begun a after.stands.stands some) place (omega (arith, place, long, le)) f
+      ∙ ap (λ (n : ℕ). length bytes - splitting.begun.start + n) (ap (λ (xs : List ℕ). (resumed splitting.begun.part xs).1) (drop-append_seam bytes (97 ∷ [])) ∙ one_taken splitting.begun.part)
 
   longest : (others : List Piece) (there : ℕ) → ((more : List ℕ) → IsFront (bytes ++ more) others there) → IsBeginning others pieces
   longest others there fronts =
-      let f = fronts (97 ∷ []) in
-      agree others pieces (omega arith) (omega arith) f (whatever (97 ∷ [])) (few others there (low others there fronts) f)
+      let front = fronts (97 ∷ []) in
+      let low : there ≤ length bytes = omega (arith, elements_within (fronts []), length-append bytes []) in
+      agree others pieces (omega arith) (omega arith) front (up_to.0.2 (97 ∷ [])) (fewer after.stands.stands (omega (arith, low, size, after.stands.low)) front)

@@ -109,3 +109,10 @@ abbrev pub AreElementsSoFar : List ℕ → List Piece → Type 0
 AreElementsSoFar bytes pieces =
     ((at : ℕ) × (at ≤ length bytes) × ((more : List ℕ) → IsFront (bytes ++ more) pieces at))
     × ((others : List Piece) (there : ℕ) → ((more : List ℕ) → IsFront (bytes ++ more) others there) → IsBeginning others pieces)
+
+-- The elements of these bytes where those come next, whatever follows: a front of each input that begins so, with each
+-- element that ends before the end of the bytes. (One that ends with them may be left out, as the next byte can go on with it.)
+abbrev pub AreElementsUpTo : List ℕ → List ℕ → List Piece → Type 0
+AreElementsUpTo bytes next pieces =
+    ((at : ℕ) × (at ≤ length bytes) × ((more : List ℕ) → IsFront (bytes ++ (next ++ more)) pieces at))
+    × ((more : List ℕ) (others : List Piece) (there : ℕ) → IsFront (bytes ++ (next ++ more)) others there → there < length bytes → IsBeginning others pieces)

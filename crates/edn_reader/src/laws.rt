@@ -8,7 +8,7 @@ ghost use Rattle.edn_reader.specs.declared.element.ElementKind.TheVariants.{Vect
 ghost use Rattle.edn_reader.specs.Lent.{piece_of};
 ghost use Rattle.edn_reader.specs.Grammar.{Piece, IsElement};
 ghost use Rattle.edn_reader.specs.Text.{IsFront, IsText, IsViable};
-ghost use Rattle.edn_reader.specs.Fault.{FaultOf, IsBeginning, AreElementsBefore, AreElementsSoFar};
+ghost use Rattle.edn_reader.specs.Fault.{FaultOf, IsBeginning, AreElementsBefore, AreElementsSoFar, AreElementsUpTo};
 ghost use Rattle.edn_reader.specs.Prefixes.{ArePrefix};
 ghost use Rattle.edn_reader.specs.Splitting.{Splitting, StandsAfter};
 ghost use Rattle.edn_reader.specs.Pairs.{values_of, HasPairs, HasMembers};
@@ -61,9 +61,11 @@ pub fn no_fault_so_far()
 {}
 
 /// While a splitter has met no fault, the elements that it told are those that have ended in the bytes that it has taken,
-/// whatever follows them.
+/// whatever follows them. Where other bytes are known to come next, they are those that end before the end of the bytes, and
+/// perhaps one that ends with them.
 pub fn told_so_far()
-    ensures { (bytes : List ℕ) (pieces : List Piece) (splitting : Splitting) → StandsAfter bytes [] pieces splitting → AreElementsSoFar bytes pieces }
+    ensures whatever_follows { (bytes : List ℕ) (pieces : List Piece) (splitting : Splitting) → StandsAfter bytes [] pieces splitting → AreElementsSoFar bytes pieces }
+    ensures up_to { (bytes next : List ℕ) (pieces : List Piece) (splitting : Splitting) → StandsAfter bytes next pieces splitting → AreElementsUpTo bytes next pieces }
 {}
 
 /// The elements of a prefix of an input, whether it is a text or has a fault, are the first of the elements of the whole;
