@@ -20,7 +20,7 @@ use Rattle.feeders.specs.Kept.{Holds}
 use Rattle.feeders.specs.Readers.{broke_reading}
 use Rattle.feeders.specs.Progress.{HasDone, IsAhead, IsAt}
 use Rattle.feeders.specs.Steps.{steps_of}
-use Rattle.feeders.specs.Feeding.{Feeding, IsFedUpTo, IsUpTo}
+use Rattle.feeders.specs.Feeding.{Feeding, IsFedUpTo, IsFedAs}
 use Rattle.feeders.specs.Intake.{CanGoOn, HasBroken, HasEnded, HasFed, HasTaken, IsAtEnd}
 use Rattle.feeders.specs.Pending.{CanSettleAs, IsPending, IsPendingAs, IsSettled}
 use Rattle.feeders.specs.Setting.{Setting, Start, setting_of}
@@ -28,13 +28,13 @@ use Rattle.feeders.proofs.Pieces.{all_fed, can_more, fed_more, none_holds, none_
 
 -- How far it has come, by its course.
 pub by_course : (plan : Plan) (start : Start) (bytes next : List ℕ) (feeding : Feeding) (pass : Passed) (course : Course) → feeding.course ≡ course → IsFedUpTo plan start bytes next feeding pass
-    → IsUpTo course (setting_of plan feeding.tower feeding.chosen start) bytes next feeding.intake pass
-by_course plan start bytes next feeding pass course is fed = subst (λ (c : Course). IsUpTo c (setting_of plan feeding.tower feeding.chosen start) bytes next feeding.intake pass) is fed
+    → IsFedAs course (setting_of plan feeding.tower feeding.chosen start) bytes next feeding.intake pass
+by_course plan start bytes next feeding pass course is fed = subst (λ (c : Course). IsFedAs c (setting_of plan feeding.tower feeding.chosen start) bytes next feeding.intake pass) is fed
 
 -- One that is open takes whatever comes next.
 pub open_next : (plan : Plan) (start : Start) (bytes next : List ℕ) (feeding : Feeding) (pass : Passed) → feeding.course ≡ Open → IsFedUpTo plan start bytes [] feeding pass → IsFedUpTo plan start bytes next feeding pass
 open_next plan start bytes next feeding pass is fed =
-    subst (λ (c : Course). IsUpTo c (setting_of plan feeding.tower feeding.chosen start) bytes next feeding.intake pass) (sym is) (by_course plan start bytes [] feeding pass Open is fed)
+    subst (λ (c : Course). IsFedAs c (setting_of plan feeding.tower feeding.chosen start) bytes next feeding.intake pass) (sym is) (by_course plan start bytes [] feeding pass Open is fed)
 
 -- A feeder whose trace broke has gone through it, and there is none of which it was fed a front and which it has ended.
 pub over_fed : (plan : Plan) (start : Start) (bytes : List ℕ) (feeding : Feeding) (pass : Passed) → (feeding.course ≡ Broke) ⊎ (feeding.course ≡ Ended) → IsFedUpTo plan start bytes [] feeding pass

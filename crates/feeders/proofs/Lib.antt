@@ -25,3 +25,5 @@ pub mod Feeds
 pub mod AtEnd
 pub mod Adding
 pub mod Streaming
+pub mod Between
+pub mod Crosses

@@ -15,7 +15,7 @@ use Rattle.feeders.specs.declared.pending.Pending.TheVariants.{Nothing, Whole, L
 use Rattle.feeders.specs.declared.progress.Progress.{Progress}
 use Rattle.feeders.specs.Kept.{Holds}
 use Rattle.feeders.specs.Pending.{CanRead, CanSettle, CanSettleAs, HoldsAs, IsBeside, IsBetween, IsPending, IsPendingAs, IsReadAs, IsSettled, IsToBeCarriedOut, IsToBePaired, KeepsElement, count_of}
-use Rattle.feeders.specs.Progress.{IsAhead, IsAt, IsPaired, IsUpTo}
+use Rattle.feeders.specs.Progress.{IsAhead, IsAt, IsPaired, PairedUpTo}
 use Rattle.feeders.specs.Setting.{Setting, Start}
 use Rattle.feeders.specs.Steps.{IsKnownStep, Taken}
 use Rattle.feeders.proofs.Naming.{ItemsName, StepsAreOn, known_step}
@@ -143,7 +143,7 @@ pair_waits setting items waiting pass old new item step was is paired pending =
     (waits.0, waits.1, (item, waits.2, paired setting.plan setting.start items pass waits.3))
 
 pub can_pair_on : (old new : Intake) (item : Result Item FormFault) (step : Taken) → CanSettle old → old.pending ≡ Lent item → new.pending ≡ Paired step → new.splitter ≡ old.splitter
-    → new.progress.place ≡ old.progress.place → IsUpTo new.progress → CanSettle new
+    → new.progress.place ≡ old.progress.place → PairedUpTo new.progress → CanSettle new
 can_pair_on old new item step can was is same place up =
     let by = subst (λ (p : Pending). CanSettleAs p old) was can.by in
     record {
@@ -199,7 +199,7 @@ still_waits setting items waiting pass after old new step was is kept pending =
     subst (λ (p : Pending). IsPendingAs p setting items waiting new after) (sym is)
     (waits.0, waits.1, (waits.2.0, waits.2.1, kept items waits.2.0 waits.2.2))
 
-pub paired_fits : (old : Intake) (step : Taken) → CanSettle old → old.pending ≡ Paired step → IsUpTo old.progress × (old.progress.place + 1 < 2 ^ 64)
+pub paired_fits : (old : Intake) (step : Taken) → CanSettle old → old.pending ≡ Paired step → PairedUpTo old.progress × (old.progress.place + 1 < 2 ^ 64)
 paired_fits old step can was =
     let by = subst (λ (p : Pending). CanSettleAs p old) was can.by in
     (by.0, omega (arith, by.1.counted, by.1.fits))
@@ -210,7 +210,7 @@ can_carry_on old new can same is ahead = record {
 }
 
 pub can_wait_on : (old new : Intake) (step : Taken) → CanSettle old → old.pending ≡ Paired step → new.pending ≡ Paired step → new.splitter ≡ old.splitter
-    → new.progress.place ≡ old.progress.place → IsUpTo new.progress → CanSettle new
+    → new.progress.place ≡ old.progress.place → PairedUpTo new.progress → CanSettle new
 can_wait_on old new step can was is same place up =
     let by = subst (λ (p : Pending). CanSettleAs p old) was can.by in
     record {

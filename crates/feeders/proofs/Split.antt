@@ -1,5 +1,5 @@
 -- Passes and traces in two parts.
-use Rattle.std.proofs.Common.{◌≡◌, ℕ, zero, suc, ◌+◌, ◌≤◌, List, [], ◌∷◌, ◌++◌, length, map, take, drop, Result, Ok, Err, OnOk, IfOk, refl, sym, ap, subst, ◌∙◌, arith}
+use Rattle.std.proofs.Common.{◌≡◌, ℕ, zero, suc, ◌+◌, ◌-◌, ◌≤◌, ◌<◌, slice_get, Some, List, [], ◌∷◌, ◌++◌, length, map, take, drop, Result, Ok, Err, OnOk, IfErr, IfOk, refl, sym, ap, subst, ◌∙◌, arith}
 use Rattle.std.specs.List.{range_with_len}
 use Rattle.shards.specs.Plan.{Plan}
 use Rattle.shards.specs.Pass.{Passed, fresh}
@@ -61,3 +61,27 @@ module _ {X : Type 0} (IsFedOf : ℕ → X → Fed → Type 0) where
       subst (λ (ps : List Passed). AreFedBy IsFedOf ps (drop n traces) back) rest_passes
       (subst (λ (ts : List X). AreFedBy IsFedOf back_passes ts back) is_back_of rest) in
       subst (AreFedBy IsFedOf passes traces) (sym is) (fed_halves n passes traces front back first_part rest_part)
+
+-- What two halves gave, and what it comes to: nothing is given where one of them failed.
+pub joined_ok : {V E : Type 0} (items : V → List Fed) (out_of_memory : E) {IsFront IsBack IsAll : V → Type 0} (first second result : Result V E)
+    → IfOk first (λ front. IfOk second (λ back. IfOk result (λ all. items all ≡ items front ++ items back) × IfErr result (λ fault. fault ≡ out_of_memory)))
+    → IfErr first (λ fault. result ≡ Err fault) → OnOk first (IfErr second (λ fault. result ≡ Err fault)) → IfOk first IsFront → IfOk second IsBack
+    → ((front back all : V) → items all ≡ items front ++ items back → IsFront front → IsBack back → IsAll all) → IfOk result IsAll
+joined_ok items memory (Ok front) (Ok back) (Ok all) both least greater is_front is_back join = join front back all both.0 is_front is_back
+joined_ok items memory (Ok front) (Ok back) (Err fault) both least greater is_front is_back join = tt
+joined_ok items memory (Ok front) (Err other) (Ok all) both least greater is_front is_back join = absurd cc
+joined_ok items memory (Ok front) (Err other) (Err fault) both least greater is_front is_back join = tt
+joined_ok items memory (Err other) second (Ok all) both least greater is_front is_back join = absurd cc
+joined_ok items memory (Err other) second (Err fault) both least greater is_front is_back join = tt
+
+-- One trace with its pass.
+pub fed_alone : {X : Type 0} (IsFedOf : ℕ → X → Fed → Type 0) (passes : List Passed) (traces : List X) (pass : Passed) (trace : X) (fed : Fed) → length passes ≡ length traces → length traces < 2
+    → slice_get passes (length passes - 1) ≡ Some pass → slice_get traces 0 ≡ Some trace → IsFedOf pass.feeder trace fed → AreFedBy IsFedOf passes traces (fed ∷ [])
+fed_alone IsFedOf [] traces pass trace fed same few last first is = absurd cc
+fed_alone IsFedOf (p ∷ []) [] pass trace fed same few last first is = absurd (omega arith)
+fed_alone {X} IsFedOf (p ∷ []) (t ∷ []) pass trace fed same few last first is =
+    let pass_is : pass ≡ p = cc in
+    let trace_is : trace ≡ t = cc in
+    (subst (λ (x : X). IsFedOf p.feeder x fed) trace_is (subst (λ (q : Passed). IsFedOf q.feeder trace fed) pass_is is), tt)
+fed_alone IsFedOf (p ∷ []) (t ∷ u ∷ traces) pass trace fed same few last first is = absurd (omega arith)
+fed_alone IsFedOf (p ∷ q ∷ passes) traces pass trace fed same few last first is = absurd (omega arith)

@@ -53,7 +53,7 @@ told_entered plan old new register edit receipt some submitted is own others =
       own = λ at within. ap (λ (p : Passed). told p at) here ∙ told_with_own plan.shards old register known some submitted.of_plan.1 own others at;
     }
 
-feeder_seen : (pass : Passed) (at : ℕ) (known : Option Numbered) → (with_seen pass at known).feeder ≡ pass.feeder
+pub feeder_seen : (pass : Passed) (at : ℕ) (known : Option Numbered) → (with_seen pass at known).feeder ≡ pass.feeder
 feeder_seen pass at None = refl
 feeder_seen pass at (Some known) = refl
 

@@ -18,14 +18,14 @@ pub record Feeding : Type 0 where
   pub course : Course
 
 -- these bytes were taken, by whether it goes on; where it is paused it goes on with those that come next
-abbrev pub IsUpTo : Course → Setting → List ℕ → List ℕ → Intake → Passed → Type 0
-IsUpTo Open setting bytes next intake pass = HasFed setting bytes [] intake pass
-IsUpTo Paused setting bytes next intake pass = HasFed setting bytes next intake pass
-IsUpTo Ending setting bytes next intake pass = IsAtEnd setting bytes intake pass
-IsUpTo Broke setting bytes next intake pass = HasBroken setting bytes intake pass
-IsUpTo Ended setting bytes next intake pass = ⊥
+abbrev pub IsFedAs : Course → Setting → List ℕ → List ℕ → Intake → Passed → Type 0
+IsFedAs Open setting bytes next intake pass = HasFed setting bytes [] intake pass
+IsFedAs Paused setting bytes next intake pass = HasFed setting bytes next intake pass
+IsFedAs Ending setting bytes next intake pass = IsAtEnd setting bytes intake pass
+IsFedAs Broke setting bytes next intake pass = HasBroken setting bytes intake pass
+IsFedAs Ended setting bytes next intake pass = ⊥
 
 -- It has taken these bytes of its trace, from this start on, and goes on with those that come next: the elements that have
 -- ended in them are fed, or the trace broke in them.
 abbrev pub IsFedUpTo : Plan → Start → List ℕ → List ℕ → Feeding → Passed → Type 0
-IsFedUpTo plan start bytes next feeding pass = IsUpTo feeding.course (setting_of plan feeding.tower feeding.chosen start) bytes next feeding.intake pass
+IsFedUpTo plan start bytes next feeding pass = IsFedAs feeding.course (setting_of plan feeding.tower feeding.chosen start) bytes next feeding.intake pass

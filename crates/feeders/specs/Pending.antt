@@ -16,7 +16,7 @@ use Rattle.feeders.specs.declared.pending.Pending.{Pending}
 use Rattle.feeders.specs.declared.pending.Pending.TheVariants.{Nothing, Whole, Lent, Paired}
 use Rattle.feeders.specs.declared.progress.Progress.{Progress}
 use Rattle.feeders.specs.Kept.{Holds}
-use Rattle.feeders.specs.Progress.{IsAhead, IsAt, IsPaired, IsUpTo}
+use Rattle.feeders.specs.Progress.{IsAhead, IsAt, IsPaired, PairedUpTo}
 use Rattle.feeders.specs.Setting.{Setting, Start}
 
 -- an element was read so: as an item, or, where its step lends no text, it was paired at once
@@ -25,7 +25,7 @@ IsReadAs tower chosen piece old new Nothing = ⊥
 IsReadAs tower chosen piece old new (Whole start) = ⊥
 IsReadAs tower chosen piece old new (Lent item) = IsItem tower chosen piece item × (new ≡ old)
 IsReadAs tower chosen piece old new (Paired step) =
-    (item : Result Item FormFault) × IsItem tower chosen piece item × IsUpTo new × (new.place ≡ old.place) × (new.log ≡ old.log)
+    (item : Result Item FormFault) × IsItem tower chosen piece item × PairedUpTo new × (new.place ≡ old.place) × (new.log ≡ old.log)
     × ((plan : Plan) (start : Start) (items : List (Result Item FormFault)) (pass : Passed) → IsAt plan start items old pass → IsPaired plan start items item step new pass)
 
 -- the bytes of the element that ended last are kept from a place on
@@ -80,7 +80,7 @@ abbrev pub CanSettleAs : Pending → Intake → Type 0
 CanSettleAs Nothing intake = IsAhead intake.progress
 CanSettleAs (Whole start) intake = IsAhead intake.progress × CanRead start intake × IsBetween intake
 CanSettleAs (Lent item) intake = IsAhead intake.progress × IsBetween intake
-CanSettleAs (Paired step) intake = IsUpTo intake.progress × IsBetween intake
+CanSettleAs (Paired step) intake = PairedUpTo intake.progress × IsBetween intake
 
 pub record CanSettle (intake : Intake) : Type 0 where
   pub by : CanSettleAs intake.pending intake

@@ -42,8 +42,8 @@ abbrev pub IsAhead : Progress → Type 0
 IsAhead progress = ForSome progress.pairing.last (λ last. last < progress.place)
 
 -- no place that the pairing took is behind the next
-abbrev pub IsUpTo : Progress → Type 0
-IsUpTo progress = ForSome progress.pairing.last (λ last. last ≤ progress.place)
+abbrev pub PairedUpTo : Progress → Type 0
+PairedUpTo progress = ForSome progress.pairing.last (λ last. last ≤ progress.place)
 
 -- the state of the program is that of these elements, which nothing broke off
 pub record IsAt (plan : Plan) (start : Start) (items : List (Result Item FormFault)) (progress : Progress) (pass : Passed) : Type 0 where

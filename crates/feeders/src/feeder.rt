@@ -206,7 +206,7 @@ impl<'t> Feeder<'t> {
     /// Goes on with the last element of a trace whose end was taken.
     fn settle_last<O: Opening, R: Wait, G: Gate>(
         &mut self,
-        site: Site<'_, 't, O, R, G>,
+        site: Site<'_, '_, 't, O, R, G>,
         pass: &mut Pass<'t>,
     ) -> Result<(), FeedFault>
         requires some { 0 < O.plan.shards }

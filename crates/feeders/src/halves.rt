@@ -1,6 +1,7 @@
 //! Feeders in threads, by halves.
 
-ghost use Rattle.std.specs.Prelude.{◌≡◌, ◌≤◌, ◌<◌, All, IfErr, IfOk, length, map, take, drop, vec_len};
+ghost use Rattle.std.specs.Prelude.{◌≡◌, ◌≤◌, ◌<◌, ◌++◌, All, Err, IfErr, IfOk, OnOk, length, map, take, drop, vec_len};
+ghost use Rattle.feeders.specs.declared.fault.RunFault.TheVariants.{Memory};
 ghost use Rattle.std.specs.Thread.{IsSync};
 ghost use Rattle.shards.specs.Plan.{claims_of};
 ghost use Rattle.feeders.specs.Ending.{MayEnd};
@@ -26,83 +27,62 @@ use tower_file::Tower;
 /// while this one feeds the rest; where no thread can be made, this one feeds both. Where several feeders fail
 /// the fault of the least one is answered, when all have ended.
 pub fn feed_all<'t, O: Opening + Send + Sync, R: Threads + Wait + Sync, G: Gate>(
-    rt: &R,
-    alloc: Global,
-    auditor: &Auditor<'t, O>,
-    gate: &G,
-    tower: &Tower,
-    field: MomentField,
+    site: Site<'_, '_, 't, O, R, G>,
     mut passes: Vec<Pass<'t>>,
     traces: &[&'t [u8]],
 ) -> Result<Vec<Fed<'t>>, RunFault>
     requires some { 0 < O.plan.shards }
-    requires of_tower { O.plan.claims ≡ claims_of tower.now }
+    requires of_tower { O.plan.claims ≡ claims_of site.tower.now }
     requires fresh { AreFresh O.plan passes.items }
     requires each { vec_len passes ≡ length traces.now }
-    ensures fed { IfOk result (λ feds. AreFed O.plan tower.now field passes.entry.items traces.entry.now feds.items) }
+    ensures fed { IfOk result (λ feds. AreFed O.plan site.entry.tower.now site.entry.field passes.entry.items traces.entry.now feds.items) }
     ensures by_text { IfOk result (λ feds. All (λ fed. IsNotOfReading fed.log) feds.items) }
     ensures fault { IfErr result MayEnd }
 {
     if traces.len() < 2 {
-        return feed_alone(rt, alloc, auditor, gate, tower, field, passes, traces);
+        return feed_alone(site, passes, traces);
     }
     let (front, back) = traces.split_at(traces.len() / 2);
     let rest = passes_from::<O>(&mut passes, front.len())?;
     let (first, second) = join(
-        rt,
+        site.rt,
         || -> Result<Vec<Fed>, RunFault>
-            requires { IsSync R.row × (0 < O.plan.shards) × (O.plan.claims ≡ claims_of tower.now) × AreFresh O.plan passes.items × (vec_len passes ≡ length front.now) }
-            ensures fed { IfOk result (λ feds. AreFed O.plan tower.entry.now field passes.entry.items front.entry.now feds.items) }
+            requires { IsSync R.row × (0 < O.plan.shards) × (O.plan.claims ≡ claims_of site.tower.now) × AreFresh O.plan passes.items × (vec_len passes ≡ length front.now) }
+            ensures fed { IfOk result (λ feds. AreFed O.plan site.entry.tower.now site.entry.field passes.entry.items front.entry.now feds.items) }
             ensures by_text { IfOk result (λ feds. All (λ fed. IsNotOfReading fed.log) feds.items) }
             ensures fault { IfErr result MayEnd }
-        { feed_all(rt, alloc, auditor, gate, tower, field, passes, front) },
+        { feed_all(site, passes, front) },
         || -> Result<Vec<Fed>, RunFault>
-            requires { IsSync R.row × (0 < O.plan.shards) × (O.plan.claims ≡ claims_of tower.now) × AreFresh O.plan rest.items × (vec_len rest ≡ length back.now) }
-            ensures fed { IfOk result (λ feds. AreFed O.plan tower.entry.now field rest.entry.items back.entry.now feds.items) }
+            requires { IsSync R.row × (0 < O.plan.shards) × (O.plan.claims ≡ claims_of site.tower.now) × AreFresh O.plan rest.items × (vec_len rest ≡ length back.now) }
+            ensures fed { IfOk result (λ feds. AreFed O.plan site.entry.tower.now site.entry.field rest.entry.items back.entry.now feds.items) }
             ensures by_text { IfOk result (λ feds. All (λ fed. IsNotOfReading fed.log) feds.items) }
             ensures fault { IfErr result MayEnd }
-        { feed_all(rt, alloc, auditor, gate, tower, field, rest, back) },
+        { feed_all(site, rest, back) },
     );
-    let mut feds = first?;
-    let mut more = second?;
-    feds.append(&mut more)?;
-    Ok(feds)
+    joined(first, second)
 }
 
 /// One trace with its pass, or none.
 fn feed_alone<'t, O: Opening, R: Wait, G: Gate>(
-    rt: &R,
-    alloc: Global,
-    auditor: &Auditor<'t, O>,
-    gate: &G,
-    tower: &Tower,
-    field: MomentField,
+    site: Site<'_, '_, 't, O, R, G>,
     mut passes: Vec<Pass<'t>>,
     traces: &[&'t [u8]],
 ) -> Result<Vec<Fed<'t>>, RunFault>
     requires some { 0 < O.plan.shards }
-    requires of_tower { O.plan.claims ≡ claims_of tower.now }
+    requires of_tower { O.plan.claims ≡ claims_of site.tower.now }
     requires fresh { AreFresh O.plan passes.items }
     requires each { vec_len passes ≡ length traces.now }
     requires few { length traces.now < 2 }
-    ensures fed { IfOk result (λ feds. AreFed O.plan tower.now field passes.entry.items traces.entry.now feds.items) }
+    ensures fed { IfOk result (λ feds. AreFed O.plan site.entry.tower.now site.entry.field passes.entry.items traces.entry.now feds.items) }
     ensures by_text { IfOk result (λ feds. All (λ fed. IsNotOfReading fed.log) feds.items) }
     ensures fault { IfErr result MayEnd }
 {
-    let mut feds = Vec::new(alloc);
+    let mut feds = Vec::new(site.alloc);
     let Some(trace) = traces.first() else {
         return Ok(feds);
     };
     let Some(pass) = passes.pop() else {
         return Ok(feds);
-    };
-    let site = Site {
-        rt,
-        alloc,
-        auditor,
-        gate,
-        tower,
-        field,
     };
     feds.push(feed_trace(site, pass, trace)?)?;
     Ok(feds)
@@ -135,9 +115,15 @@ pub fn read_all<
 {
     let half = readers.len() / 2;
     if half == 0 {
-        return read_alone(
-            rt, alloc, auditor, gate, tower, field, pages, passes, readers,
-        );
+        let site = Site {
+            rt,
+            alloc,
+            auditor,
+            gate,
+            tower,
+            field,
+        };
+        return read_alone(site, pages, passes, readers);
     }
     let back = readers.split_off(half)?;
     let rest = passes_from::<O>(&mut passes, half)?;
@@ -158,40 +144,47 @@ pub fn read_all<
             ensures fault { IfErr result MayEnd }
         { read_all(rt, alloc, auditor, gate, tower, field, pages, rest, back) },
     );
-    let mut feds = first?;
-    let mut more = second?;
-    feds.append(&mut more)?;
-    Ok(feds)
+    joined(first, second)
 }
 
 /// One reader with its pass, or none.
 fn read_alone<'t, O: Opening, R: Wait, G: Gate, S: Read + Drop>(
-    rt: &R,
-    alloc: Global,
-    auditor: &Auditor<'t, O>,
-    gate: &G,
-    tower: &'t Tower,
-    field: MomentField,
+    site: Site<'_, 't, 't, O, R, G>,
     pages: &'t Pages,
     mut passes: Vec<Pass<'t>>,
     mut readers: Vec<S>,
 ) -> Result<Vec<Fed<'t>>, RunFault>
     requires some { 0 < O.plan.shards }
-    requires of_tower { O.plan.claims ≡ claims_of tower.now }
+    requires of_tower { O.plan.claims ≡ claims_of site.tower.now }
     requires fresh { AreFresh O.plan passes.items }
     requires each { vec_len passes ≡ vec_len readers }
     requires few { vec_len readers < 2 }
-    ensures fed { IfOk result (λ feds. AreReadAndFed O.plan tower.now field passes.entry.items (map S.remaining readers.items) feds.items) }
+    ensures fed { IfOk result (λ feds. AreReadAndFed O.plan site.entry.tower.now site.entry.field passes.entry.items (map S.remaining readers.items) feds.items) }
     ensures fault { IfErr result MayEnd }
 {
-    let mut feds = Vec::new(alloc);
+    let mut feds = Vec::new(site.alloc);
     let Some(reader) = readers.pop() else {
         return Ok(feds);
     };
     let Some(pass) = passes.pop() else {
         return Ok(feds);
     };
-    feds.push(feed_reader(rt, alloc, auditor, gate, tower, field, pages, pass, reader)?)?;
+    feds.push(feed_reader(site, pages, pass, reader)?)?;
+    Ok(feds)
+}
+
+/// What two halves gave, in order. Where either failed, its fault; where both did, that of the first.
+fn joined<'t>(
+    first: Result<Vec<Fed<'t>>, RunFault>,
+    second: Result<Vec<Fed<'t>>, RunFault>,
+) -> Result<Vec<Fed<'t>>, RunFault>
+    ensures both { IfOk first.entry (λ front. IfOk second.entry (λ back. IfOk result (λ feds. feds.items ≡ front.items ++ back.items) × IfErr result (λ fault. fault ≡ Memory))) }
+    ensures first { IfErr first.entry (λ fault. result ≡ Err fault) }
+    ensures second { OnOk first.entry (IfErr second.entry (λ fault. result ≡ Err fault)) }
+{
+    let mut feds = first?;
+    let mut more = second?;
+    feds.append(&mut more)?;
     Ok(feds)
 }
 

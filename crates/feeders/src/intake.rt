@@ -46,7 +46,7 @@ impl<'t> Intake<'t> {
     /// Reads the element that is whole, from its kept bytes, which are then let go.
     fn read_whole<O: Opening, R: Wait, G: Gate>(
         &mut self,
-        site: Site<'_, 't, O, R, G>,
+        site: Site<'_, '_, 't, O, R, G>,
         pages: &'t Pages,
     ) -> Result<(), Memory>
         requires can { CanSettle self.old }
@@ -93,7 +93,7 @@ impl<'t> Intake<'t> {
     /// Carries out the step of the element that was paired.
     fn carry_out<O: Opening, R: Wait, G: Gate>(
         &mut self,
-        site: Site<'_, 't, O, R, G>,
+        site: Site<'_, '_, 't, O, R, G>,
         pass: &mut Pass<'t>,
     ) -> Result<(), RunFault>
         requires some { 0 < O.plan.shards }
@@ -127,7 +127,7 @@ impl<'t> Intake<'t> {
     /// Goes on with the element that ended last, from where it stands, until its step is carried out.
     pub fn settle<O: Opening, R: Wait, G: Gate>(
         &mut self,
-        site: Site<'_, 't, O, R, G>,
+        site: Site<'_, '_, 't, O, R, G>,
         pages: &'t Pages,
         pass: &mut Pass<'t>,
     ) -> Result<(), RunFault>
@@ -156,7 +156,7 @@ impl<'t> Intake<'t> {
     /// Takes the front of a piece, with which an element ended that begins at a place.
     fn take_whole<O: Opening, R: Wait, G: Gate>(
         &mut self,
-        site: Site<'_, 't, O, R, G>,
+        site: Site<'_, '_, 't, O, R, G>,
         pages: &'t Pages,
         front: &[u8],
         start: usize,
@@ -200,7 +200,7 @@ impl<'t> Intake<'t> {
     /// its bytes were used; none where the trace broke.
     fn take_next<O: Opening, R: Wait, G: Gate>(
         &mut self,
-        site: Site<'_, 't, O, R, G>,
+        site: Site<'_, '_, 't, O, R, G>,
         pages: &'t Pages,
         pass: &mut Pass<'t>,
         piece: &[u8],
@@ -263,7 +263,7 @@ impl<'t> Intake<'t> {
     /// Takes a piece whole, and answers whether the trace goes on; it does not where it broke.
     pub fn take_piece<O: Opening, R: Wait, G: Gate>(
         &mut self,
-        site: Site<'_, 't, O, R, G>,
+        site: Site<'_, '_, 't, O, R, G>,
         pages: &'t Pages,
         pass: &mut Pass<'t>,
         piece: &[u8],
@@ -302,7 +302,7 @@ impl<'t> Intake<'t> {
     /// Takes the end of the trace, behind which nothing comes. The element that ends with it then waits.
     pub fn take_end<O: Opening, R: Wait, G: Gate>(
         &mut self,
-        site: Site<'_, 't, O, R, G>,
+        site: Site<'_, '_, 't, O, R, G>,
         pages: &'t Pages,
         pass: &mut Pass<'t>,
     ) -> Result<(), RunFault>

@@ -15,12 +15,14 @@ ghost use Rattle.shards.specs.Journal.{IsLegalJournal, standing_of};
 ghost use Rattle.shards.specs.Closing.{Ended, book_of, journal_of};
 ghost use Rattle.intervals.specs.declared.operation.RegId.{RegId};
 ghost use Rattle.shards.specs.declared.entry.Answer.{Answer};
-ghost use Rattle.shards.specs.Pass.{Passed};
+ghost use Rattle.shards.specs.Pass.{Passed, Sight, learnt};
+ghost use Rattle.shards.specs.Steps.{IsLive};
 ghost use Rattle.feeders.specs.declared.intake.Intake.{Intake};
 ghost use Rattle.feeders.specs.Adding.{HasAdded};
 ghost use Rattle.feeders.specs.Doings.{Doing, IsAnswerAfter, entered_in};
+ghost use Rattle.feeders.specs.Feeding.{Feeding, IsFedUpTo};
 ghost use Rattle.feeders.specs.Intake.{HasFed};
-ghost use Rattle.feeders.specs.Setting.{Setting, first_start};
+ghost use Rattle.feeders.specs.Setting.{Setting, Start, first_start};
 ghost use Rattle.feeders.specs.declared.log.Broken.{Broken};
 ghost use Rattle.feeders.specs.declared.log.Log.{Log};
 ghost use Rattle.feeders.specs.Broken.{AreElements};
@@ -32,7 +34,9 @@ ghost use Rattle.feeders.specs.Texts.{Part, text_of, IsLastSettled, IsSlice, Rea
 
 use edn_reader::laws::{elements_of_a_prefix, told_so_far};
 use jepsen_form::laws::one_item;
-use shards::laws::a_lone_feeder_has_all_entries;
+use shards::laws::{
+    a_lone_feeder_has_all_entries, a_pass_stays_of_its_plan, what_was_told_stays,
+};
 
 /// Each text of an operation that stands after a legal journal is what the last of its accepted edits that makes
 /// something of this text makes of it, and so it is where there is none.
@@ -80,6 +84,18 @@ pub fn what_a_feeder_has_added()
     ensures { (setting : Setting) (bytes next : List ℕ) (intake : Intake) (pass : Passed) → HasFed setting bytes next intake pass → HasAdded setting bytes next pass intake.progress.log }
 {
     told_so_far();
+}
+
+/// A pass that asks or learns something between two calls of a feeder keeps the entries that it has: what the feeder has
+/// taken stays so, and it goes on with that pass.
+pub fn a_pass_may_ask_and_learn_between_two_calls()
+    ensures asked { (plan : Plan) (start : Start) (bytes coming : List ℕ) (feeding : Feeding) (pass after : Passed) (register : ℕ) (answer : Answer)
+        → IsLive plan pass after register answer → IsFedUpTo plan start bytes coming feeding pass → IsFedUpTo plan start bytes coming feeding after }
+    ensures learnt { (plan : Plan) (start : Start) (bytes coming : List ℕ) (feeding : Feeding) (pass : Passed) (seen : Sight)
+        → IsFedUpTo plan start bytes coming feeding pass → IsFedUpTo plan start bytes coming feeding (learnt pass seen) }
+{
+    what_was_told_stays();
+    a_pass_stays_of_its_plan();
 }
 
 /// Where there is one feeder, and its pass had no entries before, its questions are answered after exactly as many entries

@@ -80,7 +80,7 @@ impl<'t> Log<'t> {
     /// Carries out the step of the element at a place.
     pub fn carry_out<O: Opening, R: Wait, G: Gate>(
         &mut self,
-        site: Site<'_, 't, O, R, G>,
+        site: Site<'_, '_, 't, O, R, G>,
         pass: &mut Pass<'t>,
         place: u64,
         step: Option<Step<'t>>,
@@ -115,7 +115,7 @@ impl<'t> Log<'t> {
     /// Has an edit entered. Room for its line is made first.
     fn submit<O: Opening, R: Wait, G: Gate>(
         &mut self,
-        site: Site<'_, 't, O, R, G>,
+        site: Site<'_, '_, 't, O, R, G>,
         pass: &mut Pass<'t>,
         place: u64,
         register: RegId,
@@ -144,7 +144,7 @@ impl<'t> Log<'t> {
     /// Notes the answer to a question. Room for its line is made first.
     fn ask<O: Opening, R: Wait, G: Gate>(
         &mut self,
-        site: Site<'_, 't, O, R, G>,
+        site: Site<'_, '_, 't, O, R, G>,
         pass: &mut Pass<'t>,
         place: u64,
         register: RegId,

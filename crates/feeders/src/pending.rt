@@ -39,7 +39,7 @@ pub enum Pending<'t> {
 /// Reads an element. Where its step lends its text that is put on a page first, and the item lends it from there; where
 /// it does not the element is paired at once, since its item may not outlive its bytes.
 pub fn read_pending<'t, O: Opening, R: Wait, G: Gate>(
-    site: Site<'_, 't, O, R, G>,
+    site: Site<'_, '_, 't, O, R, G>,
     pages: &'t Pages,
     progress: &mut Progress<'t>,
     element: Element,

@@ -6,7 +6,7 @@ ghost use Rattle.jepsen_form.specs.declared.item.Item.{Item as AnItem};
 ghost use Rattle.shards.specs.Pass.{IsPassOf, Passed};
 ghost use Rattle.shards.specs.Plan.{Plan};
 ghost use Rattle.feeders.specs.Ending.{MayEnd};
-ghost use Rattle.feeders.specs.Progress.{IsAhead, IsAt, IsPaired, IsUpTo};
+ghost use Rattle.feeders.specs.Progress.{IsAhead, IsAt, IsPaired, PairedUpTo};
 ghost use Rattle.feeders.specs.Setting.{IsStart, Start};
 ghost use Rattle.feeders.specs.Steps.{IsKnownStep, by_pairing};
 
@@ -55,7 +55,7 @@ impl<'t> Progress<'t> {
     ) -> Result<Result<Option<Step<'p>>, Code>, Memory>
         requires ahead { IsAhead self.old }
         ensures place { self.new.place ≡ self.old.place }
-        ensures last { OnOk result (IsUpTo self.new) }
+        ensures last { OnOk result (PairedUpTo self.new) }
         ensures paired { IfOk result (λ step. (plan : Plan) (start : Start) (items : List (Result AnItem AFormFault)) (pass : Passed) → IsAt plan start items self.old pass → IsPaired plan start items item.entry step self.new pass) }
         ensures log { self.new.log ≡ self.old.log }
         ensures kept { OnErr result (self.new ≡ self.old) }
@@ -75,18 +75,18 @@ impl<'t> Progress<'t> {
     /// Carries out the step of the element that was paired last, or notes why it is refused.
     pub fn carry_out<O: Opening, R: Wait, G: Gate>(
         &mut self,
-        site: Site<'_, 't, O, R, G>,
+        site: Site<'_, '_, 't, O, R, G>,
         pass: &mut Pass<'t>,
         step: Result<Option<Step<'t>>, Code>,
     ) -> Result<(), RunFault>
         requires some { 0 < O.plan.shards }
         requires place { self.old.place + 1 < 2 ^ 64 }
-        requires last { IsUpTo self.old }
+        requires last { PairedUpTo self.old }
         ensures place { OnOk result (self.new.place ≡ self.old.place + 1) }
         ensures ahead { OnOk result (IsAhead self.new) }
         ensures done { OnOk result ((start : Start) (items : List (Result AnItem AFormFault)) (item : Result AnItem AFormFault) → IsPaired O.plan start items item step.entry self.old pass.old → IsAt O.plan start (items ++ item ∷ []) self.new pass.new) }
         ensures kept { OnErr result ((start : Start) (items : List (Result AnItem AFormFault)) (item : Result AnItem AFormFault) → IsPaired O.plan start items item step.entry self.old pass.old → IsPaired O.plan start items item step.entry self.new pass.new) }
-        ensures refused { OnErr result ((self.new.place ≡ self.old.place) × IsUpTo self.new) }
+        ensures refused { OnErr result ((self.new.place ≡ self.old.place) × PairedUpTo self.new) }
         ensures broken { self.new.log.broken ≡ self.old.log.broken }
         ensures fault { IfErr result (λ fault. IsPassOf O.plan pass.old → IsKnownStep O.plan step.entry → MayEnd fault) }
     {

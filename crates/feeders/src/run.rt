@@ -10,6 +10,7 @@ use crate::fault::RunFault;
 use crate::halves::{feed_all, read_all, taken_apart};
 use crate::log::Log;
 use crate::pages::Pages;
+use crate::site::Site;
 use jepsen_form::MomentField;
 use shards::{Auditor, Closed, Gate, Opening};
 use std::alloc::Global;
@@ -114,7 +115,15 @@ fn run_in<'t, O: Opening + Send + Sync, R: Threads + Wait + Sync, G: Gate>(
     ensures fault { IfErr result MayEnd }
 {
     let (auditor, passes) = Auditor::<O>::open(alloc, 0, tower, shards, traces.len() as u32)?;
-    let feds = feed_all(rt, alloc, &auditor, gate, tower, field, passes, traces)?;
+    let site = Site {
+        rt,
+        alloc,
+        auditor: &auditor,
+        gate,
+        tower,
+        field,
+    };
+    let feds = feed_all(site, passes, traces)?;
     let (passes, logs) = taken_apart(alloc, feds)?;
     match auditor.finish(passes) {
         Ok(closed) => Ok(Run { closed, logs }),

@@ -7,11 +7,11 @@ use tower_file::Tower;
 
 /// Where a feeder's steps go, and how the elements of its trace are read.
 #[derive_where(Clone, Copy)]
-pub struct Site<'a, 't, O: Opening, R, G> {
+pub struct Site<'a, 'w, 't, O: Opening, R, G> {
     pub rt: &'a R,
     pub alloc: Global,
     pub auditor: &'a Auditor<'t, O>,
     pub gate: &'a G,
-    pub tower: &'a Tower,
+    pub tower: &'w Tower,
     pub field: MomentField,
 }

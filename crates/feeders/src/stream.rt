@@ -11,14 +11,12 @@ use crate::fault::RunFault;
 use crate::fed::Fed;
 use crate::feeder::Feeder;
 use crate::pages::Pages;
+use crate::site::Site;
 use crate::source::Source;
-use jepsen_form::MomentField;
 use shards::laws::what_was_told_stays;
-use shards::{Auditor, Gate, Opening, Pass};
-use std::alloc::Global;
+use shards::{Gate, Opening, Pass};
 use std::io::Read;
 use std::sync::Wait;
-use tower_file::Tower;
 
 /// How many bytes are asked for in one read call.
 const PIECE: usize = 65_536;
@@ -26,38 +24,33 @@ const PIECE: usize = 65_536;
 /// Reads a trace up to its end, to where it breaks or to where its reading does, and carries its steps out in order, each as
 /// soon as its element has ended.
 pub fn feed_reader<'t, O: Opening, R: Wait, G: Gate, S: Read + Drop>(
-    rt: &R,
-    alloc: Global,
-    auditor: &Auditor<'t, O>,
-    gate: &G,
-    tower: &'t Tower,
-    field: MomentField,
+    site: Site<'_, 't, 't, O, R, G>,
     pages: &'t Pages,
     mut pass: Pass<'t>,
     reader: S,
 ) -> Result<Fed<'t>, RunFault>
     requires some { 0 < O.plan.shards }
-    requires of_tower { O.plan.claims ≡ claims_of tower.now }
+    requires of_tower { O.plan.claims ≡ claims_of site.tower.now }
     requires fresh { pass ≡ fresh O.plan pass.feeder }
     requires known { pass.feeder < O.plan.feeders }
-    ensures fed { IfOk result (IsReadAndFed (setting_of O.plan tower.now field (first_start pass.entry.feeder)) (S.remaining reader)) }
+    ensures fed { IfOk result (IsReadAndFed (setting_of O.plan site.entry.tower.now site.entry.field (first_start pass.entry.feeder)) (S.remaining reader)) }
     ensures fault { IfErr result MayEnd }
 {
     what_was_told_stays();
-    let mut room = Vec::new(alloc);
+    let mut room = Vec::new(site.alloc);
     room.resize(PIECE, 0)?;
     let buffer = room.as_mut_slice();
     let mut source = Source::new(reader);
-    let mut feeder = Feeder::new(alloc, pass.feeder(), field, tower, pages);
+    let mut feeder = Feeder::new(site.alloc, pass.feeder(), site.field, site.tower, pages);
     loop {
         match source.next(buffer) {
             Ok(count) => {
                 if count == 0 {
-                    feeder.end(rt, alloc, auditor, gate, &mut pass)?;
+                    feeder.end(site.rt, site.alloc, site.auditor, site.gate, &mut pass)?;
                     return Ok(feeder.into_fed(pass));
                 }
                 let piece = &buffer[..count];
-                if let Err(failed) = feeder.feed(rt, alloc, auditor, gate, &mut pass, piece) {
+                if let Err(failed) = feeder.feed(site.rt, site.alloc, site.auditor, site.gate, &mut pass, piece) {
                     return Err(failed.fault);
                 }
                 if feeder.has_broken() {

@@ -23,7 +23,7 @@ use std::sync::Wait;
 
 /// Reads a trace up to its end or to where it breaks, and carries its steps out in order.
 pub fn feed_trace<'t, O: Opening, R: Wait, G: Gate>(
-    site: Site<'_, 't, O, R, G>,
+    site: Site<'_, '_, 't, O, R, G>,
     mut pass: Pass<'t>,
     trace: &'t [u8],
 ) -> Result<Fed<'t>, RunFault>

@@ -4,7 +4,7 @@ use base.Fml.{Lft}
 use mir.Syntax.{named}
 use denote.Ref.{NamedLft, ShrRef}
 use denote.Param.Send.{IsSend, IsSync, shr_send}
-use Rattle.std.proofs.Common.{◌≡◌, ◌/◌, ◌∙◌, ap, sym, length, map, take, drop, arith, rules}
+use Rattle.std.proofs.Common.{◌≡◌, ◌/◌, ◌∙◌, ap, sym, length, map, take, drop, IfOk, arith, rules}
 use Rattle.std.specs.List.{take-map, drop-map}
 use Rattle.std.proofs.Crossing.{Vec-send}
 use Rattle.std.proofs.lemmas.List.{length-map, length-take-le}
@@ -25,7 +25,8 @@ use Rattle.tower_file.specs.contracts.tower.Tower as Tower
 use Rattle.feeders.specs.contracts.pages.Pages as Pages
 use Rattle.feeders.specs.contracts.halves.read_all.{O-row, R-row, G-row, S-row}
 use Rattle.feeders.specs.Setting.{first_start, setting_of}
-use Rattle.feeders.proofs.Split.{fed_parts}
+use Rattle.feeders.specs.declared.fault.RunFault.TheVariants.{Memory}
+use Rattle.feeders.proofs.Split.{fed_parts, joined_ok}
 use Rattle.feeders.proofs.halves.+fn-read_all-join+arg2+fn-read_all-join+arg3+read_all.Goals as goal
 
 pub returns-clause-fed : goal.returns-clause-fed
@@ -37,14 +38,18 @@ returns-clause-fed g t c =
     let front_readers = c.split_off.new.self.items in
     let back_readers = c.in_ok-back.back.items in
     let remaining = g.S.Read.remaining in
-    let front : AreReadAndFed plan c.args.tower.now c.args.field c.passes_from.new.passes.items (map remaining front_readers) c.in_ok-feds.feds.items = search rules in
-    let back : AreReadAndFed plan c.args.tower.now c.args.field c.in_ok-rest.rest.items (map remaining back_readers) c.in_ok-more.more.items = search rules in
+    let first = c.join-first.result.0 in
+    let second = c.join-first.result.1 in
+    let front : IfOk first (λ feds. AreReadAndFed plan c.args.tower.now c.args.field c.passes_from.new.passes.items (map remaining front_readers) feds.items) = search rules in
+    let back : IfOk second (λ feds. AreReadAndFed plan c.args.tower.now c.args.field c.in_ok-rest.rest.items (map remaining back_readers) feds.items) = search rules in
     let is_front = ap (map remaining) c.in_ok-back.ensures.items ∙ sym (take-map remaining half readers) in
     let is_back = ap (map remaining) c.in_ok-back.ensures.tail ∙ sym (drop-map remaining half readers) in
     let long : length (map remaining front_readers) ≡ half = length-map front_readers remaining ∙ ap length c.in_ok-back.ensures.items ∙ length-take-le half readers (omega (arith, c.len-half.ensures)) in
+    joined_ok (λ feds. feds.items) Memory first second c.joined.result c.joined.ensures.both c.joined.ensures.first c.joined.ensures.second front back
+    (λ one other all is fed others.
     fed_parts (λ feeder left fed. IsReadAndFed (setting_of plan c.args.tower.now c.args.field (first_start feeder)) left fed) half passes c.passes_from.new.passes.items c.in_ok-rest.rest.items (map remaining readers)
-    (map remaining front_readers) (map remaining back_readers) c.in_ok-feds.feds.items c.in_ok-more.more.items c.append.new.self.items
-    (c.in_ok-rest.ensures.front ∙ ap (λ n. take n passes) (sym long)) (c.in_ok-rest.ensures.rest ∙ ap (λ n. drop n passes) (sym long)) long is_front is_back c.in_ok-append.ensures.items front back
+    (map remaining front_readers) (map remaining back_readers) one.items other.items all.items (c.in_ok-rest.ensures.front ∙ ap (λ n. take n passes) (sym long))
+    (c.in_ok-rest.ensures.rest ∙ ap (λ n. drop n passes) (sym long)) long is_front is_back is fed others)
 
 pub join-first-requires-send-F : goal.join-first-requires-send-F
 join-first-requires-send-F g t c κs within =

@@ -10,8 +10,8 @@ abbrev pub invariant-loop-count : goal.invariant-loop-count
 invariant-loop-count g l = record {
   room : length l.buffer ≡ 65536;
   going : l.feeder.course ≡ Open;
-  chosen : l.feeder.chosen ≡ l.fn.field;
-  tower : l.feeder.tower ≡ l.fn.tower;
+  chosen : l.feeder.chosen ≡ l.fn.site.field;
+  tower : l.feeder.tower ≡ l.fn.site.tower.now;
   counted : l.feeder.intake.splitter.taken ≡ l.source.given;
   limit : l.source.given ≤ 1073741824;
   so_far : HasStreamed g.O.Opening.plan (first_start l.fn.pass.feeder) (g.S.Read.remaining l.fn.reader) (g.S.Read.remaining l.source.reader) l.source.past l.feeder l.pass;
