@@ -185,7 +185,7 @@ elements_before bytes behind pieces all (at, front, longest) (there, whole, most
     let begins = most o.all o.end (subst (λ (left : List ℕ). IsElements 64 0 (bytes ++ behind) o.all o.end left) (elements_left o.elements) o.elements) in
     subst (ArePrefix pieces) (sym begins.1) (prefix_more pieces o.all begins.0 o.prefix)
 
-pub elements_so_far : (bytes behind : List ℕ) (pieces all : List Piece) → AreElementsSoFar bytes pieces → AreElementsBefore (bytes ++ behind) all → IsBeginning pieces all
+pub elements_so_far : (bytes behind : List ℕ) (pieces all : List Piece) → AreElementsSoFar bytes [] pieces → AreElementsBefore (bytes ++ behind) all → IsBeginning pieces all
 elements_so_far bytes behind pieces all ((at, low, front), longest) (there, whole, most) = most pieces at (front behind)
 
 pub elements_of_text : (input : List ℕ) (pieces : List Piece) → IsText input pieces → AreElementsBefore input pieces

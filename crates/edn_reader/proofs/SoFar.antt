@@ -1,6 +1,6 @@
 -- What a splitter has told are the elements that have ended in the bytes that it has taken, whatever follows them.
-use Rattle.std.proofs.Common.{◌≡◌, ◌⊎◌, inl, inr, ℕ, ◌+◌, ◌-◌, ◌<◌, ◌≤◌, List, [], ◌∷◌, ◌++◌, length, drop, refl, sym, ap, subst, ◌∙◌, arith, append-nil, length-append}
-use Rattle.std.proofs.Math.Seq.{drop-append_seam}
+use Rattle.std.proofs.Common.{◌≡◌, ◌⊎◌, inl, inr, ℕ, ◌+◌, ◌-◌, ◌<◌, ◌≤◌, List, [], ◌∷◌, ◌++◌, length, get_or, take, drop, refl, sym, ap, subst, ◌∙◌, append_assoc, arith, append-nil, length-append, length-drop}
+use Rattle.std.proofs.lemmas.List.{take-append-drop, take-append-le}
 use Rattle.std.proofs.lemmas.Bool.{cases_lt}
 use Rattle.edn_reader.specs.declared.element.ElementKind.{ElementKind}
 use Rattle.edn_reader.specs.declared.element.Core.{Core}
@@ -9,11 +9,12 @@ use Rattle.edn_reader.specs.declared.step.Span.{Span}
 use Rattle.edn_reader.specs.declared.token.Token.{Token}
 use Rattle.edn_reader.specs.Grammar.{Piece, IsElement, IsElementAt, IsElements, none, next}
 use Rattle.edn_reader.specs.Text.{IsFront, StandsOpen, outermost, opened}
-use Rattle.edn_reader.specs.Fault.{IsBeginning, AreElementsSoFar, AreElementsUpTo}
+use Rattle.edn_reader.specs.Fault.{IsBeginning, AreElementsSoFar}
 use Rattle.edn_reader.specs.Token.{lexed}
-use Rattle.edn_reader.specs.Resuming.{resumed}
 use Rattle.edn_reader.specs.Splitting.{Splitting, IsAfter, StandsAfter}
-use Rattle.edn_reader.proofs.Places.{cancel_end, core_within, moved_element, gap_forward, token_forward, elements_forward}
+use Rattle.edn_reader.proofs.Places.{Follows, Replaced, cancel_end, core_within, elements_forward, follows_same, gap_forward, moved_element, moved_stands, token_forward}
+use Rattle.edn_reader.proofs.Lexing.{lexed_some}
+use Rattle.edn_reader.proofs.Stretches.{drop_before, drop_here, from_index}
 use Rattle.edn_reader.proofs.Keeping.{inside_forward}
 use Rattle.edn_reader.proofs.Runs.{Leads, here, further, one_run, given_more, leads_outermost, leads_stands}
 use Rattle.edn_reader.proofs.Unique.{agree}
@@ -73,48 +74,76 @@ fewer stands sooner front =
       | inr more ↦ (let m = given_more more in omega (arith, o.many, f.many, ap length m.1, length-append f.spans m.0))
     ]
 
--- ---- up to the end of the bytes
+-- ---- the elements so far
 
-pub elements_up_to : (bytes coming : List ℕ) (pieces : List Piece) (splitting : Splitting) → StandsAfter bytes coming pieces splitting → AreElementsUpTo bytes coming pieces
-elements_up_to bytes coming pieces splitting stands = ((place_behind 0 pieces, within, whatever), most) where
-  begun : ℕ
-  begun = splitting.begun.start
+-- Where a token has begun among the bytes, what stands before it stands so whatever follows them.
+stands_still : (bytes coming : List ℕ) (pieces : List Piece) (splitting : Splitting) → StandsAfter bytes coming pieces splitting → splitting.begun.start < length bytes → (behind : List ℕ)
+    → StandsOpen (bytes ++ behind) pieces splitting.opens splitting.begun.start (drop splitting.begun.start bytes ++ behind)
+stands_still bytes coming pieces splitting stands lt behind = subst (λ (xs : List ℕ). StandsOpen xs pieces splitting.opens start (drop start bytes ++ behind)) same moved.1 where
+  start : ℕ
+  start = splitting.begun.start
+
+  input : List ℕ
+  input = bytes ++ (coming ++ [])
+
+  after : StandsOpen input pieces splitting.opens start (drop start input)
+  after = (stands input [] refl).stands.stands
+
+  begins : (more : List ℕ) → drop start bytes ++ more ≡ get_or bytes start 0 ∷ (drop (start + 1) bytes ++ more)
+  begins more = ap (λ (xs : List ℕ). xs ++ more) (drop_here bytes start lt)
+
+  follows : Follows (drop start input) (drop start bytes ++ behind)
+  follows =
+      subst (λ (xs : List ℕ). Follows xs (drop start bytes ++ behind)) (sym (drop_before start bytes (coming ++ []) (omega (arith, lt)) ∙ begins (coming ++ [])))
+      (subst (λ (xs : List ℕ). Follows (get_or bytes start 0 ∷ (drop (start + 1) bytes ++ (coming ++ []))) xs) (sym (begins behind)) (follows_same (get_or bytes start 0) (drop (start + 1) bytes ++ (coming ++ [])) (drop (start + 1) bytes ++ behind)))
+
+  moved : (others : List ℕ) × StandsOpen others pieces splitting.opens start (drop start bytes ++ behind) × Replaced 0 input start (drop start input) others (drop start bytes ++ behind)
+  moved = moved_stands after (drop start bytes ++ behind) follows
+
+  front : moved.2.front ≡ take start bytes
+  front =
+      cancel_end moved.2.front (take start bytes) (drop start input)
+      (sym moved.2.here ∙ sym (take-append-drop start input) ∙ ap (λ (xs : List ℕ). xs ++ drop start input) (take-append-le start bytes (coming ++ []) (omega (arith, lt))))
+
+  same : moved.0 ≡ bytes ++ behind
+  same =
+      moved.2.there ∙ ap (λ (xs : List ℕ). xs ++ (drop start bytes ++ behind)) front ∙ sym (append_assoc (take start bytes) (drop start bytes) behind)
+      ∙ ap (λ (xs : List ℕ). xs ++ behind) (take-append-drop start bytes)
+
+pub elements_so_far : (bytes coming : List ℕ) (pieces : List Piece) (splitting : Splitting) → StandsAfter bytes coming pieces splitting → AreElementsSoFar bytes coming pieces
+elements_so_far bytes coming pieces splitting stands = ((place_behind 0 pieces, within, whatever), longest) where
+  start : ℕ
+  start = splitting.begun.start
 
   after : (more : List ℕ) → IsAfter bytes (bytes ++ (coming ++ more)) pieces splitting
   after more = stands (bytes ++ (coming ++ more)) more refl
 
+  front : {input : List ℕ} {p : ℕ} {a : List ℕ} → StandsOpen input pieces splitting.opens p a → IsFront input pieces (place_behind 0 pieces)
+  front {input = input} s = let f = front_of s in subst (IsFront input pieces) (elements_end pieces f.1) f.1
+
   whatever : (more : List ℕ) → IsFront (bytes ++ (coming ++ more)) pieces (place_behind 0 pieces)
-  whatever more = let f = front_of (after more).stands.stands in subst (IsFront (bytes ++ (coming ++ more)) pieces) (elements_end pieces f.1) f.1
+  whatever more = front (after more).stands.stands
 
   within : place_behind 0 pieces ≤ length bytes
   within = omega (arith, front_low (after []).stands.stands, (after []).stands.low)
 
-  most : (more : List ℕ) (others : List Piece) (there : ℕ) → IsFront (bytes ++ (coming ++ more)) others there → there < length bytes → IsBeginning others pieces
-  most more others there front lt =
-      let w = (after more).stands in
-      let size = ap (λ (x : Token × ℕ). x.1) w.token in
-      agree others pieces (omega arith) (omega arith) front (whatever more) (fewer w.stands (omega (arith, lt, w.low, size)) front)
+  -- no more elements than stand before the next token
+  few : {input : List ℕ} {p : ℕ} {a : List ℕ} (others : List Piece) (there : ℕ) → StandsOpen input pieces splitting.opens p a → there < p + (lexed a).1 → IsFront input others there → IsBeginning others pieces
+  few others there s sooner found = agree others pieces (omega arith) (omega arith) found (front s) (fewer s sooner found)
 
--- ---- the elements so far
-
-pub elements_so_far : (bytes : List ℕ) (pieces : List Piece) (splitting : Splitting) → StandsAfter bytes [] pieces splitting → AreElementsSoFar bytes pieces
-elements_so_far bytes pieces splitting stands = (up_to.0, longest) where
-  up_to : AreElementsUpTo bytes [] pieces
-  up_to = elements_up_to bytes [] pieces splitting stands
-
-  input : List ℕ
-  input = bytes ++ 97 ∷ []
-
-  after : IsAfter bytes input pieces splitting
-  after = stands input (97 ∷ []) refl
-
-  size : (lexed (drop splitting.begun.start input)).1 ≡ length bytes - splitting.begun.start + 1
-  size =
-      ap (λ (x : Token × ℕ). x.1) after.stands.token
-      ∙ ap (λ (n : ℕ). length bytes - splitting.begun.start + n) (ap (λ (xs : List ℕ). (resumed splitting.begun.part xs).1) (drop-append_seam bytes (97 ∷ [])) ∙ one_taken splitting.begun.part)
+  longest_by : (start < length bytes) ⊎ (length bytes ≤ start) → (others : List Piece) (there : ℕ) → ((more : List ℕ) → IsFront (bytes ++ more) others there) → there ≤ length bytes → IsBeginning others pieces
+  longest_by (inl lt) others there fronts low =
+      let w = (after []).stands in
+      let token : take (length bytes - start) (drop start (bytes ++ (coming ++ []))) ≡ drop start bytes =
+      ap (take (length bytes - start)) (drop_before start bytes (coming ++ []) (omega (arith, lt)))
+      ∙ take-append-le (length bytes - start) (drop start bytes) (coming ++ []) (omega (arith, length-drop start bytes)) ∙ from_index bytes start in
+      let size = ap (λ (x : Token × ℕ). x.1) (ap (λ (xs : List ℕ). lexed (xs ++ 97 ∷ [])) (sym token) ∙ w.makes (97 ∷ [])) in
+      few others there (stands_still bytes coming pieces splitting stands lt (97 ∷ [])) (omega (arith, low, lt, size, one_taken splitting.begun.part)) (fronts (97 ∷ []))
+  longest_by (inr ge) others there fronts low =
+      let w = (after (97 ∷ [])).stands in
+      let input = bytes ++ (coming ++ 97 ∷ []) in
+      let some : 0 < length (drop start input) = omega (arith, length-drop start input, length-append bytes (coming ++ 97 ∷ []), length-append coming (97 ∷ []), w.low) in
+      few others there w.stands (omega (arith, low, ge, lexed_some (drop start input) some)) (fronts (coming ++ 97 ∷ []))
 
   longest : (others : List Piece) (there : ℕ) → ((more : List ℕ) → IsFront (bytes ++ more) others there) → IsBeginning others pieces
-  longest others there fronts =
-      let front = fronts (97 ∷ []) in
-      let low : there ≤ length bytes = omega (arith, elements_within (fronts []), length-append bytes []) in
-      agree others pieces (omega arith) (omega arith) front (up_to.0.2 (97 ∷ [])) (fewer after.stands.stands (omega (arith, low, size, after.stands.low)) front)
+  longest others there fronts = longest_by (cases_lt start (length bytes)) others there fronts (omega (arith, elements_within (fronts []), length-append bytes []))

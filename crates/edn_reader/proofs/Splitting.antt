@@ -31,14 +31,14 @@ use Rattle.edn_reader.specs.Within.{StandsWithin, FaultBehind, outer, kept_token
 use Rattle.edn_reader.specs.Splitting.{Splitting, keep, IsAfter, StandsAfter, KeepsFault, WantsMemory, Takes, TakesOn, EndsOn, IsFull}
 use Rattle.edn_reader.proofs.Stretches.{drop_before}
 use Rattle.edn_reader.proofs.Lexing.{token_lexed, finishing}
-use Rattle.edn_reader.proofs.Resuming.{same_size, resumed_last}
+use Rattle.edn_reader.proofs.Resuming.{resumed_last}
 use Rattle.edn_reader.proofs.Steps.{stands_gap, stands_opened}
 use Rattle.edn_reader.proofs.Runs.{span_at}
 use Rattle.edn_reader.proofs.Ended.{stands_end, stands_left, stands_room}
 use Rattle.edn_reader.proofs.Viable.{viable, stands_after, viable_finished}
 use Rattle.edn_reader.proofs.Reading.{StandsAt, full_fails}
 use Rattle.edn_reader.proofs.Keeping.{rising_stands, rising_up, outer_up, outer_low, token_low, token_high}
-use Rattle.edn_reader.proofs.Within.{no_memory}
+use Rattle.edn_reader.proofs.Within.{no_memory, nothing_makes, token_of}
 
 -- ---- places of joined bytes
 
@@ -75,12 +75,7 @@ piece_front xs ys span low high =
 
 stands_anew : (input : List ℕ) (at end : ℕ) (pieces : List Piece) (opens : List Open) → at ≡ end → StandsAt input pieces opens at → StandsWithin input end pieces opens (record { start = at; part = parts.Nothing })
 stands_anew input at end pieces opens same s =
-    let left = lexed (drop at input) in
-    record {
-      low = omega (arith, same);
-      stands = s;
-      token = same_size left.0 left.1 (end - at + left.1) (omega (arith, same)) ∙ ap (λ (n : ℕ). longer (end - at) (lexed (drop n input))) same;
-    }
+    record { low = omega (arith, same); stands = s; makes = λ more. nothing_makes (end - at) (drop at input) more (omega (arith, same)) }
 
 none_open : {input : List ℕ} {at : ℕ} {pieces : List Piece} (opens : List Open) → opens ≡ [] → StandsAt input pieces [] at → StandsAt input pieces opens at
 none_open {input} {at} {pieces} opens empty s = subst (λ (o : List Open). StandsAt input pieces o at) (sym empty) s
@@ -223,7 +218,7 @@ opens_stays parts.Backslash opener rest e = absurd cc
 full_behind : (input : List ℕ) (end : ℕ) (pieces : List Piece) (later : Begun) (after : List Open) → IsFull true later after → StandsWithin input end pieces after later
     → FaultOf input (faults.TooDeep later.start) × AreElementsBefore input pieces
 full_behind input end pieces later after full w =
-    let is = ap (λ (x : _ × ℕ). x.0) w.token ∙ opens_stays later.part full.0.0 (drop end input) full.0.1 in
+    let is = ap (λ (x : _ × ℕ). x.0) (token_of w) ∙ opens_stays later.part full.0.0 (drop end input) full.0.1 in
     full_fails input pieces later.start full.0.0 after w.stands is full.1
 
 pub takes_full : (piece : List ℕ) (old : Splitting) (later : Begun) (after : List Open) → IsFull true later after → ReadsPiece piece old.taken old.begun old.opens (Ok (Within later)) after
@@ -381,7 +376,7 @@ closes_long : (input : List ℕ) (end : ℕ) (pieces : List Piece) (opens : List
     → last begun.part ≡ tokens.Closes bracket → drop end input ≡ rest → end - begun.start + stretch is_run rest ≡ 1
 closes_long input end pieces opens begun bracket rest w e left =
     let made : lexed (drop begun.start input) ≡ (tokens.Closes bracket, end - begun.start + stretch is_run rest) =
-    w.token ∙ ap (λ (xs : List ℕ). longer (end - begun.start) (resumed begun.part xs)) left ∙ ap (longer (end - begun.start)) (closes_run begun.part bracket rest e) in
+    token_of w ∙ ap (λ (xs : List ℕ). longer (end - begun.start) (resumed begun.part xs)) left ∙ ap (longer (end - begun.start)) (closes_run begun.part bracket rest e) in
     sym (ap (λ (x : Token × ℕ). x.1) made) ∙ closes_size (drop begun.start input) bracket (ap (λ (x : Token × ℕ). x.0) made)
 
 letter_run : stretch is_run (97 ∷ []) ≡ 1
@@ -408,7 +403,7 @@ viable_so_far bytes pieces splitting stands = viable_by (cases_lt splitting.begu
   rest = drop_of_length-le bytes (omega arith)
 
   made : lexed (drop splitting.begun.start bytes) ≡ (last splitting.begun.part, length bytes - splitting.begun.start + 0)
-  made = after.stands.token ∙ ap (longer (length bytes - splitting.begun.start)) (ap (resumed splitting.begun.part) rest ∙ resumed_last splitting.begun.part)
+  made = token_of after.stands ∙ ap (longer (length bytes - splitting.begun.start)) (ap (resumed splitting.begun.part) rest ∙ resumed_last splitting.begun.part)
 
   viable_by : (splitting.begun.start < length bytes) ⊎ (length bytes ≤ splitting.begun.start) → IsViable bytes
   viable_by (inl lt) =

@@ -1,5 +1,7 @@
 -- Reading on over a piece: what each token says of each input that the piece stands in.
-use Rattle.std.proofs.Common.{◌≡◌, ◌⊎◌, inl, inr, ℕ, suc, ◌+◌, ◌-◌, ◌<◌, ◌≤◌, true, false, List, [], ◌∷◌, ◌++◌, length, drop, Option, Some, None, Result, Ok, Err, refl, sym, ap, subst, ◌∙◌, arith, length-drop, append-nil}
+use Rattle.std.proofs.Common.{◌≡◌, ◌⊎◌, inl, inr, ℕ, zero, suc, ◌+◌, ◌-◌, ◌<◌, ◌≤◌, true, false, List, [], ◌∷◌, ◌++◌, length, take, drop, Option, Some, None, Result, Ok, Err, refl, sym, ap, subst, ◌∙◌, append_assoc, arith, length-drop, append-nil}
+use Rattle.std.proofs.Math.Seq.{take-append_seam, take-append-add}
+use Rattle.std.proofs.lemmas.List.{drop-drop, length-take-le, take-append-drop}
 use Rattle.std.proofs.Math.ListN.{drop_of_length-le}
 use Rattle.std.proofs.lemmas.Bool.Decides.{nat_tests}
 use Rattle.std.proofs.lemmas.Option.{IfSome_then}
@@ -31,6 +33,23 @@ use Rattle.edn_reader.proofs.Resuming.{same_size, longer_twice, ahead_whole, ahe
 use Rattle.edn_reader.proofs.Reading.{StandsAt, stands_next, element_next, fault_next, memory_next, text_end, open_end}
 use Rattle.edn_reader.proofs.Leading.{in_piece, in_input, stands_led}
 use Rattle.edn_reader.proofs.Keeping.{rising_stands, outer_up, on_keeps, ends_keeps, led_keeps, gap_stays, part_on, part_ends, part_low, part_rises}
+
+-- ---- the token that has begun
+
+left_over : (at start : ℕ) (input : List ℕ) → start ≤ at → drop (at - start) (drop start input) ≡ drop at input
+left_over at start input le = drop-drop (at - start) start input ∙ ap (λ (n : ℕ). drop n input) (omega (arith, le))
+
+-- Of this input it is what its part makes of the bytes that are left.
+pub token_of : {input : List ℕ} {at : ℕ} {pieces : List Piece} {opens : List Open} {begun : Begun} → StandsWithin input at pieces opens begun
+    → lexed (drop begun.start input) ≡ longer (at - begun.start) (resumed begun.part (drop at input))
+token_of {input = input} {at = at} {begun = begun} w =
+    let so_far = take (at - begun.start) (drop begun.start input) in
+    ap lexed (sym (take-append-drop (at - begun.start) (drop begun.start input)) ∙ ap (λ (xs : List ℕ). so_far ++ xs) (left_over at begun.start input w.low)) ∙ w.makes (drop at input)
+
+-- Where nothing has begun it is what the bytes make.
+pub nothing_makes : (n : ℕ) (bytes more : List ℕ) → n ≡ 0 → lexed (take n bytes ++ more) ≡ longer n (lexed more)
+nothing_makes zero bytes more e = let x = lexed more in same_size x.0 x.1 (0 + x.1) (omega arith)
+nothing_makes (suc n) bytes more e = absurd (omega arith)
 
 -- ---- tokens of a piece
 
@@ -115,24 +134,18 @@ reads_fault piece base from at found fault opens inner after led lt ahead t refu
       stays_outer (outer opens (base + from)) (base + at) inner after stays before.1,
     )
 
--- What is left of the input behind the piece.
-behind_piece : (input piece behind : List ℕ) (base : ℕ) → IsPieceAt input base piece behind → drop (base + length piece) input ≡ behind
-behind_piece input piece behind base is =
-    in_piece input piece behind base (length piece) is (omega arith) ∙ ap (λ (xs : List ℕ). xs ++ behind) (drop_of_length-le piece (omega arith))
-
 pub reads_within : (piece : List ℕ) (base from at : ℕ) (part : Part) (opens inner : List Open) → Led piece base from opens at inner → at < length piece
     → IsAhead Nothing at (drop at piece) (aheads.Within part) → ReadsOn piece base from opens (Ok (Within (record { start = base + at; part = part }))) inner
 reads_within piece base from at part opens inner led lt ahead input behind pieces is s =
     let before = led input behind pieces is s in
     let k = ahead_within Nothing at (drop at piece) part ahead in
     let size : length (drop at piece) ≡ base + length piece - (base + at) = omega (arith, length-drop at piece, lt) in
-    let rest = behind_piece input piece behind base is in (
+    let begun_is : take (base + length piece - (base + at)) (drop (base + at) input) ≡ drop at piece =
+    ap (λ (n : ℕ). take n (drop (base + at) input)) (sym size) ∙ ap (take (length (drop at piece))) (in_piece input piece behind base at is (omega (arith, lt))) ∙ take-append_seam (drop at piece) behind in (
       record {
         low = omega (arith, lt);
         stands = before.0;
-        token = ap lexed (in_piece input piece behind base at is (omega (arith, lt))) ∙ k behind
-            ∙ ap (λ (n : ℕ). longer n (resumed part behind)) size
-            ∙ ap (λ (xs : List ℕ). longer (base + length piece - (base + at)) (resumed part xs)) (sym rest);
+        makes = λ more. ap (λ (xs : List ℕ). lexed (xs ++ more)) begun_is ∙ k more ∙ ap (λ (n : ℕ). longer n (resumed part more)) size;
       },
       omega (arith, before.1, part_low inner part (base + at) (base + length piece) (omega (arith, lt))),
     )
@@ -141,13 +154,11 @@ pub reads_all : (piece : List ℕ) (base from at : ℕ) (opens inner : List Open
     → ReadsOn piece base from opens (Ok (Within (record { start = base + at; part = Nothing }))) inner
 reads_all piece base from at opens inner led e input behind pieces is s =
     let before = led input behind pieces is s in
-    let place : base + at ≡ base + length piece = omega (arith, e) in
-    let begins = lexed (drop (base + at) input) in (
+    (
       record {
         low = omega (arith, e);
         stands = before.0;
-        token = same_size begins.0 begins.1 (base + length piece - (base + at) + begins.1) (omega (arith, e))
-            ∙ ap (λ (n : ℕ). longer (base + length piece - (base + at)) (lexed (drop n input))) place;
+        makes = λ more. nothing_makes (base + length piece - (base + at)) (drop (base + at) input) more (omega (arith, e));
       },
       before.1,
     )
@@ -183,7 +194,7 @@ begun_here : (input piece behind : List ℕ) (pieces : List Piece) (base : ℕ) 
 begun_here input piece behind pieces base begun opens found is w ahead =
     let k = ahead_whole begun.part 0 (drop 0 piece) found ahead in
     found_is begun.start (base + found.end) (lexed (drop begun.start input)) found.token (base - begun.start + (found.end - 0))
-    (w.token ∙ ap (longer (base - begun.start)) (ap (resumed begun.part) is.1 ∙ k.2 behind)) (omega (arith, w.low))
+    (token_of w ∙ ap (longer (base - begun.start)) (ap (resumed begun.part) is.1 ∙ k.2 behind)) (omega (arith, w.low))
 
 begun_low : (input piece behind : List ℕ) (base : ℕ) (begun : Begun) → IsPieceAt input base piece behind → (begun.start ≡ base → ⊥) → begun.start ≤ base → begun.start < length input
 begun_low input piece behind base begun is other low = omega (arith, is.0, other, low)
@@ -239,13 +250,18 @@ pub piece_within : (piece : List ℕ) (base : ℕ) (begun : Begun) (later : Part
     → ReadsPiece piece base begun opens (Ok (Within (record { start = begun.start; part = later }))) opens
 piece_within piece base begun later opens ahead input behind pieces is w =
     let k = ahead_within begun.part 0 (drop 0 piece) later ahead in
-    let rest = behind_piece input piece behind base is in (
+    let so_far = take (base - begun.start) (drop begun.start input) in
+    let long : length so_far ≡ base - begun.start = length-take-le (base - begun.start) (drop begun.start input) (omega (arith, length-drop begun.start input, is.0, w.low)) in
+    let whole : drop begun.start input ≡ so_far ++ (piece ++ behind) =
+    sym (take-append-drop (base - begun.start) (drop begun.start input)) ∙ ap (λ (xs : List ℕ). so_far ++ xs) (left_over base begun.start input w.low ∙ is.1) in
+    let begun_is : take (base + length piece - begun.start) (drop begun.start input) ≡ so_far ++ piece =
+    ap (λ (n : ℕ). take n (drop begun.start input)) (omega (arith, long, w.low)) ∙ ap (take (length so_far + length piece)) whole ∙ take-append-add so_far (piece ++ behind) (length piece)
+    ∙ ap (λ (xs : List ℕ). so_far ++ xs) (take-append_seam piece behind) in (
       record {
         low = omega (arith, w.low);
         stands = w.stands;
-        token = w.token ∙ ap (longer (base - begun.start)) (ap (resumed begun.part) is.1 ∙ k behind)
-            ∙ longer_twice (base - begun.start) (length (drop 0 piece)) (base + length piece - begun.start) (resumed later behind) (omega (arith, w.low))
-            ∙ ap (λ (xs : List ℕ). longer (base + length piece - begun.start) (resumed later xs)) (sym rest);
+        makes = λ more. ap (λ (xs : List ℕ). lexed (xs ++ more)) begun_is ∙ ap lexed (append_assoc so_far piece more) ∙ w.makes (piece ++ more) ∙ ap (longer (base - begun.start)) (k more)
+            ∙ longer_twice (base - begun.start) (length (drop 0 piece)) (base + length piece - begun.start) (resumed later more) (omega (arith, w.low));
       },
       part_rises opens begun.part later begun.start base (base + length piece) (gap_later piece begun.part later ahead) w.low (omega arith),
     )
@@ -262,7 +278,7 @@ end_here : (input : List ℕ) (pieces : List Piece) (end : ℕ) (begun : Begun) 
 end_here input pieces end begun opens long w =
     let rest : drop end input ≡ [] = drop_of_length-le input (omega (arith, long)) in
     found_is begun.start end (lexed (drop begun.start input)) (last begun.part) (end - begun.start + 0)
-    (w.token ∙ ap (longer (end - begun.start)) (ap (resumed begun.part) rest ∙ resumed_last begun.part)) (omega (arith, w.low))
+    (token_of w ∙ ap (longer (end - begun.start)) (ap (resumed begun.part) rest ∙ resumed_last begun.part)) (omega (arith, w.low))
 
 pub end_same : (end : ℕ) (begun : Begun) (opens : List Open) → end ≤ begun.start → EndStands end begun opens opens
 end_same end begun opens past input pieces long w =

@@ -103,16 +103,9 @@ abbrev pub AreElementsBefore : List ℕ → List Piece → Type 0
 AreElementsBefore input pieces =
     (at : ℕ) × IsFront input pieces at × ((others : List Piece) (there : ℕ) → IsFront input others there → IsBeginning others pieces)
 
--- The elements that have ended by the end of these bytes, whatever follows them: a front of each input that begins so, and
--- the longest of these.
-abbrev pub AreElementsSoFar : List ℕ → List Piece → Type 0
-AreElementsSoFar bytes pieces =
-    ((at : ℕ) × (at ≤ length bytes) × ((more : List ℕ) → IsFront (bytes ++ more) pieces at))
+-- The elements that have ended by the end of these bytes, before those that come next: a front of each input that goes on
+-- so, which has each element that has ended whatever follows the bytes. (One that a next byte could go on with may be left out.)
+abbrev pub AreElementsSoFar : List ℕ → List ℕ → List Piece → Type 0
+AreElementsSoFar bytes coming pieces =
+    ((at : ℕ) × (at ≤ length bytes) × ((more : List ℕ) → IsFront (bytes ++ (coming ++ more)) pieces at))
     × ((others : List Piece) (there : ℕ) → ((more : List ℕ) → IsFront (bytes ++ more) others there) → IsBeginning others pieces)
-
--- The elements of these bytes where those come next, whatever follows: a front of each input that begins so, with each
--- element that ends before the end of the bytes. (One that ends with them may be left out, as the next byte can go on with it.)
-abbrev pub AreElementsUpTo : List ℕ → List ℕ → List Piece → Type 0
-AreElementsUpTo bytes next pieces =
-    ((at : ℕ) × (at ≤ length bytes) × ((more : List ℕ) → IsFront (bytes ++ (next ++ more)) pieces at))
-    × ((more : List ℕ) (others : List Piece) (there : ℕ) → IsFront (bytes ++ (next ++ more)) others there → there < length bytes → IsBeginning others pieces)

@@ -1,6 +1,6 @@
 -- What stands at a place of an input where the bytes so far may end within a token, and what reading on says. An input
 -- is all the bytes, those read so far and those that follow. No public clause but those of the splitter speaks of it.
-use Rattle.std.specs.Prelude.{◌≡◌, ◌≤◌, ◌<◌, ◌+◌, ◌-◌, ◌⊎◌, ℕ, List, [], ◌∷◌, ◌++◌, length, drop, Option, Some, None, Result, Ok, Err, IfSome}
+use Rattle.std.specs.Prelude.{◌≡◌, ◌≤◌, ◌<◌, ◌+◌, ◌-◌, ◌⊎◌, ℕ, List, [], ◌∷◌, ◌++◌, length, take, drop, Option, Some, None, Result, Ok, Err, IfSome}
 use Rattle.edn_reader.specs.declared.fault.EdnFault.{EdnFault}
 use Rattle.edn_reader.specs.declared.nesting.Open.{Open}
 use Rattle.edn_reader.specs.declared.step.Span.{Span}
@@ -17,11 +17,11 @@ use Rattle.edn_reader.specs.Resuming.{longer, resumed, last}
 use Rattle.edn_reader.specs.Taking.{IsPieceAt, piece_in}
 
 -- Before a place of an input these elements have ended and these brackets, tags and discards are open, up to where a
--- token has begun; and the token that begins there is what its part makes of the bytes from the place on.
+-- token has begun; and the token that begins there is what its part makes of the bytes from the place on, whatever these are.
 pub record StandsWithin (input : List ℕ) (at : ℕ) (pieces : List Piece) (opens : List Open) (begun : Begun) : Type 0 where
   pub low : begun.start ≤ at
   pub stands : StandsOpen input pieces opens begun.start (drop begun.start input)
-  pub token : lexed (drop begun.start input) ≡ longer (at - begun.start) (resumed begun.part (drop at input))
+  pub makes : (more : List ℕ) → lexed (take (at - begun.start) (drop begun.start input) ++ more) ≡ longer (at - begun.start) (resumed begun.part more)
 
 -- One outermost element more, at this span.
 abbrev pub OneMore : List ℕ → List Piece → Span → Type 0

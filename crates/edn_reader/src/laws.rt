@@ -8,7 +8,7 @@ ghost use Rattle.edn_reader.specs.declared.element.ElementKind.TheVariants.{Vect
 ghost use Rattle.edn_reader.specs.Lent.{piece_of};
 ghost use Rattle.edn_reader.specs.Grammar.{Piece, IsElement};
 ghost use Rattle.edn_reader.specs.Text.{IsFront, IsText, IsViable};
-ghost use Rattle.edn_reader.specs.Fault.{FaultOf, IsBeginning, AreElementsBefore, AreElementsSoFar, AreElementsUpTo};
+ghost use Rattle.edn_reader.specs.Fault.{FaultOf, IsBeginning, AreElementsBefore, AreElementsSoFar};
 ghost use Rattle.edn_reader.specs.Prefixes.{ArePrefix};
 ghost use Rattle.edn_reader.specs.Splitting.{Splitting, StandsAfter};
 ghost use Rattle.edn_reader.specs.Pairs.{values_of, HasPairs, HasMembers};
@@ -61,11 +61,9 @@ pub fn no_fault_so_far()
 {}
 
 /// While a splitter has met no fault, the elements that it told are those that have ended in the bytes that it has taken,
-/// whatever follows them. Where other bytes are known to come next, they are those that end before the end of the bytes, and
-/// perhaps one that ends with them.
+/// whatever follows them. Where bytes are known to come next, one that they do not go on with may be told too.
 pub fn told_so_far()
-    ensures whatever_follows { (bytes : List ℕ) (pieces : List Piece) (splitting : Splitting) → StandsAfter bytes [] pieces splitting → AreElementsSoFar bytes pieces }
-    ensures up_to { (bytes next : List ℕ) (pieces : List Piece) (splitting : Splitting) → StandsAfter bytes next pieces splitting → AreElementsUpTo bytes next pieces }
+    ensures { (bytes coming : List ℕ) (pieces : List Piece) (splitting : Splitting) → StandsAfter bytes coming pieces splitting → AreElementsSoFar bytes coming pieces }
 {}
 
 /// The elements of a prefix of an input, whether it is a text or has a fault, are the first of the elements of the whole;
@@ -73,6 +71,6 @@ pub fn told_so_far()
 /// first as they are.
 pub fn elements_of_a_prefix()
     ensures before { (bytes more : List ℕ) (pieces all : List Piece) → AreElementsBefore bytes pieces → AreElementsBefore (bytes ++ more) all → ArePrefix pieces all }
-    ensures so_far { (bytes more : List ℕ) (pieces all : List Piece) → AreElementsSoFar bytes pieces → AreElementsBefore (bytes ++ more) all → IsBeginning pieces all }
+    ensures so_far { (bytes more : List ℕ) (pieces all : List Piece) → AreElementsSoFar bytes [] pieces → AreElementsBefore (bytes ++ more) all → IsBeginning pieces all }
     ensures text { (input : List ℕ) (pieces : List Piece) → IsText input pieces → AreElementsBefore input pieces }
 {}

@@ -1,7 +1,7 @@
 -- What a feeder has added so far, by where its last element stands.
 use Rattle.std.proofs.Common.{◌≡◌, ◌≤◌, ℕ, List, [], ◌∷◌, ◌++◌, length, Result, ap, subst, arith}
 use Rattle.edn_reader.specs.Grammar.{Piece}
-use Rattle.edn_reader.specs.Fault.{AreElementsSoFar, AreElementsUpTo}
+use Rattle.edn_reader.specs.Fault.{AreElementsSoFar}
 use Rattle.edn_reader.specs.Splitting.{Splitting, StandsAfter}
 use Rattle.jepsen_form.specs.declared.fault.FormFault.{FormFault}
 use Rattle.jepsen_form.specs.declared.item.Item.{Item}
@@ -27,17 +27,15 @@ before (Lent item) setting items waiting intake pass is = (omega (arith, ap leng
 before (Paired step) setting items waiting intake pass is = (omega (arith, ap length is.1), is.2.2.done)
 
 pub added : (setting : Setting) (bytes next : List ℕ) (intake : Intake) (pass : Passed)
-    → ((bytes : List ℕ) (pieces : List Piece) (splitting : Splitting) → StandsAfter bytes [] pieces splitting → AreElementsSoFar bytes pieces)
-    → ((bytes next : List ℕ) (pieces : List Piece) (splitting : Splitting) → StandsAfter bytes next pieces splitting → AreElementsUpTo bytes next pieces)
+    → ((bytes next : List ℕ) (pieces : List Piece) (splitting : Splitting) → StandsAfter bytes next pieces splitting → AreElementsSoFar bytes next pieces)
     → HasFed setting bytes next intake pass → HasAdded setting bytes next pass intake.progress.log
-added setting bytes next intake pass so_far up_to fed =
+added setting bytes next intake pass so_far fed =
     let is = before intake.pending setting fed.items fed.waiting intake pass fed.pending in
     record {
       pieces = fed.pieces;
       waiting = fed.waiting;
       items = fed.items;
-      whatever_follows = λ none. so_far bytes (fed.pieces ++ fed.waiting) intake.splitter (subst (λ (xs : List ℕ). StandsAfter bytes xs (fed.pieces ++ fed.waiting) intake.splitter) none fed.taken.stands);
-      up_to = up_to bytes next (fed.pieces ++ fed.waiting) intake.splitter fed.taken.stands;
+      ended = so_far bytes next (fed.pieces ++ fed.waiting) intake.splitter fed.taken.stands;
       one = is.0;
       read = fed.read;
       done = is.1;

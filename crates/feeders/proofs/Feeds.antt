@@ -82,7 +82,7 @@ module _ (setting : Setting) where
   -- The reading breaks off behind what was fed.
   pub broke_off : (bytes : List ℕ) (broken : Broken) (old new : Intake) (pass : Passed) → old.pending ≡ Nothing
       → ((bytes : List ℕ) (pieces : List Piece) (splitting : Splitting) → StandsAfter bytes [] pieces splitting → IsViable bytes)
-      → ((bytes : List ℕ) (pieces : List Piece) (splitting : Splitting) → StandsAfter bytes [] pieces splitting → AreElementsSoFar bytes pieces)
+      → ((bytes : List ℕ) (pieces : List Piece) (splitting : Splitting) → StandsAfter bytes [] pieces splitting → AreElementsSoFar bytes [] pieces)
       → IsTrue (is_of_reading broken.code) → broken.place ≡ old.splitter.taken → new.progress.log.lines ≡ old.progress.log.lines → new.progress.log.broken ≡ Some broken
       → HasFed setting bytes [] old pass → HasEnded setting bytes new pass
   broke_off bytes broken old new pass none viable so_far reading place lines set fed =

@@ -296,7 +296,7 @@ first_steps feeder items others rest e =
 -- What is said of the elements of a prefix.
 pub record OfPrefixes : Type 0 where
   pub before : (bytes more : List ℕ) (pieces all : List Piece) → AreElementsBefore bytes pieces → AreElementsBefore (bytes ++ more) all → ArePrefix pieces all
-  pub so_far : (bytes more : List ℕ) (pieces all : List Piece) → AreElementsSoFar bytes pieces → AreElementsBefore (bytes ++ more) all → IsBeginning pieces all
+  pub so_far : (bytes more : List ℕ) (pieces all : List Piece) → AreElementsSoFar bytes [] pieces → AreElementsBefore (bytes ++ more) all → IsBeginning pieces all
   pub text : (input : List ℕ) (pieces : List Piece) → IsText input pieces → AreElementsBefore input pieces
 
 before_fault : OfPrefixes → (trace : List ℕ) (broken : Option Broken) (pieces : List Piece) → broke_reading broken ≡ false → AreElements trace broken pieces → AreElementsBefore trace pieces

@@ -2,7 +2,7 @@
 use Rattle.std.specs.Prelude.{◌≡◌, ◌≤◌, ℕ, List, [], ◌++◌, length, Result}
 use Rattle.std.specs.List.{AllZip}
 use Rattle.edn_reader.specs.Grammar.{Piece}
-use Rattle.edn_reader.specs.Fault.{AreElementsSoFar, AreElementsUpTo}
+use Rattle.edn_reader.specs.Fault.{AreElementsSoFar}
 use Rattle.jepsen_form.specs.declared.fault.FormFault.{FormFault}
 use Rattle.jepsen_form.specs.declared.item.Item.{Item}
 use Rattle.jepsen_form.specs.Item.{IsItem}
@@ -13,13 +13,12 @@ use Rattle.feeders.specs.Setting.{Setting}
 use Rattle.feeders.specs.Steps.{steps_of}
 
 -- Of the elements that have ended in the bytes at most one waits; the steps of those before it, and no others, are in
--- the pass and the log, in order. Where other bytes come next, an element that ends with these bytes may be left out.
+-- the pass and the log, in order.
 pub record HasAdded (setting : Setting) (bytes next : List ℕ) (pass : Passed) (log : Log) : Type 0 where
   pub pieces : List Piece
   pub waiting : List Piece
   pub items : List (Result Item FormFault)
-  pub whatever_follows : next ≡ [] → AreElementsSoFar bytes (pieces ++ waiting)
-  pub up_to : AreElementsUpTo bytes next (pieces ++ waiting)
+  pub ended : AreElementsSoFar bytes next (pieces ++ waiting)
   pub one : length waiting ≤ 1
   pub read : AllZip (IsItem setting.tower setting.chosen) pieces items
   pub done : HasDone setting.plan setting.start pass log.lines.items (steps_of setting.start.feeder items)

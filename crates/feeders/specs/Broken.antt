@@ -37,7 +37,7 @@ BrokeByText input broken pieces = (fault : EdnFault) × FaultOf input fault × A
 -- its reading broke off at its end, where it could still go on: these are the elements that have ended, whatever
 -- would have followed
 abbrev pub BrokeByReading : List ℕ → Broken → List Piece → Type 0
-BrokeByReading input broken pieces = IsTrue (is_of_reading broken.code) × (broken.place ≡ length input) × IsViable input × AreElementsSoFar input pieces
+BrokeByReading input broken pieces = IsTrue (is_of_reading broken.code) × (broken.place ≡ length input) × IsViable input × AreElementsSoFar input [] pieces
 
 -- the elements of an input: those of a text, or those before it broke
 abbrev pub AreElements : List ℕ → Option Broken → List Piece → Type 0

@@ -13,5 +13,5 @@ returns-clause-fed c plan start bytes pass fed =
     broke_off setting bytes (record { code = c.args.code; place = c.taken.result }) old
     (record { splitter = old.splitter; kept = old.kept; progress = record old.progress { log = record { lines = old.progress.log.lines; broken = Some (record { code = c.args.code; place = c.taken.result }) } }; pending = old.pending }) pass
     (c.self.invariant.0 (subst (λ (f : Feeding). f.course ≡ Open) (sym c.self.view_is) c.requires.going)).1
-    c.no_fault_so_far.ensures c.told_so_far.ensures.whatever_follows c.requires.reading c.taken.ensures refl refl
+    c.no_fault_so_far.ensures (λ bytes. c.told_so_far.ensures bytes []) c.requires.reading c.taken.ensures refl refl
     (subst (λ (f : Feeding). HasFed setting bytes [] f.intake pass) (sym c.self.view_is) (by_course plan start bytes [] c.args.self.now pass Open c.requires.going fed))
