@@ -153,8 +153,7 @@ reads_within piece base from at part opens inner led lt ahead input behind piece
 pub reads_all : (piece : List ℕ) (base from at : ℕ) (opens inner : List Open) → Led piece base from opens at inner → at ≡ length piece
     → ReadsOn piece base from opens (Ok (Within (record { start = base + at; part = Nothing }))) inner
 reads_all piece base from at opens inner led e input behind pieces is s =
-    let before = led input behind pieces is s in
-    (
+    let before = led input behind pieces is s in (
       record {
         low = omega (arith, e);
         stands = before.0;

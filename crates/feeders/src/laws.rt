@@ -34,9 +34,7 @@ ghost use Rattle.feeders.specs.Texts.{Part, text_of, IsLastSettled, IsSlice, Rea
 
 use edn_reader::laws::{elements_of_a_prefix, told_so_far};
 use jepsen_form::laws::one_item;
-use shards::laws::{
-    a_lone_feeder_has_all_entries, a_pass_stays_of_its_plan, what_was_told_stays,
-};
+use shards::laws::{a_lone_feeder_has_all_entries, a_pass_stays_of_its_plan, what_was_told_stays};
 
 /// Each text of an operation that stands after a legal journal is what the last of its accepted edits that makes
 /// something of this text makes of it, and so it is where there is none.

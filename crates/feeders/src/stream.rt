@@ -50,7 +50,14 @@ pub fn feed_reader<'t, O: Opening, R: Wait, G: Gate, S: Read + Drop>(
                     return Ok(feeder.into_fed(pass));
                 }
                 let piece = &buffer[..count];
-                if let Err(failed) = feeder.feed(site.rt, site.alloc, site.auditor, site.gate, &mut pass, piece) {
+                if let Err(failed) = feeder.feed(
+                    site.rt,
+                    site.alloc,
+                    site.auditor,
+                    site.gate,
+                    &mut pass,
+                    piece,
+                ) {
                     return Err(failed.fault);
                 }
                 if feeder.has_broken() {
