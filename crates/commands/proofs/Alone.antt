@@ -4,17 +4,17 @@ use Rattle.std.specs.List.{list_any, slice_get, slice_index_or, AllByRecursion}
 use Rattle.std.proofs.lemmas.List.Elements.{All-weaker, recursion_from_All}
 use Rattle.intervals.specs.declared.operation.Op.{Op}
 use Rattle.intervals.specs.declared.edit.Edit.{Edit}
-use Rattle.intervals.specs.Terms.{Terms, Claimed}
-use Rattle.intervals.specs.Bare.{bare, bare_edit}
+use Rattle.intervals.specs.Terms.{Terms, Claimed, unedited}
+use Rattle.intervals.specs.Bare.{bare, bare_edit, bare_held}
 use Rattle.intervals.specs.Kind.{Holds}
 use Rattle.intervals.specs.Refusal.{reply_to, standing}
 use Rattle.jepsen_form.specs.declared.item.MomentField.TheVariants.{Index}
 use Rattle.tower_file.specs.Alone.{alone_claim, alone_tower}
 use Rattle.shards.specs.declared.entry.Entry.{Entry}
 use Rattle.shards.specs.Plan.{Plan}
-use Rattle.shards.specs.Journal.{IsLegalJournal, edits_of, standing_of}
+use Rattle.shards.specs.Journal.{IsLegalJournal, edits_of, left_by}
 use Rattle.shards.specs.Pass.{Passed, IsPassOf}
-use Rattle.shards.specs.Closing.{Ended, IsClosed, IsSettled, book_of, journal_of, left_by}
+use Rattle.shards.specs.Closing.{Ended, IsClosed, IsSettled, book_of, journal_of}
 use Rattle.feeders.specs.declared.log.Broken.{Broken}
 use Rattle.feeders.specs.declared.log.Log.{Log}
 use Rattle.feeders.specs.Steps.{AreItems, Taken, steps_of}
@@ -51,6 +51,7 @@ of_one_feeder passes closed finished =
 
 -- what is said of the register as the run leaves it, and of its log
 pub record Says (closed : List Ended) (logs : List Log) (audit : Audit) : Type 0 where
+  pub kind : (held : Claimed) → book_of closed 0 ≡ Some held → audit.kind ≡ held.claim.kind
   pub holds : (held : Claimed) → book_of closed 0 ≡ Some held → IsTrue audit.holds ↔ Holds held.claim held.ops
   pub operations : (held : Claimed) → book_of closed 0 ≡ Some held → audit.operations ≡ length held.ops
   pub refused : (log : Log) → logs ≡ log ∷ [] → audit.refused ≡ has_refused log
@@ -58,12 +59,13 @@ pub record Says (closed : List Ended) (logs : List Log) (audit : Audit) : Type 0
 
 module _
     (stands : (plan : Plan) (at register : ℕ) (claim : Terms) (journal : List Entry) → IsLegalJournal plan at journal → slice_get plan.claims register ≡ Some claim
-    → standing_of register journal ≡ standing claim [] (edits_of register journal))
+    → left_by journal register claim ≡ standing (unedited claim) (edits_of register journal))
     (reply_is : (claim : Terms) (ops : List Op) (edit : Edit) → reply_to claim (map bare ops) (bare_edit edit) ≡ reply_to claim ops edit)
-    (stood : (claim : Terms) (edits : List Edit) → map bare (standing claim [] (map bare_edit edits)) ≡ map bare (standing claim [] edits))
+    (stood : (claim : Terms) (edits : List Edit) → bare_held (standing (unedited claim) (map bare_edit edits)) ≡ bare_held (standing (unedited claim) edits))
     (alike : (claim : Terms) (edits others : List Edit) → map bare_edit edits ≡ map bare_edit others
-    → (Holds claim (standing claim [] edits) ↔ Holds claim (standing claim [] others)) × (length (standing claim [] edits) ≡ length (standing claim [] others))) where
-  stands_alone : (journal : List Entry) → IsLegalJournal alone_plan 0 journal → standing_of 0 journal ≡ standing alone_claim [] (edits_of 0 journal)
+    → let one = standing (unedited claim) edits in let other = standing (unedited claim) others in
+    (one.claim ≡ other.claim) × (Holds one.claim one.ops ↔ Holds other.claim other.ops) × (length one.ops ≡ length other.ops)) where
+  stands_alone : (journal : List Entry) → IsLegalJournal alone_plan 0 journal → left_by journal 0 alone_claim ≡ standing (unedited alone_claim) (edits_of 0 journal)
   stands_alone journal legal = stands alone_plan 0 0 alone_claim journal legal refl
 
   audited_log : (trace : List ℕ) (passes : List Passed) (closed : List Ended) (log : Log) (audit : Audit) → IsClosed alone_plan passes closed → IsTraced alone_plan alone_tower Index closed 0 trace log
@@ -73,22 +75,25 @@ module _
       let many : length closed ≡ 1 = finished.many in
       let settled : IsSettled alone_plan passes 0 journal = finished.finished 0 (omega arith) in
       let runs : Runs [] [] journal traced.doings =
-      runs_alone stands_alone (reply_is alone_claim) (stood alone_claim) journal traced.doings settled.of_shard.legal (of_one_feeder passes closed finished) (traced.entries 0 (omega arith)) in
+      runs_alone stands_alone reply_is (stood alone_claim) journal traced.doings settled.of_shard.legal (of_one_feeder passes closed finished) (traced.entries 0 (omega arith)) in
       let steps : map taken_of traced.doings ≡ steps_of 0 traced.items = traced.done.for_steps in
-      let ops_are : standing_of 0 journal ≡ standing alone_claim [] (edits_of 0 journal) = stands_alone journal settled.of_shard.legal in
       let held : Claimed = left_by journal 0 alone_claim in
+      let edited : Claimed = standing (unedited alone_claim) (edits_of 0 journal) in
+      let told : Claimed = standing_after (map taken_of traced.doings) in
+      let held_is : held ≡ edited = stands_alone journal settled.of_shard.legal in
       let book : book_of closed 0 ≡ Some held = finished.books 0 in
-      let same : (Holds alone_claim (standing alone_claim [] (edits_of 0 journal)) ↔ Holds alone_claim (standing_after (map taken_of traced.doings)))
-      × (length (standing alone_claim [] (edits_of 0 journal)) ≡ length (standing_after (map taken_of traced.doings))) =
-      alike alone_claim (edits_of 0 journal) (edits_after (map taken_of traced.doings)) runs.edits in
+      let same = alike alone_claim (edits_of 0 journal) (edits_after (map taken_of traced.doings)) runs.edits in
       let refused_is : audit.refused ≡ list_any is_refused_line (lines_from 0 traced.doings) = says.refused log refl ∙ ap (list_any is_refused_line) traced.done.noted in (
         traced.items,
         subst (λ (b : Option Broken). AreItems alone_tower Index trace b traced.items) (sym (says.broken log refl)) traced.are,
         record {
-          verdict = subst (λ (taken : List Taken). IsTrue audit.holds ↔ Holds alone_claim (standing_after taken)) steps
-              (joined (IsTrue audit.holds) (Holds alone_claim (standing_of 0 journal)) (Holds alone_claim (standing_after (map taken_of traced.doings))) (says.holds held book)
-              (subst (λ (ops : List Op). Holds alone_claim ops ↔ Holds alone_claim (standing_after (map taken_of traced.doings))) (sym ops_are) same.0));
-          count = subst (λ (taken : List Taken). audit.operations ≡ length (standing_after taken)) steps (says.operations held book ∙ ap length ops_are ∙ same.1);
+          kind_is = subst (λ (taken : List Taken). audit.kind ≡ (standing_after taken).claim.kind) steps
+              (says.kind held book ∙ ap (λ (h : Claimed). h.claim.kind) held_is ∙ ap (λ (claim : Terms). claim.kind) same.0);
+          verdict = subst (λ (taken : List Taken). IsTrue audit.holds ↔ Holds (standing_after taken).claim (standing_after taken).ops) steps
+              (joined (IsTrue audit.holds) (Holds held.claim held.ops) (Holds told.claim told.ops) (says.holds held book)
+              (subst (λ (h : Claimed). Holds h.claim h.ops ↔ Holds told.claim told.ops) (sym held_is) same.1));
+          count = subst (λ (taken : List Taken). audit.operations ≡ length (standing_after taken).ops) steps
+              (says.operations held book ∙ ap (λ (h : Claimed). length h.ops) held_is ∙ same.2);
           refusals = subst (λ (taken : List Taken). IsTrue audit.refused ↔ HasRefused taken) steps
               (subst (λ (b : Bool). IsTrue b ↔ HasRefused (map taken_of traced.doings)) (sym refused_is) (refusals traced.doings runs.replied));
         },

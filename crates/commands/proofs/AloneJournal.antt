@@ -9,8 +9,8 @@ use Rattle.std.proofs.lemmas.Option.{none-some, same_Some}
 use Rattle.intervals.specs.declared.operation.Op.{Op}
 use Rattle.intervals.specs.declared.operation.RegId.{RegId}
 use Rattle.intervals.specs.declared.edit.Edit.{Edit}
-use Rattle.intervals.specs.Terms.{Terms}
-use Rattle.intervals.specs.Bare.{bare, bare_edit}
+use Rattle.intervals.specs.Terms.{Terms, Claimed, unedited}
+use Rattle.intervals.specs.Bare.{bare, bare_edit, bare_held}
 use Rattle.intervals.specs.Refusal.{reply_to, standing}
 use Rattle.register_book.specs.declared.reply.Reply.{Reply}
 use Rattle.register_book.specs.Reply.{IsReply}
@@ -20,13 +20,13 @@ use Rattle.shards.specs.declared.entry.Entry.{Entry}
 use Rattle.shards.specs.declared.entry.Numbered.{Numbered}
 use Rattle.shards.specs.Plan.{Plan, plan_of}
 use Rattle.shards.specs.Plain.{PlainEntry, plain_numbered}
-use Rattle.shards.specs.Journal.{IsAnswered, IsLegalJournal, edits_of, is_of, is_accepted, standing_of}
+use Rattle.shards.specs.Journal.{IsAnswered, IsLegalJournal, edits_of, is_of, is_accepted, left_by}
 use Rattle.shards.specs.Merge.{numbered, is_numbered_by, entries_of}
 use Rattle.shards.specs.Steps.{entry_of, numbered_entry}
 use Rattle.feeders.specs.Steps.{Taken}
 use Rattle.feeders.specs.Doings.{Doing, refused, nothing, entered, answered, taken_of, entered_in}
 use Rattle.commands.specs.Verdict.{edit_to, standing_after, IsRefused}
-use Rattle.commands.proofs.AloneReplies.{same_bare, refusal_of, one_reply, after_front, front_of}
+use Rattle.commands.proofs.AloneReplies.{same_bare, refusal_of, reply_after, one_reply, after_front, front_of}
 use Rattle.commands.proofs.AloneRefusals.{AreReplied, is_refusing}
 
 -- the plan of one feeder, one shard and the one register
@@ -130,25 +130,25 @@ pushed before front entry register edit number reply edits one =
     ∙ ap (map bare_edit) (sym (edits_more before (taken_of (entered register edit number reply)) edit (edit_here register edit one.own')))
 
 module _
-    (stands : (journal : List Entry) → IsLegalJournal alone_plan 0 journal → standing_of 0 journal ≡ standing alone_claim [] (edits_of 0 journal))
-    (reply_is : (ops : List Op) (edit : Edit) → reply_to alone_claim (map bare ops) (bare_edit edit) ≡ reply_to alone_claim ops edit)
-    (stood : (edits : List Edit) → map bare (standing alone_claim [] (map bare_edit edits)) ≡ map bare (standing alone_claim [] edits)) where
+    (stands : (journal : List Entry) → IsLegalJournal alone_plan 0 journal → left_by journal 0 alone_claim ≡ standing (unedited alone_claim) (edits_of 0 journal))
+    (reply_is : (claim : Terms) (ops : List Op) (edit : Edit) → reply_to claim (map bare ops) (bare_edit edit) ≡ reply_to claim ops edit)
+    (stood : (edits : List Edit) → bare_held (standing (unedited alone_claim) (map bare_edit edits)) ≡ bare_held (standing (unedited alone_claim) edits)) where
   replied_entry : (front : List Entry) (entry : Entry) (rest : List Entry) → IsLegalJournal alone_plan 0 (front ++ entry ∷ rest)
-      → not (is_accepted entry.reply) ≡ is_some (reply_to alone_claim (standing alone_claim [] (edits_of 0 front)) entry.edit)
+      → not (is_accepted entry.reply) ≡ is_some (reply_after (standing (unedited alone_claim) (edits_of 0 front)) entry.edit)
   replied_entry front entry rest legal =
       let is : IsAnswered alone_plan 0 front entry = after_front (IsAnswered alone_plan 0) [] front entry rest legal in
       let known : (entry.register.0 ≡ 0) × (is.claim ≡ alone_claim) = known_is entry.register.0 is.claim is.known in
-      let here : IsReply alone_claim (standing_of entry.register.0 front) entry.edit entry.reply = subst (λ (c : Terms). IsReply c (standing_of entry.register.0 front) entry.edit entry.reply) known.1 is.reply in
-      let zero_here : IsReply alone_claim (standing_of 0 front) entry.edit entry.reply = subst (λ (n : ℕ). IsReply alone_claim (standing_of n front) entry.edit entry.reply) known.0 here in
-      refusal_of alone_claim (standing_of 0 front) entry.edit entry.reply zero_here
-      ∙ ap (λ (ops : List Op). is_some (reply_to alone_claim ops entry.edit)) (stands front (front_of (IsAnswered alone_plan 0) [] front (entry ∷ rest) legal))
+      let here : IsReply (left_by front entry.register.0 alone_claim) entry.edit entry.reply = subst (λ (c : Terms). IsReply (left_by front entry.register.0 c) entry.edit entry.reply) known.1 is.reply in
+      let zero_here : IsReply (left_by front 0 alone_claim) entry.edit entry.reply = subst (λ (n : ℕ). IsReply (left_by front n alone_claim) entry.edit entry.reply) known.0 here in
+      refusal_of (left_by front 0 alone_claim) entry.edit entry.reply zero_here
+      ∙ ap (λ (held : Claimed). is_some (reply_after held entry.edit)) (stands front (front_of (IsAnswered alone_plan 0) [] front (entry ∷ rest) legal))
 
   entering : (before : List Taken) (front : List Entry) (entry : Entry) (journal : List Entry) (register : RegId) (edit : Edit) (number : ℕ) (reply : Reply) (doings : List Doing)
       → IsLegalJournal alone_plan 0 (front ++ entry ∷ journal) → map bare_edit (edits_of 0 front) ≡ map bare_edit (edits_after before) → IsOne entry register edit reply
       → Runs (before ++ taken_of (entered register edit number reply) ∷ []) (front ++ entry ∷ []) journal doings
       → Runs before front (entry ∷ journal) (entered register edit number reply ∷ doings)
   entering before front entry journal register edit number reply doings legal edits one rest =
-      let same : not (is_accepted reply) ≡ is_some (reply_to alone_claim (standing_after before) edit) =
+      let same : not (is_accepted reply) ≡ is_some (reply_after (standing_after before) edit) =
       ap (λ (r : Reply). not (is_accepted r)) (sym one.replies)
       ∙ replied_entry front entry journal legal
       ∙ ap is_some (one_reply alone_claim reply_is stood (edits_of 0 front) (edits_after before) entry.edit edit edits one.alike) in

@@ -48,7 +48,7 @@ checked (Some file) asked tower order closed logs chosen lefts AreTheir status o
 
 pub audited : (left : Option (List ℕ)) (audit : Audit) (status : ℕ) (old new : Option (List ℕ))
     → IsAudit left audit
-    → Appends old new (verdict_line audit.holds audit.operations)
+    → Appends old new (verdict_line audit.kind audit.holds audit.operations)
     → status ≡ status_of (is_some audit.broken) (not audit.holds) audit.refused
     → IfSome left (λ bytes. IsAudited bytes status old new)
 audited None audit status old new is written status_is = search rules
@@ -58,6 +58,7 @@ audited (Some input) audit status old new is written status_is = record {
   is_read = is.1;
   items = is.2.0;
   are = is.2.1;
+  kind = audit.kind;
   holds = audit.holds;
   refused = audit.refused;
   operations = audit.operations;

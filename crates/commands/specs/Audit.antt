@@ -11,7 +11,7 @@ use Rattle.commands.specs.Verdict.{IsVerdict}
 
 -- an audit says the verdict on the elements of a trace, up to its end or where it broke
 abbrev pub IsAuditOf : List ℕ → Audit → Type 0
-IsAuditOf trace audit = (items : List (Result Item FormFault)) × AreItems alone_tower Index trace audit.broken items × IsVerdict items audit.holds audit.refused audit.operations
+IsAuditOf trace audit = (items : List (Result Item FormFault)) × AreItems alone_tower Index trace audit.broken items × IsVerdict items audit.kind audit.holds audit.refused audit.operations
 
 -- an audit is that of what was read of a reader with these bytes left
 abbrev pub IsAudit : Option (List ℕ) → Audit → Type 0

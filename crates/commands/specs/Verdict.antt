@@ -1,9 +1,9 @@
 -- What the command `safe` prints of a trace, and its status.
 use Rattle.std.specs.Prelude.{◌≡◌, ◌↔◌, ◌==◌, ℕ, Bool, not, List, [], ◌∷◌, ◌++◌, length, filter_map, Option, Some, None, Result, Ok, Err, IsSome, IsTrue, is_some, codes, if◌then◌else◌}
 use Rattle.std.specs.Io.KnownBytes.{Appends}
-use Rattle.intervals.specs.declared.claim.Kind.TheVariants.{Safe}
+use Rattle.intervals.specs.declared.claim.Kind.{Kind}
 use Rattle.intervals.specs.declared.edit.Edit.{Edit}
-use Rattle.intervals.specs.declared.operation.Op.{Op}
+use Rattle.intervals.specs.Terms.{Claimed, unedited}
 use Rattle.intervals.specs.Kind.{Holds}
 use Rattle.intervals.specs.Refusal.{reply_to, standing}
 use Rattle.jepsen_form.specs.declared.fault.FormFault.{FormFault}
@@ -24,15 +24,15 @@ edit_to number (Ok None) = None
 edit_to number (Ok (Some (steps.Edit register edit))) = if register.0 == number then Some edit else None
 edit_to number (Ok (Some (steps.Ask register))) = None
 
--- the operations that stand of the register after steps
-abbrev pub standing_after : List Taken → List Op
-standing_after taken = standing alone_claim [] (filter_map (edit_to 0) taken)
+-- the register as steps leave it
+abbrev pub standing_after : List Taken → Claimed
+standing_after taken = standing (unedited alone_claim) (filter_map (edit_to 0) taken)
 
 -- a step behind these is refused: by its element's form, by the pairing, or by the register as it stands
 abbrev pub IsRefused : List Taken → Taken → Type 0
 IsRefused before (Err code) = Unit {0}
 IsRefused before (Ok None) = ⊥
-IsRefused before (Ok (Some (steps.Edit register edit))) = IsSome (reply_to alone_claim (standing_after before) edit)
+IsRefused before (Ok (Some (steps.Edit register edit))) = IsSome (reply_to (standing_after before).claim (standing_after before).ops edit)
 IsRefused before (Ok (Some (steps.Ask register))) = ⊥
 
 -- one of the steps is refused
@@ -43,15 +43,17 @@ pub record HasRefused (taken : List Taken) : Type 0 where
   pub parts : taken ≡ before ++ step ∷ rest
   pub refused : IsRefused before step
 
--- the verdict on what stands after these elements, how much stands, and whether one of them was refused
-pub record IsVerdict (items : List (Result Item FormFault)) (holds refused : Bool) (operations : ℕ) : Type 0 where
-  pub verdict : IsTrue holds ↔ Holds alone_claim (standing_after (steps_of 0 items))
-  pub count : operations ≡ length (standing_after (steps_of 0 items))
+-- the kind that the register claims to be after these elements, the verdict on what stands then, how much
+-- stands, and whether one of them was refused
+pub record IsVerdict (items : List (Result Item FormFault)) (kind : Kind) (holds refused : Bool) (operations : ℕ) : Type 0 where
+  pub kind_is : kind ≡ (standing_after (steps_of 0 items)).claim.kind
+  pub verdict : IsTrue holds ↔ Holds (standing_after (steps_of 0 items)).claim (standing_after (steps_of 0 items)).ops
+  pub count : operations ≡ length (standing_after (steps_of 0 items)).ops
   pub refusals : IsTrue refused ↔ HasRefused (steps_of 0 items)
 
 -- the line of the register, with its line end
-abbrev pub verdict_line : Bool → ℕ → List ℕ
-verdict_line holds operations = register_line (codes "r") Safe holds operations
+abbrev pub verdict_line : Kind → Bool → ℕ → List ℕ
+verdict_line kind holds operations = register_line (codes "r") kind holds operations
 
 -- an input was audited up to its end or its first fault, as far as it was read: whole, or a front of it where its
 -- reading broke off; the line was written, and the status says what it says
@@ -61,9 +63,10 @@ pub record IsAudited (input : List ℕ) (status : ℕ) (old new : Option (List �
   pub is_read : IsReadOf (Some input) broken read
   pub items : List (Result Item FormFault)
   pub are : AreItems alone_tower Index read broken items
+  pub kind : Kind
   pub holds : Bool
   pub refused : Bool
   pub operations : ℕ
-  pub verdict : IsVerdict items holds refused operations
-  pub written : Appends old new (verdict_line holds operations)
+  pub verdict : IsVerdict items kind holds refused operations
+  pub written : Appends old new (verdict_line kind holds operations)
   pub status_is : status ≡ status_of (is_some broken) (not holds) refused

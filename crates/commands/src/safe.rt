@@ -29,10 +29,11 @@ use std::unreachable;
 use tower_file::laws::text_of_one_register;
 use tower_file::{Tower, one_register};
 
-/// What is said of the trace of one register: whether it keeps its kind, how many operations stand, whether an
-/// element was refused, and where the trace broke.
+/// What is said of the trace of one register: the kind that it claims to be, whether it keeps that, how many
+/// operations stand, whether an element was refused, and where the trace broke.
 #[derive(Clone, Copy, Debug)]
 pub struct Audit {
+    pub kind: Kind,
     pub holds: bool,
     pub operations: u64,
     pub refused: bool,
@@ -115,6 +116,7 @@ fn the_tower(alloc: Global) -> Option<Tower>
 fn verdict_of(run: &Run) -> Audit
     requires one { length run.now.logs.items ≡ 1 }
     requires there { IsSome (book_of run.now.closed 0) }
+    ensures kind { (held : Claimed) → book_of run.now.closed 0 ≡ Some held → result.kind ≡ held.claim.kind }
     ensures holds { (held : Claimed) → book_of run.now.closed 0 ≡ Some held → IsTrue result.holds ↔ Holds held.claim held.ops }
     ensures operations { (held : Claimed) → book_of run.now.closed 0 ≡ Some held → result.operations ≡ length held.ops }
     ensures refused { (log : ALog) → run.now.logs.items ≡ log ∷ [] → result.refused ≡ has_refused log }
@@ -125,6 +127,7 @@ fn verdict_of(run: &Run) -> Audit
         unreachable!();
     };
     Audit {
+        kind: book.kind(),
         holds: book.holds(),
         operations: book.len() as u64,
         refused: is_refused(log),
@@ -134,9 +137,9 @@ fn verdict_of(run: &Run) -> Audit
 
 /// The line of the register.
 fn verdict_text(alloc: Global, audit: &Audit) -> Result<String, AllocError>
-    ensures { IfOk result (λ text. string_bytes text ≡ verdict_line audit.now.holds audit.now.operations) }
+    ensures { IfOk result (λ text. string_bytes text ≡ verdict_line audit.now.kind audit.now.holds audit.now.operations) }
 {
     let mut text = String::new(alloc);
-    push_register(&mut text, b"r", Kind::Safe, audit.holds, audit.operations)?;
+    push_register(&mut text, b"r", audit.kind, audit.holds, audit.operations)?;
     Ok(text)
 }

@@ -18,8 +18,8 @@ use Rattle.jepsen_form.specs.declared.item.Item.{Item}
 use Rattle.jepsen_form.specs.declared.item.MomentField.{MomentField}
 use Rattle.shards.specs.declared.entry.Entry.{Entry}
 use Rattle.shards.specs.Pass.{Passed, IsPassOf}
-use Rattle.shards.specs.Journal.{standing_of}
-use Rattle.shards.specs.Closing.{Ended, journal_of, book_of, left_by}
+use Rattle.shards.specs.Journal.{standing_of, left_by}
+use Rattle.shards.specs.Closing.{Ended, journal_of, book_of}
 use Rattle.feeders.specs.declared.log.Log.{Log}
 use Rattle.feeders.specs.Run.{IsTraced, IsRun, plan_of_run}
 use Rattle.feeders.specs.Texts.{Part, invocation, answer, amendment, text_of, text_in, settled, IsLastSettled, brought, Reading, IsPlaced, IsOfStep, IsLentAt, IsLentBehind, IsLentByTrace}

@@ -15,7 +15,7 @@ use Rattle.intervals.specs.declared.edit.Lent.TheVariants as lents
 use Rattle.intervals.specs.Operation.{same_id}
 use Rattle.intervals.specs.Edit.{op_of, edit_id, parts_with, changed, amended, edited}
 use Rattle.intervals.specs.Refusal.{first_refusal, moments_refusal}
-use Rattle.intervals.specs.Terms.{Terms}
+use Rattle.intervals.specs.Terms.{Claimed}
 use Rattle.intervals.proofs.Ids.{Decides-same_id_is, not_taken}
 use Rattle.intervals.proofs.Accepted.{edit_accepted}
 use Rattle.intervals.proofs.Found.{find-None}
@@ -24,7 +24,7 @@ use Rattle.register_book.specs.declared.reply.Reply.TheVariants.{Accepted, Refus
 use Rattle.register_book.specs.Reply.{IsReply}
 use Rattle.shards.specs.declared.entry.Entry.{Entry}
 use Rattle.shards.specs.Plan.{Plan}
-use Rattle.shards.specs.Journal.{EachAfter, IsAnswered, is_accepted, is_accepted_of, accepted_edits, stand, standing_of}
+use Rattle.shards.specs.Journal.{EachAfter, IsAnswered, is_accepted, is_accepted_of, accepted_edits, stand, standing_of, left_by}
 use Rattle.feeders.specs.Texts.{Part, invocation, answer, amendment, text_of, text_in, settled, IsEditOf, IsLastSettled}
 
 -- a change brings a part or leaves it as it was
@@ -135,9 +135,9 @@ module _ (register : ℕ) (journal : List Entry) (entry : Entry) where
         (other_id (edits.Withdraw id) (get_or kept k d) is (not_true (same_id (get_or kept k d).id id) (filter_passes keep ops k d lt)))
         (All-filter keep (AreLast register journal) ops last k d lt)
 
-  not_refused : (claim : Terms) (ops : List Op) (edit : Edit) (reply : Reply) → is_accepted reply ≡ true → IsReply claim ops edit reply → first_refusal ops edit ≡ None
-  not_refused claim ops edit (Accepted holds) e is = edit_accepted claim ops edit is.0
-  not_refused claim ops edit (Refused refusal) e is = absurd (cc)
+  not_refused : (held : Claimed) (edit : Edit) (reply : Reply) → is_accepted reply ≡ true → IsReply held edit reply → first_refusal held.ops edit ≡ None
+  not_refused held edit (Accepted holds) e is = edit_accepted held.claim held.ops edit is.0
+  not_refused held edit (Refused refusal) e is = absurd (cc)
 
   after_entry : (plan : Plan) (at : ℕ) → IsAnswered plan at journal entry → All (AreLast register journal) (standing_of register journal)
       → All (AreLast register (journal ++ entry ∷ [])) (standing_of register (journal ++ entry ∷ []))
@@ -148,7 +148,7 @@ module _ (register : ℕ) (journal : List Entry) (entry : Entry) where
           let two = both (entry.register.0 == register) (is_accepted entry.reply) e in
           let same : entry.register.0 ≡ register = eqb-true entry.register.0 register two.0 in
           after_edit e entry.edit (standing_of register journal) refl
-          (subst (λ (n : ℕ). first_refusal (standing_of n journal) entry.edit ≡ None) same (not_refused answered.claim (standing_of entry.register.0 journal) entry.edit entry.reply two.1 answered.reply))
+          (subst (λ (n : ℕ). first_refusal (standing_of n journal) entry.edit ≡ None) same (not_refused (left_by journal entry.register.0 answered.claim) entry.edit entry.reply two.1 answered.reply))
           last
       by_test false e = All-weaker (AreLast register journal) (AreLast register (journal ++ entry ∷ [])) (λ op l. stays_of_other op (λ is. let t = is.accepted in absurd (cc)) l) (standing_of register journal) last
 

@@ -15,7 +15,7 @@ use Rattle.intervals.specs.Terms.{Terms}
 use Rattle.intervals.specs.Operation.{Overlaps, IsWrite, is_write, overlaps, same_id, value_of}
 use Rattle.intervals.specs.Edit.{op_of, new_op}
 use Rattle.intervals.specs.Refusal.{first_of, refused_if, has_early_end, has_large_moment, is_in_domain, ends_by, is_at, is_moment_of, find_other_with, moment_taken, moments_refusal, amendment_refusal, first_refusal, may_write, is_overlapped, overlap_refusal, kind_refusal, new_write_refusal, reply_to}
-use Rattle.intervals.specs.Standing.{IsMomentOf, ShareNoMoment, IsHolder}
+use Rattle.intervals.specs.Standing.{IsMomentOf, ShareNoMoment, IsHolder, IsPermitted}
 use Rattle.intervals.proofs.Agreement.{Decides-overlaps}
 use Rattle.intervals.proofs.Found.{not_mapped, find-None}
 use Rattle.intervals.proofs.Holders.{none_exactly}
@@ -69,6 +69,10 @@ ends_late ops op e = by_end op.end (not_refused (has_early_end op) EndNotAfterBe
     by_end None e = tt
     by_end (Some end) e = not_at_most end.0 op.begin.0 e
 
+-- no moment of it is past the greatest
+pub moments_low : (ops : List Op) (op : Op) → moments_refusal ops op ≡ None → has_large_moment op ≡ false
+moments_low ops op e = not_refused (has_large_moment op) MomentTooLarge (moments_apart ops op e).3
+
 -- the test of a moment from the fact
 pub at_moment : (op : Op) (moment : Moment) → IsMomentOf op moment → is_moment_of op moment ≡ true
 at_moment op moment (inl e) = (Decides-or (op.begin.0 == moment.0) _ (Decides-eqb op.begin.0 moment.0) (λ t. t, λ t. t)).1 (inl (ap (λ (m : Moment). m.0) e))
@@ -100,20 +104,32 @@ shares_none ops new e k d lt f moment (inr is) h =
 pub edit_accepted : (claim : Terms) (ops : List Op) (edit : Edit) → reply_to claim ops edit ≡ None → first_refusal ops edit ≡ None
 edit_accepted claim ops edit e = (none_of_two (first_refusal ops edit) (new_write_refusal claim ops (new_op ops edit)) e).0
 
--- where it is a write, its register's kind does not refuse it
-pub kind_accepted : (claim : Terms) (ops : List Op) (edit : Edit) (new : Op) → reply_to claim ops edit ≡ None → new_op ops edit ≡ Some new → IsWrite new → kind_refusal claim.kind claim ops new ≡ None
-kind_accepted claim ops edit new e is write =
+not_false : (test : Bool) → not test ≡ false → test ≡ true
+not_false true e = refl
+not_false false e = absurd (cc)
+
+-- where it is a write, the claim allows it and its register's kind does not refuse it
+pub write_accepted : (claim : Terms) (ops : List Op) (edit : Edit) (new : Op) → reply_to claim ops edit ≡ None → new_op ops edit ≡ Some new → IsWrite new → IsPermitted claim new × (kind_refusal claim.kind claim ops new ≡ None)
+write_accepted claim ops edit new e is write =
     let accepted = (none_of_two (first_refusal ops edit) (new_write_refusal claim ops (new_op ops edit)) e).1 in
     by_cases (is_write new) write (sym (ap (new_write_refusal claim ops) is) ∙ accepted)
   where
-    writer : Option Refusal
-    writer = refused_if (not (may_write claim.writers new.process)) NotAWriter
+    is_writer : Bool
+    is_writer = may_write claim.writers new.process
 
-    value : Option Refusal
-    value = refused_if (not (is_in_domain claim.domain (value_of new.act))) OutOfDomain
+    has_value : Bool
+    has_value = is_in_domain claim.domain (value_of new.act)
 
-    by_cases : (t : Bool) → t ≡ true → cond t (first_of (writer ∷ kind_refusal claim.kind claim ops new ∷ value ∷ [])) None ≡ None → kind_refusal claim.kind claim ops new ≡ None
-    by_cases true t one = (none_of_three writer (kind_refusal claim.kind claim ops new) value one).1
+    by_cases : (t : Bool) → t ≡ true → cond t (first_of (refused_if (not is_writer) NotAWriter ∷ kind_refusal claim.kind claim ops new ∷ refused_if (not has_value) OutOfDomain ∷ [])) None ≡ None
+        → IsPermitted claim new × (kind_refusal claim.kind claim ops new ≡ None)
+    by_cases true t one =
+        let none = none_of_three (refused_if (not is_writer) NotAWriter) (kind_refusal claim.kind claim ops new) (refused_if (not has_value) OutOfDomain) one in (
+          record {
+            writer = not_false is_writer (not_refused (not is_writer) NotAWriter none.0);
+            value = not_false has_value (not_refused (not has_value) OutOfDomain none.2);
+          },
+          none.1,
+        )
     by_cases false t one = absurd (cc)
 
 not_overlapped : (ops : List Op) (new : Op) → overlap_refusal ops new ≡ None → All (λ other. same_id other.id new.id ≡ false → IsWrite other → ¬ Overlaps new other) ops

@@ -8,9 +8,9 @@ use Rattle.intervals.specs.declared.operation.Value.{Value}
 use Rattle.intervals.specs.declared.edit.Edit.{Edit}
 use Rattle.intervals.specs.declared.claim.Kind.{Kind}
 use Rattle.intervals.specs.declared.claim.Kind.TheVariants.{Safe, Regular, Atomic}
-use Rattle.intervals.specs.Terms.{Terms}
+use Rattle.intervals.specs.Terms.{Terms, Claimed, unedited}
 use Rattle.intervals.specs.Operation.{Precedes, judged}
-use Rattle.intervals.specs.Bare.{bare, bare_edit}
+use Rattle.intervals.specs.Bare.{bare, bare_edit, bare_held}
 use Rattle.intervals.specs.Refusal.{standing}
 use Rattle.intervals.specs.Kind.{KeepsPrecedence, ReadsNearest, value_after, IsAtomic, Keeps, Holds}
 use Rattle.intervals.proofs.JudgedAlone.{is_judged}
@@ -99,20 +99,25 @@ keeps_both Atomic claim ops = (IsAtomic-back claim ops, IsAtomic-bare claim ops)
 pub Holds-bare : (claim : Terms) (ops : List Op) → Holds claim (map bare ops) ↔ Holds claim ops
 Holds-bare claim ops = keeps_both claim.kind claim ops
 
-pub standing_bare : (claim : Terms) (edits : List Edit) → map bare (standing claim [] (map bare_edit edits)) ≡ map bare (standing claim [] edits)
-standing_bare claim edits = standing_alike claim [] [] edits refl
+pub standing_bare : (claim : Terms) (edits : List Edit) → bare_held (standing (unedited claim) (map bare_edit edits)) ≡ bare_held (standing (unedited claim) edits)
+standing_bare claim edits = standing_alike (unedited claim) (unedited claim) edits refl
 
--- of lists that are the same without their texts
-holds_alike : (claim : Terms) (xs ys : List Op) → map bare xs ≡ map bare ys → Holds claim xs → Holds claim ys
-holds_alike claim xs ys e h = (Holds-bare claim ys).0 (subst (Holds claim) e ((Holds-bare claim xs).1 h))
+-- of what is held twice, the same without its texts
+holds_alike : (one other : Claimed) → bare_held one ≡ bare_held other → Holds one.claim one.ops → Holds other.claim other.ops
+holds_alike one other e h =
+    (Holds-bare other.claim other.ops).0 (subst (λ (held : Claimed). Holds held.claim held.ops) e ((Holds-bare one.claim one.ops).1 h))
 
 length_alike : (xs ys : List Op) → map bare xs ≡ map bare ys → length xs ≡ length ys
 length_alike xs ys e = sym (length-map xs bare) ∙ ap length e ∙ length-map ys bare
 
 pub decided_alike : (claim : Terms) (edits others : List Edit) → map bare_edit edits ≡ map bare_edit others
-    → (Holds claim (standing claim [] edits) ↔ Holds claim (standing claim [] others)) × (length (standing claim [] edits) ≡ length (standing claim [] others))
+    → let one = standing (unedited claim) edits in let other = standing (unedited claim) others in
+    (one.claim ≡ other.claim) × (Holds one.claim one.ops ↔ Holds other.claim other.ops) × (length one.ops ≡ length other.ops)
 decided_alike claim edits others e =
-    let xs = standing claim [] edits in
-    let ys = standing claim [] others in
-    let same : map bare xs ≡ map bare ys = sym (standing_bare claim edits) ∙ ap (λ (l : List Edit). map bare (standing claim [] l)) e ∙ standing_bare claim others in
-    ((holds_alike claim xs ys same, holds_alike claim ys xs (sym same)), length_alike xs ys same)
+    let one = standing (unedited claim) edits in
+    let other = standing (unedited claim) others in
+    let same : bare_held one ≡ bare_held other = sym (standing_bare claim edits) ∙ ap (λ (l : List Edit). bare_held (standing (unedited claim) l)) e ∙ standing_bare claim others in (
+      ap (λ (held : Claimed). held.claim) same,
+      (holds_alike one other same, holds_alike other one (sym same)),
+      length_alike one.ops other.ops (ap (λ (held : Claimed). held.ops) same),
+    )

@@ -15,12 +15,12 @@ use Rattle.intervals.specs.declared.claim.Kind.TheVariants.{Safe, Regular, Atomi
 use Rattle.intervals.specs.declared.claim.Holder.TheVariants as holders
 use Rattle.intervals.specs.declared.refusal.Refusal.{Refusal}
 use Rattle.intervals.specs.declared.refusal.Refusal.TheVariants.{UnknownOp, OpTaken, MomentTaken, WritesOverlap, ValueTaken}
-use Rattle.intervals.specs.Terms.{Terms}
+use Rattle.intervals.specs.Terms.{Terms, Claimed}
 use Rattle.intervals.specs.Operation.{is_judged_read, same_id, same_value, value_of}
 use Rattle.intervals.specs.Edit.{op_of, amended, changed, edited}
-use Rattle.intervals.specs.Bare.{bare, bare_change, bare_edit}
+use Rattle.intervals.specs.Bare.{bare, bare_change, bare_edit, bare_held}
 use Rattle.intervals.specs.Least.{is_less, less_of, least_from}
-use Rattle.intervals.specs.Refusal.{first_of, is_moment_of, find_other_with, moment_taken, moments_refusal, amendment_refusal, is_overlapped, overlap_refusal, is_holder, value_refusal, kind_refusal, write_refusal, new_write_refusal, reply_to, after_edit, standing}
+use Rattle.intervals.specs.Refusal.{first_of, is_moment_of, find_other_with, moment_taken, moments_refusal, amendment_refusal, is_overlapped, overlap_refusal, is_holder, value_refusal, kind_refusal, write_refusal, new_write_refusal, reply_to, carried_out, after_edit, standing}
 use Rattle.intervals.specs.Judging.{later_of, last_from, is_returned_at, returns_of, returns_last, is_write_over, is_returned_over, is_right_read, is_wrong_read, end_number, first_wrong}
 use Rattle.intervals.specs.Kind.{IsSafe, IsRegular}
 use Rattle.intervals.proofs.Found.{not_mapped}
@@ -215,24 +215,27 @@ edited_bare ops (Withdraw id) =
     let test : Op → Bool = λ op. not (same_id op.id id) in
     ap (map bare) (filter_bare test test (λ op. refl) ops) ∙ twice_bare (filter test ops)
 
-after_bare : (claim : Terms) (ops : List Op) (edit : Edit) → map bare (after_edit claim (map bare ops) (bare_edit edit)) ≡ map bare (after_edit claim ops edit)
-after_bare claim ops edit = ap after (reply_to-bare claim ops edit) ∙ by_cases (is_some (reply_to claim ops edit))
+after_bare : (held : Claimed) (edit : Edit) → bare_held (after_edit (bare_held held) (bare_edit edit)) ≡ bare_held (after_edit held edit)
+after_bare held edit = ap after (reply_to-bare held.claim held.ops edit) ∙ by_cases (is_some (reply_to held.claim held.ops edit))
   where
-    after : Option Refusal → List Op
-    after reply = map bare (cond (is_some reply) (map bare ops) (edited (map bare ops) (bare_edit edit)))
+    after : Option Refusal → Claimed
+    after reply = bare_held (cond (is_some reply) (bare_held held) (carried_out (bare_held held) (bare_edit edit)))
 
-    by_cases : (b : Bool) → map bare (cond b (map bare ops) (edited (map bare ops) (bare_edit edit))) ≡ map bare (cond b ops (edited ops edit))
-    by_cases true = twice_bare ops
-    by_cases false = edited_bare ops edit
+    with : List Op → Claimed
+    with ops = record { claim = held.claim; ops = ops }
 
--- lists that are the same without their texts, after one edit
-after_alike : (claim : Terms) (xs ys : List Op) (edit : Edit) → map bare xs ≡ map bare ys → map bare (after_edit claim xs (bare_edit edit)) ≡ map bare (after_edit claim ys edit)
-after_alike claim xs ys edit e =
-    sym (after_bare claim xs (bare_edit edit))
-    ∙ (λ i. map bare (after_edit claim (e i) (bare_edit-twice edit i)))
-    ∙ after_bare claim ys edit
+    by_cases : (b : Bool) → bare_held (cond b (bare_held held) (carried_out (bare_held held) (bare_edit edit))) ≡ bare_held (cond b held (carried_out held edit))
+    by_cases true = ap with (twice_bare held.ops)
+    by_cases false = ap with (edited_bare held.ops edit)
 
-pub standing_alike : (claim : Terms) (xs ys : List Op) (edits : List Edit) → map bare xs ≡ map bare ys → map bare (standing claim xs (map bare_edit edits)) ≡ map bare (standing claim ys edits)
-standing_alike claim xs ys [] e = e
-standing_alike claim xs ys (edit ∷ edits) e =
-    standing_alike claim (after_edit claim xs (bare_edit edit)) (after_edit claim ys edit) edits (after_alike claim xs ys edit e)
+-- what is held twice, the same without its texts, after one edit
+after_alike : (one other : Claimed) (edit : Edit) → bare_held one ≡ bare_held other → bare_held (after_edit one (bare_edit edit)) ≡ bare_held (after_edit other edit)
+after_alike one other edit e =
+    sym (after_bare one (bare_edit edit))
+    ∙ (λ i. bare_held (after_edit (e i) (bare_edit-twice edit i)))
+    ∙ after_bare other edit
+
+pub standing_alike : (one other : Claimed) (edits : List Edit) → bare_held one ≡ bare_held other → bare_held (standing one (map bare_edit edits)) ≡ bare_held (standing other edits)
+standing_alike one other [] e = e
+standing_alike one other (edit ∷ edits) e =
+    standing_alike (after_edit one (bare_edit edit)) (after_edit other edit) edits (after_alike one other edit e)

@@ -1,5 +1,5 @@
 -- Operations and edits without the texts that they were read from.
-use Rattle.std.specs.Prelude.{ℕ, List, [], None}
+use Rattle.std.specs.Prelude.{ℕ, List, [], map, None}
 use Rattle.std.specs.Borrow.{Bor}
 use Rattle.intervals.specs.declared.operation.Op.{Op}
 use Rattle.intervals.specs.declared.operation.Parts.{Parts}
@@ -7,6 +7,7 @@ use Rattle.intervals.specs.declared.edit.Change.{Change}
 use Rattle.intervals.specs.declared.edit.Lent.TheVariants.{Answer}
 use Rattle.intervals.specs.declared.edit.Edit.{Edit}
 use Rattle.intervals.specs.declared.edit.Edit.TheVariants.{Append, Amend, Withdraw}
+use Rattle.intervals.specs.Terms.{Claimed}
 
 -- an empty text
 abbrev pub no_text : Bor (List ℕ)
@@ -29,3 +30,7 @@ abbrev pub bare_edit : Edit → Edit
 bare_edit (Append op) = Append (bare op)
 bare_edit (Amend id change) = Amend id (bare_change change)
 bare_edit (Withdraw id) = Withdraw id
+
+-- what is held, without the texts of its operations
+abbrev pub bare_held : Claimed → Claimed
+bare_held held = record { claim = held.claim; ops = map bare held.ops }

@@ -8,7 +8,7 @@ use Rattle.intervals.specs.declared.operation.Moment.{Moment}
 use Rattle.intervals.specs.declared.operation.Value.{Value}
 use Rattle.intervals.specs.declared.edit.Edit.{Edit}
 use Rattle.intervals.specs.declared.edit.Edit.TheVariants.{Append, Amend, Withdraw}
-use Rattle.intervals.specs.Terms.{Terms}
+use Rattle.intervals.specs.Terms.{Terms, Claimed}
 use Rattle.intervals.specs.declared.claim.Kind.{Kind}
 use Rattle.intervals.specs.declared.claim.Kind.TheVariants.{Safe, Regular, Atomic}
 use Rattle.intervals.specs.declared.claim.Holder.TheVariants as holders
@@ -148,11 +148,15 @@ new_write_refusal claim ops (Some op) = write_refusal claim ops op
 abbrev pub reply_to : Terms → List Op → Edit → Option Refusal
 reply_to claim ops edit = first_of (first_refusal ops edit ∷ new_write_refusal claim ops (new_op ops edit) ∷ [])
 
--- what stands after one edit, accepted or not
-abbrev pub after_edit : Terms → List Op → Edit → List Op
-after_edit claim ops edit = if is_some (reply_to claim ops edit) then ops else edited ops edit
+-- what is held after an edit that is carried out
+abbrev pub carried_out : Claimed → Edit → Claimed
+carried_out held edit = record { claim = held.claim; ops = edited held.ops edit }
 
--- what stands of a register after a list of edits
-abbrev pub standing : Terms → List Op → List Edit → List Op
-standing claim ops [] = ops
-standing claim ops (edit ∷ edits) = standing claim (after_edit claim ops edit) edits
+-- what is held after one edit, accepted or not
+abbrev pub after_edit : Claimed → Edit → Claimed
+after_edit held edit = if is_some (reply_to held.claim held.ops edit) then held else carried_out held edit
+
+-- what is held of a register after a list of edits
+abbrev pub standing : Claimed → List Edit → Claimed
+standing held [] = held
+standing held (edit ∷ edits) = standing (after_edit held edit) edits

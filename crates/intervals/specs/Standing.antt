@@ -1,11 +1,14 @@
 -- What the reply rule keeps of the operations that stand.
-use Rattle.std.specs.Prelude.{◌≡◌, ◌≢◌, ◌<◌, ◌⊎◌, List, [], ◌∷◌, Some, None, All, IfSome}
+use Rattle.std.specs.Prelude.{◌≡◌, ◌≢◌, ◌<◌, ◌⊎◌, true, false, List, [], ◌∷◌, Some, None, All, IfSome}
 use Rattle.std.specs.List.{AllPairs}
 use Rattle.intervals.specs.declared.operation.Op.{Op}
 use Rattle.intervals.specs.declared.operation.Moment.{Moment}
 use Rattle.intervals.specs.declared.operation.Value.{Value}
+use Rattle.intervals.specs.declared.claim.Kind.TheVariants.{Atomic}
 use Rattle.intervals.specs.Operation.{IsWrite, Overlaps, value_of}
 use Rattle.intervals.specs.Edit.{op_of}
+use Rattle.intervals.specs.Refusal.{has_large_moment, may_write, is_in_domain}
+use Rattle.intervals.specs.Terms.{Terms}
 
 -- no two operations have one id
 abbrev pub HasDistinctIds : List Op → Type 0
@@ -44,3 +47,19 @@ IsHolder op other = (other.id ≢ op.id) × IsWrite other × (value_of other.act
 pub record HasDistinctValues (initial : Value) (ops : List Op) : Type 0 where
   pub apart : AllPairs (λ v w. IsWrite v → IsWrite w → value_of v.act ≢ value_of w.act) ops
   pub new : All (λ w. IsWrite w → value_of w.act ≢ initial) ops
+
+-- the claim allows the write: its process is a writer, and its value is in the domain
+pub record IsPermitted (claim : Terms) (w : Op) : Type 0 where
+  pub writer : may_write claim.writers w.process ≡ true
+  pub value : is_in_domain claim.domain (value_of w.act) ≡ true
+
+-- what the reply rule keeps of the operations that stand under a claim: ids, moments and ends; each moment
+-- is at most the greatest, and each write is allowed; and what the claimed kind asks of the writes
+pub record StandApart (claim : Terms) (ops : List Op) : Type 0 where
+  pub ids : HasDistinctIds ops
+  pub moments : HasDistinctMoments ops
+  pub ends : HasEndsAfterBeginnings ops
+  pub low : All (λ op. has_large_moment op ≡ false) ops
+  pub allowed : All (λ w. IsWrite w → IsPermitted claim w) ops
+  pub writes : claim.kind ≢ Atomic → HasNoOverlappingWrites ops
+  pub values : claim.kind ≡ Atomic → HasDistinctValues claim.initial ops

@@ -1,5 +1,5 @@
 -- What a claim says, apart from where its lists lie in memory.
-use Rattle.std.specs.Prelude.{ℤ, List, Option, Some, None, option_map, Vec}
+use Rattle.std.specs.Prelude.{ℤ, List, [], Option, Some, None, option_map, Vec}
 use Rattle.std.specs.declared.alloc.Global.{Global}
 use Rattle.intervals.specs.declared.operation.Op.{Op}
 use Rattle.intervals.specs.declared.operation.Value.{Value}
@@ -34,3 +34,7 @@ terms_of claim = record {
 pub record Claimed : Type 0 where
   pub claim : Terms
   pub ops : List Op
+
+-- a claim under which no operation is held yet
+abbrev pub unedited : Terms → Claimed
+unedited claim = record { claim = claim; ops = [] }

@@ -9,15 +9,15 @@ ghost use Rattle.intervals.specs.declared.claim.Holder.TheVariants as holders;
 ghost use Rattle.intervals.specs.declared.edit.Edit.{Edit};
 ghost use Rattle.intervals.specs.declared.edit.Edit.TheVariants.{Append, Withdraw};
 ghost use Rattle.intervals.specs.declared.operation.Value.{Value};
-ghost use Rattle.intervals.specs.Terms.{Terms};
+ghost use Rattle.intervals.specs.Terms.{Terms, Claimed, unedited};
 ghost use Rattle.intervals.specs.declared.claim.Kind.TheVariants.{Safe, Regular, Atomic};
 ghost use Rattle.intervals.specs.declared.operation.Act.TheVariants.{Read, Write};
 ghost use Rattle.intervals.specs.declared.operation.Value.TheVariants.{Nil};
 ghost use Rattle.intervals.specs.Operation.{Precedes, Overlaps, IsJudgedRead, value_of, judged, writes};
 ghost use Rattle.intervals.specs.Edit.{op_of};
-ghost use Rattle.intervals.specs.Bare.{bare, bare_edit};
-ghost use Rattle.intervals.specs.Refusal.{first_refusal, moments_refusal, moment_taken, write_refusal, overlap_refusal, is_overlapped, value_refusal, reply_to, standing};
-ghost use Rattle.intervals.specs.Standing.{HasDistinctIds, HasDistinctMoments, HasEndsAfterBeginnings, HasNoOverlappingWrites, HasDistinctValues, IsHolder, IsMomentHolder};
+ghost use Rattle.intervals.specs.Bare.{bare, bare_edit, bare_held};
+ghost use Rattle.intervals.specs.Refusal.{first_refusal, moments_refusal, moment_taken, write_refusal, overlap_refusal, is_overlapped, value_refusal, reply_to, carried_out, standing};
+ghost use Rattle.intervals.specs.Standing.{StandApart, IsHolder, IsMomentHolder};
 ghost use Rattle.intervals.specs.Least.{IsLeast, least_by};
 ghost use Rattle.intervals.specs.Kind.{IsSafe, IsRegular, IsSafeRead, IsRegularRead, Arranges, Holds};
 ghost use Rattle.intervals.specs.Judging.{first_wrong, is_wrong_read, end_number};
@@ -83,14 +83,14 @@ pub fn taken_values_have_a_holder()
 {}
 
 /// What the reply rule keeps, after any edits from nothing: no two operations have one id, nor a
-/// moment in common; each end is after its beginning; on a safe or regular register no two writes
-/// overlap, and on an atomic one no two have one value, nor one the initial value.
+/// moment in common; each end is after its beginning, and no moment is past the greatest; each write is
+/// one that the claim allows; on a safe or regular register no two writes overlap, and on an atomic one
+/// no two have one value, nor one the initial value. Each accepted edit keeps it, and the claim stays.
 pub fn edits_keep_operations_apart()
-    ensures ids { (claim : Terms) (edits : List Edit) → HasDistinctIds (standing claim [] edits) }
-    ensures moments { (claim : Terms) (edits : List Edit) → HasDistinctMoments (standing claim [] edits) }
-    ensures ends { (claim : Terms) (edits : List Edit) → HasEndsAfterBeginnings (standing claim [] edits) }
-    ensures writes { (claim : Terms) (edits : List Edit) → claim.kind ≢ Atomic → HasNoOverlappingWrites (standing claim [] edits) }
-    ensures values { (claim : Terms) (edits : List Edit) → claim.kind ≡ Atomic → HasDistinctValues claim.initial (standing claim [] edits) }
+    ensures apart { (claim : Terms) (edits : List Edit) → let held = standing (unedited claim) edits in StandApart held.claim held.ops }
+    ensures carried_out { (held : Claimed) (edit : Edit) → StandApart held.claim held.ops → reply_to held.claim held.ops edit ≡ None
+        → let after = carried_out held edit in StandApart after.claim after.ops }
+    ensures claim { (claim : Terms) (edits : List Edit) → (standing (unedited claim) edits).claim ≡ claim }
 {}
 
 /// Reads without an end change no verdict and no refusal of a write.
@@ -111,10 +111,11 @@ pub fn writes_alone_decide()
 /// The texts that operations lend decide no reply and no verdict, and of what stands only its texts.
 pub fn texts_decide_nothing()
     ensures reply { (claim : Terms) (ops : List Op) (edit : Edit) → reply_to claim (map bare ops) (bare_edit edit) ≡ reply_to claim ops edit }
-    ensures standing { (claim : Terms) (edits : List Edit) → map bare (standing claim [] (map bare_edit edits)) ≡ map bare (standing claim [] edits) }
+    ensures standing { (claim : Terms) (edits : List Edit) → bare_held (standing (unedited claim) (map bare_edit edits)) ≡ bare_held (standing (unedited claim) edits) }
     ensures verdict { (claim : Terms) (ops : List Op) → Holds claim (map bare ops) ↔ Holds claim ops }
     ensures alike { (claim : Terms) (edits others : List Edit) → map bare_edit edits ≡ map bare_edit others
-        → (Holds claim (standing claim [] edits) ↔ Holds claim (standing claim [] others)) × (length (standing claim [] edits) ≡ length (standing claim [] others)) }
+        → let one = standing (unedited claim) edits in let other = standing (unedited claim) others in
+        (one.claim ≡ other.claim) × (Holds one.claim one.ops ↔ Holds other.claim other.ops) × (length one.ops ≡ length other.ops) }
 {}
 
 /// Safe registers: which reads are right after a write, and within one.
@@ -171,8 +172,8 @@ pub fn worked_writes()
 
 /// What stands after edits; a refused one changes nothing.
 pub fn worked_edits()
-    ensures stands { standing (claim_of Safe (number 0) None) [] edits_with_refused_ones ≡ mended (from_to 0 (Write (number 1)) 0 9) ∷ op 4 (Read Nil) 4 None ∷ [] }
-    ensures found { op_of (standing (claim_of Safe (number 0) None) [] edits_with_refused_ones) (place 1) ≡ None }
+    ensures stands { (standing (unedited (claim_of Safe (number 0) None)) edits_with_refused_ones).ops ≡ mended (from_to 0 (Write (number 1)) 0 9) ∷ op 4 (Read Nil) 4 None ∷ [] }
+    ensures found { op_of (standing (unedited (claim_of Safe (number 0) None)) edits_with_refused_ones).ops (place 1) ≡ None }
     ensures overlaps { Overlaps (from_to 0 (Write (number 1)) 0 9) (op 1 (Read Nil) 2 None) }
     ensures precedes { Precedes (from_to 0 (Write (number 1)) 0 9) (op 1 (Read Nil) 10 None) }
 {}

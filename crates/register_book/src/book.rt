@@ -1,10 +1,10 @@
 ghost use Rattle.std.specs.Prelude.{◌≡◌, ◌≢◌, ◌↔◌, ◌+◌, ◌≤◌, [], All, Some, None, length, IfOk, IfSome, OnOk, OnErr, IsNone, IsSome, IsTrue, option_copied};
 ghost use Rattle.intervals.specs.Terms.{terms_of};
-ghost use Rattle.intervals.specs.Edit.{op_of, edited, new_op};
-ghost use Rattle.intervals.specs.Refusal.{reply_to, after_edit};
+ghost use Rattle.intervals.specs.Edit.{op_of, new_op};
+ghost use Rattle.intervals.specs.Refusal.{reply_to, carried_out, after_edit};
 ghost use Rattle.intervals.specs.Kind.{Holds};
 ghost use Rattle.zones.specs.Turn.{IsOrder};
-ghost use Rattle.register_book.specs.Kept.{most_steps};
+ghost use Rattle.register_book.specs.Kept.{claimed_of, most_steps};
 ghost use Rattle.register_book.specs.Reply.{IsReply};
 ghost use Rattle.register_book.specs.declared.fault.Witness.{Witness as AWitness};
 ghost use Rattle.register_book.specs.Fault.{IsWitness, ids_of, operations_of};
@@ -28,12 +28,12 @@ impl<'t> Model for RegisterBook<'t> {
 
     ghost Value = { Kept };
 
-    ghost use Rattle.intervals.specs.Standing.{HasDistinctIds};
+    ghost use Rattle.intervals.specs.Standing.{StandApart};
     ghost use Rattle.register_book.specs.Judge.{held_by, IsOfItsKind, HasNonePrepared};
 
     ghost view = { λ b. held_by b.judge };
 
-    ghost invariant = { λ b. IsOfItsKind b.judge × HasNonePrepared b.judge × HasDistinctIds (held_by b.judge).ops };
+    ghost invariant = { λ b. IsOfItsKind b.judge × HasNonePrepared b.judge × StandApart (held_by b.judge).claim (held_by b.judge).ops };
 }
 
 impl<'t> RegisterBook<'t> {
@@ -45,6 +45,13 @@ impl<'t> RegisterBook<'t> {
         Ok(RegisterBook {
             judge: Judge::new(alloc, claim)?,
         })
+    }
+
+    /// The kind that the register claims to be.
+    pub fn kind(&self) -> Kind
+        ensures { result ≡ self.now.claim.kind }
+    {
+        self.judge.kind()
     }
 
     /// How many operations stand, unfinished ones among them.
@@ -64,8 +71,8 @@ impl<'t> RegisterBook<'t> {
     /// Carries an edit out and says whether the register holds since, or says why it is refused. To
     /// withdraw an operation takes no memory.
     pub fn apply(&mut self, edit: Edit<'t>) -> Result<Reply, Memory>
-        ensures reply { IfOk result (λ reply. IsReply self.old.claim self.old.ops edit.entry reply) }
-        ensures after { OnOk result (self.new ≡ record self.old { ops = after_edit self.old.claim self.old.ops edit.entry; steps = self.new.steps }) }
+        ensures reply { IfOk result (λ reply. IsReply (claimed_of self.old) edit.entry reply) }
+        ensures after { OnOk result (claimed_of self.new ≡ after_edit (claimed_of self.old) edit.entry) }
         ensures err { OnErr result (self.new ≡ self.old) }
         ensures memory { OnErr result (reply_to self.old.claim self.old.ops edit.entry ≡ None) }
         ensures withdrawal { OnErr result (IsSome (new_op self.old.ops edit.entry)) }
@@ -83,7 +90,7 @@ impl<'t> RegisterBook<'t> {
 
     fn carry_out(&mut self, edit: Edit<'t>) -> Result<(), Memory>
         requires { reply_to self.old.claim self.old.ops edit ≡ None }
-        ensures ok { OnOk result (self.new ≡ record self.old { ops = edited self.old.ops edit.entry; steps = self.new.steps }) }
+        ensures ok { OnOk result (claimed_of self.new ≡ carried_out (claimed_of self.old) edit.entry) }
         ensures err { OnErr result (self.new ≡ self.old) }
         ensures memory { OnErr result (IsSome (new_op self.old.ops edit.entry)) }
         ensures steps { self.new.steps ≤ self.old.steps + most_steps self.old.claim self.old.ops }

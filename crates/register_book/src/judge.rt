@@ -40,6 +40,15 @@ impl<'t> Judge<'t> {
         }
     }
 
+    pub fn kind(&self) -> Kind
+        ensures { result ≡ (held_by self.now).claim.kind }
+    {
+        match self {
+            Judge::One(judge) => judge.claim().kind,
+            Judge::Many(clusters) => clusters.claim().kind,
+        }
+    }
+
     pub fn operations(&self) -> &OpTable<'t>
         ensures { result.now.ops ≡ (held_by self.now).ops }
     {

@@ -5,7 +5,7 @@ ghost use Rattle.intervals.specs.declared.operation.Op.{Op};
 ghost use Rattle.intervals.specs.declared.edit.Edit.{Edit};
 ghost use Rattle.intervals.specs.declared.claim.Kind.TheVariants.{Atomic};
 ghost use Rattle.intervals.specs.declared.operation.Value.TheVariants.{Nil};
-ghost use Rattle.intervals.specs.Terms.{Terms};
+ghost use Rattle.intervals.specs.Terms.{Terms, unedited};
 ghost use Rattle.intervals.specs.Edit.{op_of};
 ghost use Rattle.intervals.specs.Refusal.{standing};
 ghost use Rattle.intervals.specs.Standing.{HasDistinctIds, HasDistinctMoments, HasDistinctValues};
@@ -42,8 +42,8 @@ pub fn a_witness_excludes_every_arrangement()
         → IsExcluding claim.initial ops witness }
     ensures excludes { (claim : Terms) (ops : List Op) (witness : Witness) → HasDistinctValues claim.initial ops → IsExcluding claim.initial ops witness
         → ¬ IsAtomic claim ops }
-    ensures after_edits { (claim : Terms) (edits : List Edit) (witness : Witness) → claim.kind ≡ Atomic → IsExcluding claim.initial (standing claim [] edits) witness
-        → ¬ Holds claim (standing claim [] edits) }
+    ensures after_edits { (claim : Terms) (edits : List Edit) (witness : Witness) → let held = standing (unedited claim) edits in held.claim.kind ≡ Atomic
+        → IsExcluding held.claim.initial held.ops witness → ¬ Holds held.claim held.ops }
 {
     first_unwritten_ended_first();
     first_early_ended_first();

@@ -1,40 +1,52 @@
 -- What is found of the registers, by number.
-use Rattle.std.proofs.Common.{◌≡◌, ◌∙◌, ◌≤◌, ◌<◌, ℕ, zero, suc, ◌+◌, Bool, true, false, List, [], ◌∷◌, ◌++◌, length, Option, Some, None, refl, sym, ap, subst, arith}
+use Rattle.std.proofs.Common.{◌≡◌, ◌∙◌, ◌≤◌, ◌<◌, ◌%◌, ℕ, zero, suc, ◌+◌, Bool, true, false, List, [], ◌∷◌, ◌++◌, length, Option, Some, None, refl, sym, ap, subst, arith}
 use Rattle.std.proofs.lemmas.Bool.{true≢false, false≢true}
 use Rattle.std.proofs.lemmas.List.{length-append, map-append}
-use Rattle.std.proofs.lemmas.Option.{none-some, same_Some, slice_get_past}
+use Rattle.std.proofs.lemmas.Option.{none-some, same_Some, slice_get_past, slice_get-map}
 use Rattle.std.specs.Prelude.{IsSomeAnd, IsSome, option_map, is_some, is_none, not}
 use Rattle.std.specs.Option.{option_map_or}
 use Rattle.std.specs.List.{slice_get}
 use Rattle.intervals.specs.Terms.{Claimed}
 use Rattle.intervals.specs.Kind.{Holds}
 use Rattle.tower_file.specs.Contents.{Contents, Register}
-use Rattle.shards.specs.Closing.{Ended, book_of}
+use Rattle.jepsen_form.specs.declared.item.MomentField.{MomentField}
+use Rattle.shards.specs.declared.entry.Entry.{Entry}
+use Rattle.shards.specs.Journal.{left_by}
+use Rattle.shards.specs.Closing.{Ended, book_of, journal_of}
+use Rattle.feeders.specs.declared.log.Log.{Log}
+use Rattle.feeders.specs.Run.{IsRun}
 use Rattle.report.specs.declared.finding.Finding.{Finding}
 use Rattle.report.specs.Finding.{AreFailing, AreFindings, IsFindingOf, IsOfTower, fails_of, fails_in, holds_in}
 use Rattle.report.specs.Culprit.{Keeps, Fails}
 
-no_book : (book : Option Claimed) → option_map (λ held. held.claim) book ≡ None → book ≡ None
-no_book None is = refl
-no_book (Some held) is = absurd (none-some held.claim (sym is))
+nothing_there : (X : Type 0) (o : Option X) → is_some o ≡ false → o ≡ None
+nothing_there X None is = refl
+nothing_there X (Some x) is = absurd (true≢false is)
 
 -- past the registers there is no book
 past_all : (tower : Contents) (closed : List Ended) (number : ℕ) → IsOfTower tower closed → length tower.registers ≤ number → book_of closed number ≡ None
 past_all tower closed number of_tower past =
-    no_book (book_of closed number) (of_tower number ∙ ap (λ (found : Option Register). option_map (λ (register : Register). register.claim) found) (slice_get_past tower.registers number past))
+    nothing_there Claimed (book_of closed number) (of_tower number ∙ ap (λ (found : Option Register). is_some found) (slice_get_past tower.registers number past))
 
-some_claim : (registers : List Register) (number : ℕ) → number < length registers → is_some (option_map (λ (register : Register). register.claim) (slice_get registers number)) ≡ true
-some_claim [] number within = absurd (omega arith)
-some_claim (register ∷ registers) zero within = refl
-some_claim (register ∷ registers) (suc number) within = some_claim registers number (omega arith)
-
-some_book : (book : Option Claimed) → is_some (option_map (λ (held : Claimed). held.claim) book) ≡ true → IsSome book
-some_book None is = is
-some_book (Some held) is = refl
+some_register : (registers : List Register) (number : ℕ) → number < length registers → is_some (slice_get registers number) ≡ true
+some_register [] number within = absurd (omega arith)
+some_register (register ∷ registers) zero within = refl
+some_register (register ∷ registers) (suc number) within = some_register registers number (omega arith)
 
 -- a register of the tower has a book
 pub has_book : (tower : Contents) (closed : List Ended) (number : ℕ) → IsOfTower tower closed → number < length tower.registers → IsSome (book_of closed number)
-has_book tower closed number of_tower within = some_book (book_of closed number) (ap is_some (of_tower number) ∙ some_claim tower.registers number within)
+has_book tower closed number of_tower within = of_tower number ∙ some_register tower.registers number within
+
+-- a run leaves a book for each register of its tower
+pub run_of_tower : (tower : Contents) (chosen : MomentField) (shards : ℕ) (traces : List (List ℕ)) (closed : List Ended) (logs : List Log) → IsRun tower chosen shards traces closed logs → IsOfTower tower closed
+run_of_tower tower chosen shards traces closed logs run number =
+    let journal : List Entry = journal_of closed (number % shards) in
+    ap is_some (run.finished.books number ∙ ap (option_map (left_by journal number)) (slice_get-map (λ register. register.claim) tower.registers number))
+    ∙ by_register journal (slice_get tower.registers number)
+  where
+    by_register : (journal : List Entry) (found : Option Register) → is_some (option_map (left_by journal number) (option_map (λ (register : Register). register.claim) found)) ≡ is_some found
+    by_register journal None = refl
+    by_register journal (Some register) = refl
 
 finding_at : (closed : List Ended) (first : ℕ) (findings : List Finding) (k number : ℕ) (finding : Finding) → number ≡ first + k → AreFindings closed first findings → slice_get findings k ≡ Some finding → IsFindingOf (book_of closed number) finding
 finding_at closed first [] k number finding at found is = absurd (none-some finding is)

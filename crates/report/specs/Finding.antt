@@ -1,5 +1,5 @@
 -- What is found of the registers of a tower when its auditor is closed.
-use Rattle.std.specs.Prelude.{◌≡◌, ◌↔◌, ◌+◌, ℕ, Bool, false, List, [], ◌∷◌, length, Option, Some, None, map, not, option_map, is_some, IfSome, IsNone}
+use Rattle.std.specs.Prelude.{◌≡◌, ◌↔◌, ◌+◌, ℕ, Bool, false, List, [], ◌∷◌, length, Option, Some, None, map, not, is_some, IfSome, IsNone}
 use Rattle.std.specs.Option.{option_map_or}
 use Rattle.std.specs.List.{slice_get}
 use Rattle.intervals.specs.Terms.{Claimed}
@@ -9,13 +9,14 @@ use Rattle.register_book.specs.Fault.{IsWitness}
 use Rattle.shards.specs.Closing.{Ended, book_of}
 use Rattle.report.specs.declared.finding.Finding.{Finding}
 
--- the books are those of the tower's registers: one for each, with its claim
+-- the books are those of the tower's registers: one for each, and no others
 abbrev pub IsOfTower : Contents → List Ended → Type 0
-IsOfTower tower closed =
-    (number : ℕ) → option_map (λ held. held.claim) (book_of closed number) ≡ option_map (λ register. register.claim) (slice_get tower.registers number)
+IsOfTower tower closed = (number : ℕ) → is_some (book_of closed number) ≡ is_some (slice_get tower.registers number)
 
--- how many operations stand; and the operations that show that the register fails, none exactly where it holds
+-- the kind that the register claims to be, and how many operations stand; and the operations that show that it
+-- fails, none exactly where it holds
 pub record IsFinding (held : Claimed) (finding : Finding) : Type 0 where
+  pub kind : finding.kind ≡ held.claim.kind
   pub operations : finding.operations ≡ length held.ops
   pub witness : IfSome finding.witness (IsWitness held.claim held.ops)
   pub none : IsNone finding.witness ↔ Holds held.claim held.ops

@@ -70,7 +70,7 @@ witness_text witness = fault_line (ids_of witness) ++ flat_map part_lines (shown
 -- the lines of a register
 abbrev pub section_text : Register → Finding → List ℕ
 section_text register finding =
-    register_line register.name register.claim.kind (is_none finding.witness) finding.operations ++ option_map_or witness_text finding.witness []
+    register_line register.name finding.kind (is_none finding.witness) finding.operations ++ option_map_or witness_text finding.witness []
 
 -- the lines of registers, by number
 abbrev pub sections_text : List Register → List Finding → List ℕ

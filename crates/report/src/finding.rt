@@ -5,17 +5,18 @@ ghost use Rattle.register_book.specs.Kept.{claimed_of};
 ghost use Rattle.shards.specs.Closing.{book_of};
 ghost use Rattle.report.specs.Finding.{AreFailing, IsFinding, IsFindingOf, IsOfTower, fails_in, holds_in};
 
-use intervals::RegId;
+use intervals::{Kind, RegId};
 use register_book::{RegisterBook, Witness};
 use shards::Closed;
 use std::alloc::{AllocError, Global};
 use std::unreachable;
 use tower_file::Tower;
 
-/// How many operations of a register stand, unfinished ones among them, and the ones that show that it
-/// fails, where it does.
+/// The kind that a register claims to be, how many of its operations stand, unfinished ones among them,
+/// and the ones that show that it fails, where it does.
 #[derive(Clone, Copy, Debug)]
 pub struct Finding<'t> {
+    pub kind: Kind,
     pub operations: u64,
     pub witness: Option<Witness<'t>>,
 }
@@ -48,6 +49,7 @@ fn found_in<'t>(book: &RegisterBook<'t>) -> Finding<'t>
     ensures { IsFinding (claimed_of book.now) result }
 {
     Finding {
+        kind: book.kind(),
         operations: book.len() as u64,
         witness: book.witness(),
     }

@@ -9,7 +9,7 @@ ghost use Rattle.report.specs.Names.{id_text};
 ghost use Rattle.report.specs.Section.{fault_line, holder_text, is_one as is_one_operation, part_line, part_line_of, part_lines, register_line, section_text, shown_of, witness_text};
 
 use crate::finding::Finding;
-use crate::names::{kind_word, name_of, push_id, push_printed, verdict_word};
+use crate::names::{kind_word, push_id, push_printed, verdict_word};
 use intervals::{Holder, Kind, Op, OpId, RegId};
 use register_book::{Fault, Side, Witness};
 use std::alloc::AllocError;
@@ -24,13 +24,13 @@ pub fn push_section(
 ) -> Result<(), AllocError>
     ensures { OnOk result (string_bytes text.new ≡ string_bytes text.old ++ option_map_or (λ register. section_text register finding.now) (slice_get tower.now.registers id.0) []) }
 {
-    let Some(claim) = tower.claim(id) else {
+    let Some(name) = tower.name(id) else {
         return Ok(());
     };
     push_register(
         text,
-        name_of(tower, id),
-        claim.kind,
+        name,
+        finding.kind,
         finding.witness.is_none(),
         finding.operations,
     )?;

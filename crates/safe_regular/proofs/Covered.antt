@@ -16,7 +16,7 @@ use Rattle.intervals.proofs.Agreement.{Decides-ends_before, Decides-is_allowed, 
 use Rattle.read_tree.specs.declared.item.Item.{Item}
 use Rattle.read_tree.specs.Items.{IsCoverAt, cover_of, is_short, place_of, row_of}
 use Rattle.safe_regular.specs.Apart.{AreApart}
-use Rattle.safe_regular.specs.Held.{IsLow, StandApart}
+use Rattle.safe_regular.specs.Held.{IsLow, AreOneWriters}
 use Rattle.safe_regular.specs.Line.{AreItems, counted, cover_item, end_of, initial_item, reach_by, read_item}
 use Rattle.safe_regular.specs.LookUp.{BeginsAfter, BeginsFrom, IsFirstOf, IsLast, NoneFits}
 use Rattle.safe_regular.proofs.Lists.{all_from}
@@ -24,6 +24,7 @@ use Rattle.safe_regular.proofs.Apart.{begins_before, either_way, precedes_with}
 use Rattle.safe_regular.proofs.LookUp.{first_found}
 use Rattle.safe_regular.proofs.Members.{are_apart}
 use Rattle.safe_regular.proofs.Nearest.{ByNone, IsNear, IsNearest, IsReadAmong, counted_some, nearest, reach_below, reach_test, read_among}
+use Rattle.safe_regular.proofs.Edited.{all_low, write_allowed}
 
 -- a test that decides what is so exactly where another thing is not
 decides_not : (P Q : Type 0) (b q : Bool) → Decides b P → Decides q Q → (P → ¬ Q) → ((¬ P) → Q) → b ≡ not q
@@ -320,29 +321,28 @@ initial_in_set None initial = tt
 initial_in_set (Some values) initial = inr refl
 
 -- and so is that of each write
-in_value_set : (claim : Terms) (ops : List Op) → StandApart claim ops → (w : Op) → Contains ops w → IsWrite w → IsInValueSet claim (value_of w.act)
+in_value_set : (claim : Terms) (ops : List Op) → AreOneWriters claim ops → (w : Op) → Contains ops w → IsWrite w → IsInValueSet claim (value_of w.act)
 in_value_set claim ops apart w sw ww =
-    (Decides-is_allowed claim.domain claim.initial (value_of w.act)).0
-    (All-contains (λ v. IsWrite v → is_allowed claim.domain claim.initial (value_of v.act) ≡ true) ops w apart.allowed sw ww)
+    (Decides-is_allowed claim.domain claim.initial (value_of w.act)).0 (write_allowed claim ops apart w sw ww)
 
 module _ (ops : List Op) (items : List Item) (r : Op) (stands : Contains ops r) (judged : IsJudgedRead r) (c : Option Item) (base : Terms) where
-  by_kind : (kind : Kind) → let claim : Terms = record base { kind = kind } in StandApart claim ops → AreItems claim ops items → IsCoverAt items (place_of (read_item claim r)) c
+  by_kind : (kind : Kind) → let claim : Terms = record base { kind = kind } in AreOneWriters claim ops → AreItems claim ops items → IsCoverAt items (place_of (read_item claim r)) c
       → is_short (option_map cover_of c) (read_item claim r) ≡ is_wrong_read claim ops r
   by_kind Safe apart are is =
       let claim : Terms = record base { kind = Safe } in
-      let low = All-contains IsLow ops r apart.low stands in
+      let low = All-contains IsLow ops r (all_low claim ops apart) stands in
       rw judged
-      (safe_short base ops (are_apart ops apart.moments apart.ends apart.writes) r (read_among claim ops apart r stands judged) apart.low stands
+      (safe_short base ops (are_apart ops apart.kept.moments apart.kept.ends (apart.kept.writes apart.one_writer)) r (read_among claim ops apart r stands judged) (all_low claim ops apart) stands
       (in_value_set claim ops apart) (initial_in_set base.domain base.initial) c (nearest claim ops items are r low.end c is))
   by_kind Regular apart are is =
       let claim : Terms = record base { kind = Regular } in
-      let low = All-contains IsLow ops r apart.low stands in
+      let low = All-contains IsLow ops r (all_low claim ops apart) stands in
       rw judged
-      (regular_short base ops (are_apart ops apart.moments apart.ends apart.writes) r (read_among claim ops apart r stands judged) low.begin c
+      (regular_short base ops (are_apart ops apart.kept.moments apart.kept.ends (apart.kept.writes apart.one_writer)) r (read_among claim ops apart r stands judged) low.begin c
       (nearest claim ops items are r low.end c is))
   by_kind Atomic apart are is = absurd (apart.one_writer refl)
 
-module _ (claim : Terms) (ops : List Op) (apart : StandApart claim ops) (items : List Item) (are : AreItems claim ops items) where
+module _ (claim : Terms) (ops : List Op) (apart : AreOneWriters claim ops) (items : List Item) (are : AreItems claim ops items) where
   -- the last cover before a judged read leaves it short exactly where it breaks its register's sentence
   pub covered : (r : Op) → Contains ops r → IsJudgedRead r → (c : Option Item) → IsCoverAt items (place_of (read_item claim r)) c
       → is_short (option_map cover_of c) (read_item claim r) ≡ is_wrong_read claim ops r

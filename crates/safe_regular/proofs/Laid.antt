@@ -13,7 +13,7 @@ use Rattle.intervals.specs.Shelf.{same_spot}
 use Rattle.intervals.specs.Terms.{Terms}
 use Rattle.read_tree.specs.declared.item.Item.{Item}
 use Rattle.read_tree.specs.Items.{AreInOrder, place_of}
-use Rattle.safe_regular.specs.Held.{StandApart}
+use Rattle.safe_regular.specs.Held.{AreOneWriters}
 use Rattle.safe_regular.specs.LookUp.{BeginsFrom, IsFirstOf}
 use Rattle.safe_regular.specs.Line.{AreItems, HasWriteAt, IsAway, IsCoverBefore, IsExchanged, IsFreeFor, IsInFront, IsItem, IsItemOf, IsLaid, IsRenewed, IsTaken, cover_item, cover_reach, has_rows, initial_item, initial_reach, initial_place, place_in, place_of_some, read_item, spot_in}
 use Rattle.safe_regular.proofs.Changed.{IsAmong}
@@ -48,7 +48,7 @@ old_not_away claim old x y is y_laid e away =
     both_ways (same_spot (place_of x) (place_in claim y)) at (subst (λ (s : Spot). same_spot (place_of x) s ≡ true) e (same_itself (place_of x)))
 
 -- where the operation stands that goes its item stands
-pub place_is_taken : (claim : Terms) (ops : List Op) (old : Option Op) (apart : StandApart claim ops) → ((o : Op) → old ≡ Some o → Contains ops o) → (items : List Item) → AreItems claim ops items → IsTaken (spot_in claim old) items
+pub place_is_taken : (claim : Terms) (ops : List Op) (old : Option Op) (apart : AreOneWriters claim ops) → ((o : Op) → old ≡ Some o → Contains ops o) → (items : List Item) → AreItems claim ops items → IsTaken (spot_in claim old) items
 place_is_taken claim ops None apart stands items are = tt
 place_is_taken claim ops (Some o) apart stands items are = elim (cases_Bool (is_write o)) [
   | inl write ↦
@@ -71,7 +71,7 @@ place_is_taken claim ops (Some o) apart stands items are = elim (cases_Bool (is_
         by_laid false = tt
 
 -- where the old operation is gone nothing stands at the place of the new one
-pub place_is_free : (claim : Terms) (ops others after : List Op) (old new : Option Op) (before_apart : StandApart claim ops) (after_apart : StandApart claim after)
+pub place_is_free : (claim : Terms) (ops others after : List Op) (old new : Option Op) (before_apart : AreOneWriters claim ops) (after_apart : AreOneWriters claim after)
     (before_cases : (x : Op) → Contains ops x → IsAmong others old x) (in_after : (x : Op) → IsAmong others new x → Contains after x)
     (new_other : (x y : Op) → Contains others x → new ≡ Some y → ¬ (x ≡ y))
     (item : Option Item) (item_is : IsItemOf claim after new item) (items : List Item) (are : AreItems claim ops items)
@@ -92,7 +92,7 @@ place_is_free claim ops others after old new before_apart after_apart before_cas
           ]
     ]
 
-module _ (claim : Terms) (ops others after : List Op) (old new : Option Op) (before_apart : StandApart claim ops) (after_apart : StandApart claim after)
+module _ (claim : Terms) (ops others after : List Op) (old new : Option Op) (before_apart : AreOneWriters claim ops) (after_apart : AreOneWriters claim after)
     (before_cases : (x : Op) → Contains ops x → IsAmong others old x) (in_before : (x : Op) → IsAmong others old x → Contains ops x)
     (after_cases : (x : Op) → Contains after x → IsAmong others new x) (in_after : (x : Op) → IsAmong others new x → Contains after x)
     (old_other : (x y : Op) → Contains others x → old ≡ Some y → ¬ (x ≡ y))

@@ -17,10 +17,10 @@ use Rattle.intervals.proofs.Ids.{found_by_id}
 use Rattle.intervals.specs.declared.shelf.Spot.{Spot}
 use Rattle.read_tree.specs.declared.item.Item.{Item}
 use Rattle.read_tree.specs.Items.{IsCoverAt, cover_of, first_short, is_short, is_some_short, place_of}
-use Rattle.safe_regular.specs.Held.{IsLow, StandApart}
+use Rattle.safe_regular.specs.Held.{IsLow, AreOneWriters}
 use Rattle.safe_regular.specs.Line.{AreItems, read_item}
 use Rattle.safe_regular.proofs.Covered.{covered}
-use Rattle.safe_regular.proofs.Edited.{one_at}
+use Rattle.safe_regular.proofs.Edited.{all_low, one_at}
 use Rattle.safe_regular.proofs.First.{first_wrong_is}
 use Rattle.safe_regular.proofs.Members.{distinct_ends}
 
@@ -34,7 +34,7 @@ pub record AreToldOf (items : List Item) : Type 0 where
   pub some : (is_some_short None items ≡ false) ↔ (first_short None items ≡ None)
   pub cover : (spot : Spot) → (c : Option Item) × IsCoverAt items spot c
 
-module _ (claim : Terms) (ops : List Op) (apart : StandApart claim ops) (items : List Item) (are : AreItems claim ops items) (told : AreToldOf items) where
+module _ (claim : Terms) (ops : List Op) (apart : AreOneWriters claim ops) (items : List Item) (are : AreItems claim ops items) (told : AreToldOf items) where
   judged_of : (r : Op) → IsTrue (is_wrong_read claim ops r) → IsJudgedRead r
   judged_of r wrong = (and_parts (is_judged_read r) _ wrong).0
 
@@ -52,7 +52,7 @@ module _ (claim : Terms) (ops : List Op) (apart : StandApart claim ops) (items :
       both_ways (is_wrong_read claim ops r) (sym e ∙ told.none none (read_item claim r) c (item_stands r stands judged) refl c_is) wrong
 
   pub none_named : is_some_short None items ≡ false → first_wrong claim ops ≡ None
-  none_named none = first_wrong_is claim ops (distinct_ends ops apart.moments) None (none_wrong none)
+  none_named none = first_wrong_is claim ops (distinct_ends ops apart.kept.moments) None (none_wrong none)
 
   -- a read of the tree is one of the operations
   which_read : (x : Item) → Contains items x → x.covers ≡ false → (r : Op) × Contains ops r × IsJudgedRead r × (x ≡ read_item claim r)
@@ -66,8 +66,8 @@ module _ (claim : Terms) (ops : List Op) (apart : StandApart claim ops) (items :
 
   earlier_end : (a b : Op) → Contains ops a → Contains ops b → (read_item claim a).moment.0 ≤ (read_item claim b).moment.0 → end_number a ≤ end_number b
   earlier_end a b sa sb le =
-      let low_a = (All-contains IsLow ops a apart.low sa).end in
-      let low_b = (All-contains IsLow ops b apart.low sb).end in
+      let low_a = (All-contains IsLow ops a (all_low claim ops apart) sa).end in
+      let low_b = (All-contains IsLow ops b (all_low claim ops apart) sb).end in
       omega (arith, le, low_a, low_b)
 
   one_named : (x : Item) → first_short None items ≡ Some x → (r : Op) × (op_of ops x.id ≡ Some r) × (first_wrong claim ops ≡ Some r)
@@ -77,8 +77,8 @@ module _ (claim : Terms) (ops : List Op) (apart : StandApart claim ops) (items :
       let (c, c_is, e) = at_cover r h j in
       let at : place_of (read_item claim r) ≡ place_of x = ap place_of (sym is) in (
         r,
-        ap (λ (y : Item). op_of ops y.id) is ∙ found_by_id ops r apart.ids h,
-        first_wrong_is claim ops (distinct_ends ops apart.moments) (Some r) (record {
+        ap (λ (y : Item). op_of ops y.id) is ∙ found_by_id ops r apart.kept.ids h,
+        first_wrong_is claim ops (distinct_ends ops apart.kept.moments) (Some r) (record {
           stands = h;
           wrong = sym e ∙ ap (is_short (option_map cover_of c)) (sym is) ∙ short c (subst (λ (s : Spot). IsCoverAt items s c) at c_is);
           first = λ other k wrong.

@@ -28,7 +28,7 @@ use Rattle.intervals.proofs.LeastOf.{least_by-IsLeast, least_from-None}
 use Rattle.read_tree.specs.declared.item.Item.{Item}
 use Rattle.read_tree.specs.Items.{IsCoverAt, IsLastCover, StandsBefore, place_of, row_of}
 use Rattle.safe_regular.specs.Apart.{EndsAfterBeginning}
-use Rattle.safe_regular.specs.Held.{StandApart}
+use Rattle.safe_regular.specs.Held.{AreOneWriters}
 use Rattle.safe_regular.specs.Line.{AreItems, IsItem, counted, cover_item, has_rows, initial_item, moment_of, reach_by, read_item}
 use Rattle.safe_regular.specs.LookUp.{BeginsAfter, BeginsFrom, IsFirstOf, IsLast, NoneFits}
 use Rattle.safe_regular.proofs.Apart.{either_way}
@@ -290,12 +290,12 @@ not_over_by : (end : Option Moment) (m : Moment) → m.0 < option_map_or (λ (e 
 not_over_by None m lt h = h
 not_over_by (Some end) m lt h = omega arith
 
-module _ (claim : Terms) (ops : List Op) (apart : StandApart claim ops) where
+module _ (claim : Terms) (ops : List Op) (apart : AreOneWriters claim ops) where
   -- of a judged read that stands: no write begins as it ends
   pub read_among : (r : Op) → Contains ops r → IsJudgedRead r → IsReadAmong ops r
   read_among r stands judged = record {
-    long = long_by r.begin r.end ended (All-contains EndsAfterBeginning ops r apart.ends stands);
-    reached = λ w sw ww not. reached_by r.end w.begin ended (meets w ww (one_or_so ShareNoMoment (λ a b none moment of_b of_a. none moment of_a of_b) ops apart.moments w r sw stands)) not;
+    long = long_by r.begin r.end ended (All-contains EndsAfterBeginning ops r apart.kept.ends stands);
+    reached = λ w sw ww not. reached_by r.end w.begin ended (meets w ww (one_or_so ShareNoMoment (λ a b none moment of_b of_a. none moment of_a of_b) ops apart.kept.moments w r sw stands)) not;
     not_over = λ w lt. not_over_by r.end w.begin lt;
   }
     where

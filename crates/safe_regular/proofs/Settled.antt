@@ -13,7 +13,7 @@ use Rattle.intervals.proofs.Accepted.{edit_accepted}
 use Rattle.read_tree.specs.declared.item.Item.{Item}
 use Rattle.read_tree.specs.Items.{AreInOrder, Contents}
 use Rattle.safe_regular.specs.declared.writes.Writes.{Writes}
-use Rattle.safe_regular.specs.Held.{StandApart, CanJudge, HasRoomFor}
+use Rattle.safe_regular.specs.Held.{AreOneWriters, CanJudge, HasRoomFor}
 use Rattle.safe_regular.specs.Line.{AreItems, IsCoverBefore, IsExchanged, IsFreeFor, IsItemOf, IsRenewed, IsTaken, spot_in}
 use Rattle.safe_regular.specs.Writes.{AreWrites, HasPlaceIn, HoldsOnlyFor, IsAddedOf}
 use Rattle.safe_regular.proofs.Changed.{others_of, IsAmong, other_stands, other_apart, old_stands, before_cases, other_after, new_stands, after_cases, goes, comes}
@@ -43,42 +43,42 @@ room_for_new writes line prepared new room is (Some x) of_new some =
     let there : HasRoomFor writes line o = subst (λ (p : Option Op). IfSome p (HasRoomFor writes line)) prepared_is room in
     let one = there.free in omega (arith, one)
 
-module _ (claim : Terms) (ops : List Op) (edit : Edit) (apart : StandApart claim ops) (accepted : reply_to claim ops edit ≡ None)
+module _ (claim : Terms) (ops : List Op) (edit : Edit) (apart : AreOneWriters claim ops) (accepted : reply_to claim ops edit ≡ None)
     (old new : Option Op) (old_is : old ≡ op_of ops (edit_id edit)) (new_is : new ≡ new_op ops edit) (listed : List Op) (listed_is : listed ≡ edited ops edit) where
-  later : StandApart claim (edited ops edit)
+  later : AreOneWriters claim (edited ops edit)
   later = apart_kept claim ops edit apart accepted
 
-  pub later_listed : StandApart claim listed
-  later_listed = subst (StandApart claim) (sym listed_is) later
+  pub later_listed : AreOneWriters claim listed
+  later_listed = subst (AreOneWriters claim) (sym listed_is) later
 
   -- the shelf is that of the operations afterwards
   pub can_judge : (writes writes' : Writes) → AreWrites ops writes
       → ((before others after : List Op) → AreWrites before writes → IsAddedOf others old before → IsAddedOf others new after → AreWrites after writes') → CanJudge listed writes'
   can_judge writes writes' are change =
-      let among : IsAddedOf (others_of ops (edit_id edit)) old ops = rw old_is (goes ops (edit_id edit) apart.ids (writes_apart claim ops apart)) in
-      let now : IsAddedOf (others_of ops (edit_id edit)) new (edited ops edit) = rw new_is (comes ops edit apart.ids (edit_accepted claim ops edit accepted) (writes_apart claim (edited ops edit) later)) in
-      let both : CanJudge (edited ops edit) writes' = record { shelved = change ops (others_of ops (edit_id edit)) (edited ops edit) are among now; ids = later.ids } in
+      let among : IsAddedOf (others_of ops (edit_id edit)) old ops = rw old_is (goes ops (edit_id edit) apart.kept.ids (writes_apart claim ops apart)) in
+      let now : IsAddedOf (others_of ops (edit_id edit)) new (edited ops edit) = rw new_is (comes ops edit apart.kept.ids (edit_accepted claim ops edit accepted) (writes_apart claim (edited ops edit) later)) in
+      let both : CanJudge (edited ops edit) writes' = record { shelved = change ops (others_of ops (edit_id edit)) (edited ops edit) are among now; ids = later.kept.ids } in
       subst (λ (l : List Op). CanJudge l writes') (sym listed_is) both
 
   -- the shelf holds no place but for what is prepared afterwards
   pub only_for : (writes writes' : Writes) → AreWrites ops writes → (prepared : Option Op) → HoldsOnlyFor prepared writes
       → ((before others : List Op) → AreWrites before writes → IsAddedOf others old before → HoldsOnlyFor prepared writes → HoldsOnlyFor (prepared_after new prepared) writes') → HoldsOnlyFor (prepared_after new prepared) writes'
   only_for writes writes' are prepared only change =
-      let among : IsAddedOf (others_of ops (edit_id edit)) old ops = rw old_is (goes ops (edit_id edit) apart.ids (writes_apart claim ops apart)) in
+      let among : IsAddedOf (others_of ops (edit_id edit)) old ops = rw old_is (goes ops (edit_id edit) apart.kept.ids (writes_apart claim ops apart)) in
       change ops (others_of ops (edit_id edit)) are among only
 
   abbrev others : List Op
   others = others_of ops (edit_id edit)
 
   was_among : (x : Op) → Contains ops x → IsAmong others old x
-  was_among x h = subst (λ (o : Option Op). IsAmong others o x) (sym old_is) (before_cases ops (edit_id edit) apart.ids x h)
+  was_among x h = subst (λ (o : Option Op). IsAmong others o x) (sym old_is) (before_cases ops (edit_id edit) apart.kept.ids x h)
 
   in_before : (x : Op) → IsAmong others old x → Contains ops x
   in_before x (inl h) = other_stands ops (edit_id edit) x h
   in_before x (inr e) = (old_stands ops (edit_id edit) x (sym old_is ∙ e)).0
 
   is_among : (x : Op) → Contains listed x → IsAmong others new x
-  is_among x h = subst (λ (o : Option Op). IsAmong others o x) (sym new_is) (after_cases ops edit apart.ids (edit_accepted claim ops edit accepted) x (subst (λ (l : List Op). Contains l x) listed_is h))
+  is_among x h = subst (λ (o : Option Op). IsAmong others o x) (sym new_is) (after_cases ops edit apart.kept.ids (edit_accepted claim ops edit accepted) x (subst (λ (l : List Op). Contains l x) listed_is h))
 
   pub in_listed : (x : Op) → IsAmong others new x → Contains listed x
   in_listed x (inl h) = subst (λ (l : List Op). Contains l x) (sym listed_is) (other_after ops edit x h)

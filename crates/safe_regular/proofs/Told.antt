@@ -14,10 +14,11 @@ use Rattle.intervals.proofs.Agreement.{Decides-same_value}
 use Rattle.read_tree.specs.declared.item.Item.{Item}
 use Rattle.read_tree.specs.Items.{place_of}
 use Rattle.safe_regular.specs.Apart.{AreApart}
-use Rattle.safe_regular.specs.Held.{IsLow, StandApart}
+use Rattle.safe_regular.specs.Held.{IsLow, AreOneWriters}
 use Rattle.safe_regular.specs.LookUp.{BeginsFrom, IsFirstOf}
 use Rattle.safe_regular.specs.Line.{IsItem, IsLaid, counted, moment_of, cover_item, initial_item, initial_place, number_of, place_in, read_item}
 use Rattle.safe_regular.proofs.Members.{are_apart, begin_apart, distinct_ends, end_is, one_or_so, same_moment}
+use Rattle.safe_regular.proofs.Edited.{all_low}
 
 -- spots that are one are equal
 pub same_is : (a b : Spot) → same_spot a b ≡ true → a ≡ b
@@ -43,25 +44,25 @@ number_of_write op write = rw write refl
 pub number_of_read : (op : Op) → IsJudgedRead op → number_of op ≡ end_number op
 number_of_read op judged = rw (not-true (is_write op) (and_parts (not (is_write op)) (is_some op.end) judged).0) refl
 
-module _ (claim : Terms) (ops : List Op) (apart : StandApart claim ops) where
+module _ (claim : Terms) (ops : List Op) (apart : AreOneWriters claim ops) where
   number_low : (op : Op) → Contains ops op → number_of op ≤ 4611686018427387903
   number_low op stands =
-      let low : IsLow op = All-contains IsLow ops op apart.low stands in
+      let low : IsLow op = All-contains IsLow ops op (all_low claim ops apart) stands in
       elim (is_write op) as (λ b. cond b op.begin.0 (end_number op) ≤ 4611686018427387903) [ true ↦ low.begin | false ↦ low.end ]
 
   -- a judged read does not end where another operation begins
   end_not_begin : (r w : Op) → Contains ops r → Contains ops w → IsJudgedRead r → IsWrite w → end_number r ≢ w.begin.0
-  end_not_begin r w sr sw judged write e = elim (one_or_so ShareNoMoment (λ a b none moment of_b of_a. none moment of_a of_b) ops apart.moments r w sr sw) [
+  end_not_begin r w sr sw judged write e = elim (one_or_so ShareNoMoment (λ a b none moment of_b of_a. none moment of_a of_b) ops apart.kept.moments r w sr sw) [
     | inl same ↦ read_is_no_write r (subst IsWrite (sym same) write) judged
     | inr none ↦ none (moment_of (end_number r)) (inr (end_is r.end (and_parts (not (is_write r)) (is_some r.end) judged).1)) (inl (same_moment w.begin (moment_of (end_number r)) (sym e)))
   ]
 
   -- operations whose items have one number are one
   pub told : (a b : Op) → Contains ops a → Contains ops b → IsLaid a → IsLaid b → number_of a ≡ number_of b → a ≡ b
-  told a b sa sb (inl wa) (inl wb) e = begin_apart ops apart.moments a b sa sb (sym (number_of_write a wa) ∙ e ∙ number_of_write b wb)
+  told a b sa sb (inl wa) (inl wb) e = begin_apart ops apart.kept.moments a b sa sb (sym (number_of_write a wa) ∙ e ∙ number_of_write b wb)
   told a b sa sb (inl wa) (inr jb) e = absurd (end_not_begin b a sb sa jb wa (sym (sym (number_of_write a wa) ∙ e ∙ number_of_read b jb)))
   told a b sa sb (inr ja) (inl wb) e = absurd (end_not_begin a b sa sb ja wb (sym (number_of_read a ja) ∙ e ∙ number_of_write b wb))
-  told a b sa sb (inr ja) (inr jb) e = distinct_ends ops apart.moments a b sa sb ja jb (sym (number_of_read a ja) ∙ e ∙ number_of_read b jb)
+  told a b sa sb (inr ja) (inr jb) e = distinct_ends ops apart.kept.moments a b sa sb ja jb (sym (number_of_read a ja) ∙ e ∙ number_of_read b jb)
 
   pub told_by_count : (a b : Op) → Contains ops a → Contains ops b → IsLaid a → IsLaid b → counted (number_of a) ≡ counted (number_of b) → a ≡ b
   told_by_count a b sa sb la lb e =
@@ -77,7 +78,7 @@ module _ (claim : Terms) (ops : List Op) (apart : StandApart claim ops) where
   initial_away a sa = other_moment (initial_place claim) (place_in claim a) (λ e. let low = number_low a sa in omega (arith, e, low))
 
   pub writes_apart : AreApart ops
-  writes_apart = are_apart ops apart.moments apart.ends apart.writes
+  writes_apart = are_apart ops apart.kept.moments apart.kept.ends (apart.kept.writes apart.one_writer)
 
   -- there is one next write at most
   pub next_told : (n : ℕ) (p q : Option Op) → IsFirstOf (BeginsFrom n) ops p → IsFirstOf (BeginsFrom n) ops q → p ≡ q

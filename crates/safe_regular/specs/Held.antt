@@ -1,10 +1,9 @@
 -- What the parts of a judge are to each other.
-use Rattle.std.specs.Prelude.{◌≡◌, ◌≢◌, ◌≤◌, true, List, All, Option, IfSome}
+use Rattle.std.specs.Prelude.{◌≢◌, ◌≤◌, List, Option, IfSome}
 use Rattle.intervals.specs.declared.operation.Op.{Op}
 use Rattle.intervals.specs.declared.claim.Kind.TheVariants.{Atomic}
-use Rattle.intervals.specs.Judging.{is_allowed, end_number}
-use Rattle.intervals.specs.Operation.{IsWrite, value_of}
-use Rattle.intervals.specs.Standing.{HasDistinctIds, HasDistinctMoments, HasEndsAfterBeginnings, HasNoOverlappingWrites}
+use Rattle.intervals.specs.Judging.{end_number}
+use Rattle.intervals.specs.Standing.{HasDistinctIds, StandApart}
 use Rattle.intervals.specs.Table.{Tabled}
 use Rattle.intervals.specs.Terms.{Terms}
 use Rattle.read_tree.specs.Items.{Contents}
@@ -23,15 +22,10 @@ pub record IsLow (op : Op) : Type 0 where
   pub begin : op.begin.0 ≤ 4611686018427387903
   pub end : end_number op ≤ 4611686018427387903
 
--- what the reply rule keeps of the operations of one writer's register
-pub record StandApart (claim : Terms) (ops : List Op) : Type 0 where
+-- the operations are those of one writer's register, and what the reply rule keeps of them
+pub record AreOneWriters (claim : Terms) (ops : List Op) : Type 0 where
   pub one_writer : claim.kind ≢ Atomic
-  pub ids : HasDistinctIds ops
-  pub moments : HasDistinctMoments ops
-  pub ends : HasEndsAfterBeginnings ops
-  pub writes : HasNoOverlappingWrites ops
-  pub low : All IsLow ops
-  pub allowed : All (λ w. IsWrite w → is_allowed claim.domain claim.initial (value_of w.act) ≡ true) ops
+  pub kept : StandApart claim ops
 
 -- there is room for the operation on the shelf and in the tree
 pub record HasRoomFor (writes : Writes) (line : Contents) (op : Op) : Type 0 where
@@ -41,7 +35,7 @@ pub record HasRoomFor (writes : Writes) (line : Contents) (op : Op) : Type 0 whe
 -- the shelf and the tree are those of the operations, there is room for the prepared one, and the shelf
 -- holds no place but for that
 pub record HoldTogether (claim : Terms) (table : Tabled) (writes : Writes) (line : Contents) : Type 0 where
-  pub apart : StandApart claim table.ops
+  pub apart : AreOneWriters claim table.ops
   pub shelved : AreWrites table.ops writes
   pub laid : AreItems claim table.ops line.items
   pub room : IfSome table.prepared (HasRoomFor writes line)

@@ -57,6 +57,13 @@ impl<'t> SingleWriterJudge<'t> {
         })
     }
 
+    /// The claim that the judge keeps.
+    pub fn claim(&self) -> &Claim
+        ensures { terms_of result.now ≡ self.now.claim }
+    {
+        &self.claim
+    }
+
     /// The operations that stand, unfinished reads among them.
     pub fn operations(&self) -> &OpTable<'t>
         ensures { result.now.ops ≡ self.now.ops }

@@ -10,9 +10,9 @@ use Rattle.shards.specs.declared.fault.ShardFault.{ShardFault}
 use Rattle.shards.specs.declared.shard.Shard.{Shard}
 use Rattle.register_book.specs.Kept.{claimed_of}
 use Rattle.shards.specs.Plan.{Plan}
-use Rattle.shards.specs.Journal.{IsJournalOf}
+use Rattle.shards.specs.Journal.{IsJournalOf, left_by}
 use Rattle.shards.specs.Pass.{Passed}
-use Rattle.shards.specs.Closing.{AreComplete, AreItsPasses, Held, Ended, IsClosed, IsClosedWithSome, IsClosingFault, IsSettled, IsUnfinished, books_of, journal_of, left_by}
+use Rattle.shards.specs.Closing.{AreComplete, AreItsPasses, Held, Ended, IsClosed, IsClosedWithSome, IsClosingFault, IsSettled, IsUnfinished, books_of, journal_of}
 use Rattle.shards.specs.Shard.{IsKept, IsSettledFor, ended_of, held_of}
 use Rattle.shards.proofs.Others.{all_passes}
 

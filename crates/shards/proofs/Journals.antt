@@ -7,49 +7,59 @@ use Rattle.std.proofs.lemmas.Bool.{eq-eqb, ne_eqb}
 use Rattle.intervals.specs.declared.operation.Op.{Op}
 use Rattle.intervals.specs.declared.edit.Edit.{Edit}
 use Rattle.intervals.specs.declared.refusal.Refusal.{Refusal}
-use Rattle.intervals.specs.Terms.{Terms}
+use Rattle.intervals.specs.Terms.{Terms, Claimed}
 use Rattle.intervals.specs.Edit.{edited}
-use Rattle.intervals.specs.Refusal.{after_edit}
+use Rattle.intervals.specs.Refusal.{carried_out, after_edit}
 use Rattle.register_book.specs.declared.reply.Reply.{Reply}
 use Rattle.register_book.specs.declared.reply.Reply.TheVariants.{Accepted, Refused}
 use Rattle.register_book.specs.Reply.{IsReply}
 use Rattle.shards.specs.declared.entry.Entry.{Entry}
-use Rattle.shards.specs.Journal.{EachAfter, stand, accepted_edits, is_accepted, is_accepted_of, standing_of, is_by, count_by}
+use Rattle.shards.specs.Journal.{EachAfter, stand, accepted_edits, is_accepted, is_accepted_of, standing_of, left_by, is_by, count_by}
 
 pub each_after_push : {X : Type 0} (R : List X → X → Type 0) (before xs : List X) (x : X) → EachAfter R before xs → R (before ++ xs) x → EachAfter R before (xs ++ x ∷ [])
 each_after_push {X = X} R before [] x each is = (subst (λ (front : List X). R front x) (append-nil before) is, tt)
 each_after_push {X = X} R before (y ∷ ys) x each is = (each.0, each_after_push R (before ++ y ∷ []) ys x each.1 (subst (λ (front : List X). R front x) (sym (append_assoc before (y ∷ []) ys)) is))
 
-pub stand_append : (ops : List Op) (edits more : List Edit) → stand ops (edits ++ more) ≡ stand (stand ops edits) more
+stand_append : (ops : List Op) (edits more : List Edit) → stand ops (edits ++ more) ≡ stand (stand ops edits) more
 stand_append ops [] more = refl
 stand_append ops (edit ∷ edits) more = stand_append (edited ops edit) edits more
 
-pub standing_push : (register : ℕ) (journal : List Entry) (entry : Entry) → standing_of register (journal ++ entry ∷ []) ≡ stand (standing_of register journal) (accepted_edits register (entry ∷ []))
+standing_push : (register : ℕ) (journal : List Entry) (entry : Entry) → standing_of register (journal ++ entry ∷ []) ≡ stand (standing_of register journal) (accepted_edits register (entry ∷ []))
 standing_push register journal entry =
     ap (λ (kept : List Entry). stand [] (map (λ (e : Entry). e.edit) kept)) (filter-append (is_accepted_of register) journal (entry ∷ []))
     ∙ ap (stand []) (map-append (λ (e : Entry). e.edit) (filter (is_accepted_of register) journal) (filter (is_accepted_of register) (entry ∷ [])))
     ∙ stand_append [] (accepted_edits register journal) (accepted_edits register (entry ∷ []))
 
 -- an entry of another register changes nothing of this one
-pub accepted_of_other : (register : ℕ) (entry : Entry) → entry.register.0 ≢ register → accepted_edits register (entry ∷ []) ≡ []
+accepted_of_other : (register : ℕ) (entry : Entry) → entry.register.0 ≢ register → accepted_edits register (entry ∷ []) ≡ []
 accepted_of_other register entry other = ap (λ (same : Bool). map (λ (e : Entry). e.edit) (if same && is_accepted entry.reply then entry ∷ [] else [])) (ne_eqb entry.register.0 register other)
 
-by_reply : (claim : Terms) (ops : List Op) (entry : Entry) (reply : Reply) → IsReply claim ops entry.edit reply → stand ops (map (λ (e : Entry). e.edit) (if is_accepted reply then entry ∷ [] else [])) ≡ after_edit claim ops entry.edit
-by_reply claim ops entry (Accepted holds) is = sym (ap (λ (refusal : Option Refusal). if is_some refusal then ops else edited ops entry.edit) is.0)
-by_reply claim ops entry (Refused refusal) is = sym (ap (λ (refusal : Option Refusal). if is_some refusal then ops else edited ops entry.edit) is)
+-- what is held after accepted edits
+abbrev pub left_after : Claimed → List Edit → Claimed
+left_after held edits = record { claim = held.claim; ops = stand held.ops edits }
+
+pub left_after_append : (held : Claimed) (edits more : List Edit) → left_after held (edits ++ more) ≡ left_after (left_after held edits) more
+left_after_append held edits more = ap (λ (ops : List Op). record { claim = held.claim; ops = ops }) (stand_append held.ops edits more)
+
+by_reply : (held : Claimed) (entry : Entry) (reply : Reply) → IsReply held entry.edit reply → left_after held (map (λ (e : Entry). e.edit) (if is_accepted reply then entry ∷ [] else [])) ≡ after_edit held entry.edit
+by_reply held entry (Accepted holds) is = sym (ap (λ (refusal : Option Refusal). if is_some refusal then held else carried_out held entry.edit) is.0)
+by_reply held entry (Refused refusal) is = sym (ap (λ (refusal : Option Refusal). if is_some refusal then held else carried_out held entry.edit) is)
 
 -- of its own one it comes to its edit, accepted or refused
-pub stand_of_own : (claim : Terms) (ops : List Op) (register : ℕ) (entry : Entry) → entry.register.0 ≡ register → IsReply claim ops entry.edit entry.reply → stand ops (accepted_edits register (entry ∷ [])) ≡ after_edit claim ops entry.edit
-stand_of_own claim ops register entry own is =
-    ap (λ (same : Bool). stand ops (map (λ (e : Entry). e.edit) (if same && is_accepted entry.reply then entry ∷ [] else []))) (eq-eqb entry.register.0 register own)
-    ∙ by_reply claim ops entry entry.reply is
+pub left_after_own : (held : Claimed) (register : ℕ) (entry : Entry) → entry.register.0 ≡ register → IsReply held entry.edit entry.reply → left_after held (accepted_edits register (entry ∷ [])) ≡ after_edit held entry.edit
+left_after_own held register entry own is =
+    ap (λ (same : Bool). left_after held (map (λ (e : Entry). e.edit) (if same && is_accepted entry.reply then entry ∷ [] else []))) (eq-eqb entry.register.0 register own)
+    ∙ by_reply held entry entry.reply is
 
-pub standing_push_other : (register : ℕ) (journal : List Entry) (entry : Entry) → entry.register.0 ≢ register → standing_of register (journal ++ entry ∷ []) ≡ standing_of register journal
-standing_push_other register journal entry other = standing_push register journal entry ∙ ap (stand (standing_of register journal)) (accepted_of_other register entry other)
+pub left_push : (register : ℕ) (claim : Terms) (journal : List Entry) (entry : Entry) → left_by (journal ++ entry ∷ []) register claim ≡ left_after (left_by journal register claim) (accepted_edits register (entry ∷ []))
+left_push register claim journal entry = ap (λ (ops : List Op). record { claim = claim; ops = ops }) (standing_push register journal entry)
 
-pub standing_push_own : (claim : Terms) (journal : List Entry) (entry : Entry) → IsReply claim (standing_of entry.register.0 journal) entry.edit entry.reply
-    → standing_of entry.register.0 (journal ++ entry ∷ []) ≡ after_edit claim (standing_of entry.register.0 journal) entry.edit
-standing_push_own claim journal entry is = standing_push entry.register.0 journal entry ∙ stand_of_own claim (standing_of entry.register.0 journal) entry.register.0 entry refl is
+pub left_push_other : (register : ℕ) (claim : Terms) (journal : List Entry) (entry : Entry) → entry.register.0 ≢ register → left_by (journal ++ entry ∷ []) register claim ≡ left_by journal register claim
+left_push_other register claim journal entry other = left_push register claim journal entry ∙ ap (left_after (left_by journal register claim)) (accepted_of_other register entry other)
+
+pub left_push_own : (claim : Terms) (journal : List Entry) (entry : Entry) → IsReply (left_by journal entry.register.0 claim) entry.edit entry.reply
+    → left_by (journal ++ entry ∷ []) entry.register.0 claim ≡ after_edit (left_by journal entry.register.0 claim) entry.edit
+left_push_own claim journal entry is = left_push entry.register.0 claim journal entry ∙ left_after_own (left_by journal entry.register.0 claim) entry.register.0 entry refl is
 
 count_push : (feeder : ℕ) (journal : List Entry) (entry : Entry) → count_by feeder (journal ++ entry ∷ []) ≡ count_by feeder journal + count_by feeder (entry ∷ [])
 count_push feeder journal entry = ap length (filter-append (is_by feeder) journal (entry ∷ [])) ∙ length-append (filter (is_by feeder) journal) (filter (is_by feeder) (entry ∷ []))

@@ -6,7 +6,6 @@ use Rattle.std.proofs.lemmas.Bool.{cases_eq}
 use Rattle.std.proofs.lemmas.Option.{slice_get_within, get_or_from_slice_get}
 use Rattle.std.proofs.lemmas.List.{length-set, length-map, get_or-map}
 use Rattle.std.proofs.lemmas.List.Elements.{All-push}
-use Rattle.intervals.specs.declared.operation.Op.{Op}
 use Rattle.intervals.specs.Terms.{Terms, Claimed}
 use Rattle.intervals.specs.Refusal.{after_edit}
 use Rattle.intervals.specs.Kind.{Holds}
@@ -17,12 +16,11 @@ use Rattle.shards.specs.declared.entry.Answer.{Answer}
 use Rattle.shards.specs.declared.entry.Entry.{Entry}
 use Rattle.shards.specs.declared.shard.Shard.{Shard}
 use Rattle.shards.specs.Plan.{Plan}
-use Rattle.shards.specs.Journal.{IsAnswered, IsJournalOf, standing_of, count_by}
+use Rattle.shards.specs.Journal.{IsAnswered, IsJournalOf, left_by, count_by}
 use Rattle.shards.specs.Steps.{IsStanding}
-use Rattle.shards.specs.Closing.{left_by}
 use Rattle.shards.specs.Shard.{AreBooks, AreCounts, IsKept}
 use Rattle.shards.proofs.Slots.{register_of, slot_of, some_within, get_set_same, get_set_other}
-use Rattle.shards.proofs.Journals.{each_after_push, standing_push_own, standing_push_other, count_push_own, count_push_other}
+use Rattle.shards.proofs.Journals.{each_after_push, left_push_own, left_push_other, count_push_own, count_push_other}
 
 -- the book of a register that the shard has
 book_is : (plan : Plan) (at : ℕ) (journal : List Entry) (books : List Claimed) (register : ℕ) (claim : Terms) → AreBooks plan at journal books → register % plan.shards ≡ at → slice_get plan.claims register ≡ Some claim
@@ -63,14 +61,14 @@ mapped_set f [] i x = refl
 mapped_set f (y ∷ ys) zero x = refl
 mapped_set f (y ∷ ys) (suc i) x = ap (λ zs. f y ∷ zs) (mapped_set f ys i x)
 
-left_same : (journal longer : List Entry) (register : ℕ) (claim : Option Terms) → standing_of register longer ≡ standing_of register journal → option_map (left_by journal register) claim ≡ option_map (left_by longer register) claim
+left_same : (journal longer : List Entry) (register : ℕ) (claim : Option Terms) → ((c : Terms) → left_by longer register c ≡ left_by journal register c) → option_map (left_by journal register) claim ≡ option_map (left_by longer register) claim
 left_same journal longer register None same = refl
-left_same journal longer register (Some claim) same = ap (λ (ops : List Op). Some (record { claim = claim; ops = ops })) (sym same)
+left_same journal longer register (Some claim) same = ap Some (sym (same claim))
 
 books_push : (plan : Plan) (at : ℕ) (journal : List Entry) (books : List Claimed) (entry : Entry) (claim : Terms) (book : Claimed)
     → AreBooks plan at journal books → at < plan.shards → entry.register.0 % plan.shards ≡ at → slice_get plan.claims entry.register.0 ≡ Some claim
-    → IsReply claim (standing_of entry.register.0 journal) entry.edit entry.reply
-    → book ≡ record { claim = claim; ops = after_edit claim (standing_of entry.register.0 journal) entry.edit }
+    → IsReply (left_by journal entry.register.0 claim) entry.edit entry.reply
+    → book ≡ after_edit (left_by journal entry.register.0 claim) entry.edit
     → AreBooks plan at (journal ++ entry ∷ []) (set books (entry.register.0 / plan.shards) book)
 books_push plan at journal books entry claim book are below here known reply is slot =
     let own : ℕ = entry.register.0 / plan.shards in
@@ -79,14 +77,14 @@ books_push plan at journal books entry claim book are below here known reply is 
       | inl same ↦
           ap (slice_get (set books own book)) same
           ∙ get_set_same books own book (slice_get_within books own (left_by journal entry.register.0 claim) there)
-          ∙ ap Some (is ∙ ap (λ (ops : List Op). record { claim = claim; ops = ops }) (sym (standing_push_own claim journal entry reply)))
+          ∙ ap Some (is ∙ sym (left_push_own claim journal entry reply))
           ∙ sym (ap (option_map (left_by (journal ++ entry ∷ []) entry.register.0)) known)
           ∙ sym (ap (λ (n : ℕ). option_map (left_by (journal ++ entry ∷ []) n) (slice_get plan.claims n)) (ap (λ (k : ℕ). k * plan.shards + at) same ∙ register_of entry.register.0 plan.shards at here))
       | inr other ↦
           get_set_other books own slot book other
           ∙ are slot
           ∙ left_same journal (journal ++ entry ∷ []) (slot * plan.shards + at) (slice_get plan.claims (slot * plan.shards + at))
-          (standing_push_other (slot * plan.shards + at) journal entry (λ is_own. other (slot_of entry.register.0 plan.shards at slot below (sym is_own))))
+          (λ c. left_push_other (slot * plan.shards + at) c journal entry (λ is_own. other (slot_of entry.register.0 plan.shards at slot below (sym is_own))))
     ]
 
 counts_push : (plan : Plan) (journal : List Entry) (counts : List ℕ) (entry : Entry) (count : ℕ)
@@ -114,7 +112,7 @@ journal_push plan at journal entry of_shard answered feeder = record {
 
 -- the reply of a book is that of what stands after the journal
 pub answered_by : (plan : Plan) (shard : Shard) (entry : Entry) (book : Kept) → IsKept plan shard → entry.register.0 % plan.shards ≡ shard.at → entry.register.0 < length plan.claims
-    → book ≡ get_or shard.books.items (entry.register.0 / shard.shards) book → IsReply book.claim book.ops entry.edit entry.reply
+    → book ≡ get_or shard.books.items (entry.register.0 / shard.shards) book → IsReply (claimed_of book) entry.edit entry.reply
     → IsAnswered plan shard.at shard.journal.items entry
 answered_by plan shard entry book kept here known is reply =
     let has : HasBook plan shard entry.register.0 = has_book plan shard entry.register.0 kept here known in
@@ -122,7 +120,7 @@ answered_by plan shard entry book kept here known is reply =
       here = here;
       claim = has.claim;
       known = has.known;
-      reply = subst (λ (held : Claimed). IsReply held.claim held.ops entry.edit entry.reply) (same_book plan shard entry.register.0 book has is) reply;
+      reply = subst (λ (held : Claimed). IsReply held entry.edit entry.reply) (same_book plan shard entry.register.0 book has is) reply;
     }
 
 pub count_of_feeder : (plan : Plan) (shard : Shard) (feeder count : ℕ) → IsKept plan shard → feeder < plan.feeders → count ≡ get_or shard.counts.items feeder count → count ≡ count_by feeder shard.journal.items
@@ -130,17 +128,17 @@ count_of_feeder plan shard feeder count kept below is = is ∙ get_or_from_slice
 
 -- the shard with the entry
 pub kept_push : (plan : Plan) (old new : Shard) (entry : Entry) (book edited : Kept) (count : ℕ) → IsKept plan old → entry.register.0 % plan.shards ≡ old.at → entry.register.0 < length plan.claims → entry.feeder < plan.feeders
-    → book ≡ get_or old.books.items (entry.register.0 / old.shards) book → IsReply book.claim book.ops entry.edit entry.reply → count ≡ get_or old.counts.items entry.feeder count
+    → book ≡ get_or old.books.items (entry.register.0 / old.shards) book → IsReply (claimed_of book) entry.edit entry.reply → count ≡ get_or old.counts.items entry.feeder count
     → new.at ≡ old.at → new.shards ≡ old.shards → new.journal.items ≡ old.journal.items ++ entry ∷ []
-    → claimed_of edited ≡ record { claim = book.claim; ops = after_edit book.claim book.ops entry.edit } → new.books.items ≡ set old.books.items (entry.register.0 / old.shards) edited
+    → claimed_of edited ≡ after_edit (claimed_of book) entry.edit → new.books.items ≡ set old.books.items (entry.register.0 / old.shards) edited
     → new.counts.items ≡ set old.counts.items entry.feeder (count + 1)
     → IsKept plan new
 kept_push plan old new entry book edited count kept here known feeder is reply count_is at_is shards_is journal_is edited_to books_are counts_are =
     let has : HasBook plan old entry.register.0 = has_book plan old entry.register.0 kept here known in
     let held : claimed_of book ≡ left_by old.journal.items entry.register.0 has.claim = same_book plan old entry.register.0 book has is in
     let answered : IsAnswered plan old.at old.journal.items entry = answered_by plan old entry book kept here known is reply in
-    let edited_is : claimed_of edited ≡ record { claim = has.claim; ops = after_edit has.claim (standing_of entry.register.0 old.journal.items) entry.edit } =
-    edited_to ∙ ap (λ (b : Claimed). record { claim = b.claim; ops = after_edit b.claim b.ops entry.edit }) held in
+    let edited_is : claimed_of edited ≡ after_edit (left_by old.journal.items entry.register.0 has.claim) entry.edit =
+    edited_to ∙ ap (λ (b : Claimed). after_edit b entry.edit) held in
     let books_set : map claimed_of new.books.items ≡ set (map claimed_of old.books.items) (entry.register.0 / plan.shards) (claimed_of edited) =
     ap (map claimed_of) (books_are ∙ ap (λ (many : ℕ). set old.books.items (entry.register.0 / many) edited) kept.shards) ∙ mapped_set claimed_of old.books.items (entry.register.0 / plan.shards) edited in
     let longer : List Entry = old.journal.items ++ entry ∷ [] in
@@ -152,7 +150,7 @@ kept_push plan old new entry book edited count kept here known feeder is reply c
           (subst (λ (journal : List Entry). AreBooks plan old.at journal (map claimed_of new.books.items)) (sym journal_is)
           (subst (AreBooks plan old.at longer) (sym books_set)
           (books_push plan old.at old.journal.items (map claimed_of old.books.items) entry has.claim (claimed_of edited) kept.books kept.here here has.known
-          (subst (λ (b : Claimed). IsReply b.claim b.ops entry.edit entry.reply) held reply) edited_is)));
+          (subst (λ (b : Claimed). IsReply b entry.edit entry.reply) held reply) edited_is)));
       counts = subst (λ (journal : List Entry). AreCounts plan journal new.counts.items) (sym journal_is)
           (subst (AreCounts plan longer) (sym counts_are) (counts_push plan old.journal.items old.counts.items entry (count + 1) kept.counts feeder (ap (λ (n : ℕ). n + 1) (count_of_feeder plan old entry.feeder count kept feeder count_is))));
     }

@@ -6,10 +6,9 @@ use Rattle.std.proofs.lemmas.Bool.{cases_eq, eq-eqb, ne_eqb}
 use Rattle.std.proofs.lemmas.Option.{none-some, same_Some}
 use Rattle.std.proofs.lemmas.List.{map-append}
 use Rattle.std.proofs.lemmas.List.Elements.{filter-append}
-use Rattle.intervals.specs.declared.operation.Op.{Op}
 use Rattle.intervals.specs.declared.operation.RegId.{RegId}
 use Rattle.intervals.specs.declared.edit.Edit.{Edit}
-use Rattle.intervals.specs.Terms.{Terms}
+use Rattle.intervals.specs.Terms.{Terms, Claimed, unedited}
 use Rattle.intervals.specs.Refusal.{after_edit, standing}
 use Rattle.intervals.specs.Kind.{Holds}
 use Rattle.register_book.specs.declared.reply.Reply.{Reply}
@@ -17,8 +16,8 @@ use Rattle.register_book.specs.declared.reply.Reply.TheVariants.{Accepted, Refus
 use Rattle.register_book.specs.Reply.{IsReply}
 use Rattle.shards.specs.declared.entry.Entry.{Entry}
 use Rattle.shards.specs.Plan.{Plan}
-use Rattle.shards.specs.Journal.{EachAfter, IsAnswered, accepted_edits, is_accepted_of, edits_of, is_of, asked_in, stand, standing_of}
-use Rattle.shards.proofs.Journals.{stand_append, standing_push, standing_push_other, stand_of_own}
+use Rattle.shards.specs.Journal.{EachAfter, IsAnswered, accepted_edits, is_accepted_of, edits_of, is_of, asked_in, left_by}
+use Rattle.shards.proofs.Journals.{left_after, left_after_append, left_after_own, left_push, left_push_other}
 
 pub each_front : {X : Type 0} (R : List X → X → Type 0) (before front rest : List X) → EachAfter R before (front ++ rest) → EachAfter R before front
 each_front R before [] rest each = tt
@@ -40,33 +39,33 @@ same_claim plan n m claim other same known known' = same_Some claim other (sym k
 
 -- the reply to an entry of this register is that of its claim
 reply_of : (plan : Plan) (at register : ℕ) (claim : Terms) (before : List Entry) (entry : Entry) → entry.register.0 ≡ register → slice_get plan.claims register ≡ Some claim → IsAnswered plan at before entry
-    → IsReply claim (standing_of register before) entry.edit entry.reply
+    → IsReply (left_by before register claim) entry.edit entry.reply
 reply_of plan at register claim before entry own known answered =
-    subst (λ (n : ℕ). IsReply claim (standing_of n before) entry.edit entry.reply) own
-    (subst (λ (c : Terms). IsReply c (standing_of entry.register.0 before) entry.edit entry.reply) (same_claim plan entry.register.0 register answered.claim claim own answered.known known) answered.reply)
+    subst (λ (n : ℕ). IsReply (left_by before n claim) entry.edit entry.reply) own
+    (subst (λ (c : Terms). IsReply (left_by before entry.register.0 c) entry.edit entry.reply) (same_claim plan entry.register.0 register answered.claim claim own answered.known known) answered.reply)
 
-stands_after : (plan : Plan) (at register : ℕ) (claim : Terms) → slice_get plan.claims register ≡ Some claim → (before journal : List Entry) → EachAfter (IsAnswered plan at) before journal
-    → stand (standing_of register before) (accepted_edits register journal) ≡ standing claim (standing_of register before) (edits_of register journal)
-stands_after plan at register claim known before [] each = refl
-stands_after plan at register claim known before (entry ∷ rest) each =
-    let ops : List Op = standing_of register before in
+left_from : (plan : Plan) (at register : ℕ) (claim : Terms) → slice_get plan.claims register ≡ Some claim → (before journal : List Entry) → EachAfter (IsAnswered plan at) before journal
+    → left_after (left_by before register claim) (accepted_edits register journal) ≡ standing (left_by before register claim) (edits_of register journal)
+left_from plan at register claim known before [] each = refl
+left_from plan at register claim known before (entry ∷ rest) each =
+    let held : Claimed = left_by before register claim in
     let longer : List Entry = before ++ entry ∷ [] in
-    ap (stand ops) (accepted_first register entry rest)
-    ∙ stand_append ops (accepted_edits register (entry ∷ [])) (accepted_edits register rest)
-    ∙ ap (λ (stood : List Op). stand stood (accepted_edits register rest)) (sym (standing_push register before entry))
-    ∙ stands_after plan at register claim known longer rest each.1
-    ∙ elim (cases_eq entry.register.0 register) as (λ either. standing claim (standing_of register longer) (edits_of register rest) ≡ standing claim ops (edits_of register (entry ∷ rest))) [
+    ap (left_after held) (accepted_first register entry rest)
+    ∙ left_after_append held (accepted_edits register (entry ∷ [])) (accepted_edits register rest)
+    ∙ ap (λ (left : Claimed). left_after left (accepted_edits register rest)) (sym (left_push register claim before entry))
+    ∙ left_from plan at register claim known longer rest each.1
+    ∙ elim (cases_eq entry.register.0 register) as (λ either. standing (left_by longer register claim) (edits_of register rest) ≡ standing held (edits_of register (entry ∷ rest))) [
       | inl own ↦
-          ap (λ (stood : List Op). standing claim stood (edits_of register rest)) (standing_push register before entry ∙ stand_of_own claim ops register entry own (reply_of plan at register claim before entry own known each.0))
-          ∙ sym (ap (standing claim ops) (edits_of_own register entry rest own))
+          ap (λ (left : Claimed). standing left (edits_of register rest)) (left_push register claim before entry ∙ left_after_own held register entry own (reply_of plan at register claim before entry own known each.0))
+          ∙ sym (ap (standing held) (edits_of_own register entry rest own))
       | inr other ↦
-          ap (λ (stood : List Op). standing claim stood (edits_of register rest)) (standing_push_other register before entry other)
-          ∙ sym (ap (standing claim ops) (edits_of_other register entry rest other))
+          ap (λ (left : Claimed). standing left (edits_of register rest)) (left_push_other register claim before entry other)
+          ∙ sym (ap (standing held) (edits_of_other register entry rest other))
     ]
 
-pub stands : (plan : Plan) (at register : ℕ) (claim : Terms) (journal : List Entry) → EachAfter (IsAnswered plan at) [] journal → slice_get plan.claims register ≡ Some claim
-    → standing_of register journal ≡ standing claim [] (edits_of register journal)
-stands plan at register claim journal legal known = stands_after plan at register claim known [] journal legal
+pub left_as_edited : (plan : Plan) (at register : ℕ) (claim : Terms) (journal : List Entry) → EachAfter (IsAnswered plan at) [] journal → slice_get plan.claims register ≡ Some claim
+    → left_by journal register claim ≡ standing (unedited claim) (edits_of register journal)
+left_as_edited plan at register claim journal legal known = left_from plan at register claim known [] journal legal
 
 same_truth : (P : Type 0) (a b : Bool) → IsTrue a ↔ P → IsTrue b ↔ P → a ≡ b
 same_truth P true true is is' = refl
@@ -74,19 +73,19 @@ same_truth P true false is is' = sym (is'.1 (is.0 refl))
 same_truth P false true is is' = is.1 (is'.0 refl)
 same_truth P false false is is' = refl
 
-one_reply : (claim : Terms) (ops : List Op) (edit : Edit) (reply other : Reply) → IsReply claim ops edit reply → IsReply claim ops edit other → reply ≡ other
-one_reply claim ops edit (Accepted holds) (Accepted holds') is is' = ap Accepted (same_truth (Holds claim (after_edit claim ops edit)) holds holds' is.1 is'.1)
-one_reply claim ops edit (Accepted holds) (Refused refusal') is is' = absurd (none-some refusal' (sym is.0 ∙ is'))
-one_reply claim ops edit (Refused refusal) (Accepted holds') is is' = absurd (none-some refusal (sym is'.0 ∙ is))
-one_reply claim ops edit (Refused refusal) (Refused refusal') is is' = ap Refused (same_Some refusal refusal' (sym is ∙ is'))
+one_reply : (held : Claimed) (edit : Edit) (reply other : Reply) → IsReply held edit reply → IsReply held edit other → reply ≡ other
+one_reply held edit (Accepted holds) (Accepted holds') is is' = ap Accepted (same_truth (Holds (after_edit held edit).claim (after_edit held edit).ops) holds holds' is.1 is'.1)
+one_reply held edit (Accepted holds) (Refused refusal') is is' = absurd (none-some refusal' (sym is.0 ∙ is'))
+one_reply held edit (Refused refusal) (Accepted holds') is is' = absurd (none-some refusal (sym is'.0 ∙ is))
+one_reply held edit (Refused refusal) (Refused refusal') is is' = ap Refused (same_Some refusal refusal' (sym is ∙ is'))
 
 -- of one place in two journals
 one_entry : (plan : Plan) (at : ℕ) (before : List Entry) (entry other : Entry) → asked_in entry ≡ asked_in other → IsAnswered plan at before entry → IsAnswered plan at before other → entry ≡ other
 one_entry plan at before entry other same answered answered' =
     let register_is : entry.register.0 ≡ other.register.0 = ap (λ (asked : ℕ × RegId × Edit). asked.1.0) same in
     let reply_is : entry.reply ≡ other.reply =
-    one_reply answered'.claim (standing_of other.register.0 before) other.edit entry.reply other.reply
-    (subst (λ (edit : Edit). IsReply answered'.claim (standing_of other.register.0 before) edit entry.reply) (ap (λ (asked : ℕ × RegId × Edit). asked.2) same)
+    one_reply (left_by before other.register.0 answered'.claim) other.edit entry.reply other.reply
+    (subst (λ (edit : Edit). IsReply (left_by before other.register.0 answered'.claim) edit entry.reply) (ap (λ (asked : ℕ × RegId × Edit). asked.2) same)
     (reply_of plan at other.register.0 answered'.claim before entry register_is answered'.known answered)) answered'.reply in
     ap (λ (asked : ℕ × RegId × Edit). record { feeder = asked.0; register = asked.1; edit = asked.2; reply = entry.reply }) same
     ∙ ap (λ (reply : Reply). record { feeder = other.feeder; register = other.register; edit = other.edit; reply = reply }) reply_is

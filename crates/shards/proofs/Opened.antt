@@ -7,13 +7,13 @@ use Rattle.std.proofs.lemmas.List.{length_push, length-replicate, get_or-replica
 use Rattle.std.proofs.lemmas.List.Elements.{All-nil}
 use Rattle.std.proofs.lemmas.Nat.{mul-le}
 use Rattle.std.proofs.lemmas.Option.{none-some, slice_get_past, slice_get-get_or}
-use Rattle.intervals.specs.Terms.{Terms, Claimed}
+use Rattle.intervals.specs.Terms.{Terms, Claimed, unedited}
 use Rattle.register_book.specs.Kept.{claimed_of}
 use Rattle.shards.specs.declared.entry.Entry.{Entry}
 use Rattle.shards.specs.declared.shard.Shard.{Shard}
 use Rattle.shards.specs.Plan.{Plan}
 use Rattle.shards.specs.Journal.{IsJournalOf}
-use Rattle.shards.specs.Shard.{AreBooks, AreCounts, IsKept, unedited}
+use Rattle.shards.specs.Shard.{AreBooks, AreCounts, IsKept}
 use Rattle.shards.proofs.Slots.{get_push_below, get_push_at}
 
 -- each book so far is the unedited one of its register

@@ -1,13 +1,13 @@
 -- What an auditor leaves, and why it refuses to.
 use Rattle.std.specs.Prelude.{◌≡◌, ◌≢◌, ◌⊎◌, ◌<◌, ◌%◌, ◌/◌, ℕ, List, [], ◌++◌, length, Option, Some, option_map, unwrap_or, All, Any, Contains, EachIndex}
 use Rattle.std.specs.List.{slice_get, AllPairs}
-use Rattle.intervals.specs.Terms.{Terms, Claimed}
+use Rattle.intervals.specs.Terms.{Claimed}
 use Rattle.shards.specs.declared.entry.Entry.{Entry}
 use Rattle.shards.specs.declared.entry.Numbered.{Numbered}
 use Rattle.shards.specs.declared.fault.ShardFault.{ShardFault}
 use Rattle.shards.specs.declared.fault.ShardFault.TheVariants.{UnknownRegister, Memory, JournalBehind, PassMissing, Stranger, ForeignPass}
 use Rattle.shards.specs.Plan.{Plan}
-use Rattle.shards.specs.Journal.{standing_of, IsJournalOf}
+use Rattle.shards.specs.Journal.{left_by, IsJournalOf}
 use Rattle.shards.specs.Pass.{Passed, IsPassOf, IsInKeeping, IsBehind, HasFarthest}
 use Rattle.shards.specs.Merge.{IsMerge, IsStranger, numbered}
 
@@ -32,10 +32,6 @@ books_of shards at = unwrap_or (option_map (λ shard. shard.books) (slice_get sh
 -- the book of a register: it stands in the shard of its number modulo the number of shards
 abbrev pub book_of : List Ended → ℕ → Option Claimed
 book_of shards register = slice_get (books_of shards (register % length shards)) (register / length shards)
-
--- a register as a journal leaves it
-abbrev pub left_by : List Entry → ℕ → Terms → Claimed
-left_by journal register claim = record { claim = claim; ops = standing_of register journal }
 
 -- a journal of the shard, a merge of what the passes submitted, that has each pass's farthest entry at its
 -- number

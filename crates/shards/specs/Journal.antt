@@ -4,7 +4,7 @@ use Rattle.std.specs.List.{slice_get}
 use Rattle.intervals.specs.declared.operation.Op.{Op}
 use Rattle.intervals.specs.declared.operation.RegId.{RegId}
 use Rattle.intervals.specs.declared.edit.Edit.{Edit}
-use Rattle.intervals.specs.Terms.{Terms}
+use Rattle.intervals.specs.Terms.{Terms, Claimed}
 use Rattle.intervals.specs.Edit.{edited}
 use Rattle.register_book.specs.declared.reply.Reply.{Reply}
 use Rattle.register_book.specs.declared.reply.Reply.TheVariants.{Accepted, Refused}
@@ -46,12 +46,16 @@ stand ops (edit ∷ edits) = stand (edited ops edit) edits
 abbrev pub standing_of : ℕ → List Entry → List Op
 standing_of register journal = stand [] (accepted_edits register journal)
 
--- the register stands in the shard, and the reply is that of what stands of it after the entries before
+-- a register as a journal leaves it
+abbrev pub left_by : List Entry → ℕ → Terms → Claimed
+left_by journal register claim = record { claim = claim; ops = standing_of register journal }
+
+-- the register stands in the shard, and the reply is that of the register as the entries before leave it
 pub record IsAnswered (plan : Plan) (at : ℕ) (before : List Entry) (entry : Entry) : Type 0 where
   pub here : entry.register.0 % plan.shards ≡ at
   pub claim : Terms
   pub known : slice_get plan.claims entry.register.0 ≡ Some claim
-  pub reply : IsReply claim (standing_of entry.register.0 before) entry.edit entry.reply
+  pub reply : IsReply (left_by before entry.register.0 claim) entry.edit entry.reply
 
 -- each element stands in the relation to those before it
 abbrev pub EachAfter : {X : Type 0} → (List X → X → Type 0) → List X → List X → Type 0

@@ -1,26 +1,22 @@
 -- For private clauses alone: what the fields of a shard are beside its journal.
 use Rattle.std.specs.Prelude.{◌≡◌, ◌<◌, ◌+◌, ◌*◌, ℕ, List, [], ◌∷◌, length, Some, option_map, map, All}
 use Rattle.std.specs.List.{AllByRecursion, slice_get}
-use Rattle.intervals.specs.Terms.{Terms, Claimed}
+use Rattle.intervals.specs.Terms.{Claimed}
 use Rattle.register_book.specs.Kept.{claimed_of}
 use Rattle.shards.specs.declared.entry.Entry.{Entry}
 use Rattle.shards.specs.declared.entry.Numbered.{Numbered}
 use Rattle.shards.specs.declared.shard.Shard.{Shard}
 use Rattle.shards.specs.Plan.{Plan}
-use Rattle.shards.specs.Journal.{IsJournalOf, count_by}
+use Rattle.shards.specs.Journal.{left_by, IsJournalOf, count_by}
 use Rattle.shards.specs.Plain.{plain_numbered}
 use Rattle.shards.specs.Pass.{HasFarthest, Passed, told}
 use Rattle.shards.specs.Merge.{IsTold, entries_of, numbered}
-use Rattle.shards.specs.Closing.{Held, Ended, left_by}
+use Rattle.shards.specs.Closing.{Held, Ended}
 
 -- each book is what the journal leaves of its register: book k is that of register k * shards + at
 abbrev pub AreBooks : Plan → ℕ → List Entry → List Claimed → Type 0
 AreBooks plan at journal books =
     (slot : ℕ) → slice_get books slot ≡ option_map (left_by journal (slot * plan.shards + at)) (slice_get plan.claims (slot * plan.shards + at))
-
--- a book of no operations
-abbrev pub unedited : Terms → Claimed
-unedited claim = record { claim = claim; ops = [] }
 
 -- each count is the number of a feeder's entries
 abbrev pub AreCounts : Plan → List Entry → List ℕ → Type 0

@@ -14,7 +14,7 @@ use Rattle.shards.specs.declared.entry.Receipt.{Receipt}
 use Rattle.shards.specs.declared.fault.ShardFault.{ShardFault}
 use Rattle.shards.specs.declared.fault.ShardFault.TheVariants.{UnknownRegister, Memory, JournalBehind, ForeignPass}
 use Rattle.shards.specs.Plan.{Plan}
-use Rattle.shards.specs.Journal.{standing_of, IsJournalOf}
+use Rattle.shards.specs.Journal.{left_by, IsJournalOf}
 use Rattle.shards.specs.Pass.{Passed, IsPassOf, IsInKeeping, IsBehind, last_in, with_own, with_seen}
 
 abbrev pub entry_of : ℕ → RegId → Edit → Reply → Entry
@@ -31,15 +31,15 @@ entered pass register edit receipt = with_own pass receipt.shard (numbered_entry
 abbrev pub last_entry : List Entry → Option Numbered
 last_entry journal = option_map (numbered_entry (length journal - 1)) (last_in journal)
 
--- the answer is the verdict on what stands of the register after the journal, how much stands, why the
--- register fails where it does, and the journal's length
+-- the answer is the verdict on the register as the journal leaves it, how much stands, why the register
+-- fails where it does, and the journal's length
 pub record IsStanding (plan : Plan) (register : ℕ) (journal : List Entry) (answer : Answer) : Type 0 where
   pub claim : Terms
   pub known : slice_get plan.claims register ≡ Some claim
-  pub verdict : IsTrue answer.holds ↔ Holds claim (standing_of register journal)
-  pub operations : answer.operations ≡ length (standing_of register journal)
-  pub witness : IfSome answer.witness (IsWitness claim (standing_of register journal))
-  pub none : IsNone answer.witness ↔ Holds claim (standing_of register journal)
+  pub verdict : IsTrue answer.holds ↔ Holds (left_by journal register claim).claim (left_by journal register claim).ops
+  pub operations : answer.operations ≡ length (left_by journal register claim).ops
+  pub witness : IfSome answer.witness (IsWitness (left_by journal register claim).claim (left_by journal register claim).ops)
+  pub none : IsNone answer.witness ↔ Holds (left_by journal register claim).claim (left_by journal register claim).ops
   pub fault : answer.fault ≡ option_map ids_of answer.witness
   pub number : answer.number ≡ length journal
 

@@ -2,11 +2,11 @@
 
 ghost use Rattle.std.specs.Prelude.{◌≡◌, ◌%◌, ℕ, List, [], ◌++◌, map, Some, All, filter, ◌≢◌, ◌<◌, ◌∷◌, Option, length, ◌≤◌, IfSome, IsSomeAnd};
 ghost use Rattle.std.specs.List.{slice_get};
-ghost use Rattle.intervals.specs.Terms.{Terms};
+ghost use Rattle.intervals.specs.Terms.{Terms, unedited};
 ghost use Rattle.intervals.specs.Refusal.{standing};
 ghost use Rattle.shards.specs.declared.entry.Entry.{Entry};
 ghost use Rattle.shards.specs.Plan.{Plan};
-ghost use Rattle.shards.specs.Journal.{IsJournalOf, IsLegalJournal, asked_in, edits_of, standing_of, is_by};
+ghost use Rattle.shards.specs.Journal.{IsJournalOf, IsLegalJournal, asked_in, edits_of, left_by, is_by};
 ghost use Rattle.shards.specs.Plain.{plain_entry};
 ghost use Rattle.shards.specs.Pass.{Passed, told, IsPassOf, Sight, fresh, learnt, with_own, with_seen, IsBehind, IsInKeeping, farthest_in, farthest_of};
 ghost use Rattle.shards.specs.Merge.{IsMerge};
@@ -24,11 +24,11 @@ pub fn each_front_is_legal()
     ensures { (plan : Plan) (at : ℕ) (front rest : List Entry) → IsLegalJournal plan at (front ++ rest) → IsLegalJournal plan at front }
 {}
 
-/// What stands of a register after a legal journal is what stands after all its edits in order, whether
-/// they were accepted or refused.
+/// A legal journal leaves a register as all its edits in order do, whether they were accepted or
+/// refused.
 pub fn what_stands_is_after_all_edits()
     ensures { (plan : Plan) (at register : ℕ) (claim : Terms) (journal : List Entry) → IsLegalJournal plan at journal → slice_get plan.claims register ≡ Some claim
-        → standing_of register journal ≡ standing claim [] (edits_of register journal) }
+        → left_by journal register claim ≡ standing (unedited claim) (edits_of register journal) }
 {}
 
 /// The replies of a legal journal are determined: two legal journals of one shard, with the same feeders,

@@ -3,11 +3,12 @@
 ghost use Rattle.std.specs.Prelude.{◌≡◌, ◌<◌, ◌%◌, ◌/◌, ◌++◌, ◌∷◌, [], ℕ, IfOk, IfErr, OnOk, OnErr, length, replicate, map, option_map, option_to_list};
 ghost use Rattle.std.specs.List.{slice_get};
 ghost use Rattle.shards.specs.declared.fault.ShardFault.TheVariants.{Memory};
+ghost use Rattle.intervals.specs.Terms.{unedited};
 ghost use Rattle.register_book.specs.Fault.{ids_of};
 ghost use Rattle.register_book.specs.Kept.{claimed_of};
 ghost use Rattle.shards.specs.Plan.{plan_of, claims_of};
 ghost use Rattle.shards.specs.Journal.{IsAnswered, count_by};
-ghost use Rattle.shards.specs.Shard.{AreBooks, IsKept, held_of, unedited};
+ghost use Rattle.shards.specs.Shard.{AreBooks, IsKept, held_of};
 ghost use Rattle.shards.specs.Steps.{IsStanding, entry_of, last_entry, numbered_entry};
 
 use crate::{Answer, Entry, Numbered, Opening, ShardFault};

@@ -20,7 +20,7 @@ use Rattle.zones.specs.Faults.{AreStretched, AreStretchesAt}
 use Rattle.zones.specs.Index.{AreMembers, HasPlaces, HasPlacesOf, HoldsOnlyFor}
 use Rattle.zones.specs.Members.{IsChange}
 use Rattle.zones.specs.Together.{HasRoomFor, HoldTogether}
-use Rattle.zones.specs.Zoned.{AreExchanged, AreZoned, AreZonesAt, CanExchange, NeedsNoRoom, StandApart, judged_part, other_value, value_in}
+use Rattle.zones.specs.Zoned.{AreExchanged, AreZoned, AreZonesAt, CanExchange, NeedsNoRoom, AreManyWriters, judged_part, other_value, value_in}
 use Rattle.zones.proofs.Members.{here, in_none, contains_cases}
 use Rattle.zones.proofs.Cluster.{value_is}
 use Rattle.zones.proofs.Edited.{apart_kept, apart_none, change_of_edit}
@@ -48,9 +48,9 @@ zoned_at_first initial zone is = record {
     by_zone z (inr h) = absurd (in_none z h)
 
 -- a tree of a register has as many zones as the register
-pub as_many_zones : (claim : Terms) (ops : List Op) (tree : List Zone) → StandApart claim ops → StandInOrder tree → AreZoned claim.initial ops tree → length tree ≡ length (zones_of claim.initial ops)
+pub as_many_zones : (claim : Terms) (ops : List Op) (tree : List Zone) → AreManyWriters claim ops → StandInOrder tree → AreZoned claim.initial ops tree → length tree ≡ length (zones_of claim.initial ops)
 as_many_zones claim ops tree apart order zoned =
-    length_permutation (zones_of claim.initial ops) tree (zones_each_once claim.initial ops tree apart.moments apart.values order zoned)
+    length_permutation (zones_of claim.initial ops) tree (zones_each_once claim.initial ops tree apart.kept.moments (apart.kept.values apart.atomic) order zoned)
 
 pub room_of_none : (members : Members) (zones stretches : Contents) (prepared : Option Op) → prepared ≡ None → IfSome prepared (HasRoomFor members zones stretches)
 room_of_none members zones stretches prepared e = subst (λ (p : Option Op). IfSome p (HasRoomFor members zones stretches)) (sym e) tt
@@ -77,7 +77,7 @@ together_at_first claim atomic table members zones stretches zone e are only is 
 pub together_kept : (claim : Terms) (table other : Tabled) (members changed : Members) (zones others stretches rest : Contents) → HoldTogether claim table members zones stretches
     → other.ops ≡ table.ops → AreMembers table.ops changed → others.zones ≡ zones.zones → rest.zones ≡ stretches.zones → IfSome other.prepared (HasRoomFor changed others rest) → HoldsOnlyFor other.prepared changed → HoldTogether claim other changed others rest
 together_kept claim table other members changed zones others stretches rest together same are zones_same rest_same room only = record {
-  apart = subst (StandApart claim) (sym same) together.apart;
+  apart = subst (AreManyWriters claim) (sym same) together.apart;
   members_of = subst (λ (l : List Op). AreMembers l changed) (sym same) are;
   zoned = subst (λ (l : List Op). AreZoned claim.initial l others.zones) (sym same) (subst (AreZoned claim.initial table.ops) (sym zones_same) together.zoned);
   stretched = subst (λ (l : List Op). AreStretched claim.initial l rest.zones) (sym same) (subst (AreStretched claim.initial table.ops) (sym rest_same) together.stretched);
@@ -123,11 +123,11 @@ module _ (members : Members) (zones stretches : Contents) (prepared : Option Op)
           stretches_free = (let a = h.stretches_free in let b = most refl in omega arith);
         }
 
-module _ (claim : Terms) (ops : List Op) (edit : Edit) (apart : StandApart claim ops) (accepted : reply_to claim ops edit ≡ None)
+module _ (claim : Terms) (ops : List Op) (edit : Edit) (apart : AreManyWriters claim ops) (accepted : reply_to claim ops edit ≡ None)
     (old new : Option Op) (old_is : old ≡ judged_part (op_of ops (edit_id edit))) (new_is : new ≡ judged_part (new_op ops edit))
     (after : List Op) (after_is : after ≡ edited ops edit) where
-  pub apart_after : StandApart claim after
-  apart_after = subst (StandApart claim) (sym after_is) (apart_kept claim ops edit apart accepted)
+  pub apart_after : AreManyWriters claim after
+  apart_after = subst (AreManyWriters claim) (sym after_is) (apart_kept claim ops edit apart accepted)
 
   pub change_is : IsChange ops old new after
   change_is =
@@ -145,18 +145,18 @@ module _ (claim : Terms) (ops : List Op) (edit : Edit) (apart : StandApart claim
 
       pub can_exchange_zones : (IsSome new → 2 ≤ tree.free) → CanExchange tree earlier later
       can_exchange_zones enough gone come changes =
-          can_move claim.initial ops old new after change_is apart.moments apart_after.moments tree.zones zoned earlier later gone come changes
+          can_move claim.initial ops old new after change_is apart.kept.moments apart_after.kept.moments tree.zones zoned earlier later gone come changes
           (at_values ops earlier earlier_is) (at_values after later later_is) tree.free tree.steps enough
 
       pub zones_need_no_room : new ≡ None → NeedsNoRoom tree.zones earlier later
       zones_need_no_room none gone come changes =
-          keeps_room claim.initial ops old new after change_is apart.moments apart_after.moments tree.zones zoned earlier later gone come changes
+          keeps_room claim.initial ops old new after change_is apart.kept.moments apart_after.kept.moments tree.zones zoned earlier later gone come changes
           (at_values ops earlier earlier_is) (at_values after later later_is) none
 
       pub zoned_after : (result : List Zone) → AreExchanged earlier later tree.zones result → AreZoned claim.initial after result
       zoned_after result is =
           subst (AreZoned claim.initial after) (sym is.moves)
-          (moved_zoned claim.initial ops old new after change_is apart.moments apart_after.moments tree.zones zoned earlier later is.gone is.come is.changes
+          (moved_zoned claim.initial ops old new after change_is apart.kept.moments apart_after.kept.moments tree.zones zoned earlier later is.gone is.come is.changes
           (at_values ops earlier earlier_is) (at_values after later later_is))
 
     module _ (stretched : AreStretched claim.initial ops tree.zones) (earlier_is : AreStretchesAt claim.initial ops first second earlier) (later_is : AreStretchesAt claim.initial after first second later) where
@@ -167,16 +167,16 @@ module _ (claim : Terms) (ops : List Op) (edit : Edit) (apart : StandApart claim
 
       pub can_exchange_stretches : (IsSome new → 2 ≤ tree.free) → CanExchange tree earlier later
       can_exchange_stretches enough gone come changes =
-          stretches_can_move claim.initial ops old new after change_is apart.moments apart_after.moments tree.zones stretched earlier later gone come changes
+          stretches_can_move claim.initial ops old new after change_is apart.kept.moments apart_after.kept.moments tree.zones stretched earlier later gone come changes
           (stretches_at ops earlier earlier_is) (stretches_at after later later_is) tree.free tree.steps enough
 
       pub stretches_need_no_room : new ≡ None → NeedsNoRoom tree.zones earlier later
       stretches_need_no_room none gone come changes =
-          stretches_keep_room claim.initial ops old new after change_is apart.moments apart_after.moments tree.zones stretched earlier later gone come changes
+          stretches_keep_room claim.initial ops old new after change_is apart.kept.moments apart_after.kept.moments tree.zones stretched earlier later gone come changes
           (stretches_at ops earlier earlier_is) (stretches_at after later later_is) none
 
       pub stretched_after : (result : List Zone) → AreExchanged earlier later tree.zones result → AreStretched claim.initial after result
       stretched_after result is =
           subst (AreStretched claim.initial after) (sym is.moves)
-          (moved_stretched claim.initial ops old new after change_is apart.moments apart_after.moments tree.zones stretched earlier later is.gone is.come is.changes
+          (moved_stretched claim.initial ops old new after change_is apart.kept.moments apart_after.kept.moments tree.zones stretched earlier later is.gone is.come is.changes
           (stretches_at ops earlier earlier_is) (stretches_at after later later_is))

@@ -19,10 +19,10 @@ use Rattle.intervals.specs.declared.claim.Kind.TheVariants.{Atomic}
 use Rattle.intervals.proofs.Accepted.{edit_accepted}
 use Rattle.intervals.proofs.Found.{find-Some}
 use Rattle.intervals.proofs.Ids.{not_taken, none_of, found_alike, found_by_id, same_id-refl, distinct_edited}
-use Rattle.intervals.proofs.Standing.{HaveOtherValues, moments_kept, ends_kept, values_kept}
+use Rattle.intervals.proofs.Standing.{HaveOtherValues, nothing_apart, edited_apart}
 use Rattle.zones.specs.Cluster.{edge_of_end}
 use Rattle.zones.specs.Members.{HaveOwnPlaces, IsChange}
-use Rattle.zones.specs.Zoned.{StandApart, judged_part}
+use Rattle.zones.specs.Zoned.{AreManyWriters, judged_part}
 use Rattle.zones.proofs.Judged.{is_judged}
 use Rattle.zones.proofs.Members.{in_none, contains_cases, kept, kept_stands, mapped, here, there, pair_of, pairs_nil}
 
@@ -117,15 +117,15 @@ write_without_end : (w s : Bool) → (w || s) ≡ true → s ≡ false → w ≡
 write_without_end true s e f = refl
 write_without_end false s e f = absurd (both_ways s f e)
 
-module _ (claim : Terms) (ops : List Op) (apart : StandApart claim ops) where
+module _ (claim : Terms) (ops : List Op) (apart : AreManyWriters claim ops) where
   stands : (a : Op) → Contains (judged ops) a → Contains ops a
   stands a h = (kept_stands is_judged ops a h).0
 
   one_moment : (a b : Op) → Contains ops a → Contains ops b → ¬ ShareNoMoment a b → a ≡ b
-  one_moment = one_by ops apart.ids ShareNoMoment (λ a b none m p q. none m q p) apart.moments
+  one_moment = one_by ops apart.kept.ids ShareNoMoment (λ a b none m p q. none m q p) apart.kept.moments
 
   pub one_value : (a b : Op) → Contains ops a → Contains ops b → IsWrite a → IsWrite b → value_of a.act ≡ value_of b.act → a ≡ b
-  one_value a b h k write_a write_b e = one_by ops apart.ids HaveOtherValues (λ v w other p q s. other q p (sym s)) apart.values.apart a b h k (λ other. other write_a write_b e)
+  one_value a b h k write_a write_b e = one_by ops apart.kept.ids HaveOtherValues (λ v w other p q s. other q p (sym s)) (apart.kept.values apart.atomic).apart a b h k (λ other. other write_a write_b e)
 
   writes_without : (a : Op) → Contains (judged ops) a → a.end ≡ None → IsWrite a
   writes_without a h e = write_without_end (is_write a) (is_some a.end) (kept_stands is_judged ops a h).1 (ap is_some e)
@@ -143,24 +143,12 @@ module _ (claim : Terms) (ops : List Op) (apart : StandApart claim ops) where
       by_ends a b h k same None (Some n) e f g = absurd (cc)
       by_ends a b h k same None None e f g = one_value a b (stands a h) (stands b k) (writes_without a h e) (writes_without b k f) same
 
-pub apart_none : (claim : Terms) → claim.kind ≡ Atomic → StandApart claim []
-apart_none claim atomic = record {
-  atomic = atomic;
-  ids = tt;
-  moments = pairs_nil ShareNoMoment;
-  ends = All-nil _;
-  values = record { apart = pairs_nil HaveOtherValues; new = All-nil _ };
-}
+pub apart_none : (claim : Terms) → claim.kind ≡ Atomic → AreManyWriters claim []
+apart_none claim atomic = record { atomic = atomic; kept = nothing_apart claim }
 
-module _ (claim : Terms) (ops : List Op) (edit : Edit) (apart : StandApart claim ops) (accepted : reply_to claim ops edit ≡ None) where
-  pub apart_kept : StandApart claim (edited ops edit)
-  apart_kept = record {
-    atomic = apart.atomic;
-    ids = distinct_edited ops edit apart.ids (edit_accepted claim ops edit accepted);
-    moments = moments_kept claim ops edit apart.ids apart.moments accepted;
-    ends = ends_kept claim ops edit apart.ids apart.ends accepted;
-    values = values_kept claim apart.atomic ops edit apart.ids apart.values accepted;
-  }
+module _ (claim : Terms) (ops : List Op) (edit : Edit) (apart : AreManyWriters claim ops) (accepted : reply_to claim ops edit ≡ None) where
+  pub apart_kept : AreManyWriters claim (edited ops edit)
+  apart_kept = record { atomic = apart.atomic; kept = edited_apart claim ops edit apart.kept accepted }
 
   abbrev old : Option Op
   old = judged_part (op_of ops (edit_id edit))
@@ -170,7 +158,7 @@ module _ (claim : Terms) (ops : List Op) (edit : Edit) (apart : StandApart claim
 
   -- the new operation is judged, or it was and is none of the edit's id
   from_judged : (x : Op) → Contains (judged (edited ops edit)) x → (new ≡ Some x) ⊎ (Contains (judged ops) x × (same_id x.id (edit_id edit) ≡ false))
-  from_judged x h = let (k, t) = kept_stands is_judged (edited ops edit) x h in by_cases t (from_edited ops edit x apart.ids (edit_accepted claim ops edit accepted) k)
+  from_judged x h = let (k, t) = kept_stands is_judged (edited ops edit) x h in by_cases t (from_edited ops edit x apart.kept.ids (edit_accepted claim ops edit accepted) k)
     where
       by_cases : is_judged x ≡ true → StandsAfter ops edit x → (new ≡ Some x) ⊎ (Contains (judged ops) x × (same_id x.id (edit_id edit) ≡ false))
       by_cases t (inl e) = inl (part_of (new_op ops edit) x e t)
@@ -196,7 +184,7 @@ module _ (claim : Terms) (ops : List Op) (edit : Edit) (apart : StandApart claim
   }
     where
       by_id : (x : Op) → Contains (judged ops) x → (t : Bool) → same_id x.id (edit_id edit) ≡ t → (old ≡ Some x) ⊎ Contains (judged (edited ops edit)) x
-      by_id x h true t = let (k, j) = kept_stands is_judged ops x h in inl (part_of (op_of ops (edit_id edit)) x (sym (found_alike ops x.id (edit_id edit) t) ∙ found_by_id ops x apart.ids k) j)
+      by_id x h true t = let (k, j) = kept_stands is_judged ops x h in inl (part_of (op_of ops (edit_id edit)) x (sym (found_alike ops x.id (edit_id edit) t) ∙ found_by_id ops x apart.kept.ids k) j)
       by_id x h false t = inr (still_judged x h t)
 
       by_cases : (x : Op) → (new ≡ Some x) ⊎ (Contains (judged ops) x × (same_id x.id (edit_id edit) ≡ false)) → (new ≡ Some x) ⊎ (Contains (judged ops) x × (old ≢ Some x))

@@ -5,14 +5,14 @@ use Rattle.std.proofs.lemmas.Bool.{cases_lt}
 use Rattle.std.proofs.lemmas.List.Sorted.{IsPermutation-sym, Contains-permutation}
 use Rattle.intervals.specs.declared.operation.Op.{Op}
 use Rattle.intervals.specs.declared.operation.Value.{Value}
-use Rattle.intervals.specs.Terms.{Terms}
+use Rattle.intervals.specs.Terms.{Terms, unedited}
 use Rattle.intervals.specs.Operation.{is_write, value_of, judged}
 use Rattle.intervals.specs.declared.edit.Edit.{Edit}
 use Rattle.intervals.specs.declared.claim.Kind.{Kind}
 use Rattle.intervals.specs.declared.claim.Kind.TheVariants.{Atomic}
 use Rattle.intervals.specs.Refusal.{standing}
 use Rattle.intervals.specs.Kind.{Arranges, IsAtomic, Keeps, Holds}
-use Rattle.intervals.proofs.Standing.{moments_apart, ends_after, values_apart}
+use Rattle.intervals.proofs.Standing.{standing_apart}
 use Rattle.intervals.specs.Standing.{HasDistinctMoments, HasEndsAfterBeginnings, HasDistinctValues}
 use Rattle.zone_tree.specs.declared.edge.Edge.{Edge}
 use Rattle.zone_tree.specs.Edge.{ComesBefore}
@@ -135,7 +135,9 @@ pub faultless_exactly : (claim : Terms) (ops : List Op) → HasDistinctMoments o
 faultless_exactly claim ops moments ends values = (faultless_is_atomic claim ops moments ends, atomic_is_faultless claim ops values)
 
 -- after any edits of an atomic register
-pub faultless_after_edits : (claim : Terms) (edits : List Edit) → claim.kind ≡ Atomic → IsFaultless claim.initial (standing claim [] edits) ↔ Holds claim (standing claim [] edits)
+pub faultless_after_edits : (claim : Terms) (edits : List Edit) → let held = standing (unedited claim) edits in held.claim.kind ≡ Atomic → IsFaultless held.claim.initial held.ops ↔ Holds held.claim held.ops
 faultless_after_edits claim edits atomic =
-    subst (λ (kind : Kind). IsFaultless claim.initial (standing claim [] edits) ↔ Keeps kind claim (standing claim [] edits)) (sym atomic)
-    (faultless_exactly claim (standing claim [] edits) (moments_apart claim edits) (ends_after claim edits) (values_apart claim edits atomic))
+    let held = standing (unedited claim) edits in
+    let apart = standing_apart claim edits in
+    subst (λ (kind : Kind). IsFaultless held.claim.initial held.ops ↔ Keeps kind held.claim held.ops) (sym atomic)
+    (faultless_exactly held.claim held.ops apart.moments apart.ends (apart.values atomic))

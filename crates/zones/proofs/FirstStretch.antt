@@ -25,7 +25,7 @@ use Rattle.zones.specs.Cluster.{edge_of_end, zones_of}
 use Rattle.zones.specs.Fault.{HasLateWrite, IsEarly, IsFaultless, IsFirstOf, IsUnwritten, first_early, first_unwritten}
 use Rattle.zones.specs.Faults.{AreStretched, IsRead, begin_of, first_end_of, stretch_of}
 use Rattle.zones.specs.Members.{EndsFirstOf, HasNoRead, HasNoWrite, IsTheWriteAt, end_of}
-use Rattle.zones.specs.Zoned.{StandApart}
+use Rattle.zones.specs.Zoned.{AreManyWriters}
 use Rattle.zones.proofs.Cluster.{edge_from_end, end_from_edge}
 use Rattle.zones.proofs.EdgeOrder.{AtMost, at_most_itself, at_most_transitive, before_all, not_after_before, not_both_ways}
 use Rattle.zones.proofs.FirstReads.{early_none, first_is_early, first_is_unwritten, none_of, one_write, some_stands, unwritten_none}
@@ -73,16 +73,16 @@ is_reaching edge z = z.forward && not (comes_before z.right edge)
 abbrev pub is_short : Edge → Zone → Bool
 is_short edge z = z.forward && comes_before z.right edge
 
-module _ (claim : Terms) (ops : List Op) (apart : StandApart claim ops) where
+module _ (claim : Terms) (ops : List Op) (apart : AreManyWriters claim ops) where
   abbrev initial : Value
   initial = claim.initial
 
   one_at : (v : Value) (a b : Op) → IsTheWriteAt ops v a → IsTheWriteAt ops v b → a ≡ b
-  one_at v a b p q = one_write ops initial apart.values a b p.stands q.stands p.write q.write (p.same ∙ sym q.same)
+  one_at v a b p q = one_write ops initial (apart.kept.values apart.atomic) a b p.stands q.stands p.write q.write (p.same ∙ sym q.same)
 
   -- it is the read that ended first, and the one of its id
   same_read : (v : Value) (read : Op) → (is : IsFirstByName ops v read) → (is.0).read ≡ read
-  same_read v read (is, named) = let same : Some is.read ≡ Some read = sym (found_by_id ops is.read apart.ids is.stands) ∙ (ap (op_of ops) is.named ∙ named) in cc
+  same_read v read (is, named) = let same : Some is.read ≡ Some read = sym (found_by_id ops is.read apart.kept.ids is.stands) ∙ (ap (op_of ops) is.named ∙ named) in cc
 
   -- the stretch of a value is forward
   abbrev RunsForward : Value → Type 0
@@ -113,7 +113,7 @@ module _ (claim : Terms) (ops : List Op) (apart : StandApart claim ops) where
   begins_at : (r w : Op) → Contains ops w → IsEarly r w → begin_of initial ops (value_of r.act) ≡ At w.begin
   begins_at r w h e =
       begin_at_write initial ops (value_of r.act)
-      (λ i. All-contains (λ w. IsWrite w → value_of w.act ≢ initial) ops w apart.values.new h e.write (e.one_value ∙ sym i))
+      (λ i. All-contains (λ w. IsWrite w → value_of w.act ≢ initial) ops w (apart.kept.values apart.atomic).new h e.write (e.one_value ∙ sym i))
       w (is_write w h e) (λ x is. one_at (value_of r.act) x w is (is_write w h e))
     where
       is_write : (w : Op) → Contains ops w → IsEarly r w → IsTheWriteAt ops (value_of r.act) w
@@ -257,7 +257,7 @@ module _ (claim : Terms) (ops : List Op) (apart : StandApart claim ops) where
         where
           by_cases : Contains zones z → IsForward z → not (comes_before z.right Never) ≡ true → ShowsUnwritten z.value is.read ⊎ ShowsEarly z.value is.read → first_unwritten initial ops ≡ Some is.read
           by_cases h f reached (inl (b, u)) =
-              first_is_unwritten initial ops apart.moments is.read
+              first_is_unwritten initial ops apart.kept.moments is.read
               (first_shown order (is_reaching Never) (IsUnwritten initial ops) (λ r u. u.read) unwritten_forward reaches z e f end id is u)
           by_cases h f reached (inr (w, b, at, early)) =
               absurd (let short : not (comes_before (At w.begin) Never) ≡ true = subst (λ (x : Edge). not (comes_before x Never) ≡ true) (right_standing z h f ∙ b) reached in cc)
@@ -297,7 +297,7 @@ module _ (claim : Terms) (ops : List Op) (apart : StandApart claim ops) where
           by_cases h f ends (inr (x, b, is_at, early)) =
               let same : x ≡ w = one_at z.value x w is_at at in
               let own : IsEarly is.read w = subst (IsEarly is.read) same early in
-              first_is_early ops initial is.read w apart.moments apart.values
+              first_is_early ops initial is.read w apart.kept.moments (apart.kept.values apart.atomic)
               (first_shown order (is_short Never) (HasLateWrite ops) late_read late_forward ends_short z e f end id is (late_of is.read w at.stands own)) at.stands own
 
       pub first_read_early : (z : Zone) → find (is_short Never) zones ≡ Some z → (read : Op) → IsFirstByName ops z.value read → (w : Op) → IsTheWriteAt ops z.value w → Some (read, w) ≡ first_early ops

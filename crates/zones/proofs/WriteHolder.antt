@@ -19,7 +19,7 @@ use Rattle.intervals.proofs.Holders.{Decides-is_holder}
 use Rattle.intervals.proofs.Ids.{Decides-same_id_is}
 use Rattle.zones.specs.Members.{IsTheWriteAt}
 use Rattle.zones.specs.Refused.{refusal_beside}
-use Rattle.zones.specs.Zoned.{StandApart}
+use Rattle.zones.specs.Zoned.{AreManyWriters}
 use Rattle.zones.proofs.Edited.{one_value}
 use Rattle.zones.proofs.Members.{all_from}
 
@@ -28,7 +28,7 @@ module _ (claim : Terms) (ops : List Op) (op : Op) where
   none_holds none = find-none (is_holder op) ops (all_from (λ x. ¬ IsTrue (is_holder op x)) ops (λ x h t.
       let (n, w, e) = (Decides-is_holder op x).0 t in All-contains (λ w. IsWrite w → value_of w.act ≢ value_of op.act) ops x none h w e))
 
-  module _ (apart : StandApart claim ops) (write : Op) (is : IsTheWriteAt ops (value_of op.act) write) where
+  module _ (apart : AreManyWriters claim ops) (write : Op) (is : IsTheWriteAt ops (value_of op.act) write) where
     one_holder : (x : Op) → Contains ops x → IsTrue (is_holder op x) → (x ≡ write) × (x.id ≢ op.id)
     one_holder x h t = let (n, w, e) = (Decides-is_holder op x).0 t in (one_value claim ops apart x write h is.stands w is.write (e ∙ sym is.same), n)
 

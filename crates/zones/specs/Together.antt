@@ -7,7 +7,7 @@ use Rattle.zone_tree.specs.Order.{Contents}
 use Rattle.zones.specs.declared.index.Members.{Members}
 use Rattle.zones.specs.Index.{AreMembers, HasPlaces, HoldsOnlyFor}
 use Rattle.zones.specs.Faults.{AreStretched}
-use Rattle.zones.specs.Zoned.{StandApart, AreZoned}
+use Rattle.zones.specs.Zoned.{AreManyWriters, AreZoned}
 
 -- a claim, the operations that stand under it, the one that there is room for, and how many levels the
 -- tree of zones has gone down so far
@@ -26,7 +26,7 @@ pub record HasRoomFor (members : Members) (zones stretches : Contents) (op : Op)
 -- the shelves, the zones and the stretches are those of the operations, there is room for the prepared
 -- one, and the shelves hold no place but for that
 pub record HoldTogether (claim : Terms) (table : Tabled) (members : Members) (zones stretches : Contents) : Type 0 where
-  pub apart : StandApart claim table.ops
+  pub apart : AreManyWriters claim table.ops
   pub members_of : AreMembers table.ops members
   pub zoned : AreZoned claim.initial table.ops zones.zones
   pub stretched : AreStretched claim.initial table.ops stretches.zones

@@ -4,20 +4,17 @@ use Rattle.intervals.specs.declared.operation.Op.{Op}
 use Rattle.intervals.specs.declared.operation.Value.{Value}
 use Rattle.intervals.specs.Operation.{is_write, value_of, same_value}
 use Rattle.intervals.specs.declared.claim.Kind.TheVariants.{Atomic}
-use Rattle.intervals.specs.Standing.{HasDistinctIds, HasDistinctMoments, HasEndsAfterBeginnings, HasDistinctValues}
+use Rattle.intervals.specs.Standing.{StandApart}
 use Rattle.intervals.specs.Terms.{Terms}
 use Rattle.zone_tree.specs.declared.zone.Zone.{Zone}
 use Rattle.zone_tree.specs.Order.{Contents, HasNoZoneAt, with_zone, without_zone_at}
 use Rattle.zone_tree.specs.Zone.{HasOrderedEdges}
 use Rattle.zones.specs.Cluster.{written_values, zone_of}
 
--- what the reply rule keeps of an atomic register's operations
-pub record StandApart (claim : Terms) (ops : List Op) : Type 0 where
+-- the operations are those of an atomic register, and what the reply rule keeps of them
+pub record AreManyWriters (claim : Terms) (ops : List Op) : Type 0 where
   pub atomic : claim.kind ≡ Atomic
-  pub ids : HasDistinctIds ops
-  pub moments : HasDistinctMoments ops
-  pub ends : HasEndsAfterBeginnings ops
-  pub values : HasDistinctValues claim.initial ops
+  pub kept : StandApart claim ops
 
 -- the operation, where it is judged
 abbrev pub judged_part : Option Op → Option Op

@@ -7,7 +7,7 @@ ghost use Rattle.intervals.specs.declared.operation.Value.{Value};
 ghost use Rattle.intervals.specs.declared.operation.Value.TheVariants.{Nil};
 ghost use Rattle.intervals.specs.declared.edit.Edit.{Edit};
 ghost use Rattle.intervals.specs.declared.claim.Kind.TheVariants.{Atomic};
-ghost use Rattle.intervals.specs.Terms.{Terms};
+ghost use Rattle.intervals.specs.Terms.{Terms, unedited};
 ghost use Rattle.intervals.specs.Operation.{value_of, judged};
 ghost use Rattle.intervals.specs.Refusal.{standing};
 ghost use Rattle.intervals.specs.Standing.{HasDistinctMoments, HasEndsAfterBeginnings, HasDistinctValues};
@@ -35,8 +35,8 @@ pub fn faultless_exactly_where_arranged()
 
 /// The same of what stands after any edits of an atomic register, with nothing asked of the edits.
 pub fn faultless_exactly_after_any_edits()
-    ensures { (claim : Terms) (edits : List Edit) → claim.kind ≡ Atomic
-        → IsFaultless claim.initial (standing claim [] edits) ↔ Holds claim (standing claim [] edits) }
+    ensures { (claim : Terms) (edits : List Edit) → let held = standing (unedited claim) edits in held.claim.kind ≡ Atomic
+        → IsFaultless held.claim.initial held.ops ↔ Holds held.claim held.ops }
 {}
 
 /// An unwritten read, an early read, or four operations that cross exclude every arrangement, each by

@@ -75,6 +75,13 @@ impl<'t> Clusters<'t> {
         })
     }
 
+    /// The claim that the judge keeps.
+    pub fn claim(&self) -> &Claim
+        ensures { terms_of result.now ≡ self.now.claim }
+    {
+        &self.claim
+    }
+
     /// The operations that stand, unfinished reads among them.
     pub fn operations(&self) -> &OpTable<'t>
         ensures operations { result.now.ops ≡ self.now.ops }

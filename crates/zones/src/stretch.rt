@@ -9,7 +9,7 @@ ghost use Rattle.zones.specs.Edges.{AreEdges, AreEdgesAt, AreEdgesAtSome};
 ghost use Rattle.zones.specs.Fault.{first_unwritten as unwritten_first, first_early as early_first};
 ghost use Rattle.zones.specs.Faults.{AreStretched, IsStretchAt, IsStretchAtSome, AreStretchesAt, begin_of as begin_in};
 ghost use Rattle.zones.specs.Index.{AreMembers};
-ghost use Rattle.zones.specs.Zoned.{StandApart};
+ghost use Rattle.zones.specs.Zoned.{AreManyWriters};
 
 use crate::crossing::first_read;
 use crate::edges::Edges;
@@ -61,7 +61,7 @@ pub fn first_unwritten<'t>(
     members: &Members,
     table: &OpTable<'t>,
 ) -> Option<Op<'t>>
-    ensures { (claim : Terms) → AreMembers table.now.ops members.now → StandApart claim table.now.ops → AreStretched claim.initial table.now.ops stretches.now.zones → StandInOrder stretches.now.zones
+    ensures { (claim : Terms) → AreMembers table.now.ops members.now → AreManyWriters claim table.now.ops → AreStretched claim.initial table.now.ops stretches.now.zones → StandInOrder stretches.now.zones
         → result ≡ unwritten_first claim.initial table.now.ops }
 {
     let stretch = stretches.first_reaching(Edge::Never)?;
@@ -74,7 +74,7 @@ pub fn first_early<'t>(
     members: &Members,
     table: &OpTable<'t>,
 ) -> Option<(Op<'t>, Op<'t>)>
-    ensures { (claim : Terms) → AreMembers table.now.ops members.now → StandApart claim table.now.ops → AreStretched claim.initial table.now.ops stretches.now.zones → StandInOrder stretches.now.zones
+    ensures { (claim : Terms) → AreMembers table.now.ops members.now → AreManyWriters claim table.now.ops → AreStretched claim.initial table.now.ops stretches.now.zones → StandInOrder stretches.now.zones
         → result ≡ early_first table.now.ops }
 {
     let stretch = stretches.first_short_of(Edge::Never)?;

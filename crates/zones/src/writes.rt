@@ -8,7 +8,7 @@ ghost use Rattle.intervals.specs.Terms.{Terms, terms_of};
 ghost use Rattle.intervals.specs.Standing.{HasDistinctIds};
 ghost use Rattle.zones.specs.Index.{AreMembers};
 ghost use Rattle.zones.specs.Refused.{refusal_beside};
-ghost use Rattle.zones.specs.Zoned.{StandApart};
+ghost use Rattle.zones.specs.Zoned.{AreManyWriters};
 
 use crate::index::Members;
 use intervals::{Claim, Holder, Op, OpTable, Refusal, Value, is_same_value};
@@ -19,7 +19,7 @@ pub fn check_write(
     table: &OpTable,
     op: &Op,
 ) -> Result<(), Refusal>
-    ensures { AreMembers table.now.ops members.now → HasDistinctIds table.now.ops → StandApart (terms_of claim.now) table.now.ops
+    ensures { AreMembers table.now.ops members.now → HasDistinctIds table.now.ops → AreManyWriters (terms_of claim.now) table.now.ops
         → result ≡ ok_unless (write_refusal (terms_of claim.now) table.now.ops op.now) }
 {
     check_beside(claim, op, holder_of(claim.initial, members, table, op))
@@ -45,7 +45,7 @@ fn check_beside(claim: &Claim, op: &Op, holder: Option<Holder>) -> Result<(), Re
 
 /// Who has the value of the operation already.
 fn holder_of(initial: Value, members: &Members, table: &OpTable, op: &Op) -> Option<Holder>
-    ensures { (claim : Terms) → AreMembers table.now.ops members.now → HasDistinctIds table.now.ops → StandApart claim table.now.ops → claim.initial ≡ initial
+    ensures { (claim : Terms) → AreMembers table.now.ops members.now → HasDistinctIds table.now.ops → AreManyWriters claim table.now.ops → claim.initial ≡ initial
         → value_refusal claim table.now.ops op.now ≡ option_map Refusal.ValueTaken result }
 {
     if is_same_value(initial, op.value()) {
@@ -57,7 +57,7 @@ fn holder_of(initial: Value, members: &Members, table: &OpTable, op: &Op) -> Opt
 
 /// The write of its value, where that is another operation.
 fn other_write<'t>(members: &Members, table: &OpTable<'t>, op: &Op) -> Option<Op<'t>>
-    ensures { (claim : Terms) → AreMembers table.now.ops members.now → HasDistinctIds table.now.ops → StandApart claim table.now.ops → result ≡ find (is_holder op.now) table.now.ops }
+    ensures { (claim : Terms) → AreMembers table.now.ops members.now → HasDistinctIds table.now.ops → AreManyWriters claim table.now.ops → result ≡ find (is_holder op.now) table.now.ops }
 {
     let write = members.write_of(table, op.value())?;
     if write.has_id(op.id) {

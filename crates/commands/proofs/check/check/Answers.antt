@@ -5,6 +5,11 @@ use Rattle.commands.proofs.Endings.{checked}
 use Rattle.commands.proofs.Readings.{held_later}
 use Rattle.commands.proofs.check.check.Goals as goal
 
+pub report-requires-clause-of_tower : goal.report-requires-clause-of_tower
+report-requires-clause-of_tower g c κs within =
+    let run = c.in-Ok-run_readers.run' in
+    c.a_run_is_of_its_tower.ensures c.in_ok-tower.tower _ _ _ run.closed run.logs.items c.in-Ok-run_readers.ensures.run.2
+
 pub returns-in-Ok-report-clause-checked : goal.returns-in-Ok-report-clause-checked
 returns-in-Ok-report-clause-checked g c =
     let asked = c.args.asked.now in

@@ -14,6 +14,7 @@ returns-clause-audit g c =
     let left = g.S.Read.remaining c.args.reader in
     let fed = c.in-Ok-run_readers.ensures.run in
     let says : Says closed logs c.verdict_of-audit.result = record {
+      kind = c.verdict_of-audit.ensures.kind;
       holds = c.verdict_of-audit.ensures.holds;
       operations = c.verdict_of-audit.ensures.operations;
       refused = c.verdict_of-audit.ensures.refused;

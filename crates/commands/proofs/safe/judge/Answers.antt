@@ -11,6 +11,6 @@ returns-in-Ok-write_text-clause-audited g c =
     let audit = c.in_ok-audit.audit in
     let old = g.W.Write.contents c.args.out.now in
     let new = g.W.Write.contents c.write_text.new.out in
-    let written : Appends old new (verdict_line audit.holds audit.operations) = search rules in
+    let written : Appends old new (verdict_line audit.kind audit.holds audit.operations) = search rules in
     let status_is : c.status.result ≡ status_of (is_some audit.broken) (not audit.holds) audit.refused = search rules in
     audited (g.S.Read.remaining c.args.reader) audit c.status.result old new c.in_ok-audit.ensures.audit written status_is

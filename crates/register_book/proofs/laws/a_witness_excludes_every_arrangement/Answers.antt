@@ -1,6 +1,7 @@
-use Rattle.std.proofs.Common.{[], subst}
+use Rattle.std.proofs.Common.{subst}
 use Rattle.intervals.specs.declared.claim.Kind.{Kind}
 use Rattle.intervals.specs.Kind.{Keeps}
+use Rattle.intervals.specs.Terms.{unedited}
 use Rattle.intervals.specs.Refusal.{standing}
 use Rattle.register_book.proofs.Excluding.{excluding, excluded}
 use Rattle.register_book.proofs.laws.a_witness_excludes_every_arrangement.Goals as goal
@@ -20,7 +21,7 @@ returns-clause-excludes c = λ claim ops witness values h.
 pub returns-clause-after_edits : goal.returns-clause-after_edits
 returns-clause-after_edits c = λ claim edits witness kind h holds.
     let each = c.one_fault_excludes_every_arrangement.ensures in
-    let ops = standing claim [] edits in
-    let values = c.edits_keep_operations_apart.ensures.values claim edits kind in
-    excluded claim ops _ (each.unwritten claim ops) (λ r w. each.early claim ops r w values) (λ a b c' d. each.crossing claim ops a b c' d values) witness h
-    (subst (λ (k : Kind). Keeps k claim ops) kind holds)
+    let held = standing (unedited claim) edits in
+    let values = (c.edits_keep_operations_apart.ensures.apart claim edits).values kind in
+    excluded held.claim held.ops _ (each.unwritten held.claim held.ops) (λ r w. each.early held.claim held.ops r w values) (λ a b c' d. each.crossing held.claim held.ops a b c' d values) witness h
+    (subst (λ (k : Kind). Keeps k held.claim held.ops) kind holds)

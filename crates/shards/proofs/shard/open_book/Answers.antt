@@ -3,8 +3,7 @@ use Rattle.register_book.specs.Kept.{Kept, claimed_of}
 use Rattle.std.specs.Prelude.{map, option_map, option_to_list}
 use Rattle.std.proofs.lemmas.List.{append-nil, map-append}
 use Rattle.std.proofs.lemmas.Option.{slice_get-map}
-use Rattle.intervals.specs.Terms.{Terms, Claimed}
-use Rattle.shards.specs.Shard.{unedited}
+use Rattle.intervals.specs.Terms.{Terms, Claimed, unedited}
 use Rattle.shards.proofs.shard.open_book.Goals as goal
 
 pub returns-in_default-clause-books : goal.returns-in_default-clause-books

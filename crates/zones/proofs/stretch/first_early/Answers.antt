@@ -10,14 +10,14 @@ returns-in_err-stretch c claim members apart stretched order =
 pub returns-in_err-read : goal.returns-in_err-read
 returns-in_err-read c claim members apart stretched order = absurd (
     read_shown claim c.args.table.now.ops apart c.args.stretches.now.zones stretched order (is_short Never) c.in_ok-stretch.stretch (sym c.in_ok-stretch.ensures)
-    (c.in_err-read.ensures members apart.ids))
+    (c.in_err-read.ensures members apart.kept.ids))
 
 pub returns-in_err-write : goal.returns-in_err-write
 returns-in_err-write c claim members apart stretched order = absurd (
     write_shown claim c.args.table.now.ops apart c.args.stretches.now.zones stretched order c.in_ok-stretch.stretch (sym c.in_ok-stretch.ensures)
-    (c.in_err-write.ensures members apart.ids))
+    (c.in_err-write.ensures members apart.kept.ids))
 
 pub returns : goal.returns
 returns c claim members apart stretched order =
     first_read_early claim c.args.table.now.ops apart c.args.stretches.now.zones stretched order c.in_ok-stretch.stretch (sym c.in_ok-stretch.ensures)
-    c.in_ok-read.read (c.in_ok-read.ensures members apart.ids) c.in_ok-write.write (c.in_ok-write.ensures members apart.ids)
+    c.in_ok-read.read (c.in_ok-read.ensures members apart.kept.ids) c.in_ok-write.write (c.in_ok-write.ensures members apart.kept.ids)

@@ -9,4 +9,4 @@ returns-in_err-stretch c claim members apart stretched order =
 pub returns : goal.returns
 returns c claim members apart stretched order =
     first_read_unwritten claim c.args.table.now.ops apart c.args.stretches.now.zones stretched order c.in_ok-stretch.stretch (sym c.in_ok-stretch.ensures)
-    c.first_read.result (c.first_read.ensures members apart.ids)
+    c.first_read.result (c.first_read.ensures members apart.kept.ids)

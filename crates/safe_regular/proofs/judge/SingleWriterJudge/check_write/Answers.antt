@@ -8,4 +8,4 @@ pub returns : goal.returns
 returns c =
     let held = c.self.invariant in
     subst (λ (x : Judged). c.check_write.result ≡ ok_unless (write_refusal x.claim x.ops c.args.op.now)) c.self.view_is
-    (c.check_write.ensures held.shelved (are_apart c.self.inside.table.ops held.apart.moments held.apart.ends held.apart.writes) held.apart.ids)
+    (c.check_write.ensures held.shelved (are_apart c.self.inside.table.ops held.apart.kept.moments held.apart.kept.ends (held.apart.kept.writes held.apart.one_writer)) held.apart.kept.ids)

@@ -1,4 +1,4 @@
-use Rattle.std.proofs.Common.{◌≡◌, ◌/◌, ◌<◌, ◌≤◌, ◌∙◌, List, [], ◌∷◌, ◌++◌, set, refl, ap, length, arith}
+use Rattle.std.proofs.Common.{◌≡◌, ◌/◌, ◌<◌, ◌≤◌, ◌∙◌, List, [], ◌∷◌, ◌++◌, refl, ap, length, arith}
 use Rattle.shards.specs.declared.entry.Entry.{Entry}
 use Rattle.shards.specs.Journal.{count_by}
 use Rattle.shards.specs.Steps.{entry_of}
@@ -19,10 +19,10 @@ overflow_add-index_mut g c =
 
 pub returns-clause-kept : goal.returns-clause-kept
 returns-clause-kept g c =
-    kept_push g.O.Opening.plan c.args.self.now _ (entry_of c.args.feeder c.args.register c.args.edit c.in_ok-reply.reply) c.index_mut.result.now _ c.index_mut-2.result.now
+    kept_push g.O.Opening.plan c.args.self.now _ (entry_of c.args.feeder c.args.register c.args.edit c.in_ok-reply.reply) c.index_mut.result.now c.apply.new.self c.index_mut-2.result.now
     c.requires.kept c.requires.here c.requires.known c.requires.feeder c.index_mut.ensures.value c.in_ok-reply.ensures.reply c.index_mut-2.ensures.value
     refl refl (c.push_reserved.ensures.items ∙ ap (λ (journal : List Entry). journal ++ entry_of c.args.feeder c.args.register c.args.edit c.in_ok-reply.reply ∷ []) c.reserve.ensures.items)
-    refl (ap (set c.args.self.now.books.items (c.args.register.0 / c.args.self.now.shards)) c.in_ok-reply.ensures.after) refl
+    c.in_ok-reply.ensures.after refl refl
 
 pub returns-clause-answered : goal.returns-clause-answered
 returns-clause-answered g c =

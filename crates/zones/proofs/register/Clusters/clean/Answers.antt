@@ -13,6 +13,6 @@ returns c =
     let ops = c.self.inside.table.ops in
     let tree = c.self.inside.zones.zones in
     let apart = c.self.invariant.apart in
-    let once = zones_each_once initial ops tree apart.moments apart.values c.iter.ensures.order c.self.invariant.zoned in
+    let once = zones_each_once initial ops tree apart.kept.moments (apart.kept.values apart.atomic) c.iter.ensures.order c.self.invariant.zoned in
     subst (λ (x : Clustered). IsTrue c.clean.result ↔ IsClean (zones_of x.claim.initial x.ops)) c.self.view_is
     (clean_in initial ops tree once (IsTrue c.clean.result) c.clean.ensures)

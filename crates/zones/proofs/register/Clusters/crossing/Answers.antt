@@ -20,7 +20,7 @@ found c =
     let ops = c.self.inside.table.ops in
     let h = subst (λ (x : Clustered). HasFirstConflict x.claim.initial x.ops c.in_ok-first.first c.in_ok-first.second) (sym c.self.view_is) c.in_ok-first.ensures.first in
     subst (λ (x : Clustered). IsSomeAnd c.extremes.result (λ y. IsFirstCrossing x.claim.initial x.ops y.a y.b y.c y.d)) c.self.view_is
-    (first_crossing initial ops c.in_ok-first.first c.in_ok-first.second c.extremes.result h (c.extremes.ensures c.self.invariant.members_of c.self.invariant.apart.ids))
+    (first_crossing initial ops c.in_ok-first.first c.in_ok-first.second c.extremes.result h (c.extremes.ensures c.self.invariant.members_of c.self.invariant.apart.kept.ids))
 
 pub returns-clause-first : goal.returns-clause-first
 returns-clause-first c = if_some_and (λ x. IsFirstCrossing c.args.self.now.claim.initial c.args.self.now.ops x.a x.b x.c x.d) c.extremes.result (found c)

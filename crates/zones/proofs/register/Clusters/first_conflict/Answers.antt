@@ -14,7 +14,7 @@ returns-clause-first c =
     let ops = c.self.inside.table.ops in
     let tree = c.self.inside.zones.zones in
     let apart = c.self.invariant.apart in
-    let once = zones_each_once initial ops tree apart.moments apart.values c.iter.ensures.order c.self.invariant.zoned in
+    let once = zones_each_once initial ops tree apart.kept.moments (apart.kept.values apart.atomic) c.iter.ensures.order c.self.invariant.zoned in
     subst (λ (x : Clustered). IfSome c.first_conflict.result (λ pair. HasFirstConflict x.claim.initial x.ops pair.0 pair.1)) c.self.view_is
     (conflict_in initial ops tree once c.first_conflict.result c.iter.ensures.order.by_left c.first_conflict.ensures.first)
 
@@ -24,6 +24,6 @@ returns-clause-none c =
     let ops = c.self.inside.table.ops in
     let tree = c.self.inside.zones.zones in
     let apart = c.self.invariant.apart in
-    let once = zones_each_once initial ops tree apart.moments apart.values c.iter.ensures.order c.self.invariant.zoned in
+    let once = zones_each_once initial ops tree apart.kept.moments (apart.kept.values apart.atomic) c.iter.ensures.order c.self.invariant.zoned in
     subst (λ (x : Clustered). IsNone c.first_conflict.result ↔ IsClean (zones_of x.claim.initial x.ops)) c.self.view_is
     (clean_in initial ops tree once (IsNone c.first_conflict.result) c.first_conflict.ensures.none)

@@ -26,7 +26,7 @@ returns-then-is_timely-clause-atomic c =
     let now = c.args.self.now in
     let held = subst (λ (x : Clustered). HoldTogether x.claim (record { ops = x.ops; prepared = x.prepared }) c.self.inside.members c.self.inside.zones c.self.inside.stretches) c.self.view_is c.self.invariant in
     same_as (IsTrue c.clean.result) (IsFaultless now.claim.initial now.ops) (IsAtomic now.claim now.ops) (then_faultless c)
-    (c.faultless_exactly_where_arranged.ensures now.claim now.ops held.apart.moments held.apart.ends held.apart.values)
+    (c.faultless_exactly_where_arranged.ensures now.claim now.ops held.apart.kept.moments held.apart.kept.ends (held.apart.kept.values held.apart.atomic))
 
 else_faultless : (c : goal.Else-is_timely) → IsTrue c.is_timely.result ↔ IsFaultless c.args.self.now.claim.initial c.args.self.now.ops
 else_faultless c =
@@ -44,4 +44,4 @@ returns-else-is_timely-clause-atomic c =
     let now = c.args.self.now in
     let held = subst (λ (x : Clustered). HoldTogether x.claim (record { ops = x.ops; prepared = x.prepared }) c.self.inside.members c.self.inside.zones c.self.inside.stretches) c.self.view_is c.self.invariant in
     same_as (IsTrue c.is_timely.result) (IsFaultless now.claim.initial now.ops) (IsAtomic now.claim now.ops) (else_faultless c)
-    (c.faultless_exactly_where_arranged.ensures now.claim now.ops held.apart.moments held.apart.ends held.apart.values)
+    (c.faultless_exactly_where_arranged.ensures now.claim now.ops held.apart.kept.moments held.apart.kept.ends (held.apart.kept.values held.apart.atomic))

@@ -5,4 +5,4 @@ use Rattle.zones.proofs.register.Clusters.operations.Goals as goal
 
 pub returns-clause-apart : goal.returns-clause-apart
 returns-clause-apart c =
-    subst (λ (x : Clustered). HasDistinctMoments x.ops × HasEndsAfterBeginnings x.ops) c.self.view_is (c.self.invariant.apart.moments, c.self.invariant.apart.ends)
+    subst (λ (x : Clustered). HasDistinctMoments x.ops × HasEndsAfterBeginnings x.ops) c.self.view_is (c.self.invariant.apart.kept.moments, c.self.invariant.apart.kept.ends)

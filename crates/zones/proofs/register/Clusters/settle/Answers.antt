@@ -52,8 +52,8 @@ exchange-requires c =
     let members : AreMembers after c.change.new.self = c.change.ensures.members ops after c.self.invariant.members_of change in
     let first = c.value_in-first.result in
     let second = c.other_value-second.result in
-    let before_is = c.edges_in-edges.ensures c.self.invariant.members_of apart.ids change.goes in
-    let later_is = c.edges_after-after.ensures ops first second before_is change members later.ids in
+    let before_is = c.edges_in-edges.ensures c.self.invariant.members_of apart.kept.ids change.goes in
+    let later_is = c.edges_after-after.ensures ops first second before_is change members later.kept.ids in
     can_exchange_zones claim ops c.args.edit apart accepted c.judged-old.result c.judged-new.result old_is new_is after after_is
     c.value_in-first.result c.other_value-second.result (search rules) (search rules) c.zones_in-zones.result c.zones_in-zones_after.result c.self.inside.zones c.self.invariant.zoned
     (c.zones_in-zones.ensures ops first second before_is) (c.zones_in-zones_after.ensures after first second later_is)
@@ -77,8 +77,8 @@ exchange-requires-2 c =
     let members : AreMembers after c.change.new.self = c.change.ensures.members ops after c.self.invariant.members_of change in
     let first = c.value_in-first.result in
     let second = c.other_value-second.result in
-    let before_is = c.edges_in-edges.ensures c.self.invariant.members_of apart.ids change.goes in
-    let later_is = c.edges_after-after.ensures ops first second before_is change members later.ids in
+    let before_is = c.edges_in-edges.ensures c.self.invariant.members_of apart.kept.ids change.goes in
+    let later_is = c.edges_after-after.ensures ops first second before_is change members later.kept.ids in
     can_exchange_stretches claim ops c.args.edit apart accepted c.judged-old.result c.judged-new.result old_is new_is after after_is
     c.value_in-first.result c.other_value-second.result (search rules) (search rules) c.stretches_in-stretches.result c.stretches_in-stretches_after.result c.self.inside.stretches c.self.invariant.stretched
     (c.stretches_in-stretches.ensures ops first second before_is) (c.stretches_in-stretches_after.ensures after first second later_is)
@@ -103,8 +103,8 @@ invariant_of-self c =
     let members : AreMembers after c.change.new.self = c.change.ensures.members ops after c.self.invariant.members_of change in
     let first = c.value_in-first.result in
     let second = c.other_value-second.result in
-    let before_is = c.edges_in-edges.ensures c.self.invariant.members_of apart.ids change.goes in
-    let later_is = c.edges_after-after.ensures ops first second before_is change members later.ids in
+    let before_is = c.edges_in-edges.ensures c.self.invariant.members_of apart.kept.ids change.goes in
+    let later_is = c.edges_after-after.ensures ops first second before_is change members later.kept.ids in
     let zones_before = c.zones_in-zones.ensures ops first second before_is in
     let zones_later = c.zones_in-zones_after.ensures after first second later_is in
     let stretches_before = c.stretches_in-stretches.ensures ops first second before_is in
