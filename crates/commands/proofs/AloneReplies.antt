@@ -5,7 +5,7 @@ use Rattle.std.proofs.lemmas.List.{append-nil, append_assoc}
 use Rattle.intervals.specs.declared.operation.Op.{Op}
 use Rattle.intervals.specs.declared.edit.Lent.TheVariants.{Answer}
 use Rattle.intervals.specs.declared.edit.Edit.{Edit}
-use Rattle.intervals.specs.declared.edit.Edit.TheVariants.{Append, Amend, Withdraw}
+use Rattle.intervals.specs.declared.edit.Edit.TheVariants.{Append, Amend, Withdraw, Claim}
 use Rattle.intervals.specs.declared.refusal.Refusal.{Refusal}
 use Rattle.intervals.specs.Terms.{Terms, Claimed, unedited}
 use Rattle.intervals.specs.Bare.{bare, bare_edit, bare_held, no_text, no_parts}
@@ -14,18 +14,20 @@ use Rattle.register_book.specs.declared.reply.Reply.{Reply}
 use Rattle.register_book.specs.declared.reply.Reply.TheVariants.{Accepted, Refused}
 use Rattle.register_book.specs.Reply.{IsReply}
 use Rattle.shards.specs.Journal.{EachAfter, is_accepted}
-use Rattle.shards.specs.Plain.{PlainEdit, append, amend, withdraw, plain_edit}
+use Rattle.shards.specs.Plain.{PlainEdit, append, amend, withdraw, claim_to, plain_edit}
 
 -- the edit without its texts, of the edit as it reads
 abbrev pub bare_of : PlainEdit → Edit
 bare_of (append op) = Append (record { id = op.id; process = op.process; act = op.act; begin = op.begin; end = op.end; parts = no_parts })
 bare_of (amend id change) = Amend id (record { value = change.value; begin = change.begin; end = change.end; lent = Answer no_text })
 bare_of (withdraw id) = Withdraw id
+bare_of (claim_to kind) = Claim kind
 
 bare_as_read : (edit : Edit) → bare_edit edit ≡ bare_of (plain_edit edit)
 bare_as_read (Append op) = refl
 bare_as_read (Amend id change) = refl
 bare_as_read (Withdraw id) = refl
+bare_as_read (Claim kind) = refl
 
 -- edits that read the same are the same without their texts
 pub same_bare : (edit other : Edit) → plain_edit edit ≡ plain_edit other → bare_edit edit ≡ bare_edit other

@@ -1,9 +1,7 @@
 -- What is said on standard error of a run that broke off.
 use Rattle.std.specs.Prelude.{List, ℕ, [], ◌∷◌, ◌++◌, Option, Some, None, codes}
 use Rattle.std.specs.Borrow.{Bor}
-use Rattle.shards.specs.declared.fault.ShardFault.{ShardFault}
-use Rattle.shards.specs.declared.fault.ShardFault.TheVariants.{UnknownRegister, JournalBehind, PassMissing, Stranger, ForeignPass}
-use Rattle.shards.specs.declared.fault.ShardFault.TheVariants as shards
+use Rattle.shards.specs.Code.{code_of}
 use Rattle.feeders.specs.declared.fault.RunFault.{RunFault}
 use Rattle.feeders.specs.declared.fault.RunFault.TheVariants as runs
 use Rattle.report.specs.declared.fault.ReportFault.{ReportFault}
@@ -14,15 +12,6 @@ use Rattle.commands.specs.declared.input.InputFault.{InputFault}
 use Rattle.commands.specs.declared.input.InputFault.TheVariants as inputs
 use Rattle.report.specs.Names.{printed}
 
--- the code of a shard's refusal
-abbrev pub shard_code : ShardFault → List ℕ
-shard_code UnknownRegister = codes "S1"
-shard_code shards.Memory = codes "S2"
-shard_code (JournalBehind shard seen found) = codes "S3"
-shard_code (PassMissing feeder) = codes "S4"
-shard_code (Stranger shard feeder number) = codes "S5"
-shard_code ForeignPass = codes "S6"
-
 -- the line of a fault; the text of a usage fault is clap's
 abbrev pub complaint_of : CommandFault → Option (List ℕ)
 complaint_of (Usage error) = None
@@ -30,7 +19,7 @@ complaint_of TooManyTraces = Some (codes "regaudit: too many traces" ++ 10 ∷ [
 complaint_of (Unreadable name) = Some (codes "regaudit: cannot read " ++ printed name.now ++ 10 ∷ [])
 complaint_of (Tower code) = Some (codes "regaudit: tower " ++ code.now ++ 10 ∷ [])
 complaint_of (NoRegister name) = Some (codes "regaudit: no register " ++ printed name.now ++ 10 ∷ [])
-complaint_of (Shard fault) = Some (codes "regaudit: " ++ shard_code fault ++ 10 ∷ [])
+complaint_of (Shard fault) = Some (codes "regaudit: " ++ code_of fault ++ 10 ∷ [])
 complaint_of Memory = Some (codes "regaudit: out of memory" ++ 10 ∷ [])
 complaint_of Unwritable = Some (codes "regaudit: cannot write" ++ 10 ∷ [])
 

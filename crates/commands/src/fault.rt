@@ -2,7 +2,7 @@
 
 ghost use Rattle.std.specs.Prelude.{◌≡◌, ◌≢◌, ◌∷◌, ◌++◌, [], Some, IfOk, IfSome, codes, string_bytes};
 ghost use Rattle.tower_file.specs.Tower.{code_of};
-ghost use Rattle.commands.specs.Complaint.{broken_off, complaint_of, shard_code as code_of_shard, unread, unreported};
+ghost use Rattle.commands.specs.Complaint.{broken_off, complaint_of, unread, unreported};
 
 use crate::input::InputFault;
 use feeders::RunFault;
@@ -126,24 +126,11 @@ fn complaint(alloc: Global, fault: &CommandFault<'_>) -> Result<String, AllocErr
         }
         CommandFault::Shard(fault) => {
             text.push_str("regaudit: ")?;
-            text.push_str(shard_code(*fault))?;
+            text.push_str(fault.code())?;
             text.push_str("\n")?;
         }
         CommandFault::Memory => text.push_str("regaudit: out of memory\n")?,
         CommandFault::Unwritable => text.push_str("regaudit: cannot write\n")?,
     }
     Ok(text)
-}
-
-fn shard_code(fault: ShardFault) -> &'static str
-    ensures { result.now ≡ code_of_shard fault }
-{
-    match fault {
-        ShardFault::UnknownRegister => "S1",
-        ShardFault::Memory => "S2",
-        ShardFault::JournalBehind { .. } => "S3",
-        ShardFault::PassMissing(_) => "S4",
-        ShardFault::Stranger { .. } => "S5",
-        ShardFault::ForeignPass => "S6",
-    }
 }

@@ -39,6 +39,7 @@ given_lends : (feeder : ℕ) (before : List Placed) (place : ℕ) (item : Item) 
 given_lends feeder before place (items.Event event) none = event_lends feeder (unanswered_of before event.process) place event event.answer none
 given_lends feeder before place (items.Amend of change) none = absurd cc
 given_lends feeder before place (items.Withdraw of) none = withdraw_lends (register_of before of) (id_of feeder of)
+given_lends feeder before place (items.Claim register kind) none = tt
 given_lends feeder before place (items.Ask register) none = tt
 given_lends feeder before place items.Skipped none = tt
 

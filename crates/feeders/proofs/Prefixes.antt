@@ -19,7 +19,7 @@ use Rattle.jepsen_form.specs.declared.fault.FormFault.{FormFault}
 use Rattle.jepsen_form.specs.declared.fault.FormFault.TheVariants.{NotAMap}
 use Rattle.jepsen_form.specs.declared.item.Event.{Event as AnEvent}
 use Rattle.jepsen_form.specs.declared.item.Item.{Item}
-use Rattle.jepsen_form.specs.declared.item.Item.TheVariants.{Event, Amend, Withdraw, Ask, Skipped}
+use Rattle.jepsen_form.specs.declared.item.Item.TheVariants.{Event, Amend, Withdraw, Claim, Ask, Skipped}
 use Rattle.jepsen_form.specs.declared.item.MomentField.{MomentField}
 use Rattle.jepsen_form.specs.declared.item.Stage.{Stage}
 use Rattle.jepsen_form.specs.declared.item.Stage.TheVariants as stages
@@ -53,6 +53,7 @@ abbrev item_here : Item → Item
 item_here (Event event) = Event (event_here event)
 item_here (Amend of change) = Amend of (change_here change)
 item_here (Withdraw of) = Withdraw of
+item_here (Claim register kind) = Claim register kind
 item_here (Ask register) = Ask register
 item_here Skipped = Skipped
 
@@ -68,6 +69,7 @@ lying_here (Err fault) = refl
 lying_here (Ok (Event event)) = refl
 lying_here (Ok (Amend of change)) = refl
 lying_here (Ok (Withdraw of)) = refl
+lying_here (Ok (Claim register kind)) = refl
 lying_here (Ok (Ask register)) = refl
 lying_here (Ok Skipped) = refl
 
@@ -77,6 +79,7 @@ same_process : (process : ℤ) (item : Item) → is_event_of process (item_here 
 same_process process (Event event) = refl
 same_process process (Amend of change) = refl
 same_process process (Withdraw of) = refl
+same_process process (Claim register kind) = refl
 same_process process (Ask register) = refl
 same_process process Skipped = refl
 
@@ -91,6 +94,7 @@ same_invocation : (place : ℕ) (item : Item) → invocation_of place (item_here
 same_invocation place (Event event) = same_invocation_by place event event.answer event.register
 same_invocation place (Amend of change) = refl
 same_invocation place (Withdraw of) = refl
+same_invocation place (Claim register kind) = refl
 same_invocation place (Ask register) = refl
 same_invocation place Skipped = refl
 
@@ -144,6 +148,7 @@ same_fault all (Event event) =
     ap (λ (o : Option Invocation). event_fault o (event_here event) event.answer) (same_unanswered all event.process) ∙ same_event_fault (unanswered_of all event.process) event event.answer
 same_fault all (Amend of change) = ap edit_fault (same_register all of)
 same_fault all (Withdraw of) = ap edit_fault (same_register all of)
+same_fault all (Claim register kind) = refl
 same_fault all (Ask register) = refl
 same_fault all Skipped = refl
 
@@ -207,6 +212,7 @@ same_given feeder all place (Amend of change) =
     ∙ same_edit (register_of all of) (edits.Amend (id_of feeder of) (change_here change)) (edits.Amend (id_of feeder of) change)
     (ap (λ (lent : PlainLent). amend (id_of feeder of) (record { value = change.value; begin = change.begin; end = change.end; lent = lent })) (same_lent change.lent))
 same_given feeder all place (Withdraw of) = ap (λ (o : Option RegId). option_map plain_step (edit_step o (edits.Withdraw (id_of feeder of)))) (same_register all of)
+same_given feeder all place (Claim register kind) = refl
 same_given feeder all place (Ask register) = refl
 same_given feeder all place Skipped = refl
 

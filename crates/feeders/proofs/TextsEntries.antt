@@ -1,5 +1,5 @@
 -- Each entry of a feeder is the edit of a step of its trace.
-use Rattle.std.proofs.Common.{◌≡◌, ℕ, ◌<◌, ◌%◌, ◌==◌, Bool, true, false, List, Option, Some, None, Result, Ok, map, refl, sym, ap, subst, ◌∙◌}
+use Rattle.std.proofs.Common.{◌≡◌, ℕ, ◌<◌, ◌%◌, ◌==◌, Bool, true, false, List, Option, Some, None, IfSome, Result, Ok, map, refl, sym, ap, subst, ◌∙◌}
 use Rattle.std.specs.Prelude.{option_map, if◌then◌else◌}
 use Rattle.std.specs.Borrow.{Bor}
 use Rattle.std.specs.List.{slice_get}
@@ -22,7 +22,7 @@ use Rattle.pairing.specs.declared.step.Step.TheVariants as steps
 use Rattle.shards.specs.declared.entry.Entry.{Entry}
 use Rattle.shards.specs.declared.entry.Numbered.{Numbered}
 use Rattle.shards.specs.Plan.{Plan}
-use Rattle.shards.specs.Plain.{PlainParts, PlainLent, PlainEdit, PlainEntry, answer as plain_answer, amendment as plain_amendment, append, amend, withdraw, plain_parts, plain_lent, plain_edit, plain_entry, plain_numbered}
+use Rattle.shards.specs.Plain.{PlainParts, PlainLent, PlainEdit, PlainEntry, answer as plain_answer, amendment as plain_amendment, append, amend, withdraw, claim_to, plain_parts, plain_lent, plain_edit, plain_entry, plain_numbered}
 use Rattle.shards.specs.Merge.{numbered, is_numbered_by, entries_of}
 use Rattle.shards.specs.Steps.{entry_of, numbered_entry}
 use Rattle.shards.specs.Closing.{Ended, journal_of}
@@ -55,16 +55,19 @@ abbrev plain_settled : Part → PlainEdit → Option (Option (List ℕ))
 plain_settled part (append op) = Some (plain_text_of part op.parts)
 plain_settled part (amend id change) = option_map Some (plain_text_in part change.lent)
 plain_settled part (withdraw id) = Some None
+plain_settled part (claim_to kind) = None
 
-abbrev plain_id : PlainEdit → OpId
-plain_id (append op) = op.id
-plain_id (amend id change) = id
-plain_id (withdraw id) = id
+abbrev plain_id : PlainEdit → Option OpId
+plain_id (append op) = Some op.id
+plain_id (amend id change) = Some id
+plain_id (withdraw id) = Some id
+plain_id (claim_to kind) = None
 
 abbrev IsPlainPlaced : ℕ → PlainEdit → Type 0
 IsPlainPlaced place (append op) = op.id.event ≡ place
 IsPlainPlaced place (amend id change) = id.event < place
 IsPlainPlaced place (withdraw id) = id.event < place
+IsPlainPlaced place (claim_to kind) = Unit {0}
 
 -- a text by its bytes
 abbrev bytes_of : Option (Bor (List ℕ)) → Option (List ℕ)
@@ -87,21 +90,25 @@ settled_reads : (part : Part) (edit : Edit) → plain_settled part (plain_edit e
 settled_reads part (edits.Append op) = ap (λ (o : Option (List ℕ)). Some o) (text_reads part op.parts)
 settled_reads part (edits.Amend id change) = lent_reads part change.lent
 settled_reads part (edits.Withdraw id) = refl
+settled_reads part (edits.Claim kind) = refl
 
 id_reads : (edit : Edit) → plain_id (plain_edit edit) ≡ edit_id edit
 id_reads (edits.Append op) = refl
 id_reads (edits.Amend id change) = refl
 id_reads (edits.Withdraw id) = refl
+id_reads (edits.Claim kind) = refl
 
 placed_reads : (place : ℕ) (edit : Edit) → IsPlaced place edit → IsPlainPlaced place (plain_edit edit)
 placed_reads place (edits.Append op) is = is
 placed_reads place (edits.Amend id change) is = is
 placed_reads place (edits.Withdraw id) is = is
+placed_reads place (edits.Claim kind) is = is
 
 reads_placed : (place : ℕ) (edit : Edit) → IsPlainPlaced place (plain_edit edit) → IsPlaced place edit
 reads_placed place (edits.Append op) is = is
 reads_placed place (edits.Amend id change) is = is
 reads_placed place (edits.Withdraw id) is = is
+reads_placed place (edits.Claim kind) is = is
 
 read_text : (found : Option (Option (Bor (List ℕ)))) (text : Bor (List ℕ)) → option_map bytes_of found ≡ Some (Some text.now) → (other : Bor (List ℕ)) × (found ≡ Some (Some other)) × (other.now ≡ text.now)
 read_text None text e = absurd (cc)
@@ -187,7 +194,7 @@ module _ (plan : Plan) (tower : Contents) (chosen : MomentField) (closed : List 
           edit = done.edit;
           step = done.step;
           reads = done.reads;
-          own = ap (λ (id : OpId). id.feeder) (alike_id entry.edit done.edit done.reads) ∙ is.own;
+          own = subst (λ (found : Option OpId). IfSome found (λ id. id.feeder ≡ feeder)) (sym (alike_id entry.edit done.edit done.reads)) is.own;
           placed = alike_placed entry.edit done.edit done.reads done.place is.placed;
           item = from.item;
           item_is = from.item_is;

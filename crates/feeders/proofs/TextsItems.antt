@@ -5,6 +5,7 @@ use Rattle.std.specs.Borrow.{Bor}
 use Rattle.edn_reader.specs.Grammar.{Piece}
 use Rattle.edn_reader.specs.Pairs.{is_word}
 use Rattle.edn_reader.specs.Integer.{int_of}
+use Rattle.intervals.specs.declared.claim.Kind.{Kind}
 use Rattle.intervals.specs.declared.edit.Change.{Change}
 use Rattle.intervals.specs.declared.edit.Lent.TheVariants.{Amendment}
 use Rattle.intervals.specs.declared.operation.Moment.{Moment}
@@ -15,19 +16,20 @@ use Rattle.tower_file.specs.Steps.{◌>>=◌}
 use Rattle.jepsen_form.specs.declared.item.Action.{Action}
 use Rattle.jepsen_form.specs.declared.item.Stage.{Stage}
 use Rattle.jepsen_form.specs.declared.item.Item.{Item}
-use Rattle.jepsen_form.specs.declared.item.Item.TheVariants.{Event, Amend, Withdraw, Ask, Skipped}
+use Rattle.jepsen_form.specs.declared.item.Item.TheVariants.{Event, Amend, Withdraw, Claim, Ask, Skipped}
 use Rattle.jepsen_form.specs.declared.item.MomentField.{MomentField}
 use Rattle.jepsen_form.specs.declared.fault.FormFault.{FormFault}
 use Rattle.jepsen_form.specs.declared.fault.FormFault.TheVariants.{BadType}
 use Rattle.jepsen_form.specs.declared.fault.FormField.TheVariants as fields
 use Rattle.jepsen_form.specs.Fields.{Fields, UnderValue, fields_of}
-use Rattle.jepsen_form.specs.Item.{IsItem, no_map, of_map, the_one, at_most_one, is_there, value_stated, moment_of, end_of, the_stage, the_action, the_register, the_moment, if_told, value_told, by_process, change_of, edited_place, edit_by, question_of, register_named, item_of}
+use Rattle.jepsen_form.specs.Item.{IsItem, no_map, of_map, the_one, at_most_one, is_there, value_stated, moment_of, end_of, the_stage, the_action, the_register, the_moment, if_told, value_told, by_process, change_of, edited_place, kind_stated, claim_of, edit_by, question_of, register_named, item_of}
 
 -- the item's text is these bytes, and an edit lends it as an amendment
 abbrev pub Carries : List ℕ → Item → Type 0
 Carries bytes (Event event) = event.text.now ≡ bytes
 Carries bytes (Amend of change) = (text : Bor (List ℕ)) × (change.lent ≡ Amendment text) × (text.now ≡ bytes)
 Carries bytes (Withdraw of) = ⊤
+Carries bytes (Claim register kind) = ⊤
 Carries bytes (Ask register) = ⊤
 Carries bytes Skipped = ⊤
 
@@ -105,14 +107,30 @@ as_withdraw of = Ok (Withdraw of)
 abbrev amendment : Fields → Bor (List ℕ) → Result Item FormFault
 amendment found text = edited_place found >>= (λ of. change_of found text >>= as_amend of)
 
-abbrev no_amendment : Fields → Piece → Result Item FormFault
-no_amendment found keyword = if is_word (codes ":withdraw") keyword then edited_place found >>= as_withdraw else Err BadType
+abbrev with_kind : RegId → Kind → Result Item FormFault
+with_kind register kind = Ok (Claim register kind)
 
-of_edit : (found : Fields) (text : Bor (List ℕ)) (keyword : Piece) → AnswerCarries text.now (edit_by found text keyword)
-of_edit found text keyword =
-    one_of text.now (is_word (codes ":amend") keyword) (amendment found text) (no_amendment found keyword)
+abbrev with_claimed : Fields → RegId → Result Item FormFault
+with_claimed found register = the_one fields.Claimed found.claimed >>= kind_stated >>= with_kind register
+
+-- a claim has no text
+of_claim : (tower : Contents) (found : Fields) (bytes : List ℕ) → AnswerCarries bytes (claim_of tower found)
+of_claim tower found bytes =
+    through bytes (the_one fields.Register found.register >>= register_named tower) (with_claimed found) (λ register.
+    through bytes (the_one fields.Claimed found.claimed >>= kind_stated) (with_kind register) (λ kind. tt))
+
+abbrev no_withdrawal : Contents → Fields → Piece → Result Item FormFault
+no_withdrawal tower found keyword = if is_word (codes ":claim") keyword then claim_of tower found else Err BadType
+
+abbrev no_amendment : Contents → Fields → Piece → Result Item FormFault
+no_amendment tower found keyword = if is_word (codes ":withdraw") keyword then edited_place found >>= as_withdraw else no_withdrawal tower found keyword
+
+of_edit : (tower : Contents) (found : Fields) (text : Bor (List ℕ)) (keyword : Piece) → AnswerCarries text.now (edit_by tower found text keyword)
+of_edit tower found text keyword =
+    one_of text.now (is_word (codes ":amend") keyword) (amendment found text) (no_amendment tower found keyword)
     (through text.now (edited_place found) (λ of. change_of found text >>= as_amend of) (λ of. of_amend of text (change_of found text) (of_change found text)))
-    (one_of text.now (is_word (codes ":withdraw") keyword) (edited_place found >>= as_withdraw) (Err BadType) (through text.now (edited_place found) as_withdraw (λ of. tt)) tt)
+    (one_of text.now (is_word (codes ":withdraw") keyword) (edited_place found >>= as_withdraw) (no_withdrawal tower found keyword) (through text.now (edited_place found) as_withdraw (λ of. tt))
+    (one_of text.now (is_word (codes ":claim") keyword) (claim_of tower found) (Err BadType) (of_claim tower found text.now) tt))
 
 -- a question has no text
 of_question : (tower : Contents) (bytes : List ℕ) (id : Result RegId FormFault) → AnswerCarries bytes (id >>= (λ id. Ok (Ask id)))
@@ -127,8 +145,8 @@ no_edit tower found said text = if is_there found.ask then the_one fields.Ask fo
 
 of_item : (tower : Contents) (found : Fields) (said : UnderValue) (text : Bor (List ℕ)) → AnswerCarries text.now (item_of tower found said text)
 of_item tower found said text =
-    one_of text.now (is_there found.edit) (the_one fields.Edit found.edit >>= edit_by found text) (no_edit tower found said text)
-    (through text.now (the_one fields.Edit found.edit) (edit_by found text) (λ keyword. of_edit found text keyword))
+    one_of text.now (is_there found.edit) (the_one fields.Edit found.edit >>= edit_by tower found text) (no_edit tower found said text)
+    (through text.now (the_one fields.Edit found.edit) (edit_by tower found text) (λ keyword. of_edit tower found text keyword))
     (one_of text.now (is_there found.ask) (the_one fields.Ask found.ask >>= question_of tower) (event_part tower found said text)
     (through text.now (the_one fields.Ask found.ask) (question_of tower) (λ name. of_question tower text.now (register_named tower name)))
     (through text.now (the_one fields.Process found.process) (λ piece. by_process tower found said text (int_of piece)) (λ piece. of_process tower found said text (int_of piece))))

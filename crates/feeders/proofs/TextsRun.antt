@@ -38,19 +38,21 @@ none_of_lent (lents.Answer text) = refl
 none_of_lent (lents.Amendment text) = refl
 
 -- the edit that brings an invocation is an append, at the place of its operation
-invoked_at : (edit : Edit) (id : OpId) (place : ℕ) (text : Bor (List ℕ)) → edit_id edit ≡ id → IsPlaced place edit → settled invocation edit ≡ Some (Some text) → place ≡ id.event
-invoked_at (edits.Append op) id place text same placed settles = sym placed ∙ ap (λ (i : OpId). i.event) same
+invoked_at : (edit : Edit) (id : OpId) (place : ℕ) (text : Bor (List ℕ)) → edit_id edit ≡ Some id → IsPlaced place edit → settled invocation edit ≡ Some (Some text) → place ≡ id.event
+invoked_at (edits.Append op) id place text same placed settles = let one : op.id ≡ id = cc in sym placed ∙ ap (λ (i : OpId). i.event) one
 invoked_at (edits.Amend other change) id place text same placed settles =
     let none = ap (λ (t : Option (Bor (List ℕ))). option_map (λ (x : Bor (List ℕ)). Some x) t) (none_of_lent change.lent) in absurd (cc)
 invoked_at (edits.Withdraw other) id place text same placed settles = absurd (cc)
+invoked_at (edits.Claim kind) id place text same placed settles = absurd (cc)
 
 -- the edit that brings another part stands behind
-behind : (edit : Edit) (id : OpId) (place : ℕ) (item : Item) (part : Part) → part ≢ invocation → edit_id edit ≡ id → IsPlaced place edit → brought item ≡ Some part
+behind : (edit : Edit) (id : OpId) (place : ℕ) (item : Item) (part : Part) → part ≢ invocation → edit_id edit ≡ Some id → IsPlaced place edit → brought item ≡ Some part
     → ((text : Bor (List ℕ)) → settled invocation edit ≡ Some (Some text) → brought item ≡ Some invocation) → id.event < place
 behind (edits.Append op) id place item part other same placed brings texts =
     let invokes = texts op.parts.invocation refl in absurd (other (cc))
-behind (edits.Amend one change) id place item part other same placed brings texts = subst (λ (i : OpId). i.event < place) same placed
-behind (edits.Withdraw one) id place item part other same placed brings texts = subst (λ (i : OpId). i.event < place) same placed
+behind (edits.Amend one change) id place item part other same placed brings texts = let alike : one ≡ id = cc in subst (λ (i : OpId). i.event < place) alike placed
+behind (edits.Withdraw one) id place item part other same placed brings texts = let alike : one ≡ id = cc in subst (λ (i : OpId). i.event < place) alike placed
+behind (edits.Claim kind) id place item part other same placed brings texts = absurd (cc)
 
 answer_is_other : answer ≢ invocation
 answer_is_other e = absurd (cc)
@@ -100,8 +102,8 @@ module _ (tower : Contents) (chosen : MomentField) (shards : ℕ) (traces : List
         let found = of_step_in entry.feeder of refl in
         (reading_of entry.feeder of, found.0, found.1)
 
-    own_feeder : entry.feeder ≡ (edit_id entry.edit).feeder
-    own_feeder = sym of_step.2.own
+    own_feeder : (id : OpId) → edit_id entry.edit ≡ Some id → entry.feeder ≡ id.feeder
+    own_feeder id of_id = sym (subst (λ (found : Option OpId). IfSome found (λ one. one.feeder ≡ entry.feeder)) of_id of_step.2.own)
 
   module _ (register at : ℕ) (op : Op) where
     -- the entry that settles a part of it is of its feeder
@@ -109,7 +111,7 @@ module _ (tower : Contents) (chosen : MomentField) (shards : ℕ) (traces : List
     feeder_of part text last = ap (λ (all : List Entry). slice_get all (length last.before)) last.journal_is ∙ get_behind last.before last.entry last.after
 
     is_its_feeder : (part : Part) (text : Option (Bor (List ℕ))) → (last : IsLastSettled register (journal_of closed at) op.id part text) → last.entry.feeder ≡ op.id.feeder
-    is_its_feeder part text last = own_feeder at (length last.before) last.entry (feeder_of part text last) ∙ ap (λ (i : OpId). i.feeder) last.of_it.of_id
+    is_its_feeder part text last = own_feeder at (length last.before) last.entry (feeder_of part text last) op.id last.of_it.of_id
 
     module _ (of : Trace op.id.feeder) where
       element_at : (part : Part) (text : Bor (List ℕ)) → IsLastSettled register (journal_of closed at) op.id part (Some text)

@@ -84,20 +84,21 @@ module _ (register : ℕ) (journal : List Entry) (entry : Entry) where
     last = All-nil (λ later. IsEditOf register id later → settled part later.edit ≡ None);
   }
 
-  other_id : (edit : Edit) (op : Op) → entry.edit ≡ edit → same_id op.id (edit_id edit) ≡ false → IsEditOf register op.id entry → ⊥
-  other_id edit op is differs of_it =
-      let same : op.id ≡ edit_id edit = sym of_it.of_id ∙ ap edit_id is in
-      let t = (Decides-same_id_is op.id (edit_id edit)).1 same in
+  other_id : (edit : Edit) (op : Op) (id : OpId) → entry.edit ≡ edit → edit_id edit ≡ Some id → same_id op.id id ≡ false → IsEditOf register op.id entry → ⊥
+  other_id edit op id is of_edit differs of_it =
+      let both : Some op.id ≡ Some id = sym of_it.of_id ∙ ap edit_id is ∙ of_edit in
+      let same : op.id ≡ id = cc in
+      let t = (Decides-same_id_is op.id id).1 same in
       absurd (cc)
 
   module _ (accepted : IsTrue (is_accepted_of register entry)) where
-    of_id : (edit : Edit) (id : OpId) → entry.edit ≡ edit → edit_id edit ≡ id → IsEditOf register id entry
+    of_id : (edit : Edit) (id : OpId) → entry.edit ≡ edit → edit_id edit ≡ Some id → IsEditOf register id entry
     of_id edit id is same = record { accepted = accepted; of_id = ap edit_id is ∙ same }
 
     after_append : (new : Op) (ops : List Op) → entry.edit ≡ edits.Append new → op_of ops new.id ≡ None → All (AreLast register journal) ops → All (AreLast register (journal ++ entry ∷ [])) (ops ++ new ∷ [])
     after_append new ops is free last =
         All-push (AreLast register (journal ++ entry ∷ [])) ops new
-        (λ k d lt. stays_of_other (get_or ops k d) (other_id (edits.Append new) (get_or ops k d) is (find-None (λ op. same_id op.id new.id) ops free k d lt)) (last k d lt))
+        (λ k d lt. stays_of_other (get_or ops k d) (other_id (edits.Append new) (get_or ops k d) new.id is refl (find-None (λ op. same_id op.id new.id) ops free k d lt)) (last k d lt))
         (λ part. settles_now new.id part (text_of part new.parts) (of_id (edits.Append new) new.id is refl) (ap (settled part) is))
 
     after_change : (id : OpId) (change : Change) (op : Op) → entry.edit ≡ edits.Amend id change → op.id ≡ id → AreLast register journal op → AreLast register (journal ++ entry ∷ []) (changed op change)
@@ -105,7 +106,7 @@ module _ (register : ℕ) (journal : List Entry) (entry : Entry) where
         elim (brought_or_left part op.parts change.lent) [
           | inl (text, brings, text_is) ↦
               subst (IsLastSettled register (journal ++ entry ∷ []) op.id part) (sym text_is)
-              (settles_now op.id part (Some text) (of_id (edits.Amend id change) op.id is (sym same))
+              (settles_now op.id part (Some text) (of_id (edits.Amend id change) op.id is (ap Some (sym same)))
               (ap (settled part) is ∙ ap (λ (t : Option (Bor (List ℕ))). elim t as (λ _. Option (Option (Bor (List ℕ)))) [ None ↦ None | Some x ↦ Some (Some x) ]) brings))
           | inr (none, left) ↦
               subst (IsLastSettled register (journal ++ entry ∷ []) op.id part) (sym left)
@@ -117,7 +118,7 @@ module _ (register : ℕ) (journal : List Entry) (entry : Entry) where
       where
         by_id : (t : Bool) → same_id op.id id ≡ t → AreLast register (journal ++ entry ∷ []) (cond t (changed op change) op)
         by_id true e = after_change id change op is ((Decides-same_id_is op.id id).0 e) last
-        by_id false e = stays_of_other op (other_id (edits.Amend id change) op is e) last
+        by_id false e = stays_of_other op (other_id (edits.Amend id change) op id is refl e) last
 
     not_true : (b : Bool) → not b ≡ true → b ≡ false
     not_true true e = absurd (cc)
@@ -132,8 +133,11 @@ module _ (register : ℕ) (journal : List Entry) (entry : Entry) where
         let keep : Op → Bool = (λ op. not (same_id op.id id)) in
         let kept : List Op = filter keep ops in
         λ k d lt. stays_of_other (get_or kept k d)
-        (other_id (edits.Withdraw id) (get_or kept k d) is (not_true (same_id (get_or kept k d).id id) (filter_passes keep ops k d lt)))
+        (other_id (edits.Withdraw id) (get_or kept k d) id is refl (not_true (same_id (get_or kept k d).id id) (filter_passes keep ops k d lt)))
         (All-filter keep (AreLast register journal) ops last k d lt)
+    after_edit (edits.Claim kind) ops is none last =
+        All-weaker (AreLast register journal) (AreLast register (journal ++ entry ∷ []))
+        (λ op last part. stays op.id part (text_of part op.parts) (λ _. ap (settled part) is) (last part)) ops last
 
   not_refused : (held : Claimed) (edit : Edit) (reply : Reply) → is_accepted reply ≡ true → IsReply held edit reply → first_refusal held.ops edit ≡ None
   not_refused held edit (Accepted holds) e is = edit_accepted held.claim held.ops edit is.0

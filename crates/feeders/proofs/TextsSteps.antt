@@ -1,5 +1,5 @@
 -- What the step of an item is: of which operation, where it stands, and which text it brings.
-use Rattle.std.proofs.Common.{◌≡◌, ℕ, zero, suc, ◌+◌, ◌<◌, ◌≤◌, ◌==◌, Bool, true, false, cond, List, [], ◌∷◌, ◌++◌, length, reverse, Option, Some, None, Result, Ok, Err, is_some, refl, sym, ap, subst, ◌∙◌, arith, eqb-true, length-append}
+use Rattle.std.proofs.Common.{◌≡◌, ℕ, zero, suc, ◌+◌, ◌<◌, ◌≤◌, ◌==◌, Bool, true, false, cond, List, [], ◌∷◌, ◌++◌, length, reverse, Option, Some, None, Result, Ok, Err, IfSome, is_some, refl, sym, ap, subst, ◌∙◌, arith, eqb-true, length-append}
 use Rattle.std.specs.Prelude.{find, fold, filter_map, option_map, option_and_then}
 use Rattle.std.specs.Borrow.{Bor}
 use Rattle.std.specs.List.{slice_get, AllByRecursion}
@@ -84,7 +84,7 @@ module _ (place : ℕ) (taken : List Placed) (before : Before place taken) where
 
 -- the edit is of the feeder's, may stand at the place, and a text that it brings is of this part and these bytes
 pub record IsEditAt (feeder place : ℕ) (bytes : List ℕ) (part_is : Option Part) (edit : Edit) : Type 0 where
-  pub own : (edit_id edit).feeder ≡ feeder
+  pub own : IfSome (edit_id edit) (λ id. id.feeder ≡ feeder)
   pub placed : IsPlaced place edit
   pub texts : (part : Part) (text : Bor (List ℕ)) → settled part edit ≡ Some (Some text) → (part_is ≡ Some part) × (text.now ≡ bytes)
 
@@ -152,6 +152,8 @@ module _ (feeder place : ℕ) (bytes : List ℕ) (register : RegId) (edit : Edit
       (λ lt. record { own = refl; placed = lt; texts = subst (λ (lent : Lent). (part : Part) (text : Bor (List ℕ)) → option_map Some (text_in part lent) ≡ Some (Some text) → (Some amendment ≡ Some part) × (text.now ≡ bytes)) (sym is.1) (amendment_texts is.0 bytes is.2) }) e
   of_item taken (items.Withdraw of) before is e =
       of_edit None of (edits.Withdraw (id_of feeder of)) (register_of taken of) (register_before place taken before of) (withdraws feeder place of bytes None) e
+  of_item taken (items.Claim on kind) before is e =
+      subst (IsEditAt feeder place bytes None) (edit_of on register (edits.Claim kind) edit e) (record { own = tt; placed = tt; texts = λ part text e. absurd (cc) })
   of_item taken (items.Ask on) before is e = absurd (cc)
   of_item taken items.Skipped before is e = absurd (cc)
 

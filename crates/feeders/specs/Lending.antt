@@ -19,4 +19,5 @@ LendsNone (Ok None) = Unit {0}
 LendsNone (Ok (Some (steps.Edit register (edits.Append op)))) = ⊥
 LendsNone (Ok (Some (steps.Edit register (edits.Amend id change)))) = ⊥
 LendsNone (Ok (Some (steps.Edit register (edits.Withdraw id)))) = Unit {0}
+LendsNone (Ok (Some (steps.Edit register (edits.Claim kind)))) = Unit {0}
 LendsNone (Ok (Some (steps.Ask register))) = Unit {0}

@@ -3,6 +3,7 @@ pub mod Setting
 pub mod Steps
 pub mod Prefixes
 pub mod Broken
+pub mod Code
 pub mod Doings
 pub mod Run
 pub mod Readers

@@ -47,16 +47,17 @@ text_in amendment (lents.Answer text) = None
 text_in amendment (lents.Amendment text) = Some text
 
 -- what an edit makes of this part of its operation, where it makes something of it: an append brings it or leaves
--- it out, an amendment brings the part that it lends, and a withdrawal leaves it out
+-- it out, an amendment brings the part that it lends, a withdrawal leaves it out, and a claim is of no operation
 abbrev pub settled : Part → Edit → Option (Option (Bor (List ℕ)))
 settled part (edits.Append op) = Some (text_of part op.parts)
 settled part (edits.Amend id change) = option_map Some (text_in part change.lent)
 settled part (edits.Withdraw id) = Some None
+settled part (edits.Claim kind) = None
 
 -- an accepted edit of this operation of a register
 pub record IsEditOf (register : ℕ) (id : OpId) (entry : Entry) : Type 0 where
   pub accepted : IsTrue (is_accepted_of register entry)
-  pub of_id : edit_id entry.edit ≡ id
+  pub of_id : edit_id entry.edit ≡ Some id
 
 -- of the accepted edits of an operation, the last one in a journal that makes something of this part makes this of it
 pub record IsLastSettled (register : ℕ) (journal : List Entry) (id : OpId) (part : Part) (text : Option (Bor (List ℕ))) : Type 0 where
@@ -80,6 +81,7 @@ abbrev pub brought : Item → Option Part
 brought (items.Event event) = brought_at event.answer
 brought (items.Amend of change) = Some amendment
 brought (items.Withdraw of) = None
+brought (items.Claim register kind) = None
 brought (items.Ask register) = None
 brought items.Skipped = None
 
@@ -96,19 +98,21 @@ pub record Reading (tower : Contents) (chosen : MomentField) (traces : List (Lis
 abbrev pub IsSlice : List ℕ → Piece → Type 0
 IsSlice trace piece = take (length piece.text) (drop piece.start trace) ≡ piece.text
 
--- at which place of a trace an edit may stand: an append at the event of its id, another edit behind it
+-- at which place of a trace an edit may stand: an append at the event of its id, another edit of an operation
+-- behind it, and a claim anywhere
 abbrev pub IsPlaced : ℕ → Edit → Type 0
 IsPlaced place (edits.Append op) = op.id.event ≡ place
 IsPlaced place (edits.Amend id change) = id.event < place
 IsPlaced place (edits.Withdraw id) = id.event < place
+IsPlaced place (edits.Claim kind) = Unit {0}
 
--- the entry reads as the edit of the step at this place of the feeder's trace, and a text that it brings is the
--- element there
+-- the entry reads as the edit of the step at this place of the feeder's trace; its operation, if any, is the
+-- feeder's, and a text that it brings is the element there
 pub record IsOfStep (feeder : ℕ) (trace : List ℕ) (pieces : List Piece) (items : List (Result Item FormFault)) (entry : Entry) (place : ℕ) : Type 0 where
   pub edit : Edit
   pub step : slice_get (steps_of feeder items) place ≡ Some (Ok (Some (steps.Edit entry.register edit)))
   pub reads : plain_edit entry.edit ≡ plain_edit edit
-  pub own : (edit_id entry.edit).feeder ≡ feeder
+  pub own : IfSome (edit_id entry.edit) (λ id. id.feeder ≡ feeder)
   pub placed : IsPlaced place entry.edit
   pub item : Item
   pub item_is : slice_get items place ≡ Some (Ok item)

@@ -4,6 +4,7 @@ ghost use Rattle.std.specs.Prelude.{◌≡◌, ◌∷◌, ◌++◌, ◌<◌, [],
 ghost use Rattle.pairing.specs.declared.step.Step.TheVariants.{Edit as ToEdit, Ask};
 ghost use Rattle.shards.specs.Pass.{IsPassOf, Passed};
 ghost use Rattle.feeders.specs.Broken.{broken_by as break_of};
+ghost use Rattle.feeders.specs.Code.{break_code_of, code_of};
 ghost use Rattle.feeders.specs.Steps.{IsKnownStep};
 ghost use Rattle.feeders.specs.Ending.{MayEnd};
 ghost use Rattle.feeders.specs.Progress.{GoesOn, IsKept};
@@ -25,6 +26,19 @@ pub enum Code {
     Form(FormFault),
     Pair(PairFault),
     Register(Refusal),
+}
+
+impl Code {
+    /// The code that users see.
+    pub fn code(&self) -> &'static str
+        ensures { result.now ≡ code_of self.now }
+    {
+        match self {
+            Code::Form(fault) => fault.code(),
+            Code::Pair(fault) => fault.code(),
+            Code::Register(refusal) => refusal.code(),
+        }
+    }
 }
 
 /// What is noted of an element.
@@ -60,6 +74,24 @@ pub enum BreakCode {
     ReadFailed,
     /// N2: more than 1,073,741,824 bytes, or more than 16,777,216 read calls.
     TooLong,
+}
+
+impl BreakCode {
+    /// The code that users see.
+    pub fn code(self) -> &'static str
+        ensures { result.now ≡ break_code_of self }
+    {
+        match self {
+            BreakCode::Truncated => "E1",
+            BreakCode::StrayClose => "E2",
+            BreakCode::WrongClose => "E3",
+            BreakCode::TooDeep => "E4",
+            BreakCode::OddMap => "E5",
+            BreakCode::TagWithoutElement => "E6",
+            BreakCode::ReadFailed => "N1",
+            BreakCode::TooLong => "N2",
+        }
+    }
 }
 
 /// Where a trace broke, as a byte place.

@@ -78,7 +78,8 @@ fn is_lent(item: &Result<Item, FormFault>) -> bool
             Stage::Fail | Stage::Info => false,
         },
         Ok(Item::Amend { .. }) => true,
-        Ok(Item::Withdraw { .. } | Item::Ask(_) | Item::Skipped) | Err(_) => false,
+        Ok(Item::Withdraw { .. } | Item::Claim(..) | Item::Ask(_) | Item::Skipped) | Err(_) =>
+            false,
     }
 }
 
@@ -89,6 +90,9 @@ fn unlent<'t>(step: Result<Option<Step>, Code>) -> Result<Option<Step<'t>>, Code
     match step {
         Ok(Some(Step::Edit(register, Edit::Withdraw(id)))) => {
             Ok(Some(Step::Edit(register, Edit::Withdraw(id))))
+        }
+        Ok(Some(Step::Edit(register, Edit::Claim(kind)))) => {
+            Ok(Some(Step::Edit(register, Edit::Claim(kind))))
         }
         Ok(Some(Step::Ask(register))) => Ok(Some(Step::Ask(register))),
         Ok(_) => Ok(None),

@@ -1,20 +1,20 @@
 -- What an edit that is accepted says of the operation that it brings.
 use Rattle.std.proofs.Common.{◌≡◌, ◌≢◌, ◌==◌, ℕ, ◌<◌, inl, inr, Bool, true, false, not, ◌&&◌, ◌||◌, List, [], ◌∷◌, Option, Some, None, refl, sym, ap, ◌∙◌, cond, subst, arith}
-use Rattle.std.specs.Prelude.{All, IfSome, is_some, nat_le, slice_index_or}
+use Rattle.std.specs.Prelude.{All, IfSome, option_map, is_some, nat_le, slice_index_or}
 use Rattle.std.proofs.lemmas.Bool.Decides.{Decides-eqb, Decides-or, nat_tests}
 use Rattle.intervals.specs.declared.operation.Op.{Op}
 use Rattle.intervals.specs.declared.operation.OpId.{OpId}
 use Rattle.intervals.specs.declared.operation.Moment.{Moment}
 use Rattle.intervals.specs.declared.edit.Edit.{Edit}
-use Rattle.intervals.specs.declared.edit.Edit.TheVariants.{Append, Amend, Withdraw}
+use Rattle.intervals.specs.declared.edit.Edit.TheVariants.{Append, Amend, Withdraw, Claim}
 use Rattle.intervals.specs.declared.claim.Kind.{Kind}
 use Rattle.intervals.specs.declared.claim.Kind.TheVariants.{Safe, Regular, Atomic}
 use Rattle.intervals.specs.declared.refusal.Refusal.{Refusal}
-use Rattle.intervals.specs.declared.refusal.Refusal.TheVariants.{OpTaken, EndNotAfterBegin, MomentTooLarge, NotAWriter, OutOfDomain}
+use Rattle.intervals.specs.declared.refusal.Refusal.TheVariants.{OpTaken, EndNotAfterBegin, MomentTooLarge, NotAWriter, OutOfDomain, ClaimFixed, ClaimWriters}
 use Rattle.intervals.specs.Terms.{Terms}
 use Rattle.intervals.specs.Operation.{Overlaps, IsWrite, is_write, overlaps, same_id, value_of}
 use Rattle.intervals.specs.Edit.{op_of, new_op}
-use Rattle.intervals.specs.Refusal.{first_of, refused_if, has_early_end, has_large_moment, is_in_domain, ends_by, is_at, is_moment_of, find_other_with, moment_taken, moments_refusal, amendment_refusal, first_refusal, may_write, is_overlapped, overlap_refusal, kind_refusal, new_write_refusal, reply_to}
+use Rattle.intervals.specs.Refusal.{first_of, refused_if, has_early_end, has_large_moment, is_in_domain, ends_by, is_at, is_moment_of, find_other_with, moment_taken, moments_refusal, amendment_refusal, first_refusal, may_write, is_overlapped, overlap_refusal, kind_refusal, new_write_refusal, first_overlap, is_one_writer, one_writer_refusal, overlap_claimed, to_kind_refusal, claim_refusal, reply_to}
 use Rattle.intervals.specs.Standing.{IsMomentOf, ShareNoMoment, IsHolder, IsPermitted}
 use Rattle.intervals.proofs.Agreement.{Decides-overlaps}
 use Rattle.intervals.proofs.Found.{not_mapped, find-None}
@@ -53,6 +53,7 @@ moments_accepted ops (Append op) new e is = by_cases (is_some (op_of ops op.id))
     by_cases false e is = let same : op ≡ new = cc in subst (λ (o : Op). moments_refusal ops o ≡ None) same e
 moments_accepted ops (Amend id change) new e is = sym (ap (amendment_refusal ops) is) ∙ e
 moments_accepted ops (Withdraw id) new e is = absurd (cc)
+moments_accepted ops (Claim kind) new e is = absurd (cc)
 
 -- neither its end, nor its beginning or end among the others, nor their size is refused
 moments_apart : (ops : List Op) (op : Op) → moments_refusal ops op ≡ None → (refused_if (has_early_end op) EndNotAfterBegin ≡ None) × (moment_taken ops op.id (Some op.begin) ≡ None) × (moment_taken ops op.id op.end ≡ None) × (refused_if (has_large_moment op) MomentTooLarge ≡ None)
@@ -100,19 +101,31 @@ shares_none ops new e k d lt f moment (inr is) h =
     let end = (moments_apart ops new e).2 in
     none_with ops new.id moment (subst (λ (m : Option Moment). moment_taken ops new.id m ≡ None) is end) k d lt f h
 
+-- neither the list, nor the claim of a write, nor the claim itself refuses it
+pub accepted_by_all : (claim : Terms) (ops : List Op) (edit : Edit) → reply_to claim ops edit ≡ None
+    → (first_refusal ops edit ≡ None) × (new_write_refusal claim ops (new_op ops edit) ≡ None) × (claim_refusal claim ops edit ≡ None)
+accepted_by_all claim ops edit e = none_of_three (first_refusal ops edit) (new_write_refusal claim ops (new_op ops edit)) (claim_refusal claim ops edit) e
+
 -- its edit is refused by nothing
 pub edit_accepted : (claim : Terms) (ops : List Op) (edit : Edit) → reply_to claim ops edit ≡ None → first_refusal ops edit ≡ None
-edit_accepted claim ops edit e = (none_of_two (first_refusal ops edit) (new_write_refusal claim ops (new_op ops edit)) e).0
+edit_accepted claim ops edit e = (accepted_by_all claim ops edit e).0
 
 not_false : (test : Bool) → not test ≡ false → test ≡ true
 not_false true e = refl
 not_false false e = absurd (cc)
 
+-- the writers are one, and no writes overlap
+pub one_writer_accepted : (claim : Terms) (ops : List Op) → one_writer_refusal claim ops ≡ None → (refused_if (not (is_one_writer claim.writers)) ClaimWriters ≡ None) × (option_map overlap_claimed (first_overlap ops) ≡ None)
+one_writer_accepted claim ops e = none_of_two (refused_if (not (is_one_writer claim.writers)) ClaimWriters) (option_map overlap_claimed (first_overlap ops)) e
+
+-- of a claim the kind is not fixed, and what is claimed is not refused
+pub claim_accepted : (kind : Kind) (claim : Terms) (ops : List Op) → reply_to claim ops (Claim kind) ≡ None → to_kind_refusal kind claim ops ≡ None
+claim_accepted kind claim ops e = (none_of_two (refused_if claim.fixed ClaimFixed) (to_kind_refusal kind claim ops) (accepted_by_all claim ops (Claim kind) e).2).1
+
 -- where it is a write, the claim allows it and its register's kind does not refuse it
 pub write_accepted : (claim : Terms) (ops : List Op) (edit : Edit) (new : Op) → reply_to claim ops edit ≡ None → new_op ops edit ≡ Some new → IsWrite new → IsPermitted claim new × (kind_refusal claim.kind claim ops new ≡ None)
 write_accepted claim ops edit new e is write =
-    let accepted = (none_of_two (first_refusal ops edit) (new_write_refusal claim ops (new_op ops edit)) e).1 in
-    by_cases (is_write new) write (sym (ap (new_write_refusal claim ops) is) ∙ accepted)
+    by_cases (is_write new) write (sym (ap (new_write_refusal claim ops) is) ∙ (accepted_by_all claim ops edit e).1)
   where
     is_writer : Bool
     is_writer = may_write claim.writers new.process

@@ -14,6 +14,10 @@ use Rattle.intervals.specs.Kind.{IsLastBefore, ReturnsLast, OverlapsWrite, IsAll
 use Rattle.intervals.specs.Judging.{is_write_before, is_later, later_of, last_from, last_before, is_returned_at, returns_of, returns_last, is_write_over, overlaps_write, is_allowed, is_safe_read, is_returned_over, is_regular_read}
 
 -- some element of a list
+pub false_unless : (b : Bool) → ¬ (b ≡ true) → b ≡ false
+false_unless true never = absurd (never refl)
+false_unless false never = refl
+
 pub any_here : {X : Type 0} (P : X → Type 0) (x : X) (xs : List X) → P x → Any P (x ∷ xs)
 any_here P x xs p = (0, x, omega arith, refl, p)
 

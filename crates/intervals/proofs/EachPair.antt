@@ -9,7 +9,7 @@ use Rattle.intervals.specs.declared.operation.Op.{Op}
 use Rattle.intervals.specs.declared.operation.OpId.{OpId}
 use Rattle.intervals.specs.declared.edit.Change.{Change}
 use Rattle.intervals.specs.declared.edit.Edit.{Edit}
-use Rattle.intervals.specs.declared.edit.Edit.TheVariants.{Append, Amend, Withdraw}
+use Rattle.intervals.specs.declared.edit.Edit.TheVariants.{Append, Amend, Withdraw, Claim}
 use Rattle.intervals.specs.Operation.{same_id}
 use Rattle.intervals.specs.Edit.{op_of, amended, changed, edited, new_op}
 use Rattle.intervals.specs.Refusal.{first_refusal, moments_refusal}
@@ -39,6 +39,7 @@ module _ (P : Op → Type 0) where
   each_edited ops (Amend id change) d all is =
       All-map P (amended id change) ops (λ k e lt. amended_is id change (slice_index_or ops k e) (all k e lt) (λ s. is (changed (slice_index_or ops k e) change) (new_of ops id change (slice_index_or ops k e) d (contains_at ops k e lt) s)))
   each_edited ops (Withdraw id) d all is = All-filter (λ op. not (same_id op.id id)) P ops all
+  each_edited ops (Claim kind) d all is = all
 
 module _ (R : Op → Op → Type 0) (symmetric : (a b : Op) → R a b → R b a) where
   first_pairs : (a : Op) (ops : List Op) → AllPairs R (a ∷ ops) → All (R a) ops
@@ -85,3 +86,4 @@ module _ (R : Op → Op → Type 0) (symmetric : (a b : Op) → R a b → R b a)
       is (changed (slice_index_or ops k e) change) (new_of ops id change (slice_index_or ops k e) d (contains_at ops k e lt) s) i f lt'
       (not_same_id (slice_index_or ops i f).id id (slice_index_or ops k e).id t s))
   pairs_edited ops (Withdraw id) d pairs accepted is = AllPairs-filter R (λ op. not (same_id op.id id)) ops pairs
+  pairs_edited ops (Claim kind) d pairs accepted is = pairs

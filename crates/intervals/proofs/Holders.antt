@@ -1,5 +1,5 @@
 -- Who has the value of a write already.
-use Rattle.std.proofs.Common.{Decides, ◌≡◌, ◌≢◌, ◌↔◌, Bool, true, false, not, ◌&&◌, List, Option, Some, None, refl, sym, cond}
+use Rattle.std.proofs.Common.{Decides, ◌≡◌, ◌≢◌, ◌↔◌, Bool, true, false, not, ◌&&◌, List, Option, Some, None, refl, sym, ap, cond}
 use Rattle.std.specs.Prelude.{All, Contains, find, option_map, slice_index_or}
 use Rattle.std.proofs.lemmas.Bool.Decides.{Decides-and, Decides-not, Decides-like, not_from_Decides}
 use Rattle.intervals.specs.declared.operation.Op.{Op}
@@ -9,7 +9,7 @@ use Rattle.intervals.specs.declared.refusal.Refusal.{Refusal}
 use Rattle.intervals.specs.declared.refusal.Refusal.TheVariants.{ValueTaken}
 use Rattle.intervals.specs.Terms.{Terms}
 use Rattle.intervals.specs.Operation.{is_write, same_id, same_value, value_of}
-use Rattle.intervals.specs.Refusal.{is_holder, value_refusal}
+use Rattle.intervals.specs.Refusal.{as_holder, holder_of, is_holder, value_refusal}
 use Rattle.intervals.specs.Standing.{IsHolder}
 use Rattle.intervals.proofs.Agreement.{Decides-IsTrue, Decides-same_value}
 use Rattle.intervals.proofs.Found.{not_mapped, find-None, find-none, find-Some}
@@ -23,7 +23,7 @@ Decides-is_holder op other =
 
 -- whether the value is the initial one, and the write found that has it, give the refusal
 abbrev taken : Bool → Option Op → Option Refusal
-taken initial found = cond initial (Some (ValueTaken holders.Initial)) (option_map (λ other. ValueTaken (holders.Op other.id)) found)
+taken initial found = option_map ValueTaken (cond initial (Some holders.Initial) (option_map as_holder found))
 
 module _ (claim : Terms) (ops : List Op) (op : Op) where
   abbrev has_initial : Bool
@@ -60,6 +60,13 @@ module _ (claim : Terms) (ops : List Op) (op : Op) where
       by_cases : (t : Bool) → has_initial ≡ t → (taken t (find (is_holder op) ops) ≡ None) ↔ ((value_of op.act ≢ claim.initial) × All (λ other. ¬ IsHolder op other) ops)
       by_cases true t = (λ e. absurd (cc), λ h. absurd (h.0 (is_initial t)))
       by_cases false t = (
-        (λ e. (not_initial t, λ k d lt. not_from_Decides (is_holder op (slice_index_or ops k d)) (Decides-is_holder op (slice_index_or ops k d)) (find-None (is_holder op) ops (not_mapped _ (find (is_holder op) ops) e) k d lt))),
+        (λ e. (not_initial t, λ k d lt. not_from_Decides (is_holder op (slice_index_or ops k d)) (Decides-is_holder op (slice_index_or ops k d)) (find-None (is_holder op) ops (not_mapped as_holder (find (is_holder op) ops) (not_mapped ValueTaken (option_map as_holder (find (is_holder op) ops)) e)) k d lt))),
         (λ h. rw (find-none (is_holder op) ops (λ k d lt holds. h.1 k d lt ((Decides-is_holder op (slice_index_or ops k d)).0 holds))) refl),
       )
+
+  -- where nobody has the value, the register at first has not, and no other write
+  pub nobody : holder_of claim ops op ≡ None → (value_of op.act ≢ claim.initial) × All (λ other. ¬ IsHolder op other) ops
+  nobody e = none_exactly.0 (ap (option_map ValueTaken) e)
+
+  pub nobody_back : (value_of op.act ≢ claim.initial) → All (λ other. ¬ IsHolder op other) ops → value_refusal claim ops op ≡ None
+  nobody_back other none = none_exactly.1 (other, none)

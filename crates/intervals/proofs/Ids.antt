@@ -9,13 +9,14 @@ use Rattle.intervals.specs.declared.operation.Op.{Op}
 use Rattle.intervals.specs.declared.operation.OpId.{OpId}
 use Rattle.intervals.specs.declared.edit.Change.{Change}
 use Rattle.intervals.specs.declared.edit.Edit.{Edit}
-use Rattle.intervals.specs.declared.edit.Edit.TheVariants.{Append, Amend, Withdraw}
+use Rattle.intervals.specs.declared.edit.Edit.TheVariants.{Append, Amend, Withdraw, Claim}
 use Rattle.intervals.specs.declared.refusal.Refusal.{Refusal}
 use Rattle.intervals.specs.declared.refusal.Refusal.TheVariants.{OpTaken}
 use Rattle.intervals.specs.Operation.{same_id}
-use Rattle.intervals.specs.Edit.{op_of, amended, changed, edited}
+use Rattle.intervals.specs.Edit.{op_of, found_by, has_id, amended, changed, edited}
 use Rattle.intervals.specs.Refusal.{first_refusal, moments_refusal}
 use Rattle.intervals.specs.Standing.{HasDistinctIds}
+use Rattle.intervals.proofs.Found.{find-Some}
 
 abbrev id_of : ℕ → ℕ → OpId
 id_of feeder event = record { feeder = feeder; event = event }
@@ -76,7 +77,7 @@ not_later a ops id = by_cases (same_id a.id id)
     by_cases false e = e
     by_cases true e = absurd (cc)
 
-not_found : (a : Op) (ops : List Op) (id : OpId) → same_id a.id id ≡ false → op_of ops id ≡ None → op_of (a ∷ ops) id ≡ None
+pub not_found : (a : Op) (ops : List Op) (id : OpId) → same_id a.id id ≡ false → op_of ops id ≡ None → op_of (a ∷ ops) id ≡ None
 not_found a ops id f e = rw f e
 
 not_among_more : (ops : List Op) (op : Op) (id : OpId) → op_of ops id ≡ None → same_id op.id id ≡ false → op_of (ops ++ op ∷ []) id ≡ None
@@ -143,6 +144,7 @@ pub distinct_edited : (ops : List Op) (edit : Edit) → HasDistinctIds ops → f
 distinct_edited ops (Append op) d e = distinct_appended ops op d (not_taken (op_of ops op.id) (moments_refusal ops op) e)
 distinct_edited ops (Amend id change) d e = distinct_amended ops id change d
 distinct_edited ops (Withdraw id) d e = distinct_some (λ op. not (same_id op.id id)) ops d
+distinct_edited ops (Claim kind) d e = d
 
 found_first : (a : Op) (ops : List Op) → op_of (a ∷ ops) a.id ≡ Some a
 found_first a ops = rw (same_id-refl a.id) refl
@@ -161,3 +163,13 @@ found_at (a ∷ ops) op (suc k) d lt e = found_later a ops op d.0 (found_at ops 
 
 pub found_by_id : (ops : List Op) (op : Op) → HasDistinctIds ops → Contains ops op → op_of ops op.id ≡ Some op
 found_by_id ops op d h = found_at ops op h.0 d h.1 h.2
+
+-- what is found by an id that may be given stands and has it
+pub found_stands : (ops : List Op) (id : Option OpId) (x : Op) → found_by ops id ≡ Some x → Contains ops x × (has_id id x ≡ true)
+found_stands ops None x e = absurd (cc)
+found_stands ops (Some id) x e = find-Some (λ op. same_id op.id id) ops x e
+
+-- and what stands and has it is found
+pub found_again : (ops : List Op) (id : Option OpId) (x : Op) → HasDistinctIds ops → Contains ops x → has_id id x ≡ true → found_by ops id ≡ Some x
+found_again ops None x distinct h t = absurd (cc)
+found_again ops (Some id) x distinct h t = sym (found_alike ops x.id id t) ∙ found_by_id ops x distinct h

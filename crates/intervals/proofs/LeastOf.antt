@@ -1,11 +1,12 @@
 -- What the fold over a list finds is the least that passes.
-use Rattle.std.proofs.Common.{◌≡◌, ℕ, ◌≤◌, ◌⊎◌, inl, inr, Bool, true, false, List, [], ◌∷◌, Option, Some, None, refl, sym, subst, ◌∙◌, arith, ltb}
+use Rattle.std.proofs.Common.{◌≡◌, ℕ, ◌≤◌, ◌⊎◌, inl, inr, Bool, true, false, List, [], ◌∷◌, Option, Some, None, refl, sym, ap, subst, ◌∙◌, arith, ltb}
 use Rattle.std.specs.Prelude.{All, Any, Contains, IsTrue}
 use Rattle.std.proofs.lemmas.Bool.Decides.{Decides-ltb, not_from_Decides}
-use Rattle.std.proofs.lemmas.List.Elements.{All-head, All-tail, All-cons, All-nil}
+use Rattle.std.proofs.lemmas.List.Elements.{All-head, All-tail, All-cons, All-nil, All-contains}
 use Rattle.intervals.specs.declared.operation.Op.{Op}
 use Rattle.intervals.specs.Least.{is_less, less_of, least_from, least_by, IsLeast}
 use Rattle.intervals.proofs.Agreement.{any_here, any_there}
+use Rattle.intervals.proofs.Members.{all_from}
 
 module _ (key : Op → ℕ) (test : Op → Bool) where
   -- the found one, if any, has a key that is no smaller
@@ -120,3 +121,40 @@ module _ (key : Op → ℕ) (test : Op → Bool) where
 
   pub least_by-IsLeast : (ops : List Op) (least : Op) → least_by key test ops ≡ Some least → IsLeast key test ops least
   least_by-IsLeast ops least e = let h = least_from-Some None ops least e in is_least ops least h h.from
+
+  -- no two that pass have one key
+  abbrev pub AreTold : List Op → Type 0
+  AreTold ops = (a b : Op) → Contains ops a → Contains ops b → IsTrue (test a) → IsTrue (test b) → key a ≡ key b → a ≡ b
+
+  pub none_least : (ops : List Op) → ((op : Op) → Contains ops op → ¬ IsTrue (test op)) → least_by key test ops ≡ None
+  none_least ops none = least_from-none None ops (all_from (λ op. ¬ IsTrue (test op)) ops none)
+
+  pub least_is : (ops : List Op) (op : Op) → AreTold ops → IsLeast key test ops op → least_by key test ops ≡ Some op
+  least_is ops op told is = by_cases (least_by key test ops) refl
+    where
+      by_cases : (found : Option Op) → least_by key test ops ≡ found → least_by key test ops ≡ Some op
+      by_cases None e = absurd (All-contains (λ o. ¬ IsTrue (test o)) ops op (least_from-None None ops e).1 is.stands is.passes)
+      by_cases (Some other) e =
+          let it = least_by-IsLeast ops other e in
+          let le : key op ≤ key other = All-contains (λ o. IsTrue (test o) → key op ≤ key o) ops other is.least it.stands it.passes in
+          let ge : key other ≤ key op = All-contains (λ o. IsTrue (test o) → key other ≤ key o) ops op it.least is.stands is.passes in
+          e ∙ ap Some (told other op it.stands is.stands it.passes is.passes (omega arith))
+
+  -- fewer of them find the same where each that passes has one among them with no greater key
+  pub least_among : (ops few : List Op) → AreTold ops → ((op : Op) → Contains few op → Contains ops op)
+      → ((op : Op) → Contains ops op → IsTrue (test op) → (best : Op) × Contains few best × IsTrue (test best) × (key best ≤ key op))
+      → least_by key test ops ≡ least_by key test few
+  least_among ops few told stand best = by_cases (least_by key test few) refl
+    where
+      by_cases : (found : Option Op) → least_by key test few ≡ found → least_by key test ops ≡ least_by key test few
+      by_cases None e = none_least ops (λ op h passes. let b = best op h passes in All-contains (λ o. ¬ IsTrue (test o)) few b.0 (least_from-None None few e).1 b.1 b.2) ∙ sym e
+      by_cases (Some one) e =
+          let it = least_by-IsLeast few one e in
+          least_is ops one told (record {
+            stands = stand one it.stands;
+            passes = it.passes;
+            least = all_from (λ o. IsTrue (test o) → key one ≤ key o) ops (λ o h passes.
+                let b = best o h passes in
+                let le : key one ≤ key b.0 = All-contains (λ x. IsTrue (test x) → key one ≤ key x) few b.0 it.least b.1 b.2 in
+                let le' : key b.0 ≤ key o = b.3 in omega arith);
+          }) ∙ sym e

@@ -1,7 +1,12 @@
 pub mod Agreement
+pub mod Members
 pub mod LeastOf
 mod Kept
 mod Spots
+mod InTurn
+mod Overlapping
+pub mod Fronts
+mod Repeats
 pub mod SameSpot
 mod Slots
 mod Indexed
@@ -12,7 +17,9 @@ mod MomentHolders
 pub mod Accepted
 pub mod Ids
 pub mod EachPair
+pub mod Claimed
 pub mod Standing
+pub mod Appended
 pub mod Verdicts
 mod Texts
 mod Arrangements

@@ -47,10 +47,10 @@ at_value v a b = rw (value_itself v) refl
 nat_itself : (a : ℕ) → nat_cmp a a ≡ Equal
 nat_itself a = grind (arith, nat_tests)
 
-nat_less : (a b : ℕ) → nat_cmp a b ≡ Less → a < b
+pub nat_less : (a b : ℕ) → nat_cmp a b ≡ Less → a < b
 nat_less a b h = ranked a b Less (sym h)
 
-nat_before : (a b : ℕ) → a < b → nat_cmp a b ≡ Less
+pub nat_before : (a b : ℕ) → a < b → nat_cmp a b ≡ Less
 nat_before a b lt = grind (arith, nat_tests)
 
 nat_after : (a b : ℕ) → b < a → nat_cmp a b ≡ Greater
@@ -123,7 +123,7 @@ later_or_same v a b le = by_cases (cases_order b.0 a.0)
     by_cases (inr (inl lt)) = ap is_gt (later_is_less v a b lt)
     by_cases (inr (inr gt)) = absurd (omega arith)
 
-none_unless : {X : Type 0} (o : Option X) → ¬ IsSome o → o ≡ None
+pub none_unless : {X : Type 0} (o : Option X) → ¬ IsSome o → o ≡ None
 none_unless None f = refl
 none_unless (Some x) f = absurd (f refl)
 

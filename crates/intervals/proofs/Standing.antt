@@ -1,29 +1,27 @@
 -- What one accepted edit keeps, a list of edits keeps.
-use Rattle.std.proofs.Common.{◌≡◌, ◌≢◌, ◌<◌, false, List, [], ◌∷◌, Option, Some, None, refl, sym, ◌∙◌, cond, arith}
+use Rattle.std.proofs.Common.{◌≡◌, ◌≢◌, ◌<◌, false, List, [], ◌∷◌, Option, Some, None, refl, sym, ap, ◌∙◌, cond, arith}
 use Rattle.std.specs.Prelude.{IfSome, is_some, slice_index_or}
 use Rattle.std.specs.List.{AllPairs}
 use Rattle.std.proofs.lemmas.List.Elements.{All-nil}
 use Rattle.std.proofs.lemmas.Bool.Decides.{not_from_Decides}
 use Rattle.intervals.specs.declared.operation.Op.{Op}
 use Rattle.intervals.specs.declared.edit.Edit.{Edit}
+use Rattle.intervals.specs.declared.edit.Edit.TheVariants.{Append, Amend, Withdraw, Claim}
 use Rattle.intervals.specs.declared.refusal.Refusal.{Refusal}
 use Rattle.intervals.specs.declared.claim.Kind.TheVariants.{Atomic}
 use Rattle.intervals.specs.Terms.{Terms, Claimed, unedited}
 use Rattle.intervals.specs.Operation.{IsWrite, Overlaps, same_id, value_of}
-use Rattle.intervals.specs.Edit.{edited, new_op}
+use Rattle.intervals.specs.Edit.{edited, new_op, claim_after}
 use Rattle.intervals.specs.Refusal.{first_refusal, has_large_moment, moments_refusal, reply_to, carried_out, after_edit, standing}
 use Rattle.intervals.specs.Standing.{ShareNoMoment, HasDistinctMoments, HasEndsAfterBeginnings, HasNoOverlappingWrites, HasDistinctValues, IsPermitted, StandApart}
 use Rattle.intervals.proofs.Ids.{distinct_edited, Decides-same_id_is}
 use Rattle.intervals.proofs.EachPair.{each_edited, pairs_edited}
-use Rattle.intervals.proofs.Accepted.{edit_accepted, moments_accepted, write_accepted, ends_late, moments_low, shares_none, overlaps_none, values_free}
+use Rattle.intervals.proofs.Claimed.{HaveOtherValues, claimed_apart}
+use Rattle.intervals.proofs.Accepted.{claim_accepted, edit_accepted, moments_accepted, write_accepted, ends_late, moments_low, shares_none, overlaps_none, values_free}
 
 -- two writes do not overlap
 abbrev pub AreApart : Op → Op → Type 0
 AreApart v w = IsWrite v → IsWrite w → ¬ Overlaps v w
-
--- two writes have not one value
-abbrev pub HaveOtherValues : Op → Op → Type 0
-HaveOtherValues v w = IsWrite v → IsWrite w → value_of v.act ≢ value_of w.act
 
 no_pairs : (R : Op → Op → Type 0) → AllPairs R []
 no_pairs R = λ i j d lt lt'. absurd (omega arith)
@@ -84,7 +82,10 @@ module _ (claim : Terms) (ops : List Op) (edit : Edit) (apart : StandApart claim
 
 pub carried_out_apart : (held : Claimed) (edit : Edit) → StandApart held.claim held.ops → reply_to held.claim held.ops edit ≡ None
     → StandApart (carried_out held edit).claim (carried_out held edit).ops
-carried_out_apart held edit apart e = edited_apart held.claim held.ops edit apart e
+carried_out_apart held (Append op) apart e = edited_apart held.claim held.ops (Append op) apart e
+carried_out_apart held (Amend id change) apart e = edited_apart held.claim held.ops (Amend id change) apart e
+carried_out_apart held (Withdraw id) apart e = edited_apart held.claim held.ops (Withdraw id) apart e
+carried_out_apart held (Claim kind) apart e = claimed_apart kind held.claim held.ops apart (claim_accepted kind held.claim held.ops e)
 
 -- after one edit, accepted or not
 after_one : (P : Claimed → Type 0) (held : Claimed) (edit : Edit) → P held → (reply_to held.claim held.ops edit ≡ None → P (carried_out held edit)) → P (after_edit held edit)
@@ -102,9 +103,23 @@ after_all held (edit ∷ edits) apart =
 pub standing_apart : (claim : Terms) (edits : List Edit) → StandApart (standing (unedited claim) edits).claim (standing (unedited claim) edits).ops
 standing_apart claim edits = after_all (unedited claim) edits (nothing_apart claim)
 
-same_claim : (held : Claimed) (edits : List Edit) → (standing held edits).claim ≡ held.claim
-same_claim held [] = refl
-same_claim held (edit ∷ edits) = same_claim (after_edit held edit) edits ∙ after_one (λ (h : Claimed). h.claim ≡ held.claim) held edit refl (λ e. refl)
+-- the claims are the same but for the kind
+abbrev pub IsOfKind : Terms → Terms → Type 0
+IsOfKind claim other = other ≡ record claim { kind = other.kind }
 
-pub claim_stays : (claim : Terms) (edits : List Edit) → (standing (unedited claim) edits).claim ≡ claim
-claim_stays claim edits = same_claim (unedited claim) edits
+of_kind_after : (claim : Terms) (edit : Edit) → IsOfKind claim (claim_after claim edit)
+of_kind_after claim (Append op) = refl
+of_kind_after claim (Amend id change) = refl
+of_kind_after claim (Withdraw id) = refl
+of_kind_after claim (Claim kind) = refl
+
+kind_alone : (held : Claimed) (edits : List Edit) → IsOfKind held.claim (standing held edits).claim
+kind_alone held [] = refl
+kind_alone held (edit ∷ edits) =
+    let after : Claimed = after_edit held edit in
+    let last : Terms = (standing after edits).claim in
+    kind_alone after edits
+    ∙ ap (λ (claim : Terms). record claim { kind = last.kind }) (after_one (λ (h : Claimed). IsOfKind held.claim h.claim) held edit refl (λ e. of_kind_after held.claim edit))
+
+pub kind_alone_changes : (claim : Terms) (edits : List Edit) → IsOfKind claim (standing (unedited claim) edits).claim
+kind_alone_changes claim edits = kind_alone (unedited claim) edits

@@ -9,18 +9,19 @@ use Rattle.intervals.specs.declared.operation.Moment.{Moment}
 use Rattle.intervals.specs.declared.operation.Value.{Value}
 use Rattle.intervals.specs.declared.edit.Change.{Change}
 use Rattle.intervals.specs.declared.edit.Edit.{Edit}
-use Rattle.intervals.specs.declared.edit.Edit.TheVariants.{Append, Amend, Withdraw}
+use Rattle.intervals.specs.declared.edit.Edit.TheVariants.{Append, Amend, Withdraw, Claim}
 use Rattle.intervals.specs.declared.claim.Kind.{Kind}
 use Rattle.intervals.specs.declared.claim.Kind.TheVariants.{Safe, Regular, Atomic}
+use Rattle.intervals.specs.declared.claim.Holder.{Holder}
 use Rattle.intervals.specs.declared.claim.Holder.TheVariants as holders
 use Rattle.intervals.specs.declared.refusal.Refusal.{Refusal}
-use Rattle.intervals.specs.declared.refusal.Refusal.TheVariants.{UnknownOp, OpTaken, MomentTaken, WritesOverlap, ValueTaken}
+use Rattle.intervals.specs.declared.refusal.Refusal.TheVariants.{UnknownOp, OpTaken, MomentTaken, WritesOverlap, ValueTaken, ClaimFixed}
 use Rattle.intervals.specs.Terms.{Terms, Claimed}
-use Rattle.intervals.specs.Operation.{is_judged_read, same_id, same_value, value_of}
-use Rattle.intervals.specs.Edit.{op_of, amended, changed, edited}
+use Rattle.intervals.specs.Operation.{is_write, is_judged_read, same_id, same_value, value_of}
+use Rattle.intervals.specs.Edit.{op_of, amended, changed, edited, claim_after}
 use Rattle.intervals.specs.Bare.{bare, bare_change, bare_edit, bare_held}
 use Rattle.intervals.specs.Least.{is_less, less_of, least_from}
-use Rattle.intervals.specs.Refusal.{first_of, is_moment_of, find_other_with, moment_taken, moments_refusal, amendment_refusal, is_overlapped, overlap_refusal, is_holder, value_refusal, kind_refusal, write_refusal, new_write_refusal, reply_to, carried_out, after_edit, standing}
+use Rattle.intervals.specs.Refusal.{begin_number, first_overlap, first_repeat, first_there, holder_of, id_with, ids_with, overlap_of, overlaps_another, refused_if, repeat_claimed, repeat_of, to_kind_refusal, first_of, is_moment_of, find_other_with, moment_taken, moments_refusal, amendment_refusal, is_overlapped, overlap_refusal, as_holder, is_holder, value_refusal, kind_refusal, write_refusal, new_write_refusal, reply_to, carried_out, after_edit, standing}
 use Rattle.intervals.specs.Judging.{later_of, last_from, is_returned_at, returns_of, returns_last, is_write_over, is_returned_over, is_right_read, is_wrong_read, end_number, first_wrong}
 use Rattle.intervals.specs.Kind.{IsSafe, IsRegular}
 use Rattle.intervals.proofs.Found.{not_mapped}
@@ -140,9 +141,9 @@ overlap_bare ops op =
 
 value_bare : (claim : Terms) (ops : List Op) (op : Op) → value_refusal claim (map bare ops) op ≡ value_refusal claim ops op
 value_bare claim ops op =
-    let found = ap (option_map (λ (other : Op). ValueTaken (holders.Op other.id))) (find_bare (is_holder op) (is_holder op) (λ other. refl) ops)
-    ∙ mapped_bare (λ other. ValueTaken (holders.Op other.id)) (λ other. refl) (find (is_holder op) ops) in
-    ap (λ (r : Option Refusal). cond (same_value claim.initial (value_of op.act)) (Some (ValueTaken holders.Initial)) r) found
+    let found = ap (option_map as_holder) (find_bare (is_holder op) (is_holder op) (λ other. refl) ops)
+    ∙ mapped_bare as_holder (λ other. refl) (find (is_holder op) ops) in
+    ap (λ (h : Option Holder). option_map ValueTaken (cond (same_value claim.initial (value_of op.act)) (Some holders.Initial) h)) found
 
 kind_bare : (kind : Kind) (claim : Terms) (ops : List Op) (op : Op) → kind_refusal kind claim (map bare ops) op ≡ kind_refusal kind claim ops op
 kind_bare Safe claim ops op = overlap_bare ops op
@@ -162,31 +163,68 @@ same_write claim ops op = rw (same_kind claim.kind claim ops op) refl
 
 -- the refusal that a new operation meets, apart from its id
 abbrev new_refusal : Terms → List Op → Op → Option Refusal
-new_refusal claim ops op = first_of (moments_refusal ops op ∷ write_refusal claim ops op ∷ [])
+new_refusal claim ops op = first_of (moments_refusal ops op ∷ write_refusal claim ops op ∷ None ∷ [])
 
 same_new : (claim : Terms) (ops : List Op) (op : Op) → new_refusal claim ops (bare op) ≡ new_refusal claim ops op
-same_new claim ops op = λ i. first_of (moments_refusal ops op ∷ same_write claim ops op i ∷ [])
+same_new claim ops op = λ i. first_of (moments_refusal ops op ∷ same_write claim ops op i ∷ None ∷ [])
 
 new_bare : (claim : Terms) (ops : List Op) (op : Op) → new_refusal claim (map bare ops) op ≡ new_refusal claim ops op
-new_bare claim ops op = λ i. first_of (moments_bare ops op i ∷ write_bare claim ops op i ∷ [])
+new_bare claim ops op = λ i. first_of (moments_bare ops op i ∷ write_bare claim ops op i ∷ None ∷ [])
+
+-- ---- claims
+
+another_bare : (ops : List Op) (w : Op) → overlaps_another (map bare ops) (bare w) ≡ overlaps_another ops w
+another_bare ops w = ap (λ (b : Bool). is_write w && b) (any_bare (is_overlapped (bare w)) (is_overlapped w) (λ other. refl) ops)
+
+first_overlap-bare : (ops : List Op) → first_overlap (map bare ops) ≡ first_overlap ops
+first_overlap-bare ops =
+    ap (overlap_of (map bare ops)) (least_bare (overlaps_another (map bare ops)) (overlaps_another ops) (another_bare ops) begin_number (λ op. refl) None ops)
+    ∙ by_found (least_from begin_number (overlaps_another ops) None ops)
+  where
+    by_found : (found : Option Op) → overlap_of (map bare ops) (option_map bare found) ≡ overlap_of ops found
+    by_found None = refl
+    by_found (Some w) =
+        ap (option_map (ids_with w)) (least_bare (is_overlapped (bare w)) (is_overlapped w) (λ other. refl) begin_number (λ op. refl) None ops)
+        ∙ mapped_bare (ids_with w) (λ other. refl) (least_from begin_number (is_overlapped w) None ops)
+
+holder_bare : (claim : Terms) (before : List Op) (op : Op) → holder_of claim (map bare before) (bare op) ≡ holder_of claim before op
+holder_bare claim before op =
+    ap (λ (h : Option Holder). cond (same_value claim.initial (value_of op.act)) (Some holders.Initial) h)
+    (ap (option_map as_holder) (find_bare (is_holder (bare op)) (is_holder op) (λ other. refl) before)
+    ∙ mapped_bare as_holder (λ other. refl) (find (is_holder op) before))
+
+repeat_bare : (claim : Terms) (before : List Op) (op : Op) → repeat_of claim (map bare before) (bare op) ≡ repeat_of claim before op
+repeat_bare claim before op = ap (λ (h : Option Holder). cond (is_write op) (option_map (id_with op) h) None) (holder_bare claim before op)
+
+first_repeat-bare : (claim : Terms) (before ops : List Op) → first_repeat claim (map bare before) (map bare ops) ≡ first_repeat claim before ops
+first_repeat-bare claim before [] = refl
+first_repeat-bare claim before (op ∷ ops) =
+    let rest = ap (λ (b : List Op). first_repeat claim b (map bare ops)) (sym (map-append bare before (op ∷ []))) ∙ first_repeat-bare claim (before ++ op ∷ []) ops in
+    λ i. first_there (repeat_bare claim before op i) (rest i)
+
+to_kind-bare : (kind : Kind) (claim : Terms) (ops : List Op) → to_kind_refusal kind claim (map bare ops) ≡ to_kind_refusal kind claim ops
+to_kind-bare Safe claim ops = rw (first_overlap-bare ops) refl
+to_kind-bare Regular claim ops = rw (first_overlap-bare ops) refl
+to_kind-bare Atomic claim ops = ap (option_map repeat_claimed) (first_repeat-bare claim [] ops)
 
 pub reply_to-bare : (claim : Terms) (ops : List Op) (edit : Edit) → reply_to claim (map bare ops) (bare_edit edit) ≡ reply_to claim ops edit
 reply_to-bare claim ops (Append op) =
-    λ i. first_of (cond (known_bare ops op.id i) (Some OpTaken) (moments_bare ops op i) ∷ (same_write claim (map bare ops) op ∙ write_bare claim ops op) i ∷ [])
+    λ i. first_of (cond (known_bare ops op.id i) (Some OpTaken) (moments_bare ops op i) ∷ (same_write claim (map bare ops) op ∙ write_bare claim ops op) i ∷ None ∷ [])
 reply_to-bare claim ops (Amend id change) = ap reply_of (op_of-bare ops id) ∙ by_found (op_of ops id)
   where
     reply_of : Option Op → Option Refusal
     reply_of found =
         let new = option_map (λ op. changed op (bare_change change)) found in
-        first_of (amendment_refusal (map bare ops) new ∷ new_write_refusal claim (map bare ops) new ∷ [])
+        first_of (amendment_refusal (map bare ops) new ∷ new_write_refusal claim (map bare ops) new ∷ None ∷ [])
 
-    by_found : (found : Option Op) → reply_of (option_map bare found) ≡ (let new = option_map (λ op. changed op change) found in first_of (amendment_refusal ops new ∷ new_write_refusal claim ops new ∷ []))
+    by_found : (found : Option Op) → reply_of (option_map bare found) ≡ (let new = option_map (λ op. changed op change) found in first_of (amendment_refusal ops new ∷ new_write_refusal claim ops new ∷ None ∷ []))
     by_found None = refl
     by_found (Some op) =
         sym (same_new claim (map bare ops) (changed (bare op) (bare_change change)))
         ∙ same_new claim (map bare ops) (changed op change)
         ∙ new_bare claim ops (changed op change)
-reply_to-bare claim ops (Withdraw id) = λ i. first_of (cond (known_bare ops id i) None (Some UnknownOp) ∷ None ∷ [])
+reply_to-bare claim ops (Withdraw id) = λ i. first_of (cond (known_bare ops id i) None (Some UnknownOp) ∷ None ∷ None ∷ [])
+reply_to-bare claim ops (Claim kind) = λ i. first_of (first_of (refused_if claim.fixed ClaimFixed ∷ to_kind-bare kind claim ops i ∷ []) ∷ [])
 
 -- ---- what stands
 
@@ -198,6 +236,7 @@ bare_edit-twice : (edit : Edit) → bare_edit (bare_edit edit) ≡ bare_edit edi
 bare_edit-twice (Append op) = refl
 bare_edit-twice (Amend id change) = refl
 bare_edit-twice (Withdraw id) = refl
+bare_edit-twice (Claim kind) = refl
 
 amended_bare : (id : OpId) (change : Change) (ops : List Op) → map bare (map (amended id (bare_change change)) (map bare ops)) ≡ map bare (map (amended id change) ops)
 amended_bare id change [] = refl
@@ -214,6 +253,13 @@ edited_bare ops (Amend id change) = amended_bare id change ops
 edited_bare ops (Withdraw id) =
     let test : Op → Bool = λ op. not (same_id op.id id) in
     ap (map bare) (filter_bare test test (λ op. refl) ops) ∙ twice_bare (filter test ops)
+edited_bare ops (Claim kind) = twice_bare ops
+
+claim_bare : (claim : Terms) (edit : Edit) → claim_after claim (bare_edit edit) ≡ claim_after claim edit
+claim_bare claim (Append op) = refl
+claim_bare claim (Amend id change) = refl
+claim_bare claim (Withdraw id) = refl
+claim_bare claim (Claim kind) = refl
 
 after_bare : (held : Claimed) (edit : Edit) → bare_held (after_edit (bare_held held) (bare_edit edit)) ≡ bare_held (after_edit held edit)
 after_bare held edit = ap after (reply_to-bare held.claim held.ops edit) ∙ by_cases (is_some (reply_to held.claim held.ops edit))
@@ -221,12 +267,9 @@ after_bare held edit = ap after (reply_to-bare held.claim held.ops edit) ∙ by_
     after : Option Refusal → Claimed
     after reply = bare_held (cond (is_some reply) (bare_held held) (carried_out (bare_held held) (bare_edit edit)))
 
-    with : List Op → Claimed
-    with ops = record { claim = held.claim; ops = ops }
-
     by_cases : (b : Bool) → bare_held (cond b (bare_held held) (carried_out (bare_held held) (bare_edit edit))) ≡ bare_held (cond b held (carried_out held edit))
-    by_cases true = ap with (twice_bare held.ops)
-    by_cases false = ap with (edited_bare held.ops edit)
+    by_cases true = λ i. record { claim = held.claim; ops = twice_bare held.ops i }
+    by_cases false = λ i. record { claim = claim_bare held.claim edit i; ops = edited_bare held.ops edit i }
 
 -- what is held twice, the same without its texts, after one edit
 after_alike : (one other : Claimed) (edit : Edit) → bare_held one ≡ bare_held other → bare_held (after_edit one (bare_edit edit)) ≡ bare_held (after_edit other edit)

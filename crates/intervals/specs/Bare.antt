@@ -6,7 +6,7 @@ use Rattle.intervals.specs.declared.operation.Parts.{Parts}
 use Rattle.intervals.specs.declared.edit.Change.{Change}
 use Rattle.intervals.specs.declared.edit.Lent.TheVariants.{Answer}
 use Rattle.intervals.specs.declared.edit.Edit.{Edit}
-use Rattle.intervals.specs.declared.edit.Edit.TheVariants.{Append, Amend, Withdraw}
+use Rattle.intervals.specs.declared.edit.Edit.TheVariants.{Append, Amend, Withdraw, Claim}
 use Rattle.intervals.specs.Terms.{Claimed}
 
 -- an empty text
@@ -30,6 +30,7 @@ abbrev pub bare_edit : Edit → Edit
 bare_edit (Append op) = Append (bare op)
 bare_edit (Amend id change) = Amend id (bare_change change)
 bare_edit (Withdraw id) = Withdraw id
+bare_edit (Claim kind) = Claim kind
 
 -- what is held, without the texts of its operations
 abbrev pub bare_held : Claimed → Claimed

@@ -10,8 +10,9 @@ use Rattle.intervals.specs.declared.edit.Change.{Change}
 use Rattle.intervals.specs.declared.edit.Lent.{Lent}
 use Rattle.intervals.specs.declared.edit.Lent.TheVariants.{Answer, Amendment}
 use Rattle.intervals.specs.declared.edit.Edit.{Edit}
-use Rattle.intervals.specs.declared.edit.Edit.TheVariants.{Append, Amend, Withdraw}
+use Rattle.intervals.specs.declared.edit.Edit.TheVariants.{Append, Amend, Withdraw, Claim}
 use Rattle.intervals.specs.Operation.{same_id}
+use Rattle.intervals.specs.Terms.{Terms}
 
 -- the act with another value
 abbrev pub act_with : Act → Option Value → Act
@@ -42,26 +43,47 @@ abbrev pub amended : OpId → Change → Op → Op
 amended id change op = if same_id op.id id then changed op change else op
 
 -- what stands after an accepted edit: an append adds at the end, an amendment replaces in place, a
--- withdrawal takes out
+-- withdrawal takes out, and a claim touches nothing
 abbrev pub edited : List Op → Edit → List Op
 edited ops (Append op) = ops ++ op ∷ []
 edited ops (Amend id change) = map (amended id change) ops
 edited ops (Withdraw id) = filter (λ op. not (same_id op.id id)) ops
+edited ops (Claim kind) = ops
 
 -- the new operation of an edit
 abbrev pub new_op : List Op → Edit → Option Op
 new_op ops (Append op) = Some op
 new_op ops (Amend id change) = option_map (λ op. changed op change) (op_of ops id)
 new_op ops (Withdraw id) = None
+new_op ops (Claim kind) = None
 
--- the id of the operation that an edit adds, changes or takes out
-abbrev pub edit_id : Edit → OpId
-edit_id (Append op) = op.id
-edit_id (Amend id change) = id
-edit_id (Withdraw id) = id
+-- the id of the operation that an edit adds, changes or takes out; none of a claim
+abbrev pub edit_id : Edit → Option OpId
+edit_id (Append op) = Some op.id
+edit_id (Amend id change) = Some id
+edit_id (Withdraw id) = Some id
+edit_id (Claim kind) = None
 
--- the edit adds an operation
-abbrev pub is_append : Edit → Bool
-is_append (Append op) = true
-is_append (Amend id change) = false
-is_append (Withdraw id) = false
+-- the edit sets the claimed kind
+abbrev pub is_claim : Edit → Bool
+is_claim (Append op) = false
+is_claim (Amend id change) = false
+is_claim (Withdraw id) = false
+is_claim (Claim kind) = true
+
+-- the operation has the id, where one is given
+abbrev pub has_id : Option OpId → Op → Bool
+has_id None op = false
+has_id (Some id) op = same_id op.id id
+
+-- the operation of that id, where one is given
+abbrev pub found_by : List Op → Option OpId → Option Op
+found_by ops None = None
+found_by ops (Some id) = op_of ops id
+
+-- the claim after an accepted edit: a claim sets its kind, and others leave it
+abbrev pub claim_after : Terms → Edit → Terms
+claim_after claim (Append op) = claim
+claim_after claim (Amend id change) = claim
+claim_after claim (Withdraw id) = claim
+claim_after claim (Claim kind) = record claim { kind = kind }

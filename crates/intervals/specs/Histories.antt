@@ -1,5 +1,5 @@
 -- Worked histories and edits, small enough to judge by eye. Their texts are left empty.
-use Rattle.std.specs.Prelude.{ℕ, pos, List, [], ◌∷◌, map, take, Option, Some, None, option_map}
+use Rattle.std.specs.Prelude.{ℕ, false, pos, List, [], ◌∷◌, map, take, Option, Some, None, option_map}
 use Rattle.intervals.specs.declared.operation.Op.{Op}
 use Rattle.intervals.specs.declared.operation.OpId.{OpId}
 use Rattle.intervals.specs.declared.operation.Moment.{Moment}
@@ -9,9 +9,9 @@ use Rattle.intervals.specs.declared.operation.Value.{Value}
 use Rattle.intervals.specs.declared.operation.Value.TheVariants.{Nil, Int}
 use Rattle.intervals.specs.declared.edit.Lent.TheVariants.{Amendment}
 use Rattle.intervals.specs.declared.edit.Edit.{Edit}
-use Rattle.intervals.specs.declared.edit.Edit.TheVariants.{Append, Amend, Withdraw}
+use Rattle.intervals.specs.declared.edit.Edit.TheVariants.{Append, Amend, Withdraw, Claim}
 use Rattle.intervals.specs.declared.claim.Kind.{Kind}
-use Rattle.intervals.specs.declared.claim.Kind.TheVariants.{Regular}
+use Rattle.intervals.specs.declared.claim.Kind.TheVariants.{Regular, Atomic}
 use Rattle.intervals.specs.Terms.{Terms}
 use Rattle.intervals.specs.Judging.{first_wrong}
 use Rattle.intervals.specs.Bare.{no_text, no_parts}
@@ -41,7 +41,7 @@ from_to n act begin end = op n act begin (Some (record { 0 = end }))
 
 -- a claim of any process
 abbrev pub claim_of : Kind → Value → Option (List Value) → Terms
-claim_of kind initial domain = record { kind = kind; writers = None; initial = initial; domain = domain }
+claim_of kind initial domain = record { kind = kind; writers = None; initial = initial; domain = domain; fixed = false }
 
 -- a write of 1, and then a read
 abbrev pub read_after_write : Value → List Op
@@ -114,7 +114,7 @@ edits_with_refused_ones =
 
 -- a regular register that process 0 and process 3 may write, nil at first, of the values 1 and 2
 abbrev pub two_writers : Terms
-two_writers = record { kind = Regular; writers = Some (pos 0 ∷ pos 3 ∷ []); initial = Nil; domain = Some (number 1 ∷ number 2 ∷ []) }
+two_writers = record { kind = Regular; writers = Some (pos 0 ∷ pos 3 ∷ []); initial = Nil; domain = Some (number 1 ∷ number 2 ∷ []); fixed = false }
 
 -- a write of 1 and then one of 2
 abbrev pub two_writes : List Op
@@ -148,3 +148,19 @@ reads_over_two =
 -- the faults of the first one to six of those, as a regular register
 abbrev pub faults_one_by_one : List (Option OpId)
 faults_one_by_one = map (λ n. fault_of Regular (take n reads_over_two)) (1 ∷ 2 ∷ 3 ∷ 4 ∷ 5 ∷ 6 ∷ [])
+
+-- a claim of process 0 alone, 0 at first
+abbrev pub claim_of_one : Kind → Terms
+claim_of_one kind = record (claim_of kind (number 0) None) { writers = Some (pos 0 ∷ []) }
+
+-- two writes without end, and behind them in the list two that overlap before them
+abbrev pub writes_over_writes : List Op
+writes_over_writes =
+    op 5 (Write (number 1)) 50 None ∷ op 6 (Write (number 2)) 60 None
+    ∷ from_to 2 (Write (number 3)) 20 29 ∷ from_to 3 (Write (number 2)) 25 35 ∷ []
+
+-- a value is written twice, once refused and once while the register is claimed to be regular; then it cannot be atomic again
+abbrev pub claims_and_writes : List Edit
+claims_and_writes =
+    Append (from_to 0 (Write (number 1)) 0 1) ∷ Append (from_to 2 (Write (number 1)) 2 3)
+    ∷ Claim Regular ∷ Append (from_to 2 (Write (number 1)) 2 3) ∷ Claim Atomic ∷ []

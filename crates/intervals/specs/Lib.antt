@@ -5,9 +5,12 @@ pub mod Edit
 pub mod Bare
 pub mod Standing
 pub mod Refusal
+pub mod Code
 pub mod Kind
 pub mod Judging
 pub mod Histories
 pub mod Shelf
 pub mod Moments
+pub mod InTurn
+pub mod FirstWrites
 pub mod Table

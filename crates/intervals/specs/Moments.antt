@@ -1,8 +1,10 @@
 -- Whose each moment is. A place may be held where no operation stands.
-use Rattle.std.specs.Prelude.{◌≡◌, Bool, true, false, Option, None, Some, is_some}
+use Rattle.std.specs.Prelude.{◌≡◌, ◌<◌, Bool, true, false, Option, None, Some, is_some}
 use Rattle.std.specs.declared.cmp.Ordering.{Ordering}
 use Rattle.std.specs.declared.cmp.Reverse.{Reverse}
 use Rattle.std.specs.BTreeMap.{get}
+use Rattle.std.specs.declared.ops.Bound.{Bound}
+use Rattle.std.specs.declared.ops.Bound.TheVariants.{Excluded, Unbounded}
 use Rattle.std.specs.Ordering.{nat_cmp}
 use Rattle.intervals.specs.declared.operation.Op.{Op}
 use Rattle.intervals.specs.declared.operation.OpId.{OpId}
@@ -26,6 +28,16 @@ holder_at moments moment = joined (kept_at moments moment)
 -- a place is held at the moment, and no operation has it
 abbrev pub IsHeld : Moments → Moment → Type 0
 IsHeld moments moment = kept_at moments moment ≡ Some None
+
+-- the moment is behind that one; each is, where none is given
+abbrev pub IsBehind : Option Moment → Moment → Type 0
+IsBehind None moment = Unit {0}
+IsBehind (Some after) moment = after.0 < moment.0
+
+-- the end of what comes in front of the moment, the latest first; no end where none is given
+abbrev pub end_before : Option Moment → Bound (Reverse Moment)
+end_before None = Unbounded
+end_before (Some moment) = Excluded (record { 0 = moment })
 
 -- each moment of the operation has a place
 abbrev pub HasPlaces : Moments → Op → Type 0

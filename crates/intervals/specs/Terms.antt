@@ -1,5 +1,5 @@
 -- What a claim says, apart from where its lists lie in memory.
-use Rattle.std.specs.Prelude.{ℤ, List, [], Option, Some, None, option_map, Vec}
+use Rattle.std.specs.Prelude.{ℤ, Bool, List, [], Option, Some, None, option_map, Vec}
 use Rattle.std.specs.declared.alloc.Global.{Global}
 use Rattle.intervals.specs.declared.operation.Op.{Op}
 use Rattle.intervals.specs.declared.operation.Value.{Value}
@@ -8,13 +8,14 @@ use Rattle.intervals.specs.declared.claim.Kind.{Kind}
 use Rattle.intervals.specs.declared.claim.Writers.{Writers}
 use Rattle.intervals.specs.declared.claim.Writers.TheVariants.{Any, Listed}
 
--- the claimed kind, the writers (none listed: any process), the value before any write, and the
--- value set (none given: every value)
+-- the claimed kind, the writers (none listed: any process), the value before any write, the value set (none
+-- given: every value), and whether the kind may not change
 pub record Terms : Type 0 where
   pub kind : Kind
   pub writers : Option (List ℤ)
   pub initial : Value
   pub domain : Option (List Value)
+  pub fixed : Bool
 
 -- the listed writers, or none where any process may write
 abbrev pub writers_of : Writers → Option (List ℤ)
@@ -28,6 +29,7 @@ terms_of claim = record {
   writers = writers_of claim.writers;
   initial = claim.initial;
   domain = option_map (λ (values : Vec Value Global). values.items) claim.domain;
+  fixed = claim.fixed;
 }
 
 -- a claim, and the operations that are held under it

@@ -4,7 +4,7 @@ ghost use Rattle.intervals.specs.declared.operation.Value.{Value};
 ghost use Rattle.std.specs.List.{list_any};
 ghost use Rattle.std.specs.Ordering.{int_eq};
 ghost use Rattle.intervals.specs.Operation.{same_value};
-ghost use Rattle.intervals.specs.Refusal.{may_write as allows, is_in_domain};
+ghost use Rattle.intervals.specs.Refusal.{may_write as allows, is_in_domain, is_one_writer};
 ghost use Rattle.intervals.specs.Terms.{terms_of, writers_of};
 
 use crate::{Memory, OpId, Value, is_same_value};
@@ -25,14 +25,15 @@ pub enum Writers {
     Listed(Vec<i64>),
 }
 
-/// A register's claimed kind, its writers, its value before any write, and its value set, where
-/// one is given.
+/// A register's claimed kind, its writers, its value before any write, its value set, where one is
+/// given, and whether its kind may not change.
 #[derive(Debug, Drop)]
 pub struct Claim {
     pub kind: Kind,
     pub writers: Writers,
     pub initial: Value,
     pub domain: Option<Vec<Value>>,
+    pub fixed: bool,
 }
 
 /// What a value belongs to: a write, or the register before any write.
@@ -40,6 +41,18 @@ pub struct Claim {
 pub enum Holder {
     Op(OpId),
     Initial,
+}
+
+impl Writers {
+    /// Whether they are a list of exactly one.
+    pub fn is_one(&self) -> bool
+        ensures { result ≡ is_one_writer (writers_of self.now) }
+    {
+        match self {
+            Writers::Any => false,
+            Writers::Listed(processes) => processes.len() == 1,
+        }
+    }
 }
 
 impl Claim {
@@ -52,6 +65,7 @@ impl Claim {
             writers: copy_of_writers(alloc, &self.writers)?,
             initial: self.initial,
             domain: copy_of_domain(alloc, &self.domain)?,
+            fixed: self.fixed,
         })
     }
 

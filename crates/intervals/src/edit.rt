@@ -1,7 +1,7 @@
 ghost use Rattle.std.specs.Prelude.{◌≡◌};
 ghost use Rattle.intervals.specs.Edit.{changed as after_change, amended as op_amended, edit_id, act_with, parts_with};
 
-use crate::{Act, Moment, Op, OpId, Parts, Value};
+use crate::{Act, Kind, Moment, Op, OpId, Parts, Value};
 
 /// The element that a change was read from, and the part of the operation that it becomes.
 #[derive(Clone, Copy, Debug)]
@@ -20,23 +20,26 @@ pub struct Change<'t> {
     pub lent: Lent<'t>,
 }
 
-/// One change of a register's operations.
+/// One change of what stands of a register.
 #[derive(Clone, Copy, Debug)]
 pub enum Edit<'t> {
     Append(Op<'t>),
     Amend(OpId, Change<'t>),
     Withdraw(OpId),
+    /// Sets the kind that the register claims to be.
+    Claim(Kind),
 }
 
 impl Edit<'_> {
-    /// The id of the operation that the edit adds, changes or takes out.
-    pub fn id(&self) -> OpId
+    /// The id of the operation that the edit adds, changes or takes out; none of a claim.
+    pub fn id(&self) -> Option<OpId>
         ensures { result ≡ edit_id self.now }
     {
         match self {
-            Edit::Append(op) => op.id,
-            Edit::Amend(id, _) => *id,
-            Edit::Withdraw(id) => *id,
+            Edit::Append(op) => Some(op.id),
+            Edit::Amend(id, _) => Some(*id),
+            Edit::Withdraw(id) => Some(*id),
+            Edit::Claim(_) => None,
         }
     }
 }

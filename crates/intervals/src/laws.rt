@@ -1,27 +1,28 @@
 //! Laws of the definitions. Each is the contract of a function that does nothing.
 
-ghost use Rattle.std.specs.Prelude.{◌≡◌, ◌≢◌, ◌↔◌, ◌⊎◌, All, Contains, IsTrue, List, [], ◌∷◌, ◌++◌, map, length, take, drop, None, Some};
+ghost use Rattle.std.specs.Prelude.{◌≡◌, ◌≢◌, ◌↔◌, ◌⊎◌, All, Contains, IsTrue, List, [], ◌∷◌, ◌++◌, true, map, length, take, drop, None, Some};
 ghost use Rattle.intervals.specs.declared.operation.Op.{Op};
 ghost use Rattle.intervals.specs.declared.operation.OpId.{OpId};
 ghost use Rattle.intervals.specs.declared.operation.Moment.{Moment};
-ghost use Rattle.intervals.specs.declared.refusal.Refusal.TheVariants.{UnknownOp, OpTaken, EndNotAfterBegin, MomentTaken, MomentTooLarge, NotAWriter, WritesOverlap, ValueTaken, OutOfDomain};
+ghost use Rattle.intervals.specs.declared.refusal.Refusal.TheVariants.{UnknownOp, OpTaken, EndNotAfterBegin, MomentTaken, MomentTooLarge, NotAWriter, WritesOverlap, ValueTaken, OutOfDomain, ClaimFixed, ClaimWriters, ClaimOverlap, ClaimRepeats};
+ghost use Rattle.intervals.specs.declared.claim.Holder.{Holder};
 ghost use Rattle.intervals.specs.declared.claim.Holder.TheVariants as holders;
 ghost use Rattle.intervals.specs.declared.edit.Edit.{Edit};
-ghost use Rattle.intervals.specs.declared.edit.Edit.TheVariants.{Append, Withdraw};
+ghost use Rattle.intervals.specs.declared.edit.Edit.TheVariants.{Append, Withdraw, Claim as ToKind};
 ghost use Rattle.intervals.specs.declared.operation.Value.{Value};
 ghost use Rattle.intervals.specs.Terms.{Terms, Claimed, unedited};
 ghost use Rattle.intervals.specs.declared.claim.Kind.TheVariants.{Safe, Regular, Atomic};
 ghost use Rattle.intervals.specs.declared.operation.Act.TheVariants.{Read, Write};
 ghost use Rattle.intervals.specs.declared.operation.Value.TheVariants.{Nil};
-ghost use Rattle.intervals.specs.Operation.{Precedes, Overlaps, IsJudgedRead, value_of, judged, writes};
+ghost use Rattle.intervals.specs.Operation.{Precedes, Overlaps, IsWrite, IsJudgedRead, value_of, judged, writes};
 ghost use Rattle.intervals.specs.Edit.{op_of};
 ghost use Rattle.intervals.specs.Bare.{bare, bare_edit, bare_held};
-ghost use Rattle.intervals.specs.Refusal.{first_refusal, moments_refusal, moment_taken, write_refusal, overlap_refusal, is_overlapped, value_refusal, reply_to, carried_out, standing};
-ghost use Rattle.intervals.specs.Standing.{StandApart, IsHolder, IsMomentHolder};
+ghost use Rattle.intervals.specs.Refusal.{first_refusal, moments_refusal, moment_taken, write_refusal, overlap_refusal, is_overlapped, value_refusal, holder_of, overlaps_another, first_overlap, first_repeat, reply_to, carried_out, standing};
+ghost use Rattle.intervals.specs.Standing.{HasDistinctIds, HasNoOverlappingWrites, HasDistinctValues, StandApart, IsHolder, IsMomentHolder};
 ghost use Rattle.intervals.specs.Least.{IsLeast, least_by};
 ghost use Rattle.intervals.specs.Kind.{IsSafe, IsRegular, IsSafeRead, IsRegularRead, Arranges, Holds};
 ghost use Rattle.intervals.specs.Judging.{first_wrong, is_wrong_read, end_number};
-ghost use Rattle.intervals.specs.Histories.{number, place, op, from_to, mended, end_at, a_write_and_a_read, edits_with_refused_ones, two_writers, two_writes, written_by, fault_of, late_reads, reads_over_two, faults_one_by_one, claim_of, read_after_write, read_within_write, digits, new_before_old, older_of_two, old_before_new, unfinished_write, write_between};
+ghost use Rattle.intervals.specs.Histories.{number, place, op, from_to, mended, end_at, a_write_and_a_read, edits_with_refused_ones, two_writers, two_writes, written_by, fault_of, late_reads, reads_over_two, faults_one_by_one, claim_of, claim_of_one, writes_over_writes, claims_and_writes, read_after_write, read_within_write, digits, new_before_old, older_of_two, old_before_new, unfinished_write, write_between};
 
 /// A register keeps Lamport's sentence for safe registers exactly when no read is wrong by the test.
 pub fn safe_without_wrong_reads()
@@ -82,15 +83,38 @@ pub fn taken_values_have_a_holder()
     ensures none { (claim : Terms) (ops : List Op) (op : Op) → (value_refusal claim ops op ≡ None) ↔ ((value_of op.act ≢ claim.initial) × All (λ other. ¬ IsHolder op other) ops) }
 {}
 
+/// Of the overlap that a claim names the first write is, of those that overlap another, the one that begins
+/// first, and the second, of those that it overlaps, the one that begins first; and none is named exactly
+/// where no writes overlap.
+pub fn first_overlap_began_first()
+    ensures named { (ops : List Op) (a b : OpId) → first_overlap ops ≡ Some (a, b)
+        → (w : Op) × (v : Op) × (w.id ≡ a) × (v.id ≡ b) × IsLeast (λ o. o.begin.0) (overlaps_another ops) ops w × IsLeast (λ o. o.begin.0) (is_overlapped w) ops v }
+    ensures none { (ops : List Op) → HasDistinctIds ops → (first_overlap ops ≡ None) ↔ HasNoOverlappingWrites ops }
+{}
+
+/// The repeat that a claim names is a write whose value the register has at first or a write appended before it
+/// has, the holder that is named; before it there is no repeat; and none is named exactly where values are apart.
+pub fn first_repeat_was_appended_first()
+    ensures named { (claim : Terms) (ops : List Op) (id : OpId) (holder : Holder) → first_repeat claim [] ops ≡ Some (id, holder)
+        → (front : List Op) × (w : Op) × (rest : List Op) × (ops ≡ front ++ w ∷ rest) × (w.id ≡ id) × IsWrite w × (holder_of claim front w ≡ Some holder) × (first_repeat claim [] front ≡ None) }
+    ensures none { (claim : Terms) (ops : List Op) → HasDistinctIds ops → (first_repeat claim [] ops ≡ None) ↔ HasDistinctValues claim.initial ops }
+{}
+
 /// What the reply rule keeps, after any edits from nothing: no two operations have one id, nor a
 /// moment in common; each end is after its beginning, and no moment is past the greatest; each write is
 /// one that the claim allows; on a safe or regular register no two writes overlap, and on an atomic one
-/// no two have one value, nor one the initial value. Each accepted edit keeps it, and the claim stays.
+/// no two have one value, nor one the initial value. Each accepted edit keeps it under the kind that is
+/// claimed then, and of the claim nothing but the kind changes.
 pub fn edits_keep_operations_apart()
     ensures apart { (claim : Terms) (edits : List Edit) → let held = standing (unedited claim) edits in StandApart held.claim held.ops }
     ensures carried_out { (held : Claimed) (edit : Edit) → StandApart held.claim held.ops → reply_to held.claim held.ops edit ≡ None
         → let after = carried_out held edit in StandApart after.claim after.ops }
-    ensures claim { (claim : Terms) (edits : List Edit) → (standing (unedited claim) edits).claim ≡ claim }
+    ensures claim { (claim : Terms) (edits : List Edit) → let after = (standing (unedited claim) edits).claim in after ≡ record claim { kind = after.kind } }
+{}
+
+/// Operations that stand apart can be appended again in their order, each to those before it.
+pub fn what_stands_apart_is_accepted()
+    ensures { (claim : Terms) (front rest : List Op) (op : Op) → StandApart claim (front ++ op ∷ rest) → reply_to claim front (Append op) ≡ None }
 {}
 
 /// Reads without an end change no verdict and no refusal of a write.
@@ -168,6 +192,19 @@ pub fn worked_writes()
     ensures nil_at_first { write_refusal two_writers two_writes (op 7 (Write Nil) 10 None) ≡ Some OutOfDomain }
     ensures other_writer { write_refusal two_writers two_writes (written_by 7 3 2 10) ≡ None }
     ensures itself { write_refusal two_writers two_writes (written_by 1 0 2 5) ≡ None }
+{}
+
+/// The refusals of a claim, asked in their order, and what is held after claims.
+pub fn worked_claims()
+    ensures fixed { reply_to (record (claim_of_one Safe) { fixed = true }) [] (ToKind Safe) ≡ Some ClaimFixed }
+    ensures writers { reply_to (claim_of Atomic (number 0) None) writes_over_writes (ToKind Regular) ≡ Some ClaimWriters }
+    ensures overlap { reply_to (claim_of_one Atomic) writes_over_writes (ToKind Safe) ≡ Some (ClaimOverlap (place 2) (place 3)) }
+    ensures other_overlap { reply_to (claim_of_one Atomic) (take 2 writes_over_writes) (ToKind Safe) ≡ Some (ClaimOverlap (place 5) (place 6)) }
+    ensures no_overlap { reply_to (claim_of_one Atomic) (take 1 writes_over_writes) (ToKind Safe) ≡ None }
+    ensures repeat { reply_to (claim_of_one Safe) writes_over_writes (ToKind Atomic) ≡ Some (ClaimRepeats (place 3) (holders.Op (place 6))) }
+    ensures initial { reply_to (claim_of_one Safe) (from_to 0 (Write (number 0)) 0 1 ∷ []) (ToKind Atomic) ≡ Some (ClaimRepeats (place 0) holders.Initial) }
+    ensures no_repeat { reply_to (claim_of_one Safe) (take 3 writes_over_writes) (ToKind Atomic) ≡ None }
+    ensures turned { standing (unedited (claim_of_one Atomic)) claims_and_writes ≡ record { claim = claim_of_one Regular; ops = from_to 0 (Write (number 1)) 0 1 ∷ from_to 2 (Write (number 1)) 2 3 ∷ [] } }
 {}
 
 /// What stands after edits; a refused one changes nothing.

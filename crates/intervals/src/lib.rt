@@ -1,7 +1,7 @@
 //! Operations of registers on one clock: what stands after edits, which edits are refused, and what
 //! each kind of register promises of the operations that stand (Lamport 1986).
 //!
-//! An edit appends an operation, changes one or takes one out. The book is asked first and then told:
+//! An edit appends an operation, changes one or takes one out, or claims another kind. The book is asked first and then told:
 //!
 //! ```text
 //! let mut book = OpBook::new(alloc);
@@ -18,7 +18,7 @@
 //!
 //! An edit takes the time of a few look-ups, however many operations stand: `OpTable` finds them by their
 //! ids and by their moments, and can make room for an operation before it is admitted. `OpBook` is the
-//! same with nothing prepared. `Shelf` has ids by value and moment, with places held ahead.
+//! same with nothing prepared. `overlap.rt` and `repeat.rt` find what is in the way of a claim. `Shelf` has ids by value and moment, with places held ahead.
 //!
 //! Begin with `specs/Operation.antt`, then `Edit.antt` and `Refusal.antt` (what stands, and the reply to
 //! an edit), then `Kind.antt` (what is promised). The calls are in `table.rt`; `laws` has what the
@@ -31,7 +31,9 @@ mod edit;
 pub mod laws;
 mod moments;
 mod operation;
+mod overlap;
 mod refusal;
+mod repeat;
 mod shelf;
 mod table;
 

@@ -1,14 +1,15 @@
 //! Whose each moment is, with places held ahead.
 
-ghost use Rattle.std.specs.Prelude.{◌≡◌, ◌==◌, true, false, None, Some, OnOk, OnErr, IfSome, is_some, if◌then◌else◌};
+ghost use Rattle.std.specs.Prelude.{◌≡◌, ◌==◌, ◌<◌, true, false, None, Some, MatchOption, OnOk, OnErr, IfSome, is_some, if◌then◌else◌};
 ghost use Rattle.intervals.specs.declared.operation.Moment.{Moment as AMoment};
-ghost use Rattle.intervals.specs.Moments.{kept_at, holder_at, HasPlaces, IsHeld, is_moment_of_next};
+ghost use Rattle.intervals.specs.Moments.{kept_at, holder_at, HasPlaces, IsBehind, IsHeld, end_before, is_moment_of_next};
 ghost use Rattle.intervals.specs.Refusal.{is_moment_of, has_early_end, has_large_moment};
 
 use crate::{Memory, Moment, Op, OpId};
 use std::alloc::Global;
 use std::cmp::Reverse;
 use std::collections::BTreeMap;
+use std::ops::Bound;
 
 /// The greatest moment that an operation may have: two of them and a sign fit 64 bits.
 const GREATEST_MOMENT: u64 = 4611686018427387903;
@@ -35,6 +36,36 @@ impl Moments {
     {
         let found = self.holders.get(&Reverse(moment))?;
         *found
+    }
+
+    /// Of the moments that an operation has the first behind that one, and whose it is; the first of all where none
+    /// is given.
+    pub(crate) fn first_behind(&self, after: Option<Moment>) -> Option<(Moment, OpId)>
+        ensures { MatchOption result
+            ((m : AMoment) → IsBehind after m → holder_at self.now m ≡ None)
+            (λ found. IsBehind after found.0 × (holder_at self.now found.0 ≡ Some found.1)
+            × ((m : AMoment) → IsBehind after m → m.0 < found.0.0 → holder_at self.now m ≡ None)) }
+    {
+        let mut reached = after;
+        while let Some((moment, id)) = self.place_behind(reached) {
+            if let Some(id) = id {
+                return Some((moment, id));
+            }
+            reached = Some(moment);
+        }
+        None
+    }
+
+    /// Of the places the first behind the moment, and its id; the first of all where none is given.
+    fn place_behind(&self, after: Option<Moment>) -> Option<(Moment, Option<OpId>)>
+        ensures { MatchOption result
+            ((m : AMoment) → IsBehind after m → kept_at self.now m ≡ None)
+            (λ found. IsBehind after found.0 × (kept_at self.now found.0 ≡ Some found.1)
+            × ((m : AMoment) → IsBehind after m → m.0 < found.0.0 → kept_at self.now m ≡ None)) }
+    {
+        let later = (Bound::Unbounded, before(after));
+        let (place, id) = self.holders.range(later).next_back()?;
+        Some((place.0, *id))
     }
 
     /// Holds the place at the moment.
@@ -87,6 +118,16 @@ impl Moments {
         ensures { (m : AMoment) → kept_at self.new m ≡ (if moment.0 == m.0 then None else kept_at self.old m) }
     {
         self.holders.remove(&Reverse(moment));
+    }
+}
+
+/// The end of what comes in front of the moment, the latest first; no end where none is given.
+fn before(moment: Option<Moment>) -> Bound<Reverse<Moment>>
+    ensures { result ≡ end_before moment }
+{
+    match moment {
+        Some(moment) => Bound::Excluded(Reverse(moment)),
+        None => Bound::Unbounded,
     }
 }
 

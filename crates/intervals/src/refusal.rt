@@ -1,3 +1,6 @@
+ghost use Rattle.std.specs.Prelude.{◌≡◌};
+ghost use Rattle.intervals.specs.Code.{code_of};
+
 use crate::{Holder, Moment, OpId};
 use thiserror::Error;
 
@@ -31,4 +34,41 @@ pub enum Refusal {
     /// It is a write of a value outside the domain that is given.
     #[error("X9 OutOfDomain")]
     OutOfDomain,
+    /// A claim of a register whose kind may not change.
+    #[error("X10 ClaimFixed")]
+    ClaimFixed,
+    /// A claim to be safe or regular, and the writers are not a list of exactly one.
+    #[error("X11 ClaimWriters")]
+    ClaimWriters,
+    /// A claim to be safe or regular, and two writes that stand overlap: of those that overlap another the
+    /// one that begins first, and of the others that it overlaps the one that begins first.
+    #[error("X12 ClaimOverlap")]
+    ClaimOverlap(OpId, OpId),
+    /// A claim to be atomic, and a write has a value that the register had at first or that a write appended
+    /// before it has: the first such write, and who had its value.
+    #[error("X13 ClaimRepeats")]
+    ClaimRepeats(OpId, Holder),
+}
+
+impl Refusal {
+    /// The code that users see.
+    pub fn code(&self) -> &'static str
+        ensures { result.now ≡ code_of self.now }
+    {
+        match self {
+            Refusal::UnknownOp => "X1",
+            Refusal::OpTaken => "X2",
+            Refusal::EndNotAfterBegin => "X3",
+            Refusal::MomentTaken(..) => "X4",
+            Refusal::MomentTooLarge => "X5",
+            Refusal::NotAWriter => "X6",
+            Refusal::WritesOverlap(_) => "X7",
+            Refusal::ValueTaken(_) => "X8",
+            Refusal::OutOfDomain => "X9",
+            Refusal::ClaimFixed => "X10",
+            Refusal::ClaimWriters => "X11",
+            Refusal::ClaimOverlap(..) => "X12",
+            Refusal::ClaimRepeats(..) => "X13",
+        }
+    }
 }

@@ -2,9 +2,10 @@
 
 ghost use Rattle.std.specs.Prelude.{◌≡◌, ◌↔◌, ◌<◌, ◌≤◌, ℕ, [], List, length, None, Some, OnOk, OnErr, IfSome, IsTrue, option_copied, option_map, vec_len, vec_capacity};
 ghost use Rattle.std.specs.HashMap.{get as place_of};
-ghost use Rattle.intervals.specs.Edit.{op_of, edited, new_op as new_one};
+ghost use Rattle.intervals.specs.Edit.{op_of, found_by, edited, new_op as new_one};
 ghost use Rattle.intervals.specs.Moments.{HasPlaces};
 ghost use Rattle.intervals.specs.Operation.{same_id};
+ghost use Rattle.intervals.specs.InTurn.{IsNextHolder};
 ghost use Rattle.intervals.specs.Refusal.{first_refusal, moments_refusal, ok_unless, find_other_with};
 ghost use Rattle.intervals.specs.Table.{admitted, prepared_after, standing, slot_at};
 
@@ -86,6 +87,13 @@ impl<'t> OpTable<'t> {
         Some(op)
     }
 
+    /// The operation of that id, where one is given and stands.
+    pub fn find(&self, id: Option<OpId>) -> Option<Op<'t>>
+        ensures { result ≡ found_by self.now.ops id }
+    {
+        self.get(id?).copied()
+    }
+
     /// The operation that the edit adds or changes, as it is afterwards.
     pub fn new_op(&self, edit: &Edit<'t>) -> Option<Op<'t>>
         ensures { result ≡ new_one self.now.ops edit.now }
@@ -96,7 +104,7 @@ impl<'t> OpTable<'t> {
                 let op = self.get(*id)?;
                 Some(changed(op, change))
             }
-            Edit::Withdraw(_) => None,
+            Edit::Withdraw(_) | Edit::Claim(_) => None,
         }
     }
 
@@ -118,7 +126,20 @@ impl<'t> OpTable<'t> {
                 Some(_) => Ok(()),
                 None => Err(Refusal::UnknownOp),
             },
+            Edit::Claim(_) => Ok(()),
         }
+    }
+
+    /// The first moment behind that one that an operation has, and that operation; the first of all where none is
+    /// given.
+    pub(crate) fn next_holder(&self, after: Option<Moment>) -> Option<(Moment, Op<'t>)>
+        ensures { IsNextHolder self.now.ops after result }
+    {
+        let (moment, id) = self.moments.first_behind(after)?;
+        let Some(op) = self.get(id) else {
+            unreachable!()
+        };
+        Some((moment, *op))
     }
 
     /// The operation that there is room for.
@@ -161,6 +182,7 @@ impl<'t> OpTable<'t> {
             Edit::Append(op) => self.append(op),
             Edit::Amend(id, change) => self.amend(id, &change),
             Edit::Withdraw(id) => self.withdraw(id),
+            Edit::Claim(_) => {}
         }
     }
 

@@ -9,6 +9,7 @@ use Rattle.edn_reader.specs.Grammar.{Piece, IsElement}
 use Rattle.edn_reader.specs.Pairs.{is_word, values_of, HasMembers, HasPairs}
 use Rattle.intervals.specs.declared.edit.Change.{Change}
 use Rattle.intervals.specs.declared.edit.Lent.TheVariants.{Amendment}
+use Rattle.intervals.specs.declared.claim.Kind.{Kind}
 use Rattle.intervals.specs.declared.operation.Moment.{Moment}
 use Rattle.intervals.specs.declared.operation.RegId.{RegId}
 use Rattle.intervals.specs.declared.operation.Value.{Value}
@@ -25,7 +26,7 @@ use Rattle.jepsen_form.specs.declared.fault.FormField.TheVariants as fields
 use Rattle.jepsen_form.specs.declared.fault.FormFault.{FormFault}
 use Rattle.jepsen_form.specs.declared.fault.FormFault.TheVariants.{BadType, NotAMap}
 use Rattle.jepsen_form.specs.Fields.{UnderValue, NoValue, AValue, ManyValues, IsUnderValue, missing, plain, vector, repeated, Fields, fields_of, two_of, by_two}
-use Rattle.jepsen_form.specs.Item.{the_one, at_most_one, is_there, value_stated, moment_of, end_of, the_stage, the_action, the_register, the_moment, if_told, value_told, by_process, change_of, edited_place, edit_by, question_of, register_named, item_of, IsItem, no_map, of_map, text_at, lying_at, answer_with}
+use Rattle.jepsen_form.specs.Item.{the_one, at_most_one, is_there, value_stated, moment_of, end_of, the_stage, the_action, the_register, the_moment, if_told, value_told, by_process, change_of, edited_place, kind_stated, claim_of, edit_by, question_of, register_named, item_of, IsItem, no_map, of_map, text_at, lying_at, answer_with}
 
 -- what is known of vectors and maps
 abbrev pub SomeMembers : Type 0
@@ -76,6 +77,7 @@ record Retells (told : Result Item FormFault → Result Item FormFault) (old new
       → told (event_with process stage action register value moment old) ≡ event_with process stage action register value moment new
   pub amend : (of : ℕ) (value : Option Value) (begin : Option Moment) (end : Option (Option Moment)) → told (amend_with of value begin end old) ≡ amend_with of value begin end new
   pub withdraw : (of : ℕ) → told (Ok (items.Withdraw of)) ≡ Ok (items.Withdraw of)
+  pub claim : (id : RegId) (kind : Kind) → told (Ok (items.Claim id kind)) ≡ Ok (items.Claim id kind)
   pub ask : (id : RegId) → told (Ok (items.Ask id)) ≡ Ok (items.Ask id)
   pub skipped : told (Ok items.Skipped) ≡ Ok items.Skipped
 
@@ -147,16 +149,35 @@ amendment found text = edited_place found >>= (λ of. change_of found text >>= a
 abbrev withdrawal : Fields → Result Item FormFault
 withdrawal found = edited_place found >>= (λ of. Ok (items.Withdraw of))
 
-abbrev no_amendment : Fields → Piece → Result Item FormFault
-no_amendment found keyword = if is_word (codes ":withdraw") keyword then withdrawal found else Err BadType
+abbrev no_withdrawal : Contents → Fields → Piece → Result Item FormFault
+no_withdrawal tower found keyword = if is_word (codes ":claim") keyword then claim_of tower found else Err BadType
 
-retold_edit : (told : Result Item FormFault → Result Item FormFault) (old new : Bor (List ℕ)) → Retells told old new → (found : Fields) (keyword : Piece)
-    → told (edit_by found old keyword) ≡ edit_by found new keyword
-retold_edit told old new retells found keyword =
-    one_of told (is_word (codes ":amend") keyword) (amendment found old) (amendment found new) (no_amendment found keyword) (no_amendment found keyword)
+abbrev no_amendment : Contents → Fields → Piece → Result Item FormFault
+no_amendment tower found keyword = if is_word (codes ":withdraw") keyword then withdrawal found else no_withdrawal tower found keyword
+
+-- a claim of that register
+abbrev with_claimed : Fields → RegId → Result Item FormFault
+with_claimed found register = the_one fields.Claimed found.claimed >>= kind_stated >>= (λ kind. Ok (items.Claim register kind))
+
+-- what comes of two steps one after the other
+retold_twice : {A B : Type 0} {told : Result Item FormFault → Result Item FormFault} {old new : Bor (List ℕ)} → Retells told old new → (answer : Result A FormFault) (read : A → Result B FormFault) (f : B → Result Item FormFault)
+    → ((x : B) → told (f x) ≡ f x) → told (answer >>= read >>= f) ≡ (answer >>= read >>= f)
+retold_twice retells answer read f each = through retells (answer >>= read) f f each
+
+retold_claim : (told : Result Item FormFault → Result Item FormFault) (old new : Bor (List ℕ)) → Retells told old new → (tower : Contents) (found : Fields) → told (claim_of tower found) ≡ claim_of tower found
+retold_claim told old new retells tower found =
+    retold_twice retells (the_one fields.Register found.register) (register_named tower) (with_claimed found) (λ register.
+    retold_twice retells (the_one fields.Claimed found.claimed) kind_stated (λ kind. Ok (items.Claim register kind)) (retells.claim register))
+
+retold_edit : (told : Result Item FormFault → Result Item FormFault) (old new : Bor (List ℕ)) → Retells told old new → (tower : Contents) (found : Fields) (keyword : Piece)
+    → told (edit_by tower found old keyword) ≡ edit_by tower found new keyword
+retold_edit told old new retells tower found keyword =
+    one_of told (is_word (codes ":amend") keyword) (amendment found old) (amendment found new) (no_amendment tower found keyword) (no_amendment tower found keyword)
     (through retells (edited_place found) (λ of. change_of found old >>= as_amend of) (λ of. change_of found new >>= as_amend of) (retold_change told old new retells found))
-    (one_of told (is_word (codes ":withdraw") keyword) (withdrawal found) (withdrawal found) (Err BadType) (Err BadType)
-    (through retells (edited_place found) (λ of. Ok (items.Withdraw of)) (λ of. Ok (items.Withdraw of)) retells.withdraw) (retells.fault BadType))
+    (one_of told (is_word (codes ":withdraw") keyword) (withdrawal found) (withdrawal found) (no_withdrawal tower found keyword) (no_withdrawal tower found keyword)
+    (through retells (edited_place found) (λ of. Ok (items.Withdraw of)) (λ of. Ok (items.Withdraw of)) retells.withdraw)
+    (one_of told (is_word (codes ":claim") keyword) (claim_of tower found) (claim_of tower found) (Err BadType) (Err BadType)
+    (retold_claim told old new retells tower found) (retells.fault BadType)))
 
 abbrev question_part : Contents → Fields → Result Item FormFault
 question_part tower found = the_one fields.Ask found.ask >>= question_of tower
@@ -170,8 +191,8 @@ no_edit tower found said text = if is_there found.ask then question_part tower f
 retold : (told : Result Item FormFault → Result Item FormFault) (old new : Bor (List ℕ)) → Retells told old new → (tower : Contents) (found : Fields) (said : UnderValue)
     → told (item_of tower found said old) ≡ item_of tower found said new
 retold told old new retells tower found said =
-    one_of told (is_there found.edit) (the_one fields.Edit found.edit >>= edit_by found old) (the_one fields.Edit found.edit >>= edit_by found new) (no_edit tower found said old) (no_edit tower found said new)
-    (through retells (the_one fields.Edit found.edit) (edit_by found old) (edit_by found new) (retold_edit told old new retells found))
+    one_of told (is_there found.edit) (the_one fields.Edit found.edit >>= edit_by tower found old) (the_one fields.Edit found.edit >>= edit_by tower found new) (no_edit tower found said old) (no_edit tower found said new)
+    (through retells (the_one fields.Edit found.edit) (edit_by tower found old) (edit_by tower found new) (retold_edit told old new retells tower found))
     (one_of told (is_there found.ask) (question_part tower found) (question_part tower found) (event_part tower found said old) (event_part tower found said new)
     (through retells (the_one fields.Ask found.ask) (question_of tower) (question_of tower) (λ name. through retells (register_named tower name) (λ id. Ok (items.Ask id)) (λ id. Ok (items.Ask id)) retells.ask))
     (through retells (the_one fields.Process found.process) (λ piece. by_process tower found said old (int_of piece)) (λ piece. by_process tower found said new (int_of piece)) (λ piece.
@@ -187,6 +208,7 @@ lies place text = record {
   event = λ process stage action register value moment. refl;
   amend = λ of value begin end. refl;
   withdraw = λ of. refl;
+  claim = λ id kind. refl;
   ask = λ id. refl;
   skipped = refl;
 }
@@ -224,6 +246,7 @@ is_of text old = record {
   event = λ process stage action register value moment. refl;
   amend = λ of value begin end. refl;
   withdraw = λ of. refl;
+  claim = λ id kind. refl;
   ask = λ id. refl;
   skipped = refl;
 }

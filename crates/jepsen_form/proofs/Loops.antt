@@ -64,11 +64,6 @@ slot_of : (chosen : MomentField) (slot : Fields → Given Piece) (key : List ℕ
 slot_of chosen slot key under none pairs =
     slot_after chosen slot key under nothing pairs ∙ ap (λ (found : Given Piece). more found (values_of key pairs)) none ∙ more_than_none (values_of key pairs)
 
-same_fields : (found : Fields) (process stage action value moment edit of begin end ask : Given Piece) → found.process ≡ process → found.stage ≡ stage → found.action ≡ action → found.value ≡ value → found.moment ≡ moment → found.edit ≡ edit → found.of ≡ of → found.begin ≡ begin → found.end ≡ end → found.ask ≡ ask
-    → found ≡ record { process = process; stage = stage; action = action; value = value; moment = moment; edit = edit; of = of; begin = begin; end = end; ask = ask }
-same_fields found process stage action value moment edit of begin end ask is_process is_stage is_action is_value is_moment is_edit is_of is_begin is_end is_ask =
-    let all : record { process = found.process; stage = found.stage; action = found.action; value = found.value; moment = found.moment; edit = found.edit; of = found.of; begin = found.begin; end = found.end; ask = found.ask } ≡ record { process = process; stage = stage; action = action; value = value; moment = moment; edit = edit; of = of; begin = begin; end = end; ask = ask } = rw (is_process, is_stage, is_action, is_value, is_moment, is_edit, is_of, is_begin, is_end, is_ask) refl in all
-
 after_all : (chosen : MomentField) (pairs : List (Piece × Piece)) → after chosen nothing pairs ≡ fields_of chosen pairs
 after_all chosen pairs =
     let process = slot_of chosen (λ found. found.process) (codes ":process") (λ found word value. refl) refl pairs in
@@ -81,7 +76,22 @@ after_all chosen pairs =
     let begin = slot_of chosen (λ found. found.begin) (codes ":begin") (λ found word value. refl) refl pairs in
     let end = slot_of chosen (λ found. found.end) (codes ":end") (λ found word value. refl) refl pairs in
     let ask = slot_of chosen (λ found. found.ask) (codes ":ask") (λ found word value. refl) refl pairs in
-    same_fields (after chosen nothing pairs) _ _ _ _ _ _ _ _ _ _ process stage action value moment edit of begin end ask
+    let register = slot_of chosen (λ found. found.register) (codes ":register") (λ found word value. refl) refl pairs in
+    let claimed = slot_of chosen (λ found. found.claimed) (codes ":kind") (λ found word value. refl) refl pairs in
+    λ i. record {
+      process = process i;
+      stage = stage i;
+      action = action i;
+      value = value i;
+      moment = moment i;
+      edit = edit i;
+      of = of i;
+      begin = begin i;
+      end = end i;
+      ask = ask i;
+      register = register i;
+      claimed = claimed i;
+    }
 
 -- with the pairs that are left, the fields found are those of the map
 abbrev pub Found : MapView → MomentField → MapView → Form → Type 0

@@ -23,7 +23,7 @@ use Rattle.jepsen_form.specs.declared.fault.FormField.TheVariants as fields
 use Rattle.jepsen_form.specs.declared.fault.FormFault.{FormFault}
 use Rattle.jepsen_form.specs.declared.fault.FormFault.TheVariants.{BadType, NoRegister}
 use Rattle.jepsen_form.specs.Fields.{Fields, fields_of, UnderValue, NoValue, AValue, NamedValue, ManyValues}
-use Rattle.jepsen_form.specs.Item.{the_one, is_there, the_stage, the_action, the_register, the_moment, if_told, value_told, event_of, by_process, change_of, edited_place, edit_by, question_of, register_named, only_register, item_of, IsItem, no_map, of_map}
+use Rattle.jepsen_form.specs.Item.{the_one, is_there, the_stage, the_action, the_register, the_moment, if_told, value_told, event_of, by_process, change_of, edited_place, kind_stated, claim_of, edit_by, question_of, register_named, only_register, item_of, IsItem, no_map, of_map}
 use Rattle.jepsen_form.specs.Whole.{NamesBelow}
 
 -- a register is one of the first so many
@@ -83,13 +83,21 @@ process_below : (tower : Contents) (found : Fields) (said : UnderValue) (text : 
 process_below tower found said text None = tt
 process_below tower found said text (Some process) = event_below tower found said text process
 
-edit_below : (count : ℕ) (found : Fields) (text : Bor (List ℕ)) (keyword : Piece) → IfOk (edit_by found text keyword) (NamesBelow count)
-edit_below count found text keyword =
+claim_below : (tower : Contents) (found : Fields) → IfOk (claim_of tower found) (NamesBelow (length tower.registers))
+claim_below tower found =
+    let count : ℕ = length tower.registers in
+    after (IsBelow count) (NamesBelow count) (the_one fields.Register found.register >>= register_named tower) _
+    (after _ (IsBelow count) (the_one fields.Register found.register) _ (whatever _) (λ name _. named_below tower name)) (λ register below.
+    after _ (NamesBelow count) (the_one fields.Claimed found.claimed >>= kind_stated) _ (whatever _) (λ kind _. below))
+
+edit_below : (tower : Contents) (found : Fields) (text : Bor (List ℕ)) (keyword : Piece) → IfOk (edit_by tower found text keyword) (NamesBelow (length tower.registers))
+edit_below tower found text keyword =
+    let count : ℕ = length tower.registers in
     either (NamesBelow count) (is_word (codes ":amend") keyword) _ _
     (after _ (NamesBelow count) (edited_place found) _ (whatever _) (λ of _. after _ (NamesBelow count) (change_of found text) _ (whatever _) (λ change _. tt)))
     (either (NamesBelow count) (is_word (codes ":withdraw") keyword) _ _
     (after _ (NamesBelow count) (edited_place found) _ (whatever _) (λ of _. tt))
-    tt)
+    (either (NamesBelow count) (is_word (codes ":claim") keyword) _ _ (claim_below tower found) tt))
 
 question_below : (tower : Contents) (name : Piece) → IfOk (question_of tower name) (NamesBelow (length tower.registers))
 question_below tower name = after (IsBelow (length tower.registers)) (NamesBelow (length tower.registers)) (register_named tower name) _ (named_below tower name) (λ id below. below)
@@ -98,7 +106,7 @@ item_below : (tower : Contents) (found : Fields) (said : UnderValue) (text : Bor
 item_below tower found said text =
     let Below : Item → Type 0 = NamesBelow (length tower.registers) in
     either Below (is_there found.edit) _ _
-    (after _ Below (the_one fields.Edit found.edit) _ (whatever _) (λ keyword _. edit_below (length tower.registers) found text keyword))
+    (after _ Below (the_one fields.Edit found.edit) _ (whatever _) (λ keyword _. edit_below tower found text keyword))
     (either Below (is_there found.ask) _ _
     (after _ Below (the_one fields.Ask found.ask) _ (whatever _) (λ name _. question_below tower name))
     (after _ Below (the_one fields.Process found.process) _ (whatever _) (λ piece _. process_below tower found said text (int_of piece))))

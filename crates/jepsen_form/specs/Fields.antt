@@ -24,6 +24,8 @@ pub record Fields : Type 0 where
   pub begin : Given Piece
   pub end : Given Piece
   pub ask : Given Piece
+  pub register : Given Piece
+  pub claimed : Given Piece
 
 -- The fields of a map of these pairs, by their keywords.
 abbrev pub fields_of : MomentField → List (Piece × Piece) → Fields
@@ -38,6 +40,8 @@ fields_of chosen pairs = record {
   begin = given (values_of (codes ":begin") pairs);
   end = given (values_of (codes ":end") pairs);
   ask = given (values_of (codes ":ask") pairs);
+  register = given (values_of (codes ":register") pairs);
+  claimed = given (values_of (codes ":kind") pairs);
 }
 
 -- What an event says under :value: nothing, a value of the tower's only register, a register's name and its value, or more

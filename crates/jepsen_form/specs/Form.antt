@@ -25,6 +25,8 @@ seen_all form = record {
   begin = seen form.begin;
   end = seen form.end;
   ask = seen form.ask;
+  register = seen form.register;
+  claimed = seen form.claimed;
 }
 
 -- No field found yet.
@@ -40,6 +42,8 @@ nothing = record {
   begin = Missing;
   end = Missing;
   ask = Missing;
+  register = Missing;
+  claimed = Missing;
 }
 
 -- What stands under a key with one value more, where the value stands under it.
@@ -65,6 +69,8 @@ noted chosen found key value = record {
   begin = more_if (is_key (codes ":begin") key) found.begin value;
   end = more_if (is_key (codes ":end") key) found.end value;
   ask = more_if (is_key (codes ":ask") key) found.ask value;
+  register = more_if (is_key (codes ":register") key) found.register value;
+  claimed = more_if (is_key (codes ":kind") key) found.claimed value;
 }
 
 -- A field, where it is meant.
@@ -82,9 +88,10 @@ field_of chosen word =
     else if length word == 2 then only_if (bytes_eq word (codes ":f")) fields.Action
     else if length word == 3 then only_if (bytes_eq word (codes ":of")) fields.Of
     else if length word == 4 then first_if (bytes_eq word (codes ":end")) fields.End (only_if (bytes_eq word (codes ":ask")) fields.Ask)
-    else if length word == 5 then first_if (bytes_eq word (codes ":type")) fields.Stage (only_if (bytes_eq word (codes ":edit")) fields.Edit)
+    else if length word == 5 then first_if (bytes_eq word (codes ":type")) fields.Stage (first_if (bytes_eq word (codes ":edit")) fields.Edit (only_if (bytes_eq word (codes ":kind")) fields.Claimed))
     else if length word == 6 then first_if (bytes_eq word (codes ":value")) fields.Value (only_if (bytes_eq word (codes ":begin")) fields.Begin)
     else if length word == 8 then only_if (bytes_eq word (codes ":process")) fields.Process
+    else if length word == 9 then only_if (bytes_eq word (codes ":register")) fields.Register
     else None
 
 -- The fields with one value more under one of them, if any.
@@ -100,6 +107,8 @@ with_more (Some fields.Of) found value = record found { of = one_more found.of v
 with_more (Some fields.Begin) found value = record found { begin = one_more found.begin value }
 with_more (Some fields.End) found value = record found { end = one_more found.end value }
 with_more (Some fields.Ask) found value = record found { ask = one_more found.ask value }
+with_more (Some fields.Register) found value = record found { register = one_more found.register value }
+with_more (Some fields.Claimed) found value = record found { claimed = one_more found.claimed value }
 
 -- What the program found under :value.
 abbrev pub under_value : Said → UnderValue

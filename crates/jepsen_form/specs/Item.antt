@@ -14,7 +14,8 @@ use Rattle.intervals.specs.declared.operation.Value.{Value}
 use Rattle.intervals.specs.declared.operation.Value.TheVariants.{Nil}
 use Rattle.std.specs.Option.{ok_or}
 use Rattle.tower_file.specs.Contents.{Contents, number_of}
-use Rattle.tower_file.specs.Stating.{stated_value}
+use Rattle.intervals.specs.declared.claim.Kind.{Kind}
+use Rattle.tower_file.specs.Stating.{stated_value, stated_kind}
 use Rattle.tower_file.specs.Steps.{◌>>=◌, once, at_most_once}
 use Rattle.jepsen_form.specs.declared.item.Action.{Action}
 use Rattle.jepsen_form.specs.declared.item.Action.TheVariants.{Read, Write}
@@ -82,6 +83,10 @@ end_of piece = if is_nil piece then Ok None else moment_of piece >>= (λ moment.
 -- The place of an element in its trace: an integer from 0 on that fits.
 abbrev pub place_of : Piece → Result ℕ FormFault
 place_of piece = natural_or BadValue (int_of piece)
+
+-- The kind that is claimed, by its keyword.
+abbrev pub kind_stated : Piece → Result Kind FormFault
+kind_stated piece = ok_or (stated_kind piece) BadType
 
 -- ---- registers
 
@@ -165,13 +170,21 @@ change_of found text =
 abbrev pub edited_place : Fields → Result ℕ FormFault
 edited_place found = the_one fields.Of found.of >>= place_of
 
+-- A claim: its register and its kind are read in this order.
+abbrev pub claim_of : Contents → Fields → Result Item FormFault
+claim_of tower found =
+    the_one fields.Register found.register >>= register_named tower >>= (λ register.
+    the_one fields.Claimed found.claimed >>= kind_stated >>= (λ kind.
+    Ok (items.Claim register kind)))
+
 -- An edit, by its keyword.
-abbrev pub edit_by : Fields → Bor (List ℕ) → Piece → Result Item FormFault
-edit_by found text keyword =
+abbrev pub edit_by : Contents → Fields → Bor (List ℕ) → Piece → Result Item FormFault
+edit_by tower found text keyword =
     if is_word (codes ":amend") keyword then
     edited_place found >>= (λ of. change_of found text >>= (λ change. Ok (items.Amend of change)))
     else if is_word (codes ":withdraw") keyword then
     edited_place found >>= (λ of. Ok (items.Withdraw of))
+    else if is_word (codes ":claim") keyword then claim_of tower found
     else Err BadType
 
 -- The register that a question is about.
@@ -183,7 +196,7 @@ question_of tower name = register_named tower name >>= (λ id. Ok (items.Ask id)
 -- The item of a map: an edit where :edit is there, else a question where :ask is, else an event.
 abbrev pub item_of : Contents → Fields → UnderValue → Bor (List ℕ) → Result Item FormFault
 item_of tower found said text =
-    if is_there found.edit then the_one fields.Edit found.edit >>= edit_by found text
+    if is_there found.edit then the_one fields.Edit found.edit >>= edit_by tower found text
     else if is_there found.ask then the_one fields.Ask found.ask >>= question_of tower
     else the_one fields.Process found.process >>= (λ piece. by_process tower found said text (int_of piece))
 
@@ -211,6 +224,7 @@ lying_at place (Err fault) = Err fault
 lying_at place (Ok (items.Event event)) = Ok (items.Event (record event { text = text_at place event.text }))
 lying_at place (Ok (items.Amend of change)) = Ok (items.Amend of (record change { lent = lent_at place change.lent }))
 lying_at place (Ok (items.Withdraw of)) = Ok (items.Withdraw of)
+lying_at place (Ok (items.Claim id kind)) = Ok (items.Claim id kind)
 lying_at place (Ok (items.Ask id)) = Ok (items.Ask id)
 lying_at place (Ok items.Skipped) = Ok items.Skipped
 
@@ -226,6 +240,7 @@ abbrev pub item_with : Bor (List ℕ) → Item → Item
 item_with text (items.Event event) = items.Event (record event { text = text })
 item_with text (items.Amend of change) = items.Amend of (record change { lent = lent_with text change.lent })
 item_with text (items.Withdraw of) = items.Withdraw of
+item_with text (items.Claim id kind) = items.Claim id kind
 item_with text (items.Ask id) = items.Ask id
 item_with text items.Skipped = items.Skipped
 

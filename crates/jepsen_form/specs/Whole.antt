@@ -4,7 +4,7 @@ use Rattle.intervals.specs.declared.operation.RegId.{RegId}
 use Rattle.intervals.specs.declared.operation.Moment.{Moment}
 use Rattle.jepsen_form.specs.declared.item.Event.{Event as AnEvent}
 use Rattle.jepsen_form.specs.declared.item.Item.{Item}
-use Rattle.jepsen_form.specs.declared.item.Item.TheVariants.{Event, Amend, Withdraw, Ask, Skipped}
+use Rattle.jepsen_form.specs.declared.item.Item.TheVariants.{Event, Amend, Withdraw, Claim, Ask, Skipped}
 use Rattle.jepsen_form.specs.declared.item.Stage.{Stage}
 use Rattle.jepsen_form.specs.declared.item.Stage.TheVariants.{Invoke, Ok, Fail, Info}
 
@@ -24,6 +24,7 @@ abbrev pub IsWhole : Item → Type 0
 IsWhole (Event event) = IsWholeEvent event
 IsWhole (Amend of change) = ⊤
 IsWhole (Withdraw of) = ⊤
+IsWhole (Claim register kind) = ⊤
 IsWhole (Ask register) = ⊤
 IsWhole Skipped = ⊤
 
@@ -32,6 +33,7 @@ abbrev pub named_by : Item → Option RegId
 named_by (Event event) = event.register
 named_by (Amend of change) = None
 named_by (Withdraw of) = None
+named_by (Claim register kind) = Some register
 named_by (Ask register) = Some register
 named_by Skipped = None
 

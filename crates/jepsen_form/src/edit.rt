@@ -7,20 +7,23 @@ ghost use Rattle.jepsen_form.specs.Item.{edit_by, edited_place, change_of};
 ghost use Rattle.jepsen_form.specs.Form.{seen_all};
 ghost use Rattle.jepsen_form.specs.Whole.{IsWhole};
 
-use crate::element::{given_begin, given_end, given_value, needed, read_place};
+use crate::element::{given_begin, given_end, given_value, needed, read_kind, read_place};
 use crate::fault::{FormFault, FormField};
 use crate::form::Form;
 use crate::item::Item;
+use crate::said::find_register;
 use edn_reader::Element;
 use intervals::{Change, Lent};
+use tower_file::Tower;
 
 /// The edit that a keyword names.
 pub fn read_edit<'t>(
     form: &Form<'t>,
     keyword: &Element<'t>,
     text: &'t [u8],
+    tower: &Tower,
 ) -> Result<Item<'t>, FormFault>
-    ensures item { result ≡ edit_by (seen_all form.now) text.entry (piece_of keyword.now) }
+    ensures item { result ≡ edit_by tower.now (seen_all form.now) text.entry (piece_of keyword.now) }
     ensures whole { IfOk result IsWhole }
 {
     if keyword.is_keyword(b":amend") {
@@ -30,6 +33,10 @@ pub fn read_edit<'t>(
     } else if keyword.is_keyword(b":withdraw") {
         let of = place_edited(form)?;
         Ok(Item::Withdraw { of })
+    } else if keyword.is_keyword(b":claim") {
+        let register = find_register(&needed(&form.register, FormField::Register)?, tower)?;
+        let kind = read_kind(&needed(&form.claimed, FormField::Claimed)?)?;
+        Ok(Item::Claim(register, kind))
     } else {
         Err(FormFault::BadType)
     }

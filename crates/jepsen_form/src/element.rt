@@ -4,13 +4,14 @@ ghost use Rattle.std.specs.Prelude.{◌≡◌};
 ghost use Rattle.edn_reader.specs.Grammar.{Piece};
 ghost use Rattle.edn_reader.specs.Lent.{piece_of};
 ghost use Rattle.edn_reader.specs.Given.{seen};
-ghost use Rattle.jepsen_form.specs.Item.{the_one, at_most_one, is_there, stage_of, action_of, value_stated, moment_of, end_of, place_of};
+ghost use Rattle.jepsen_form.specs.Item.{the_one, at_most_one, is_there, stage_of, action_of, value_stated, moment_of, end_of, place_of, kind_stated};
 ghost use Rattle.tower_file.specs.Steps.{GivesSeen};
 
 use crate::fault::{FormFault, FormField};
 use crate::item::{Action, Stage};
 use edn_reader::{Element, Field};
-use intervals::{Moment, Value};
+use intervals::{Kind, Moment, Value};
+use tower_file::kind_of;
 
 pub fn is_given(field: &Field) -> bool
     ensures { result ≡ is_there (seen field.now) }
@@ -118,6 +119,16 @@ fn read_end(element: &Element) -> Result<Option<Moment>, FormFault>
         return Ok(None);
     }
     Ok(Some(read_moment(element)?))
+}
+
+/// The kind that a claim names, by its keyword as in a tower file.
+pub fn read_kind(element: &Element) -> Result<Kind, FormFault>
+    ensures { result ≡ kind_stated (piece_of element.now) }
+{
+    match kind_of(element) {
+        Some(kind) => Ok(kind),
+        None => Err(FormFault::BadType),
+    }
 }
 
 pub fn read_place(element: &Element) -> Result<u64, FormFault>

@@ -1,5 +1,8 @@
 //! Why an element of a trace is no item.
 
+ghost use Rattle.std.specs.Prelude.{◌≡◌};
+ghost use Rattle.jepsen_form.specs.Code.{code_of};
+
 use thiserror::Error;
 
 /// A field of an event, of an edit or of a question. `Moment` is the one of `:index` and `:time`
@@ -16,6 +19,10 @@ pub enum FormField {
     Begin,
     End,
     Ask,
+    /// The `:register` of a claim.
+    Register,
+    /// The `:kind` of a claim.
+    Claimed,
 }
 
 /// The first fault of an element, in the order in which its fields are read.
@@ -29,7 +36,7 @@ pub enum FormFault {
     /// A field that is read stands twice.
     #[error("F3 DuplicateField")]
     DuplicateField(FormField),
-    /// The `:type` or the `:edit` is none that is known.
+    /// The `:type`, the `:edit` or the `:kind` is none that is known.
     #[error("F4 BadType")]
     BadType,
     /// The `:f` is neither `:read` nor `:write`.
@@ -41,7 +48,25 @@ pub enum FormFault {
     /// A moment is no integer from 0.
     #[error("F7 BadMoment")]
     BadMoment,
-    /// The tower has no register for the `:value` or for the `:ask`.
+    /// The tower has no register for the `:value`, the `:ask` or the `:register`.
     #[error("F8 NoRegister")]
     NoRegister,
+}
+
+impl FormFault {
+    /// The code that users see.
+    pub fn code(&self) -> &'static str
+        ensures { result.now ≡ code_of self.now }
+    {
+        match self {
+            FormFault::NotAMap => "F1",
+            FormFault::MissingField(_) => "F2",
+            FormFault::DuplicateField(_) => "F3",
+            FormFault::BadType => "F4",
+            FormFault::UnsupportedF => "F5",
+            FormFault::BadValue => "F6",
+            FormFault::BadMoment => "F7",
+            FormFault::NoRegister => "F8",
+        }
+    }
 }

@@ -26,6 +26,8 @@ pub struct Form<'t> {
     pub begin: Field<'t>,
     pub end: Field<'t>,
     pub ask: Field<'t>,
+    pub register: Field<'t>,
+    pub claimed: Field<'t>,
 }
 
 /// Goes over the pairs once, and puts each field where the form lies.
@@ -54,6 +56,8 @@ pub fn no_fields<'t>() -> Form<'t>
         begin: Field::Absent,
         end: Field::Absent,
         ask: Field::Absent,
+        register: Field::Absent,
+        claimed: Field::Absent,
     }
 }
 
@@ -86,6 +90,8 @@ fn put<'t>(form: &mut Form<'t>, field: FormField, value: Element<'t>)
         FormField::Begin => add(&mut form.begin, value),
         FormField::End => add(&mut form.end, value),
         FormField::Ask => add(&mut form.ask, value),
+        FormField::Register => add(&mut form.register, value),
+        FormField::Claimed => add(&mut form.claimed, value),
     }
 }
 
@@ -114,10 +120,12 @@ fn field_of(word: &[u8], chosen: MomentField) -> Option<FormField>
         4 if is(word, b":end") => Some(FormField::End),
         4 => is(word, b":ask").then_some(FormField::Ask),
         5 if is(word, b":type") => Some(FormField::Stage),
-        5 => is(word, b":edit").then_some(FormField::Edit),
+        5 if is(word, b":edit") => Some(FormField::Edit),
+        5 => is(word, b":kind").then_some(FormField::Claimed),
         6 if is(word, b":value") => Some(FormField::Value),
         6 => is(word, b":begin").then_some(FormField::Begin),
         8 => is(word, b":process").then_some(FormField::Process),
+        9 => is(word, b":register").then_some(FormField::Register),
         _ => None,
     }
 }

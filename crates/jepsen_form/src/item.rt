@@ -3,7 +3,7 @@
 ghost use Rattle.std.specs.Prelude.{◌≡◌};
 ghost use Rattle.jepsen_form.specs.Item.{item_with, lent_with};
 
-use intervals::{Change, Lent, Moment, RegId, Value};
+use intervals::{Change, Kind, Lent, Moment, RegId, Value};
 
 /// What an operation does to its register.
 #[derive(Clone, Copy, Debug, PartialEq, Eq)]
@@ -41,6 +41,7 @@ pub enum Item<'t> {
     Event(Event<'t>),
     Amend { of: u64, change: Change<'t> },
     Withdraw { of: u64 },
+    Claim(RegId, Kind),
     Ask(RegId),
     Skipped,
 }
@@ -70,6 +71,7 @@ impl Item<'_> {
                 },
             },
             Item::Withdraw { of } => Item::Withdraw { of },
+            Item::Claim(register, kind) => Item::Claim(register, kind),
             Item::Ask(register) => Item::Ask(register),
             Item::Skipped => Item::Skipped,
         }

@@ -46,7 +46,7 @@ fn item_in<'t>(form: &Form<'t>, text: &'t [u8], tower: &Tower) -> Result<Item<'t
 {
     if is_given(&form.edit) {
         let keyword = needed(&form.edit, FormField::Edit)?;
-        return read_edit(form, &keyword, text);
+        return read_edit(form, &keyword, text, tower);
     }
     if is_given(&form.ask) {
         let name = needed(&form.ask, FormField::Ask)?;

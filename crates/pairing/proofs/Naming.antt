@@ -73,6 +73,7 @@ invocation_below : (count place : ℕ) (item : Item) → NamesBelow count item �
 invocation_below count place (items.Event event) below = event_below count place event event.answer event.register below
 invocation_below count place (items.Amend of change) below = tt
 invocation_below count place (items.Withdraw of) below = tt
+invocation_below count place (items.Claim register kind) below = tt
 invocation_below count place (items.Ask register) below = tt
 invocation_below count place items.Skipped below = tt
 
@@ -122,6 +123,7 @@ given_below : (count feeder : ℕ) (taken : List Placed) (place : ℕ) (item : I
 given_below count feeder taken place (items.Event event) all below = answer_below count feeder place (unanswered_of taken event.process) event event.answer (unanswered_below count taken event.process all) below
 given_below count feeder taken place (items.Amend of change) all below = edit_below count (register_of taken of) _ (register_below count taken of all)
 given_below count feeder taken place (items.Withdraw of) all below = edit_below count (register_of taken of) _ (register_below count taken of all)
+given_below count feeder taken place (items.Claim register kind) all below = below
 given_below count feeder taken place (items.Ask register) all below = below
 given_below count feeder taken place items.Skipped all below = tt
 

@@ -9,7 +9,7 @@ use Rattle.intervals.specs.declared.operation.RegId.{RegId}
 use Rattle.pairing.specs.declared.invocation.Invocation.{Invocation}
 use Rattle.jepsen_form.specs.declared.item.Event.{Event as AnEvent}
 use Rattle.jepsen_form.specs.declared.item.Item.{Item}
-use Rattle.jepsen_form.specs.declared.item.Item.TheVariants.{Event, Amend, Withdraw, Ask, Skipped}
+use Rattle.jepsen_form.specs.declared.item.Item.TheVariants.{Event, Amend, Withdraw, Claim, Ask, Skipped}
 use Rattle.jepsen_form.specs.declared.item.Stage.{Stage}
 use Rattle.jepsen_form.specs.declared.item.Stage.TheVariants.{Invoke, Ok, Fail, Info}
 use Rattle.pairing.specs.declared.fault.PairFault.{PairFault}
@@ -77,6 +77,7 @@ pub same_answer : (known : Known) (items : List Placed) (place : ℕ) (item : It
 same_answer known items place (Event event) after = rw (after.unanswered event.process) refl
 same_answer known items place (Amend of change) after = rw (after.registers of) refl
 same_answer known items place (Withdraw of) after = rw (after.registers of) refl
+same_answer known items place (Claim register kind) after = refl
 same_answer known items place (Ask register) after = refl
 same_answer known items place Skipped after = refl
 
@@ -122,6 +123,7 @@ pub invocation_place : (place : ℕ) (item : Item) → ForSome (invocation_of pl
 invocation_place place (Event event) said is = invocation_by_place place event event.answer event.register said is
 invocation_place place (Amend of change) said is = cc
 invocation_place place (Withdraw of) said is = cc
+invocation_place place (Claim register kind) said is = cc
 invocation_place place (Ask register) said is = cc
 invocation_place place Skipped said is = cc
 

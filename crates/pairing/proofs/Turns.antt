@@ -10,7 +10,7 @@ use Rattle.intervals.specs.declared.operation.Moment.{Moment}
 use Rattle.intervals.specs.declared.edit.Edit.TheVariants as edits
 use Rattle.jepsen_form.specs.declared.item.Event.{Event as AnEvent}
 use Rattle.jepsen_form.specs.declared.item.Item.{Item}
-use Rattle.jepsen_form.specs.declared.item.Item.TheVariants.{Event, Amend, Withdraw, Ask, Skipped}
+use Rattle.jepsen_form.specs.declared.item.Item.TheVariants.{Event, Amend, Withdraw, Claim, Ask, Skipped}
 use Rattle.jepsen_form.specs.declared.item.Stage.{Stage}
 use Rattle.jepsen_form.specs.declared.item.Stage.TheVariants as stages
 use Rattle.pairing.specs.declared.fault.PairFault.{PairFault}
@@ -114,6 +114,7 @@ turn process front (Event event) is fine =
     subst (λ one. invokes event.answer ≡ is_none (unanswered_of front one)) (sym same) (stage_turn (unanswered_of front event.process) event event.answer fine)
 turn process front (Amend of change) is fine = cc
 turn process front (Withdraw of) is fine = cc
+turn process front (Claim register kind) is fine = cc
 turn process front (Ask register) is fine = cc
 turn process front Skipped is fine = cc
 
@@ -129,6 +130,7 @@ said_by : (place : ℕ) (item : Item) → IsWhole item → is_none (invocation_o
 said_by place (Event event) whole = said_by_stage place event event.answer event.register event.moment whole
 said_by place (Amend of change) whole = refl
 said_by place (Withdraw of) whole = refl
+said_by place (Claim register kind) whole = refl
 said_by place (Ask register) whole = refl
 said_by place Skipped whole = refl
 
@@ -179,6 +181,7 @@ invoked_item : (place : ℕ) (item : Item) → is_none (invocation_of place item
 invoked_item place (Event event) there = invoked_stage place event event.answer event.register there
 invoked_item place (Amend of change) there = cc
 invoked_item place (Withdraw of) there = cc
+invoked_item place (Claim register kind) there = cc
 invoked_item place (Ask register) there = cc
 invoked_item place Skipped there = cc
 
@@ -224,6 +227,7 @@ id_beside feeder process front said place (Event event) step is unanswered gives
     id_by_stage feeder said place event event.answer step (subst (λ other. unless (event_fault other event event.answer) (event_step feeder other place event event.answer) ≡ Ok (Some step)) beside gives)
 id_beside feeder process front said place (Amend of change) step is unanswered gives = cc
 id_beside feeder process front said place (Withdraw of) step is unanswered gives = cc
+id_beside feeder process front said place (Claim register kind) step is unanswered gives = cc
 id_beside feeder process front said place (Ask register) step is unanswered gives = cc
 id_beside feeder process front said place Skipped step is unanswered gives = cc
 

@@ -4,7 +4,7 @@ use Rattle.std.specs.Ordering.{int_eq}
 use Rattle.intervals.specs.declared.operation.RegId.{RegId}
 use Rattle.jepsen_form.specs.declared.item.Event.{Event as AnEvent}
 use Rattle.jepsen_form.specs.declared.item.Item.{Item}
-use Rattle.jepsen_form.specs.declared.item.Item.TheVariants.{Event, Amend, Withdraw, Ask, Skipped}
+use Rattle.jepsen_form.specs.declared.item.Item.TheVariants.{Event, Amend, Withdraw, Claim, Ask, Skipped}
 use Rattle.jepsen_form.specs.declared.item.Stage.{Stage}
 use Rattle.jepsen_form.specs.declared.item.Stage.TheVariants.{Invoke, Ok, Fail, Info}
 use Rattle.pairing.specs.declared.invocation.Invocation.{Invocation}
@@ -22,6 +22,7 @@ abbrev pub is_event_of : ℤ → Item → Bool
 is_event_of process (Event event) = int_eq process event.process
 is_event_of process (Amend of change) = false
 is_event_of process (Withdraw of) = false
+is_event_of process (Claim register kind) = false
 is_event_of process (Ask register) = false
 is_event_of process Skipped = false
 
@@ -63,6 +64,7 @@ abbrev pub fault_of : List Placed → Item → Option PairFault
 fault_of accepted (Event event) = event_fault (unanswered_of accepted event.process) event event.answer
 fault_of accepted (Amend of change) = edit_fault (register_of accepted of)
 fault_of accepted (Withdraw of) = edit_fault (register_of accepted of)
+fault_of accepted (Claim register kind) = None
 fault_of accepted (Ask register) = None
 fault_of accepted Skipped = None
 

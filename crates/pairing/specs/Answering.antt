@@ -5,7 +5,7 @@ use Rattle.intervals.specs.declared.operation.OpId.{OpId}
 use Rattle.intervals.specs.declared.operation.RegId.{RegId}
 use Rattle.intervals.specs.Edit.{edit_id}
 use Rattle.jepsen_form.specs.declared.item.Item.{Item}
-use Rattle.jepsen_form.specs.declared.item.Item.TheVariants.{Event, Amend, Withdraw, Ask, Skipped}
+use Rattle.jepsen_form.specs.declared.item.Item.TheVariants.{Event, Amend, Withdraw, Claim, Ask, Skipped}
 use Rattle.jepsen_form.specs.declared.item.Stage.{Stage}
 use Rattle.jepsen_form.specs.declared.item.Stage.TheVariants.{Invoke, Ok, Fail, Info}
 use Rattle.pairing.specs.declared.step.Step.{Step}
@@ -24,6 +24,7 @@ abbrev pub is_invocation : Item → Bool
 is_invocation (Event event) = invokes event.answer
 is_invocation (Amend of change) = false
 is_invocation (Withdraw of) = false
+is_invocation (Claim register kind) = false
 is_invocation (Ask register) = false
 is_invocation Skipped = false
 
@@ -51,7 +52,7 @@ pub record IsNext (items : List Placed) (process : ℤ) (earlier later : Placed)
 
 -- the operation that a step edits, if it is no question
 abbrev pub step_id : Step → Option OpId
-step_id (steps.Edit register edit) = Some (edit_id edit)
+step_id (steps.Edit register edit) = edit_id edit
 step_id (steps.Ask register) = None
 
 -- the register that a step is on

@@ -7,7 +7,7 @@ use Rattle.jepsen_form.specs.declared.item.Action.{Action}
 use Rattle.jepsen_form.specs.declared.item.Action.TheVariants.{Read, Write}
 use Rattle.jepsen_form.specs.declared.item.Event.{Event as AnEvent}
 use Rattle.jepsen_form.specs.declared.item.Item.{Item}
-use Rattle.jepsen_form.specs.declared.item.Item.TheVariants.{Event, Amend, Withdraw, Ask, Skipped}
+use Rattle.jepsen_form.specs.declared.item.Item.TheVariants.{Event, Amend, Withdraw, Claim, Ask, Skipped}
 use Rattle.jepsen_form.specs.declared.item.Stage.{Stage}
 use Rattle.jepsen_form.specs.declared.item.Stage.TheVariants.{Invoke, Ok, Fail, Info}
 use Rattle.pairing.specs.declared.invocation.Invocation.{Invocation}
@@ -26,6 +26,7 @@ abbrev pub invocation_of : ℕ → Item → Option Invocation
 invocation_of place (Event event) = invocation_by place event event.answer event.register
 invocation_of place (Amend of change) = None
 invocation_of place (Withdraw of) = None
+invocation_of place (Claim register kind) = None
 invocation_of place (Ask register) = None
 invocation_of place Skipped = None
 

@@ -37,5 +37,6 @@ answer_beside known place (items.Amend of change) =
 answer_beside known place (items.Withdraw of) =
     let register = register_at known.registers of in
     unless (edit_fault register) (edit_step register (edits.Withdraw (id_of known.feeder of)))
+answer_beside known place (items.Claim register kind) = Ok (Some (steps.Edit register (edits.Claim kind)))
 answer_beside known place (items.Ask register) = Ok (Some (steps.Ask register))
 answer_beside known place items.Skipped = Ok None

@@ -1,4 +1,5 @@
 pub mod Invocation
+pub mod Code
 pub mod Accepted
 pub mod Step
 pub mod Known

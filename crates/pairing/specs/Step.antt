@@ -86,6 +86,7 @@ abbrev pub given_by : ℕ → List Placed → ℕ → Item → Option Step
 given_by feeder accepted place (items.Event event) = event_step feeder (unanswered_of accepted event.process) place event event.answer
 given_by feeder accepted place (items.Amend of change) = edit_step (register_of accepted of) (edits.Amend (id_of feeder of) change)
 given_by feeder accepted place (items.Withdraw of) = edit_step (register_of accepted of) (edits.Withdraw (id_of feeder of))
+given_by feeder accepted place (items.Claim register kind) = Some (steps.Edit register (edits.Claim kind))
 given_by feeder accepted place (items.Ask register) = Some (steps.Ask register)
 given_by feeder accepted place items.Skipped = None
 

@@ -1,6 +1,7 @@
 //! Why an item of a trace is not taken.
 
 ghost use Rattle.std.specs.Prelude.{◌≡◌};
+ghost use Rattle.pairing.specs.Code.{code_of};
 ghost use Rattle.pairing.specs.declared.fault.PairFault.TheVariants.{Memory};
 
 use std::alloc::{AllocError, AllocFailed};
@@ -21,6 +22,20 @@ pub enum PairFault {
     /// A growth was refused.
     #[error("P4 Memory")]
     Memory,
+}
+
+impl PairFault {
+    /// The code that users see.
+    pub fn code(&self) -> &'static str
+        ensures { result.now ≡ code_of self.now }
+    {
+        match self {
+            PairFault::ProcessBusy => "P1",
+            PairFault::NoInvocation => "P2",
+            PairFault::AnswerMismatch => "P3",
+            PairFault::Memory => "P4",
+        }
+    }
 }
 
 impl From<AllocError> for PairFault {

@@ -103,6 +103,7 @@ impl Pairing {
                 let register = register_at(&self.registers, *of);
                 edit_answer(register, Edit::Withdraw(id(self.feeder, *of)))
             }
+            Item::Claim(register, kind) => Ok(Some(Step::Edit(*register, Edit::Claim(*kind)))),
             Item::Ask(register) => Ok(Some(Step::Ask(*register))),
             Item::Skipped => Ok(None),
         }

@@ -87,6 +87,7 @@ fn tell_edit(told: &mut String, edit: &Edit, own: &str) -> Result<(), AllocError
             tell_change(told, change, own)
         }
         Edit::Withdraw(id) => write!(told, " withdraws {}:{}", id.feeder, id.event),
+        Edit::Claim(kind) => write!(told, " claims to be {kind:?}"),
     }
 }
 
@@ -268,7 +269,15 @@ const TRACES: &str =
 {:process 1 :type :info :f :write} => 7 nothing
 {:process 1 :type :invoke :f :write :value [x 7] :index 4611686018427387904} => 8 on 0 appends 7:8 of process 1, write 7, from 4611686018427387904, lends it
 {:edit :amend :of 0 :end 0} => 9 on 0 amends 7:0, to 0, lends it
-{:edit :withdraw :of 1} => 10 P2 NoInvocation"#;
+{:edit :withdraw :of 1} => 10 P2 NoInvocation
+
+{:edit :claim :register y :kind :safe} => 0 on 1 claims to be Safe
+{:process 0 :type :invoke :f :write :value [x 1] :index 100} => 1 on 0 appends 7:1 of process 0, write 1, from 100, lends it
+{:edit :claim :register x :kind :regular} => 2 on 0 claims to be Regular
+{:edit :withdraw :of 0} => 3 P2 NoInvocation
+{:edit :amend :of 2} => 4 P2 NoInvocation
+{:process 0 :type :ok :f :write :value [x 1] :index 101} => 5 on 0 amends 7:1, to 101, answered, lends it
+{:edit :claim :register x :kind :atomic} => 6 on 0 claims to be Atomic"#;
 
 #[test]
 fn each_step_is_told(rt: HostRuntime) -> Result<(), Fail> {

@@ -2,8 +2,8 @@
 use Rattle.std.proofs.Common.{◌≡◌, List, Option, Some, None, refl}
 use Rattle.std.specs.Prelude.{option_map}
 use Rattle.intervals.specs.declared.operation.Op.{Op}
-use Rattle.intervals.specs.Edit.{op_of}
-use Rattle.register_book.specs.Judge.{found_by, pair_by}
+use Rattle.intervals.specs.Edit.{op_of, found_by}
+use Rattle.register_book.specs.Judge.{pair_by}
 
 pub found_again : (ops : List Op) (x : Option Op) → ((r : Op) → x ≡ Some r → op_of ops r.id ≡ Some r) → found_by ops (option_map (λ op. op.id) x) ≡ x
 found_again ops None stands = refl

@@ -1,3 +1,4 @@
+pub mod Again
 pub mod Refusals
 pub mod Verdicts
 pub mod Ids

@@ -1,5 +1,5 @@
 -- What the judge of a register holds. No public clause speaks of these words.
-use Rattle.std.specs.Prelude.{◌≡◌, ◌≢◌, List, Option, Some, None}
+use Rattle.std.specs.Prelude.{◌≡◌, ◌≢◌, ◌+◌, ◌-◌, ◌^◌, ℕ, min, List, Option, Some, None}
 use Rattle.register_book.specs.Kept.{Kept}
 use Rattle.intervals.specs.declared.operation.Op.{Op}
 use Rattle.intervals.specs.declared.operation.OpId.{OpId}
@@ -13,6 +13,10 @@ abbrev pub held_by : Judge → Kept
 held_by (One judge) = record { claim = judge.claim; ops = judge.ops; steps = 0 }
 held_by (Many clusters) = record { claim = clusters.claim; ops = clusters.ops; steps = clusters.steps }
 
+-- the same in a book, with the steps of judges that are gone, up to the greatest number
+abbrev pub kept_by : Judge → ℕ → Kept
+kept_by judge gone = record (held_by judge) { steps = min (gone + (held_by judge).steps) (2 ^ 64 - 1) }
+
 -- no operation is prepared
 abbrev pub HasNonePrepared : Judge → Type 0
 HasNonePrepared (One judge) = judge.prepared ≡ None
@@ -22,11 +26,6 @@ HasNonePrepared (Many clusters) = clusters.prepared ≡ None
 abbrev pub IsOfItsKind : Judge → Type 0
 IsOfItsKind (One judge) = judge.claim.kind ≢ Atomic
 IsOfItsKind (Many clusters) = clusters.claim.kind ≡ Atomic
-
--- the operation of that id, where one is given
-abbrev pub found_by : List Op → Option OpId → Option Op
-found_by ops None = None
-found_by ops (Some id) = op_of ops id
 
 -- both, where both are there
 abbrev pub both_of : Option Op → Option Op → Option (Op × Op)

@@ -1,6 +1,9 @@
 -- The reply to an edit of a register.
-use Rattle.std.specs.Prelude.{◌≡◌, ◌↔◌, Some, None, IsTrue}
+use Rattle.std.specs.Prelude.{◌≡◌, ◌≢◌, ◌↔◌, ◌⊎◌, Some, None, IsSome, IsTrue}
+use Rattle.intervals.specs.declared.claim.Kind.{Kind}
 use Rattle.intervals.specs.declared.edit.Edit.{Edit}
+use Rattle.intervals.specs.declared.edit.Edit.TheVariants.{Append, Amend, Withdraw, Claim}
+use Rattle.intervals.specs.Edit.{new_op}
 use Rattle.intervals.specs.Terms.{Claimed}
 use Rattle.intervals.specs.Refusal.{reply_to, after_edit}
 use Rattle.intervals.specs.Kind.{Holds}
@@ -13,3 +16,14 @@ abbrev pub IsReply : Claimed → Edit → Reply → Type 0
 IsReply held edit (Refused refusal) = reply_to held.claim held.ops edit ≡ Some refusal
 IsReply held edit (Accepted holds) =
     (reply_to held.claim held.ops edit ≡ None) × (IsTrue holds ↔ Holds (after_edit held edit).claim (after_edit held edit).ops)
+
+-- the edit claims another kind than this one
+abbrev pub IsTurn : Kind → Edit → Type 0
+IsTurn kind (Append op) = ⊥
+IsTurn kind (Amend id change) = ⊥
+IsTurn kind (Withdraw id) = ⊥
+IsTurn kind (Claim other) = other ≢ kind
+
+-- an edit that may want memory: it leaves an operation, or it claims another kind
+abbrev pub TakesMemory : Claimed → Edit → Type 0
+TakesMemory held edit = IsSome (new_op held.ops edit) ⊎ IsTurn held.claim.kind edit

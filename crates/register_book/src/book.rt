@@ -1,11 +1,11 @@
-ghost use Rattle.std.specs.Prelude.{◌≡◌, ◌≢◌, ◌↔◌, ◌+◌, ◌≤◌, [], All, Some, None, length, IfOk, IfSome, OnOk, OnErr, IsNone, IsSome, IsTrue, option_copied};
+ghost use Rattle.std.specs.Prelude.{◌≡◌, ◌≢◌, ◌↔◌, ◌+◌, ◌≤◌, [], All, Some, None, false, length, IfOk, IfSome, OnOk, OnErr, IsNone, IsTrue, option_copied};
 ghost use Rattle.intervals.specs.Terms.{terms_of};
-ghost use Rattle.intervals.specs.Edit.{op_of, new_op};
-ghost use Rattle.intervals.specs.Refusal.{reply_to, carried_out, after_edit};
+ghost use Rattle.intervals.specs.Edit.{op_of, is_claim};
+ghost use Rattle.intervals.specs.Refusal.{reply_to, to_kind_refusal, carried_out, after_edit};
 ghost use Rattle.intervals.specs.Kind.{Holds};
 ghost use Rattle.zones.specs.Turn.{IsOrder};
 ghost use Rattle.register_book.specs.Kept.{claimed_of, most_steps};
-ghost use Rattle.register_book.specs.Reply.{IsReply};
+ghost use Rattle.register_book.specs.Reply.{IsReply, TakesMemory};
 ghost use Rattle.register_book.specs.declared.fault.Witness.{Witness as AWitness};
 ghost use Rattle.register_book.specs.Fault.{IsWitness, ids_of, operations_of};
 
@@ -20,7 +20,10 @@ use std::marker::Model;
 /// A register, and the operations that stand.
 #[derive(Drop)]
 pub struct RegisterBook<'t> {
+    alloc: Global,
     judge: Judge<'t>,
+    /// The steps of the judges that claims have replaced.
+    gone: u64,
 }
 
 impl<'t> Model for RegisterBook<'t> {
@@ -29,9 +32,9 @@ impl<'t> Model for RegisterBook<'t> {
     ghost Value = { Kept };
 
     ghost use Rattle.intervals.specs.Standing.{StandApart};
-    ghost use Rattle.register_book.specs.Judge.{held_by, IsOfItsKind, HasNonePrepared};
+    ghost use Rattle.register_book.specs.Judge.{held_by, kept_by, IsOfItsKind, HasNonePrepared};
 
-    ghost view = { λ b. held_by b.judge };
+    ghost view = { λ b. kept_by b.judge b.gone };
 
     ghost invariant = { λ b. IsOfItsKind b.judge × HasNonePrepared b.judge × StandApart (held_by b.judge).claim (held_by b.judge).ops };
 }
@@ -41,9 +44,12 @@ impl<'t> RegisterBook<'t> {
     pub fn new(alloc: Global, claim: &Claim) -> Result<Self, Memory>
         ensures made { IfOk result (λ book. book ≡ record { claim = terms_of claim.now; ops = []; steps = book.steps }) }
         ensures steps { IfOk result (λ book. book.steps ≤ 3) }
+        ensures none { IfOk result (λ book. book.claim.kind ≢ Kind.Atomic → book.steps ≡ 0) }
     {
         Ok(RegisterBook {
+            alloc,
             judge: Judge::new(alloc, claim)?,
+            gone: 0,
         })
     }
 
@@ -51,7 +57,7 @@ impl<'t> RegisterBook<'t> {
     pub fn kind(&self) -> Kind
         ensures { result ≡ self.now.claim.kind }
     {
-        self.judge.kind()
+        self.judge.claim().kind
     }
 
     /// How many operations stand, unfinished ones among them.
@@ -69,17 +75,20 @@ impl<'t> RegisterBook<'t> {
     }
 
     /// Carries an edit out and says whether the register holds since, or says why it is refused. To
-    /// withdraw an operation takes no memory.
+    /// withdraw an operation takes no memory, and neither does a claim of the kind that stands, which is a look
+    /// at it. A claim of another kind judges all operations anew, and until that is done the old judge stands.
     pub fn apply(&mut self, edit: Edit<'t>) -> Result<Reply, Memory>
         ensures reply { IfOk result (λ reply. IsReply (claimed_of self.old) edit.entry reply) }
         ensures after { OnOk result (claimed_of self.new ≡ after_edit (claimed_of self.old) edit.entry) }
         ensures err { OnErr result (self.new ≡ self.old) }
         ensures memory { OnErr result (reply_to self.old.claim self.old.ops edit.entry ≡ None) }
-        ensures withdrawal { OnErr result (IsSome (new_op self.old.ops edit.entry)) }
-        ensures steps { self.new.steps ≤ self.old.steps + most_steps self.old.claim self.old.ops }
+        ensures withdrawal { OnErr result (TakesMemory (claimed_of self.old) edit.entry) }
+        ensures steps { is_claim edit.entry ≡ false → self.new.steps ≤ self.old.steps + most_steps self.old.claim self.old.ops }
         ensures rises { self.old.steps ≤ self.new.steps }
+        ensures none { is_claim edit.entry ≡ false → self.old.claim.kind ≢ Kind.Atomic → self.new.steps ≡ self.old.steps }
+        ensures again { edit.entry ≡ Edit.Claim self.old.claim.kind → self.new.steps ≡ self.old.steps }
     {
-        if let Some(refusal) = refusal_of(&self.judge, &edit) {
+        if let Some(refusal) = refusal_of(self.alloc, &self.judge, &edit)? {
             return Ok(Reply::Refused(refusal));
         }
         self.carry_out(edit)?;
@@ -92,20 +101,41 @@ impl<'t> RegisterBook<'t> {
         requires { reply_to self.old.claim self.old.ops edit ≡ None }
         ensures ok { OnOk result (claimed_of self.new ≡ carried_out (claimed_of self.old) edit.entry) }
         ensures err { OnErr result (self.new ≡ self.old) }
-        ensures memory { OnErr result (IsSome (new_op self.old.ops edit.entry)) }
-        ensures steps { self.new.steps ≤ self.old.steps + most_steps self.old.claim self.old.ops }
+        ensures memory { OnErr result (TakesMemory (claimed_of self.old) edit.entry) }
+        ensures steps { is_claim edit.entry ≡ false → self.new.steps ≤ self.old.steps + most_steps self.old.claim self.old.ops }
         ensures rises { self.old.steps ≤ self.new.steps }
+        ensures none { is_claim edit.entry ≡ false → self.old.claim.kind ≢ Kind.Atomic → self.new.steps ≡ self.old.steps }
+        ensures again { edit.entry ≡ Edit.Claim self.old.claim.kind → self.new.steps ≡ self.old.steps }
     {
-        self.judge.admit(edit)?;
+        match edit {
+            Edit::Claim(kind) => self.change_kind(kind),
+            _ => self.judge.admit(edit),
+        }
+    }
+
+    fn change_kind(&mut self, kind: Kind) -> Result<(), Memory>
+        requires { to_kind_refusal kind self.old.claim self.old.ops ≡ None }
+        ensures ok { OnOk result (claimed_of self.new ≡ record { claim = record self.old.claim { kind = kind }; ops = self.old.ops }) }
+        ensures err { OnErr result (self.new ≡ self.old) }
+        ensures memory { OnErr result (kind ≢ self.old.claim.kind) }
+        ensures rises { self.old.steps ≤ self.new.steps }
+        ensures again { kind ≡ self.old.claim.kind → self.new.steps ≡ self.old.steps }
+    {
+        if self.kind() == kind {
+            return Ok(());
+        }
+        let judge = self.judge.as_kind(self.alloc, kind)?;
+        self.gone = self.gone.saturating_add(self.judge.steps());
+        self.judge = judge;
         Ok(())
     }
 
-    /// How many levels the tree of zones has gone down for edits so far; 0 where there is no tree.
+    /// How many levels the trees of zones have gone down for edits so far, that of each atomic kind that was
+    /// claimed since the book began.
     pub fn steps(&self) -> u64
-        ensures steps { result ≡ self.now.steps }
-        ensures none { self.now.claim.kind ≢ Kind.Atomic → result ≡ 0 }
+        ensures { result ≡ self.now.steps }
     {
-        self.judge.steps()
+        self.gone.saturating_add(self.judge.steps())
     }
 
     /// Whether the register keeps the sentence of its kind.

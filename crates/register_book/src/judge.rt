@@ -3,12 +3,12 @@
 ghost use Rattle.std.specs.Prelude.{◌≡◌, ◌≢◌, ◌↔◌, ◌+◌, ◌≤◌, [], None, IfOk, IfSome, OnOk, OnErr, IsNone, IsSome, IsTrue};
 ghost use Rattle.intervals.specs.Terms.{terms_of};
 ghost use Rattle.intervals.specs.Edit.{edited, new_op};
-ghost use Rattle.intervals.specs.Refusal.{reply_to, write_refusal, ok_unless};
-ghost use Rattle.intervals.specs.Standing.{HasDistinctIds};
+ghost use Rattle.intervals.specs.Refusal.{reply_to, to_kind_refusal, write_refusal, ok_unless};
+ghost use Rattle.intervals.specs.Standing.{HasDistinctIds, StandApart};
 ghost use Rattle.intervals.specs.Kind.{Holds};
 ghost use Rattle.zones.specs.Turn.{IsOrder};
 ghost use Rattle.register_book.specs.Judge.{held_by, IsOfItsKind, HasNonePrepared};
-ghost use Rattle.register_book.specs.Kept.{most_steps};
+ghost use Rattle.register_book.specs.Kept.{claimed_of, most_steps};
 ghost use Rattle.register_book.specs.Fault.{IsWitness};
 
 use crate::Witness;
@@ -40,12 +40,31 @@ impl<'t> Judge<'t> {
         }
     }
 
-    pub fn kind(&self) -> Kind
-        ensures { result ≡ (held_by self.now).claim.kind }
+    /// A judge of the same operations under a kind that nothing refuses to claim.
+    pub fn as_kind(&self, alloc: Global, kind: Kind) -> Result<Self, Memory>
+        requires apart { StandApart (held_by self.now).claim (held_by self.now).ops }
+        requires accepted { to_kind_refusal kind (held_by self.now).claim (held_by self.now).ops ≡ None }
+        ensures held { IfOk result (λ judge. claimed_of (held_by judge) ≡ record { claim = record (held_by self.now).claim { kind = kind }; ops = (held_by self.now).ops }) }
+        ensures kind { IfOk result IsOfItsKind }
+        ensures none_prepared { IfOk result HasNonePrepared }
+    {
+        let mut claim = self.claim().try_clone(alloc)?;
+        claim.kind = kind;
+        let mut judge = Judge::new(alloc, &claim)?;
+        for slot in self.operations().slots() {
+            if let Some(op) = slot {
+                judge.admit(Edit::Append(*op))?;
+            }
+        }
+        Ok(judge)
+    }
+
+    pub fn claim(&self) -> &Claim
+        ensures { terms_of result.now ≡ (held_by self.now).claim }
     {
         match self {
-            Judge::One(judge) => judge.claim().kind,
-            Judge::Many(clusters) => clusters.claim().kind,
+            Judge::One(judge) => judge.claim(),
+            Judge::Many(clusters) => clusters.claim(),
         }
     }
 

@@ -12,7 +12,8 @@
 //!
 //! The second row of `tests.rt` is this history, and the rows below it show each refusal. An atomic
 //! register that holds gives an order of its operations too; one that fails names an unwritten read, an
-//! early one, or four operations that no order has room for: the rows that begin with `atomic`.
+//! early one, or four operations that no order has room for: the rows that begin with `atomic`. A claim of
+//! another kind is an edit like the others: the operations are judged by it from there on.
 //!
 //! Begin with `specs/Reply.antt` and `specs/Fault.antt`: what an edit is answered, and which operations
 //! show that a register fails. Their words are those of `intervals` and `zones`. Then come the calls, in
@@ -20,7 +21,7 @@
 //!
 //! The rest is the book's own affair. `judge.rt` asks the judge of the claimed kind: `zones::Clusters`
 //! of an atomic register, `safe_regular::SingleWriterJudge` of the other two. Both keep the operations,
-//! make room for an edit first and change in place then. `many_writers.rt` and `one_writer.rt` find
+//! make room for an edit first and change in place then. `refused.rt` asks them and the table why an edit is refused. `many_writers.rt` and `one_writer.rt` find
 //! the operations of a fault.
 #![tactic(auto)]
 

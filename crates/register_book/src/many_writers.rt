@@ -5,7 +5,7 @@ ghost use Rattle.intervals.specs.Standing.{HasDistinctIds};
 ghost use Rattle.intervals.specs.Kind.{Holds};
 ghost use Rattle.zones.specs.Fault.{first_unwritten as first_unwritten_of, first_early as first_early_of};
 ghost use Rattle.register_book.specs.Fault.{IsWitness, op_at};
-ghost use Rattle.register_book.specs.Judge.{found_by, pair_by};
+ghost use Rattle.register_book.specs.Judge.{pair_by};
 
 use crate::{Side, Witness};
 use intervals::{Kind, Op, OpId, OpTable};
@@ -56,7 +56,7 @@ fn first_unwritten<'t>(clusters: &Clusters<'t>) -> Option<Op<'t>>
     ensures { result ≡ first_unwritten_of clusters.now.claim.initial clusters.now.ops }
 {
     first_unwritten_ended_first();
-    op_by(clusters.operations(), clusters.first_unwritten())
+    clusters.operations().find(clusters.first_unwritten())
 }
 
 /// The early read that ended first, and the write of its value.
@@ -66,13 +66,6 @@ fn first_early<'t>(clusters: &Clusters<'t>) -> Option<(Op<'t>, Op<'t>)>
 {
     first_early_ended_first();
     ops_by(clusters.operations(), clusters.first_early())
-}
-
-/// The operation of that id, where one is given.
-fn op_by<'t>(ops: &OpTable<'t>, id: Option<OpId>) -> Option<Op<'t>>
-    ensures { result ≡ found_by ops.now.ops id }
-{
-    ops.get(id?).copied()
 }
 
 /// The operations of two ids, where they are given.

@@ -1,22 +1,38 @@
 //! Which edits are refused.
 
-ghost use Rattle.std.specs.Prelude.{◌≡◌};
+ghost use Rattle.std.specs.Prelude.{◌≡◌, ◌≢◌, [], None, IfOk, OnErr, IsTrue, option_map};
 ghost use Rattle.intervals.specs.Edit.{new_op};
-ghost use Rattle.intervals.specs.Refusal.{reply_to, first_refusal, new_write_refusal, write_refusal};
+ghost use Rattle.intervals.specs.Refusal.{reply_to, first_refusal, new_write_refusal, write_refusal, claim_refusal, one_writer_refusal, repeat_claimed, first_repeat};
+ghost use Rattle.intervals.specs.Standing.{StandApart};
 ghost use Rattle.register_book.specs.Judge.{held_by};
+ghost use Rattle.register_book.specs.Reply.{IsTurn};
 
 use crate::judge::Judge;
-use intervals::{Edit, Op, OpTable, Refusal};
+use intervals::laws::{first_overlap_began_first, first_repeat_was_appended_first};
+use intervals::{Edit, Kind, Memory, Op, OpTable, Refusal};
+use std::alloc::Global;
 
-/// The first refusal that holds of the edit.
-pub fn refusal_of<'t>(judge: &Judge<'t>, edit: &Edit<'t>) -> Option<Refusal>
-    ensures { result ≡ reply_to (held_by judge.now).claim (held_by judge.now).ops edit.now }
+/// The first refusal that holds of the edit. A claim of a register to be atomic that was not alone may want memory,
+/// and then nothing refuses it.
+pub fn refusal_of<'t>(
+    alloc: Global,
+    judge: &Judge<'t>,
+    edit: &Edit<'t>,
+) -> Result<Option<Refusal>, Memory>
+    requires { StandApart (held_by judge.now).claim (held_by judge.now).ops }
+    ensures refusal { IfOk result (λ refusal. refusal ≡ reply_to (held_by judge.now).claim (held_by judge.now).ops edit.now) }
+    ensures memory { OnErr result (reply_to (held_by judge.now).claim (held_by judge.now).ops edit.now ≡ None) }
+    ensures turn { OnErr result (IsTurn (held_by judge.now).claim.kind edit.now) }
 {
     let refusal = list_refusal(judge.operations(), edit);
     if refusal.is_some() {
-        return refusal;
+        return Ok(refusal);
     }
-    new_write_refusal_of(judge, edit)
+    let refusal = new_write_refusal_of(judge, edit);
+    if refusal.is_some() {
+        return Ok(refusal);
+    }
+    claim_refusal_of(alloc, judge, edit)
 }
 
 /// The first refusal that the list alone decides.
@@ -42,4 +58,60 @@ fn judged_refusal(judge: &Judge, op: &Op) -> Option<Refusal>
     ensures { result ≡ write_refusal (held_by judge.now).claim (held_by judge.now).ops op.now }
 {
     judge.check_write(op).err()
+}
+
+/// The first refusal that a claim meets.
+fn claim_refusal_of<'t>(
+    alloc: Global,
+    judge: &Judge<'t>,
+    edit: &Edit<'t>,
+) -> Result<Option<Refusal>, Memory>
+    requires { StandApart (held_by judge.now).claim (held_by judge.now).ops }
+    ensures refusal { IfOk result (λ refusal. refusal ≡ claim_refusal (held_by judge.now).claim (held_by judge.now).ops edit.now) }
+    ensures memory { OnErr result (claim_refusal (held_by judge.now).claim (held_by judge.now).ops edit.now ≡ None) }
+    ensures turn { OnErr result (IsTurn (held_by judge.now).claim.kind edit.now) }
+{
+    let Edit::Claim(kind) = edit else {
+        return Ok(None);
+    };
+    if judge.claim().fixed {
+        return Ok(Some(Refusal::ClaimFixed));
+    }
+    match kind {
+        Kind::Safe | Kind::Regular => Ok(refusal_of_one_writer(judge)),
+        Kind::Atomic => refusal_of_atomic(alloc, judge),
+    }
+}
+
+/// The first refusal of a claim to be safe or regular. Of such a register no writes overlap.
+fn refusal_of_one_writer(judge: &Judge) -> Option<Refusal>
+    requires { StandApart (held_by judge.now).claim (held_by judge.now).ops }
+    ensures { result ≡ one_writer_refusal (held_by judge.now).claim (held_by judge.now).ops }
+{
+    first_overlap_began_first();
+    if !judge.claim().writers.is_one() {
+        return Some(Refusal::ClaimWriters);
+    }
+    if judge.claim().kind != Kind::Atomic {
+        return None;
+    }
+    let (write, other) = judge.operations().first_overlap()?;
+    Some(Refusal::ClaimOverlap(write, other))
+}
+
+/// The refusal of a claim to be atomic. Of such a register no value is repeated.
+fn refusal_of_atomic(alloc: Global, judge: &Judge) -> Result<Option<Refusal>, Memory>
+    requires { StandApart (held_by judge.now).claim (held_by judge.now).ops }
+    ensures refusal { IfOk result (λ refusal. refusal ≡ option_map repeat_claimed (first_repeat (held_by judge.now).claim [] (held_by judge.now).ops)) }
+    ensures memory { OnErr result (first_repeat (held_by judge.now).claim [] (held_by judge.now).ops ≡ None) }
+    ensures turn { OnErr result ((held_by judge.now).claim.kind ≢ Kind.Atomic) }
+{
+    first_repeat_was_appended_first();
+    if judge.claim().kind == Kind::Atomic {
+        return Ok(None);
+    }
+    match judge.operations().first_repeat(alloc, judge.claim())? {
+        Some((write, holder)) => Ok(Some(Refusal::ClaimRepeats(write, holder))),
+        None => Ok(None),
+    }
 }

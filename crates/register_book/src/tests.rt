@@ -142,6 +142,9 @@ fn amend(id: OpId, words: Words, lent: Lent<'static>) -> Edit<'static> {
 fn edit_of(step: &'static str) -> Edit<'static> {
     let mut rest = step.split(' ');
     let verb = rest.next().unwrap_or("");
+    if verb == "claim" {
+        return Edit::Claim(kind_of(rest.next()));
+    }
     let id = id(rest.next().unwrap_or(""));
     let mut words = NONE;
     for word in rest {
@@ -164,32 +167,42 @@ fn kind_of(word: Option<&str>) -> Kind {
 }
 
 /// Process 0 alone may write a register that is not atomic.
-fn writers_of(alloc: Global, kind: Kind) -> Result<Writers, Memory> {
-    match kind {
-        Kind::Atomic => Ok(Writers::Any),
-        _ => Ok(Writers::Listed(vec![in alloc; 0]?)),
+fn writers_of(alloc: Global, is_one: bool) -> Result<Writers, Memory> {
+    if is_one {
+        return Ok(Writers::Listed(vec![in alloc; 0]?));
     }
+    Ok(Writers::Any)
 }
 
-/// A claim, as `regular 0 0,1,2` or `atomic nil`.
+fn values_of(alloc: Global, words: &str) -> Result<Vec<Value>, Memory> {
+    let mut values = Vec::new(alloc);
+    for word in words.split(',') {
+        values.push(value(word))?;
+    }
+    Ok(values)
+}
+
+/// A claim, as `regular 0 0,1,2`, `atomic nil` or `atomic nil one fixed`: the initial value, the domain, whether
+/// an atomic register has one writer, and whether the claim is fixed.
 fn claim_of(alloc: Global, text: &str) -> Result<Claim, Memory> {
     let mut rest = text.split(' ');
     let kind = kind_of(rest.next());
     let initial = value(rest.next().unwrap_or("nil"));
-    let mut domain = None;
-    if let Some(words) = rest.next() {
-        let mut values = Vec::new(alloc);
-        for word in words.split(',') {
-            values.push(value(word))?;
-        }
-        domain = Some(values);
-    }
-    Ok(Claim {
+    let mut claim = Claim {
         kind,
-        writers: writers_of(alloc, kind)?,
+        writers: writers_of(alloc, kind != Kind::Atomic)?,
         initial,
-        domain,
-    })
+        domain: None,
+        fixed: false,
+    };
+    for word in rest {
+        match word {
+            "fixed" => claim.fixed = true,
+            "one" => claim.writers = writers_of(alloc, true)?,
+            _ => claim.domain = Some(values_of(alloc, word)?),
+        }
+    }
+    Ok(claim)
 }
 
 /// What stands after an edit that is accepted.
@@ -259,7 +272,8 @@ fn is_as_anew<R: AllocGlobal + Abort>(rt: &R, beside: &Beside) -> Result<bool, M
     let fault = fault_anew(rt, &beside.claim, beside.ops.as_slice())?;
     let is_ordered = beside.claim.kind == Kind::Atomic && fault.is_none();
     Ok(
-        beside.book.len() == beside.ops.len()
+        beside.book.kind() == beside.claim.kind
+            && beside.book.len() == beside.ops.len()
             && beside.book.fault() == fault
             && beside.book.holds() == fault.is_none()
             && ids_of(beside.book.witness()) == fault
@@ -274,6 +288,9 @@ fn carry_out<R: AllocGlobal + Abort>(
 ) -> Result<Reply, Memory> {
     let reply = beside.book.apply(edit)?;
     if let Reply::Accepted { holds } = reply {
+        if let Edit::Claim(kind) = edit {
+            beside.claim.kind = kind;
+        }
         beside.ops = list_after(rt.alloc(), beside.ops.as_slice(), &edit)?;
         assert!(rt; holds == beside.book.holds());
     }
@@ -294,6 +311,14 @@ fn tell_refusal(told: &mut Vec<u8>, refusal: Refusal) {
         }
         Refusal::WritesOverlap(id) => tell_id(told, id),
         Refusal::ValueTaken(holder) => tell_holder(told, holder),
+        Refusal::ClaimOverlap(write, other) => {
+            tell_id(told, write);
+            tell_id(told, other);
+        }
+        Refusal::ClaimRepeats(write, holder) => {
+            tell_id(told, write);
+            tell_holder(told, holder);
+        }
         _ => {}
     }
 }
@@ -582,7 +607,15 @@ atomic nil | append 0:0 p0 w1 b0 e1; append 0:2 p1 r5 b2 e9; append 0:4 p2 r6 b4
 atomic nil | append 0:0 p0 w1 b0 e1; append 0:2 p1 r1 b2 e3; withdraw 0:0; append 0:4 p2 w1 b4 e5; withdraw 0:4; append 0:0 p3 w1 b0 e1; order => holds, holds, fails unwritten 0:2, fails early 0:2 0:4, fails unwritten 0:2, holds, order 0:0 0:2, 2 stand
 atomic nil | append 0:0 p0 w1 b0 e1; append 0:2 p1 r1 b2 e3; append 0:4 p0 w2 b4 e5; amend 0:4 v1; amend 0:0 v3; amend 0:4 v1; amend 0:4 v2; amend 0:0 v1; order => holds, holds, holds, X8 ValueTaken 0:0, fails unwritten 0:2, fails early 0:2 0:4, fails unwritten 0:2, holds, order 0:0 0:2 0:4, 3 stand
 atomic nil 0,1 | append 0:0 p0 w b0; append 0:0 p5 w2 b0; append 0:0 p5 w1 b0; append 0:1 p6 w1 b1; append 0:1 p6 w0 b1; amend 0:1 v0; append 0:2 p7 r2 b2; order => X8 ValueTaken initial, X9 OutOfDomain, holds, X8 ValueTaken 0:0, holds, holds, holds, order 0:0 0:1, 3 stand
-two writes | order => no order, 3 stand";
+two writes | order => no order, 3 stand
+safe 0 0,1,2 | append 0:0 p0 w1 b0 e1; append 0:2 p0 w2 b2 e9; append 0:3 p1 r2 b3 e4; append 0:5 p1 r1 b5 e6; claim regular; claim atomic; claim regular; claim safe; claim safe; claim atomic; withdraw 0:5; order; claim safe; order => holds, holds, holds, holds, holds, fails crossing 0:0 0:3 0:3 0:5, holds, holds, holds, fails crossing 0:0 0:3 0:3 0:5, holds, order 0:0 0:2 0:3, holds, no order, 3 stand
+regular 0 0,1,7 | append 0:0 p0 w1 b0 e3; append 0:1 p1 r7 b1 e2; claim safe; claim atomic; claim regular; claim atomic => holds, fails 0:1, holds, fails unwritten 0:1, fails 0:1, fails unwritten 0:1, 2 stand, unwritten 0:1 r7 1-2 (append 0:1 p1 r7 b1 e2)
+atomic 0 one | append 0:0 p0 w1 b0 e1; claim regular; append 0:2 p0 w1 b2 e3; claim atomic; amend 0:2 v2; claim atomic; append 0:4 p0 w2 b4 e5; claim safe; append 0:4 p0 w2 b3; append 0:5 p0 w2 b5 => holds, holds, holds, X13 ClaimRepeats 0:2 0:0, holds, holds, X8 ValueTaken 0:2, holds, X4 MomentTaken 3 0:2, holds, 3 stand
+regular 0 0,1 fixed | claim safe; claim regular; claim atomic => X10 ClaimFixed, X10 ClaimFixed, X10 ClaimFixed, 0 stand
+atomic nil fixed | append 0:0 p0 w1 b0; append 0:1 p1 w2 b1; claim safe => holds, holds, X10 ClaimFixed, 2 stand
+atomic nil | append 0:0 p0 w1 b0; append 0:1 p1 w2 b1; claim safe; claim regular; claim atomic => holds, holds, X11 ClaimWriters, X11 ClaimWriters, holds, 2 stand
+atomic nil one | append 0:5 p0 w1 b50; append 0:6 p0 w2 b60; append 0:2 p0 w3 b20 e29; append 0:3 p0 w4 b25 e35; claim regular; amend 0:3 b30; claim safe; amend 0:5 e55; claim safe => holds, holds, holds, holds, X12 ClaimOverlap 0:2 0:3, holds, X12 ClaimOverlap 0:5 0:6, holds, holds, 4 stand
+regular 0 | append 0:4 p0 w2 b40 e41; append 0:0 p0 w1 b0 e1; append 0:2 p0 w1 b2 e3; append 0:6 p0 w2 b6 e7; claim atomic; withdraw 0:2; claim atomic; amend 0:4 v0; claim atomic; amend 0:4 v3; claim atomic => holds, holds, holds, holds, X13 ClaimRepeats 0:2 0:0, holds, X13 ClaimRepeats 0:6 0:4, holds, X13 ClaimRepeats 0:4 initial, holds, holds, 3 stand";
 
 fn is_told<R: AllocGlobal + Abort>(rt: &R, row: &'static str, want: &str) -> Result<bool, Memory> {
     let mut told = Vec::new(rt.alloc());
@@ -635,7 +668,7 @@ impl Dice {
             ..NONE
         };
         let lent = Lent::Amendment(b"");
-        match self.roll() % 11 {
+        match self.roll() % 12 {
             0 => append(id, at(None, Some(from), None), ""),
             1 => append(id, written(value, from, None), ""),
             2 => append(id, returned(value, from, to), ""),
@@ -646,7 +679,16 @@ impl Dice {
             7 => amend(id, at(None, None, Some(None)), lent),
             8 => amend(id, at(None, Some(from), Some(to)), lent),
             9 => amend(id, at(Some(value), None, None), lent),
+            10 => Edit::Claim(self.kind()),
             _ => Edit::Withdraw(id),
+        }
+    }
+
+    fn kind(&mut self) -> Kind {
+        match self.roll() % 3 {
+            0 => Kind::Safe,
+            1 => Kind::Regular,
+            _ => Kind::Atomic,
         }
     }
 }
@@ -667,29 +709,19 @@ fn returned(value: Value, from: Moment, to: Option<Moment>) -> Words {
     }
 }
 
-/// How many edits were accepted, and how often there was another fault than before.
+/// How many edits were accepted, how often there was another fault than before, and another kind.
 #[derive(Clone, Copy)]
 struct Counts {
     accepted: u32,
     turns: u32,
+    kinds: u32,
 }
 
-fn counted(counts: Counts, reply: Reply, is_turned: bool) -> Counts {
-    Counts {
-        accepted: match reply {
-            Reply::Accepted { .. } => counts.accepted.wrapping_add(1),
-            Reply::Refused(_) => counts.accepted,
-        },
-        turns: if is_turned {
-            counts.turns.wrapping_add(1)
-        } else {
-            counts.turns
-        },
+fn counted(count: u32, is_one: bool) -> u32 {
+    if is_one {
+        return count.wrapping_add(1);
     }
-}
-
-fn is_fault(book: &RegisterBook<'static>, fault: Option<Fault>) -> bool {
-    book.fault() == fault
+    count
 }
 
 fn carry_out_one<R: AllocGlobal + Abort>(
@@ -698,9 +730,15 @@ fn carry_out_one<R: AllocGlobal + Abort>(
     counts: Counts,
     edit: Edit<'static>,
 ) -> Result<Counts, Memory> {
-    let before = beside.book.fault();
+    let fault = beside.book.fault();
+    let kind = beside.book.kind();
     let reply = carry_out(rt, beside, edit)?;
-    Ok(counted(counts, reply, !is_fault(&beside.book, before)))
+    let is_refused = matches!(reply, Reply::Refused(_));
+    Ok(Counts {
+        accepted: counted(counts.accepted, !is_refused),
+        turns: counted(counts.turns, beside.book.fault() != fault),
+        kinds: counted(counts.kinds, beside.book.kind() != kind),
+    })
 }
 
 /// Many edits, each beside the list judged anew.
@@ -718,6 +756,7 @@ fn judged_anew<R: AllocGlobal + Abort>(
     let mut counts = Counts {
         accepted: 0,
         turns: 0,
+        kinds: 0,
     };
     for _ in 0..600 {
         counts = carry_out_one(rt, &mut beside, counts, dice.edit())?;
@@ -727,11 +766,17 @@ fn judged_anew<R: AllocGlobal + Abort>(
 
 #[test]
 fn each_verdict_is_that_of_the_list_judged_anew(rt: HostRuntime) -> Result<(), Fail> {
-    for (claim, values) in [("safe 0 0,1", 3), ("regular 0 0,1", 3), ("atomic 0", 8)] {
+    for (claim, values, kinds) in [
+        ("safe 0 0,1", 3, 10),
+        ("regular 0 0,1", 3, 10),
+        ("atomic 0", 8, 0),
+        ("atomic 0 one", 30, 10),
+    ] {
         for seed in [1, 2, 3] {
             let counts = judged_anew(&rt, claim, values, seed)?;
             assert!(rt; counts.accepted > 100);
             assert!(rt; counts.turns > 20);
+            assert!(rt; counts.kinds >= kinds);
         }
     }
     Ok(())
@@ -752,11 +797,11 @@ fn retried(
     book: &mut RegisterBook<'static>,
     edit: Edit<'static>,
 ) -> Result<Reply, Memory> {
-    let before = (book.len(), book.steps(), book.fault());
+    let before = (book.kind(), book.len(), book.steps(), book.fault());
     match book.apply(edit) {
         Ok(reply) => Ok(reply),
         Err(Memory) => {
-            assert!(rt; (book.len(), book.steps(), book.fault()) == before);
+            assert!(rt; (book.kind(), book.len(), book.steps(), book.fault()) == before);
             book.apply(edit)
         }
     }
@@ -777,7 +822,12 @@ answer 0:1 v7 e3 => fails
 append 0:2 p0 w7 b4 => fails
 answer 0:1 v7 e5 => holds
 withdraw 0:2 => fails
-withdraw 0:1 => holds";
+claim safe => holds
+claim atomic => fails
+claim regular => fails
+claim regular => fails
+withdraw 0:1 => holds
+claim atomic => holds";
 
 fn each_is_said(rt: &impl Abort, book: &mut RegisterBook<'static>) -> Result<(), Memory> {
     for line in STEPS.lines() {
@@ -791,11 +841,11 @@ fn each_is_said(rt: &impl Abort, book: &mut RegisterBook<'static>) -> Result<(),
 /// To be run with each allocation refused in turn.
 #[test]
 fn refused_memory_changes_nothing(rt: HostRuntime) -> Result<(), Fail> {
-    for claim in ["regular 0 0,1,7", "atomic 0 0,1,7"] {
+    for claim in ["regular 0 0,1,7", "atomic 0 0,1,7 one"] {
         let mut book = at_last(&rt, claim)?;
         each_is_said(&rt, &mut book)?;
         assert!(rt; book.len() == 1);
-        assert!(rt; has_order(&rt, &book)? == claim.starts_with("atomic"));
+        assert!(rt; has_order(&rt, &book)?);
     }
     Ok(())
 }

@@ -7,29 +7,28 @@ use Rattle.intervals.specs.declared.operation.Op.{Op}
 use Rattle.intervals.specs.declared.operation.OpId.{OpId}
 use Rattle.intervals.specs.declared.edit.Change.{Change}
 use Rattle.intervals.specs.declared.edit.Edit.{Edit}
-use Rattle.intervals.specs.declared.edit.Edit.TheVariants.{Append, Amend, Withdraw}
+use Rattle.intervals.specs.declared.edit.Edit.TheVariants.{Append, Amend, Withdraw, Claim}
 use Rattle.intervals.specs.Operation.{same_id}
-use Rattle.intervals.specs.Edit.{op_of, amended, changed, edited, new_op, edit_id}
+use Rattle.intervals.specs.Edit.{op_of, found_by, has_id, amended, changed, edited, new_op, edit_id}
 use Rattle.intervals.specs.Refusal.{first_refusal, moments_refusal}
 use Rattle.intervals.specs.Standing.{HasDistinctIds}
-use Rattle.intervals.proofs.Found.{find-Some}
-use Rattle.intervals.proofs.Ids.{same_id-refl, found_alike, found_by_id, not_taken, none_of}
+use Rattle.intervals.proofs.Ids.{same_id-refl, found_alike, found_by_id, not_taken, none_of, found_stands, found_again}
 use Rattle.safe_regular.specs.Apart.{AreApart}
 use Rattle.safe_regular.specs.Writes.{IsAddedOf}
 use Rattle.safe_regular.proofs.Lists.{kept, kept_stands}
 
-abbrev is_other : OpId → Op → Bool
-is_other id op = not (same_id op.id id)
+abbrev is_other : Option OpId → Op → Bool
+is_other id op = not (has_id id op)
 
 -- the operations of other ids
-abbrev pub others_of : List Op → OpId → List Op
+abbrev pub others_of : List Op → Option OpId → List Op
 others_of ops id = filter (is_other id) ops
 
 -- it is among the others, or it is the one
 abbrev pub IsAmong : List Op → Option Op → Op → Type 0
 IsAmong others one x = Contains others x ⊎ (one ≡ Some x)
 
-pub other_stands : (ops : List Op) (id : OpId) (x : Op) → Contains (others_of ops id) x → Contains ops x
+pub other_stands : (ops : List Op) (id : Option OpId) (x : Op) → Contains (others_of ops id) x → Contains ops x
 other_stands ops id x h = kept_stands (is_other id) ops x h
 
 kept_passes : (test : Op → Bool) (ops : List Op) (x : Op) → Contains (filter test ops) x → test x ≡ true
@@ -44,21 +43,18 @@ kept_passes test (a ∷ ops) x h = by_cases (test a) refl h (kept_passes test op
     by_cases true t h rest = first t h rest
     by_cases false t h rest = rest h
 
-pub other_apart : (ops : List Op) (id : OpId) (x : Op) → Contains (others_of ops id) x → same_id x.id id ≡ false
-other_apart ops id x h = not-true (same_id x.id id) (kept_passes (is_other id) ops x h)
+pub other_apart : (ops : List Op) (id : Option OpId) (x : Op) → Contains (others_of ops id) x → has_id id x ≡ false
+other_apart ops id x h = not-true (has_id id x) (kept_passes (is_other id) ops x h)
 
-pub in_others : (ops : List Op) (id : OpId) (x : Op) → Contains ops x → same_id x.id id ≡ false → Contains (others_of ops id) x
-in_others ops id x h apart = kept (is_other id) ops x h (not_from_false (same_id x.id id) apart)
+pub in_others : (ops : List Op) (id : Option OpId) (x : Op) → Contains ops x → has_id id x ≡ false → Contains (others_of ops id) x
+in_others ops id x h apart = kept (is_other id) ops x h (not_from_false (has_id id x) apart)
 
 -- before the edit
-pub old_stands : (ops : List Op) (id : OpId) (x : Op) → op_of ops id ≡ Some x → Contains ops x × (same_id x.id id ≡ true)
-old_stands ops id x e = find-Some (λ op. same_id op.id id) ops x e
-
-pub before_cases : (ops : List Op) (id : OpId) → HasDistinctIds ops → (x : Op) → Contains ops x → IsAmong (others_of ops id) (op_of ops id) x
-before_cases ops id distinct x h = by_cases (cases_Bool (same_id x.id id))
+pub before_cases : (ops : List Op) (id : Option OpId) → HasDistinctIds ops → (x : Op) → Contains ops x → IsAmong (others_of ops id) (found_by ops id) x
+before_cases ops id distinct x h = by_cases (cases_Bool (has_id id x))
   where
-    by_cases : (same_id x.id id ≡ true) ⊎ (same_id x.id id ≡ false) → IsAmong (others_of ops id) (op_of ops id) x
-    by_cases (inl t) = inr (sym (found_alike ops x.id id t) ∙ found_by_id ops x distinct h)
+    by_cases : (has_id id x ≡ true) ⊎ (has_id id x ≡ false) → IsAmong (others_of ops id) (found_by ops id) x
+    by_cases (inl t) = inr (found_again ops id x distinct h t)
     by_cases (inr f) = inl (in_others ops id x h f)
 
 -- an amendment changes the operation of its id and no other
@@ -84,38 +80,41 @@ from_changed change (Some a) x e = (a, refl, (cc))
 
 -- after the edit
 pub other_after : (ops : List Op) (edit : Edit) (x : Op) → Contains (others_of ops (edit_id edit)) x → Contains (edited ops edit) x
-other_after ops (Append op) x h = Contains-append_left ops (op ∷ []) x (other_stands ops op.id x h)
+other_after ops (Append op) x h = Contains-append_left ops (op ∷ []) x (other_stands ops (Some op.id) x h)
 other_after ops (Amend id change) x h =
-    subst (λ (o : Op). Contains (map (amended id change) ops) o) (amended_other id change x (other_apart ops id x h)) (in_image (amended id change) ops x (other_stands ops id x h))
+    subst (λ (o : Op). Contains (map (amended id change) ops) o) (amended_other id change x (other_apart ops (Some id) x h)) (in_image (amended id change) ops x (other_stands ops (Some id) x h))
 other_after ops (Withdraw id) x h = h
+other_after ops (Claim kind) x h = other_stands ops None x h
 
-pub new_stands : (ops : List Op) (edit : Edit) (x : Op) → new_op ops edit ≡ Some x → Contains (edited ops edit) x × (same_id x.id (edit_id edit) ≡ true)
+pub new_stands : (ops : List Op) (edit : Edit) (x : Op) → new_op ops edit ≡ Some x → Contains (edited ops edit) x × (has_id (edit_id edit) x ≡ true)
 new_stands ops (Append op) x e = let same : op ≡ x = cc in subst (λ (o : Op). Contains (ops ++ op ∷ []) o × (same_id o.id op.id ≡ true)) same (Contains-push ops op, same_id-refl op.id)
 new_stands ops (Amend id change) x e =
     let a = from_changed change (op_of ops id) x e in
-    let old = old_stands ops id a.0 a.1 in
+    let old = found_stands ops (Some id) a.0 a.1 in
     subst (λ (o : Op). Contains (map (amended id change) ops) o × (same_id o.id id ≡ true)) a.2
     (subst (λ (o : Op). Contains (map (amended id change) ops) o) (amended_one id change a.0 old.1) (in_image (amended id change) ops a.0 old.0), old.1)
 new_stands ops (Withdraw id) x e = absurd (cc)
+new_stands ops (Claim kind) x e = absurd (cc)
 
 pub after_cases : (ops : List Op) (edit : Edit) → HasDistinctIds ops → first_refusal ops edit ≡ None → (x : Op) → Contains (edited ops edit) x → IsAmong (others_of ops (edit_id edit)) (new_op ops edit) x
 after_cases ops (Append op) distinct accepted x h = by_cases (Contains-push_cases ops op x h)
   where
-    by_cases : Contains ops x ⊎ (op ≡ x) → IsAmong (others_of ops op.id) (Some op) x
-    by_cases (inl stands) = inl (in_others ops op.id x stands
+    by_cases : Contains ops x ⊎ (op ≡ x) → IsAmong (others_of ops (Some op.id)) (Some op) x
+    by_cases (inl stands) = inl (in_others ops (Some op.id) x stands
         (All-contains (λ o. same_id o.id op.id ≡ false) ops x (none_of ops op.id (not_taken (op_of ops op.id) (moments_refusal ops op) accepted)) stands))
     by_cases (inr e) = inr (ap Some e)
 after_cases ops (Amend id change) distinct accepted x h = let a = from_image (amended id change) ops x h in by_cases a.0 a.1 a.2 (cases_Bool (same_id a.0.id id))
   where
-    by_cases : (a : Op) → Contains ops a → amended id change a ≡ x → (same_id a.id id ≡ true) ⊎ (same_id a.id id ≡ false) → IsAmong (others_of ops id) (new_op ops (Amend id change)) x
+    by_cases : (a : Op) → Contains ops a → amended id change a ≡ x → (same_id a.id id ≡ true) ⊎ (same_id a.id id ≡ false) → IsAmong (others_of ops (Some id)) (new_op ops (Amend id change)) x
     by_cases a stands e (inl t) =
         inr (ap (option_map (λ op. changed op change)) (sym (found_alike ops a.id id t) ∙ found_by_id ops a distinct stands) ∙ ap Some (sym (amended_one id change a t) ∙ e))
-    by_cases a stands e (inr f) = inl (subst (λ (o : Op). Contains (others_of ops id) o) (sym (amended_other id change a f) ∙ e) (in_others ops id a stands f))
+    by_cases a stands e (inr f) = inl (subst (λ (o : Op). Contains (others_of ops (Some id)) o) (sym (amended_other id change a f) ∙ e) (in_others ops (Some id) a stands f))
 after_cases ops (Withdraw id) distinct accepted x h = inl h
+after_cases ops (Claim kind) distinct accepted x h = inl (in_others ops None x h refl)
 
 -- the writes of a list that has one more than the others
-module _ (others : List Op) (id : OpId) (others_apart : (x : Op) → Contains others x → same_id x.id id ≡ false) where
-  pub added_of : (one : Option Op) (ops : List Op) → AreApart ops → ((x : Op) → Contains others x → Contains ops x) → ((x : Op) → one ≡ Some x → Contains ops x × (same_id x.id id ≡ true))
+module _ (others : List Op) (id : Option OpId) (others_apart : (x : Op) → Contains others x → has_id id x ≡ false) where
+  pub added_of : (one : Option Op) (ops : List Op) → AreApart ops → ((x : Op) → Contains others x → Contains ops x) → ((x : Op) → one ≡ Some x → Contains ops x × (has_id id x ≡ true))
       → ((x : Op) → Contains ops x → IsAmong others one x) → IsAddedOf others one ops
   added_of None ops apart stay stands cases = record { kept = λ v write h. stay v h; only = λ v write h. by_cases v (cases v h) }
     where
@@ -126,7 +125,7 @@ module _ (others : List Op) (id : OpId) (others_apart : (x : Op) → Contains ot
     added = λ write. (stands op refl).0;
     kept = λ v write h. stay v h;
     only = λ v write h. by_cases v (cases v h);
-    apart = λ write v h wv e. both_ways (same_id v.id id) (others_apart v h) (subst (λ (o : Op). same_id o.id id ≡ true) (sym (apart.one v op (stay v h) (stands op refl).0 wv write e)) (stands op refl).1);
+    apart = λ write v h wv e. both_ways (has_id id v) (others_apart v h) (subst (λ (o : Op). has_id id o ≡ true) (sym (apart.one v op (stay v h) (stands op refl).0 wv write e)) (stands op refl).1);
   }
     where
       by_cases : (v : Op) → IsAmong others (Some op) v → Contains others v ⊎ (v ≡ op)
@@ -134,8 +133,8 @@ module _ (others : List Op) (id : OpId) (others_apart : (x : Op) → Contains ot
       by_cases v (inr e) = inr (cc)
 
 -- the one that goes, and the one that comes
-pub goes : (ops : List Op) (id : OpId) → HasDistinctIds ops → AreApart ops → IsAddedOf (others_of ops id) (op_of ops id) ops
-goes ops id distinct apart = added_of (others_of ops id) id (other_apart ops id) (op_of ops id) ops apart (other_stands ops id) (old_stands ops id) (before_cases ops id distinct)
+pub goes : (ops : List Op) (id : Option OpId) → HasDistinctIds ops → AreApart ops → IsAddedOf (others_of ops id) (found_by ops id) ops
+goes ops id distinct apart = added_of (others_of ops id) id (other_apart ops id) (found_by ops id) ops apart (other_stands ops id) (found_stands ops id) (before_cases ops id distinct)
 
 pub comes : (ops : List Op) (edit : Edit) → HasDistinctIds ops → first_refusal ops edit ≡ None → AreApart (edited ops edit) → IsAddedOf (others_of ops (edit_id edit)) (new_op ops edit) (edited ops edit)
 comes ops edit distinct accepted apart =

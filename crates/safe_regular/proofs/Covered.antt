@@ -19,7 +19,7 @@ use Rattle.safe_regular.specs.Apart.{AreApart}
 use Rattle.safe_regular.specs.Held.{IsLow, AreOneWriters}
 use Rattle.safe_regular.specs.Line.{AreItems, counted, cover_item, end_of, initial_item, reach_by, read_item}
 use Rattle.safe_regular.specs.LookUp.{BeginsAfter, BeginsFrom, IsFirstOf, IsLast, NoneFits}
-use Rattle.safe_regular.proofs.Lists.{all_from}
+use Rattle.intervals.proofs.Members.{all_from}
 use Rattle.safe_regular.proofs.Apart.{begins_before, either_way, precedes_with}
 use Rattle.safe_regular.proofs.LookUp.{first_found}
 use Rattle.safe_regular.proofs.Members.{are_apart}

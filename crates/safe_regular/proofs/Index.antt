@@ -9,7 +9,7 @@ use Rattle.intervals.specs.Operation.{IsWrite}
 use Rattle.safe_regular.specs.LookUp.{BeginsFrom, BeginsAfter, NoneFits, IsLast, IsFirst, IsFirstOf}
 use Rattle.safe_regular.specs.Writes.{IsAdded}
 use Rattle.safe_regular.specs.Index.{IsIndex, IsLastAt, IsFirstAt}
-use Rattle.safe_regular.proofs.Members.{same_moment}
+use Rattle.intervals.proofs.Members.{same_moment}
 
 -- a property of writes that is one of their beginnings
 module _ (Fits : Op → Type 0) (Q : Moment → Type 0) (says : (w : Op) → Fits w → Q w.begin) (met : (w : Op) → Q w.begin → Fits w)

@@ -7,10 +7,6 @@ use Rattle.intervals.specs.Edit.{op_of}
 use Rattle.intervals.specs.Standing.{HasDistinctIds}
 use Rattle.intervals.proofs.Ids.{found_by_id}
 
--- of all and of those that stand
-pub all_from : (P : Op → Type 0) (ops : List Op) → ((op : Op) → Contains ops op → P op) → All P ops
-all_from P ops each k d lt = each (slice_index_or ops k d) (Contains-get_or ops k d lt)
-
 -- what a filter keeps
 pub kept : (test : Op → Bool) (ops : List Op) (op : Op) → Contains ops op → test op ≡ true → Contains (filter test ops) op
 kept test [] op h e = absurd (omega (arith, h.1))

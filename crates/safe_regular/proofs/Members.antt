@@ -12,26 +12,9 @@ use Rattle.intervals.specs.Operation.{Precedes, Overlaps, IsWrite, IsJudgedRead,
 use Rattle.intervals.specs.Judging.{end_number}
 use Rattle.intervals.specs.Standing.{ShareNoMoment, HasDistinctMoments, HasEndsAfterBeginnings, HasNoOverlappingWrites}
 use Rattle.intervals.proofs.Agreement.{Decides-precedes}
+use Rattle.intervals.proofs.Members.{one_or_so, same_moment, begin_apart, share_none}
 use Rattle.safe_regular.specs.Apart.{EndsAfterBeginning, AreApart, HasDistinctEnds}
 use Rattle.safe_regular.proofs.Apart.{either_way, begins_before}
-
--- of two members of a list whose pairs are so, they are one or they are so
-module _ (R : Op → Op → Type 0) (symmetric : (a b : Op) → R a b → R b a) (ops : List Op) (pairs : AllPairs R ops) where
-  at_indices : (a b : Op) (i j : ℕ) → slice_index_or ops i a ≡ a → slice_index_or ops j b ≡ b → i < j → j < length ops → R a b
-  at_indices a b i j p q lt lt' =
-      subst (λ (x : Op). R x b) (get_or_default ops i b a (omega arith) ∙ p) (subst (λ (y : Op). R (slice_index_or ops i b) y) q (pairs i j b lt lt'))
-
-  pub one_or_so : (a b : Op) → Contains ops a → Contains ops b → (a ≡ b) ⊎ R a b
-  one_or_so a b (i, i_in, p) (j, j_in, q) = by_cases (cases_order i j)
-    where
-      by_cases : (i ≡ j) ⊎ ((i < j) ⊎ (j < i)) → (a ≡ b) ⊎ R a b
-      by_cases (inl same) = inl (sym p ∙ get_or_default ops i a b i_in ∙ ap (λ (k : ℕ). slice_index_or ops k b) same ∙ q)
-      by_cases (inr (inl lt)) = inr (at_indices a b i j p q lt j_in)
-      by_cases (inr (inr gt)) = inr (symmetric b a (at_indices b a j i q p gt i_in))
-
--- moments of one number are one
-pub same_moment : (m n : Moment) → m.0 ≡ n.0 → m ≡ n
-same_moment m n e = ap (λ (k : ℕ). let moment : Moment = record { 0 = k } in moment) e
 
 -- an end that is there is the one of its number
 pub end_is : (end : Option Moment) → is_some end ≡ true → end ≡ Some (record { 0 = option_map_or (λ (e : Moment). e.0) end 0 })
@@ -39,19 +22,9 @@ end_is None e = absurd (cc)
 end_is (Some end) e = refl
 
 module _ (ops : List Op) (moments : HasDistinctMoments ops) where
-  share_none : (a b : Op) → Contains ops a → Contains ops b → (a ≡ b) ⊎ ShareNoMoment a b
-  share_none = one_or_so ShareNoMoment (λ a b none moment of_b of_a. none moment of_a of_b) ops moments
-
-  pub begin_apart : (a b : Op) → Contains ops a → Contains ops b → a.begin.0 ≡ b.begin.0 → a ≡ b
-  begin_apart a b sa sb e = by_cases (share_none a b sa sb)
-    where
-      by_cases : (a ≡ b) ⊎ ShareNoMoment a b → a ≡ b
-      by_cases (inl same) = same
-      by_cases (inr none) = absurd (none a.begin (inl refl) (inl (same_moment b.begin a.begin (sym e))))
-
   -- no two judged reads end at one moment
   pub distinct_ends : HasDistinctEnds ops
-  distinct_ends a b sa sb ja jb e = by_cases (share_none a b sa sb)
+  distinct_ends a b sa sb ja jb e = by_cases (share_none ops moments a b sa sb)
     where
       end_of : (r : Op) → IsJudgedRead r → r.end ≡ Some (record { 0 = end_number r })
       end_of r j = end_is r.end (and_parts _ (is_some r.end) j).1

@@ -32,7 +32,7 @@ use Rattle.safe_regular.specs.Held.{AreOneWriters}
 use Rattle.safe_regular.specs.Line.{AreItems, IsItem, counted, cover_item, has_rows, initial_item, moment_of, reach_by, read_item}
 use Rattle.safe_regular.specs.LookUp.{BeginsAfter, BeginsFrom, IsFirstOf, IsLast, NoneFits}
 use Rattle.safe_regular.proofs.Apart.{either_way}
-use Rattle.safe_regular.proofs.Members.{one_or_so, same_moment}
+use Rattle.intervals.proofs.Members.{one_or_so, same_moment}
 
 abbrev value_cmp : Value → Value → Ordering
 value_cmp = (value_ord.ghosts).cmp

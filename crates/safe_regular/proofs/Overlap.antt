@@ -16,7 +16,7 @@ use Rattle.intervals.proofs.Ids.{Decides-same_id_is}
 use Rattle.safe_regular.specs.Apart.{AreApart}
 use Rattle.safe_regular.specs.LookUp.{BeginsBefore, BeginsFrom, BeginsAfter, IsLast, IsFirst, IsLastOf, IsFirstOf, IsBeyondOf, AreBeside, beside_of}
 use Rattle.safe_regular.proofs.Apart.{either_way, precedes_later, begins_before, same_or_precedes}
-use Rattle.safe_regular.proofs.First.{least_among}
+use Rattle.intervals.proofs.LeastOf.{least_among}
 use Rattle.safe_regular.proofs.LookUp.{last_found, first_found, last_stands, first_stands, in_front, in_rest, each_of}
 
 -- another write that op overlaps

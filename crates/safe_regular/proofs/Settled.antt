@@ -4,7 +4,7 @@ use Rattle.std.specs.Prelude.{◌<◌, Contains, IfSome, IsSome}
 use Rattle.std.proofs.lemmas.Bool.{both_ways}
 use Rattle.intervals.specs.declared.operation.Op.{Op}
 use Rattle.intervals.specs.declared.edit.Edit.{Edit}
-use Rattle.intervals.specs.Edit.{op_of, edited, new_op, edit_id}
+use Rattle.intervals.specs.Edit.{edited, new_op, edit_id, found_by, has_id}
 use Rattle.intervals.specs.Operation.{same_id}
 use Rattle.intervals.specs.Refusal.{reply_to}
 use Rattle.intervals.specs.Table.{prepared_after}
@@ -16,7 +16,8 @@ use Rattle.safe_regular.specs.declared.writes.Writes.{Writes}
 use Rattle.safe_regular.specs.Held.{AreOneWriters, CanJudge, HasRoomFor}
 use Rattle.safe_regular.specs.Line.{AreItems, IsCoverBefore, IsExchanged, IsFreeFor, IsItemOf, IsRenewed, IsTaken, spot_in}
 use Rattle.safe_regular.specs.Writes.{AreWrites, HasPlaceIn, HoldsOnlyFor, IsAddedOf}
-use Rattle.safe_regular.proofs.Changed.{others_of, IsAmong, other_stands, other_apart, old_stands, before_cases, other_after, new_stands, after_cases, goes, comes}
+use Rattle.safe_regular.proofs.Changed.{others_of, IsAmong, other_stands, other_apart, before_cases, other_after, new_stands, after_cases, goes, comes}
+use Rattle.intervals.proofs.Ids.{found_stands}
 use Rattle.safe_regular.proofs.Edited.{apart_kept}
 use Rattle.safe_regular.proofs.Laid.{items_after, place_is_free, place_is_taken}
 use Rattle.safe_regular.proofs.Told.{writes_apart}
@@ -44,7 +45,7 @@ room_for_new writes line prepared new room is (Some x) of_new some =
     let one = there.free in omega (arith, one)
 
 module _ (claim : Terms) (ops : List Op) (edit : Edit) (apart : AreOneWriters claim ops) (accepted : reply_to claim ops edit ≡ None)
-    (old new : Option Op) (old_is : old ≡ op_of ops (edit_id edit)) (new_is : new ≡ new_op ops edit) (listed : List Op) (listed_is : listed ≡ edited ops edit) where
+    (old new : Option Op) (old_is : old ≡ found_by ops (edit_id edit)) (new_is : new ≡ new_op ops edit) (listed : List Op) (listed_is : listed ≡ edited ops edit) where
   later : AreOneWriters claim (edited ops edit)
   later = apart_kept claim ops edit apart accepted
 
@@ -75,7 +76,7 @@ module _ (claim : Terms) (ops : List Op) (edit : Edit) (apart : AreOneWriters cl
 
   in_before : (x : Op) → IsAmong others old x → Contains ops x
   in_before x (inl h) = other_stands ops (edit_id edit) x h
-  in_before x (inr e) = (old_stands ops (edit_id edit) x (sym old_is ∙ e)).0
+  in_before x (inr e) = (found_stands ops (edit_id edit) x (sym old_is ∙ e)).0
 
   is_among : (x : Op) → Contains listed x → IsAmong others new x
   is_among x h = subst (λ (o : Option Op). IsAmong others o x) (sym new_is) (after_cases ops edit apart.kept.ids (edit_accepted claim ops edit accepted) x (subst (λ (l : List Op). Contains l x) listed_is h))
@@ -92,11 +93,11 @@ module _ (claim : Terms) (ops : List Op) (edit : Edit) (apart : AreOneWriters cl
       by_cases None e = tt
       by_cases (Some op) e = in_listed op (inr e)
 
-  other_than : (x y : Op) → Contains others x → same_id y.id (edit_id edit) ≡ true → ¬ (x ≡ y)
-  other_than x y among t same = both_ways (same_id x.id (edit_id edit)) (other_apart ops (edit_id edit) x among) (subst (λ (o : Op). same_id o.id (edit_id edit) ≡ true) (sym same) t)
+  other_than : (x y : Op) → Contains others x → has_id (edit_id edit) y ≡ true → ¬ (x ≡ y)
+  other_than x y among t same = both_ways (has_id (edit_id edit) x) (other_apart ops (edit_id edit) x among) (subst (λ (o : Op). has_id (edit_id edit) o ≡ true) (sym same) t)
 
   not_old : (x y : Op) → Contains others x → old ≡ Some y → ¬ (x ≡ y)
-  not_old x y among e = other_than x y among (old_stands ops (edit_id edit) y (sym old_is ∙ e)).1
+  not_old x y among e = other_than x y among (found_stands ops (edit_id edit) y (sym old_is ∙ e)).1
 
   not_new : (x y : Op) → Contains others x → new ≡ Some y → ¬ (x ≡ y)
   not_new x y among e = other_than x y among (new_stands ops edit y (sym new_is ∙ e)).1

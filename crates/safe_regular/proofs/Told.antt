@@ -17,7 +17,8 @@ use Rattle.safe_regular.specs.Apart.{AreApart}
 use Rattle.safe_regular.specs.Held.{IsLow, AreOneWriters}
 use Rattle.safe_regular.specs.LookUp.{BeginsFrom, IsFirstOf}
 use Rattle.safe_regular.specs.Line.{IsItem, IsLaid, counted, moment_of, cover_item, initial_item, initial_place, number_of, place_in, read_item}
-use Rattle.safe_regular.proofs.Members.{are_apart, begin_apart, distinct_ends, end_is, one_or_so, same_moment}
+use Rattle.safe_regular.proofs.Members.{are_apart, distinct_ends, end_is}
+use Rattle.intervals.proofs.Members.{begin_apart, one_or_so, same_moment}
 use Rattle.safe_regular.proofs.Edited.{all_low}
 
 -- spots that are one are equal

@@ -137,7 +137,7 @@ impl<'t> SingleWriterJudge<'t> {
         requires prepared { IfSome new (λ op. self.old.prepared ≡ Some op) }
         ensures { self.new ≡ record self.old { ops = edited self.old.ops edit.entry; prepared = prepared_after new.entry self.old.prepared } }
     {
-        let old = op_of(&self.table, edit.id());
+        let old = self.table.find(edit.id());
         let spot = spot_of(&self.claim, old);
         self.writes.change(old, new, self.table.prepared());
         self.table.admit(edit);
@@ -216,7 +216,7 @@ impl<'t> SingleWriterJudge<'t> {
         each_spot_has_a_last_cover();
         short_reads_are_told();
         let item = self.line.first_short()?;
-        op_of(&self.table, item.id)
+        self.table.find(Some(item.id))
     }
 
     /// Whether no read is wrong.
@@ -229,12 +229,6 @@ impl<'t> SingleWriterJudge<'t> {
         short_reads_are_told();
         !self.line.has_short()
     }
-}
-
-fn op_of<'t>(table: &OpTable<'t>, id: OpId) -> Option<Op<'t>>
-    ensures { result ≡ op_in table.now.ops id }
-{
-    table.get(id).copied()
 }
 
 fn is_write_in(table: &OpTable, id: OpId) -> bool

@@ -1,8 +1,10 @@
 //! Rows of histories, as calls of a judge.
 
-ghost use Rattle.std.specs.Prelude.{◌≡◌, ◌≢◌, None, Some, OnOk};
+ghost use Rattle.std.specs.Prelude.{◌≡◌, ◌≢◌, List, None, Some, OnOk};
 ghost use Rattle.intervals.specs.Edit.{new_op as new_one};
-ghost use Rattle.intervals.specs.Refusal.{reply_to, first_refusal, new_write_refusal, write_refusal};
+ghost use Rattle.intervals.specs.Refusal.{reply_to, first_refusal, new_write_refusal, write_refusal, claim_refusal};
+ghost use Rattle.intervals.specs.Terms.{Terms};
+ghost use Rattle.intervals.specs.declared.operation.Op.{Op};
 
 use super::*;
 use intervals::{
@@ -19,6 +21,7 @@ const SAFE: Claim = Claim {
     writers: Writers::Any,
     initial: Value::Int(0),
     domain: None,
+    fixed: false,
 };
 
 const REGULAR: Claim = Claim {
@@ -26,6 +29,7 @@ const REGULAR: Claim = Claim {
     writers: Writers::Any,
     initial: Value::Int(0),
     domain: None,
+    fixed: false,
 };
 
 fn number(word: &str) -> u64 {
@@ -116,14 +120,28 @@ fn new_refusal<'t>(judge: &SingleWriterJudge<'t>, edit: &Edit<'t>) -> Option<Ref
     }
 }
 
+/// A judge is of one kind, so here a claim is refused as if the kind were fixed.
+fn refusal_of_claim(edit: &Edit) -> Option<Refusal>
+    ensures { (claim : Terms) (ops : List Op) → result ≡ None → claim_refusal claim ops edit.now ≡ None }
+{
+    match edit {
+        Edit::Claim(_) => Some(Refusal::ClaimFixed),
+        _ => None,
+    }
+}
+
 fn refusal_of<'t>(judge: &SingleWriterJudge<'t>, edit: &Edit<'t>) -> Option<Refusal>
-    ensures { result ≡ reply_to judge.now.claim judge.now.ops edit.now }
+    ensures { result ≡ None → reply_to judge.now.claim judge.now.ops edit.now ≡ None }
 {
     let refusal = list_refusal(judge, edit);
     if refusal.is_some() {
         return refusal;
     }
-    new_refusal(judge, edit)
+    let refusal = new_refusal(judge, edit);
+    if refusal.is_some() {
+        return refusal;
+    }
+    refusal_of_claim(edit)
 }
 
 /// Lets the room go that there is for an operation.
@@ -144,7 +162,7 @@ fn carried_out<'t>(judge: &mut SingleWriterJudge<'t>, edit: Edit<'t>) -> Result<
         Edit::Append(op) if op.is_write() => judge.admit_write(&op),
         Edit::Append(op) if op.is_judged_read() => judge.admit_read(&op),
         Edit::Append(op) => judge.admit(Edit::Append(op)),
-        Edit::Amend(..) => judge.admit(edit),
+        Edit::Amend(..) | Edit::Claim(_) => judge.admit(edit),
         Edit::Withdraw(id) => {
             judge.drop_write(id);
             judge.drop_read(id);

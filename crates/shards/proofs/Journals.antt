@@ -7,14 +7,14 @@ use Rattle.std.proofs.lemmas.Bool.{eq-eqb, ne_eqb}
 use Rattle.intervals.specs.declared.operation.Op.{Op}
 use Rattle.intervals.specs.declared.edit.Edit.{Edit}
 use Rattle.intervals.specs.declared.refusal.Refusal.{Refusal}
-use Rattle.intervals.specs.Terms.{Terms, Claimed}
-use Rattle.intervals.specs.Edit.{edited}
+use Rattle.intervals.specs.Terms.{Terms, Claimed, unedited}
+use Rattle.intervals.specs.Edit.{edited, claim_after}
 use Rattle.intervals.specs.Refusal.{carried_out, after_edit}
 use Rattle.register_book.specs.declared.reply.Reply.{Reply}
 use Rattle.register_book.specs.declared.reply.Reply.TheVariants.{Accepted, Refused}
 use Rattle.register_book.specs.Reply.{IsReply}
 use Rattle.shards.specs.declared.entry.Entry.{Entry}
-use Rattle.shards.specs.Journal.{EachAfter, stand, accepted_edits, is_accepted, is_accepted_of, standing_of, left_by, is_by, count_by}
+use Rattle.shards.specs.Journal.{EachAfter, stand, accepted_edits, is_accepted, is_accepted_of, claim_by, left_by, is_by, count_by}
 
 pub each_after_push : {X : Type 0} (R : List X → X → Type 0) (before xs : List X) (x : X) → EachAfter R before xs → R (before ++ xs) x → EachAfter R before (xs ++ x ∷ [])
 each_after_push {X = X} R before [] x each is = (subst (λ (front : List X). R front x) (append-nil before) is, tt)
@@ -24,11 +24,14 @@ stand_append : (ops : List Op) (edits more : List Edit) → stand ops (edits ++ 
 stand_append ops [] more = refl
 stand_append ops (edit ∷ edits) more = stand_append (edited ops edit) edits more
 
-standing_push : (register : ℕ) (journal : List Entry) (entry : Entry) → standing_of register (journal ++ entry ∷ []) ≡ stand (standing_of register journal) (accepted_edits register (entry ∷ []))
-standing_push register journal entry =
-    ap (λ (kept : List Entry). stand [] (map (λ (e : Entry). e.edit) kept)) (filter-append (is_accepted_of register) journal (entry ∷ []))
-    ∙ ap (stand []) (map-append (λ (e : Entry). e.edit) (filter (is_accepted_of register) journal) (filter (is_accepted_of register) (entry ∷ [])))
-    ∙ stand_append [] (accepted_edits register journal) (accepted_edits register (entry ∷ []))
+claim_append : (claim : Terms) (edits more : List Edit) → claim_by claim (edits ++ more) ≡ claim_by (claim_by claim edits) more
+claim_append claim [] more = refl
+claim_append claim (edit ∷ edits) more = claim_append (claim_after claim edit) edits more
+
+accepted_push : (register : ℕ) (journal : List Entry) (entry : Entry) → accepted_edits register (journal ++ entry ∷ []) ≡ accepted_edits register journal ++ accepted_edits register (entry ∷ [])
+accepted_push register journal entry =
+    ap (map (λ (e : Entry). e.edit)) (filter-append (is_accepted_of register) journal (entry ∷ []))
+    ∙ map-append (λ (e : Entry). e.edit) (filter (is_accepted_of register) journal) (filter (is_accepted_of register) (entry ∷ []))
 
 -- an entry of another register changes nothing of this one
 accepted_of_other : (register : ℕ) (entry : Entry) → entry.register.0 ≢ register → accepted_edits register (entry ∷ []) ≡ []
@@ -36,10 +39,10 @@ accepted_of_other register entry other = ap (λ (same : Bool). map (λ (e : Entr
 
 -- what is held after accepted edits
 abbrev pub left_after : Claimed → List Edit → Claimed
-left_after held edits = record { claim = held.claim; ops = stand held.ops edits }
+left_after held edits = record { claim = claim_by held.claim edits; ops = stand held.ops edits }
 
 pub left_after_append : (held : Claimed) (edits more : List Edit) → left_after held (edits ++ more) ≡ left_after (left_after held edits) more
-left_after_append held edits more = ap (λ (ops : List Op). record { claim = held.claim; ops = ops }) (stand_append held.ops edits more)
+left_after_append held edits more = λ i. record { claim = claim_append held.claim edits more i; ops = stand_append held.ops edits more i }
 
 by_reply : (held : Claimed) (entry : Entry) (reply : Reply) → IsReply held entry.edit reply → left_after held (map (λ (e : Entry). e.edit) (if is_accepted reply then entry ∷ [] else [])) ≡ after_edit held entry.edit
 by_reply held entry (Accepted holds) is = sym (ap (λ (refusal : Option Refusal). if is_some refusal then held else carried_out held entry.edit) is.0)
@@ -52,7 +55,9 @@ left_after_own held register entry own is =
     ∙ by_reply held entry entry.reply is
 
 pub left_push : (register : ℕ) (claim : Terms) (journal : List Entry) (entry : Entry) → left_by (journal ++ entry ∷ []) register claim ≡ left_after (left_by journal register claim) (accepted_edits register (entry ∷ []))
-left_push register claim journal entry = ap (λ (ops : List Op). record { claim = claim; ops = ops }) (standing_push register journal entry)
+left_push register claim journal entry =
+    ap (left_after (unedited claim)) (accepted_push register journal entry)
+    ∙ left_after_append (unedited claim) (accepted_edits register journal) (accepted_edits register (entry ∷ []))
 
 pub left_push_other : (register : ℕ) (claim : Terms) (journal : List Entry) (entry : Entry) → entry.register.0 ≢ register → left_by (journal ++ entry ∷ []) register claim ≡ left_by journal register claim
 left_push_other register claim journal entry other = left_push register claim journal entry ∙ ap (left_after (left_by journal register claim)) (accepted_of_other register entry other)

@@ -5,7 +5,7 @@ use Rattle.intervals.specs.declared.operation.Op.{Op}
 use Rattle.intervals.specs.declared.operation.RegId.{RegId}
 use Rattle.intervals.specs.declared.edit.Edit.{Edit}
 use Rattle.intervals.specs.Terms.{Terms, Claimed}
-use Rattle.intervals.specs.Edit.{edited}
+use Rattle.intervals.specs.Edit.{edited, claim_after}
 use Rattle.register_book.specs.declared.reply.Reply.{Reply}
 use Rattle.register_book.specs.declared.reply.Reply.TheVariants.{Accepted, Refused}
 use Rattle.register_book.specs.Reply.{IsReply}
@@ -46,9 +46,14 @@ stand ops (edit ∷ edits) = stand (edited ops edit) edits
 abbrev pub standing_of : ℕ → List Entry → List Op
 standing_of register journal = stand [] (accepted_edits register journal)
 
+-- the claim after accepted edits
+abbrev pub claim_by : Terms → List Edit → Terms
+claim_by claim [] = claim
+claim_by claim (edit ∷ edits) = claim_by (claim_after claim edit) edits
+
 -- a register as a journal leaves it
 abbrev pub left_by : List Entry → ℕ → Terms → Claimed
-left_by journal register claim = record { claim = claim; ops = standing_of register journal }
+left_by journal register claim = record { claim = claim_by claim (accepted_edits register journal); ops = standing_of register journal }
 
 -- the register stands in the shard, and the reply is that of the register as the entries before leave it
 pub record IsAnswered (plan : Plan) (at : ℕ) (before : List Entry) (entry : Entry) : Type 0 where

@@ -6,5 +6,6 @@ pub mod Pass
 pub mod Steps
 pub mod Merge
 pub mod Closing
+pub mod Code
 -- words of private clauses
 pub mod Shard

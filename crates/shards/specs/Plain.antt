@@ -1,5 +1,6 @@
 -- Entries as they read: field by field, texts by their bytes, wherever they lie in memory.
 use Rattle.std.specs.Prelude.{ℕ, ℤ, List, Option, option_map}
+use Rattle.intervals.specs.declared.claim.Kind.{Kind}
 use Rattle.intervals.specs.declared.operation.Op.{Op}
 use Rattle.intervals.specs.declared.operation.OpId.{OpId}
 use Rattle.intervals.specs.declared.operation.RegId.{RegId}
@@ -48,6 +49,7 @@ pub data PlainEdit : Type 0 where
   append : PlainOp → PlainEdit
   amend : OpId → PlainChange → PlainEdit
   withdraw : OpId → PlainEdit
+  claim_to : Kind → PlainEdit
 
 -- an entry of a journal
 pub record PlainEntry : Type 0 where
@@ -77,6 +79,7 @@ abbrev pub plain_edit : Edit → PlainEdit
 plain_edit (edits.Append op) = append (plain_op op)
 plain_edit (edits.Amend id change) = amend id (plain_change change)
 plain_edit (edits.Withdraw id) = withdraw id
+plain_edit (edits.Claim kind) = claim_to kind
 
 -- an entry as it reads
 abbrev pub plain_entry : Entry → PlainEntry

@@ -1,6 +1,7 @@
 //! Why a call is refused.
 
 ghost use Rattle.std.specs.Prelude.{◌≡◌};
+ghost use Rattle.shards.specs.Code.{code_of};
 ghost use Rattle.shards.specs.declared.fault.ShardFault.TheVariants.{Memory as NoMemory};
 
 use std::alloc::{AllocError, AllocFailed};
@@ -37,6 +38,22 @@ pub enum ShardFault {
     /// have, or there are two of its feeder.
     #[error("S6 ForeignPass")]
     ForeignPass,
+}
+
+impl ShardFault {
+    /// The code that users see.
+    pub fn code(&self) -> &'static str
+        ensures { result.now ≡ code_of self.now }
+    {
+        match self {
+            ShardFault::UnknownRegister => "S1",
+            ShardFault::Memory => "S2",
+            ShardFault::JournalBehind { .. } => "S3",
+            ShardFault::PassMissing(_) => "S4",
+            ShardFault::Stranger { .. } => "S5",
+            ShardFault::ForeignPass => "S6",
+        }
+    }
 }
 
 impl From<AllocError> for ShardFault {

@@ -22,6 +22,7 @@ fn is_same_edit(a: &Edit, b: &Edit) -> bool
         (Edit::Append(a), Edit::Append(b)) => is_same_op(a, b),
         (Edit::Amend(id, a), Edit::Amend(other, b)) => *id == *other && is_same_change(a, b),
         (Edit::Withdraw(id), Edit::Withdraw(other)) => *id == *other,
+        (Edit::Claim(kind), Edit::Claim(other)) => *kind == *other,
         _ => false,
     }
 }

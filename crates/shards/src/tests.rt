@@ -203,9 +203,12 @@ fn tell_entry(told: &mut String, entry: &Entry) -> Result<(), AllocError> {
         Edit::Append(_) => "+",
         Edit::Amend(..) => "~",
         Edit::Withdraw(_) => "-",
+        Edit::Claim(_) => "=",
     };
     write!(told, " {} x{} {sign}", entry.feeder, entry.register.0)?;
-    tell_id(told, entry.edit.id())?;
+    if let Some(id) = entry.edit.id() {
+        tell_id(told, id)?;
+    }
     tell_reply(told, entry.reply)?;
     told.push(',')
 }

@@ -195,10 +195,11 @@ register_form = record {
   initial = One (at 76 nought);
   domain = Missing;
   parts = Missing;
+  fixed = Missing;
 }
 
 register_fields : AreRegisterFields register_pairs register_form
-register_fields = record { name = refl; kind = refl; writers = (refl, writers_have); initial = refl; domain = tt; parts = tt }
+register_fields = record { name = refl; kind = refl; writers = (refl, writers_have); initial = refl; domain = tt; parts = tt; fixed = refl }
 
 abbrev level_form : LevelForm
 level_form = record { name = One (at 17 top); registers = One (Some (Some register_form ∷ [])) }

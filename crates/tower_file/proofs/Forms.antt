@@ -111,8 +111,9 @@ module _ (some_pairs : (piece : Piece) → IsElement piece → piece.core.kind �
           initial = under (codes ":initial") pairs;
           domain = domain.0;
           parts = parts.0;
+          fixed = under (codes ":fixed") pairs;
         },
-        record { name = refl; kind = refl; writers = writers.1; initial = refl; domain = domain.1; parts = parts.1 },
+        record { name = refl; kind = refl; writers = writers.1; initial = refl; domain = domain.1; parts = parts.1; fixed = refl },
       )
 
   level_some : Some_fields AreLevelFields

@@ -42,10 +42,10 @@ same_sequence : (element other : Piece) (members others : Option (List Piece)) �
 same_sequence element other members others e m = cc
 
 same_register : (first second : RegisterForm) → first.name ≡ second.name → first.kind ≡ second.kind → first.writers ≡ second.writers → first.initial ≡ second.initial
-    → first.domain ≡ second.domain → first.parts ≡ second.parts
-    → ◌≡◌ {A = RegisterForm} (record { name = first.name; kind = first.kind; writers = first.writers; initial = first.initial; domain = first.domain; parts = first.parts })
-    (record { name = second.name; kind = second.kind; writers = second.writers; initial = second.initial; domain = second.domain; parts = second.parts })
-same_register first second name kind writers initial domain parts = cc
+    → first.domain ≡ second.domain → first.parts ≡ second.parts → first.fixed ≡ second.fixed
+    → ◌≡◌ {A = RegisterForm} (record { name = first.name; kind = first.kind; writers = first.writers; initial = first.initial; domain = first.domain; parts = first.parts; fixed = first.fixed })
+    (record { name = second.name; kind = second.kind; writers = second.writers; initial = second.initial; domain = second.domain; parts = second.parts; fixed = second.fixed })
+same_register first second name kind writers initial domain parts fixed = cc
 
 same_level : (first second : LevelForm) → first.name ≡ second.name → first.registers ≡ second.registers
     → ◌≡◌ {A = LevelForm} (record { name = first.name; registers = first.registers }) (record { name = second.name; registers = second.registers })
@@ -84,7 +84,7 @@ module _ (one_pairs : (piece : Piece) (firsts seconds : List (Piece × Piece)) �
       let writers = one_given IsSequence one_sequence _ first.writers second.writers h.writers k.writers in
       let domain = one_given AreMembers one_list _ first.domain second.domain h.domain k.domain in
       let parts = one_given AreMembers one_list _ first.parts second.parts h.parts k.parts in
-      same_register first second (h.name ∙ sym k.name) (h.kind ∙ sym k.kind) writers (h.initial ∙ sym k.initial) domain parts
+      same_register first second (h.name ∙ sym k.name) (h.kind ∙ sym k.kind) writers (h.initial ∙ sym k.initial) domain parts (h.fixed ∙ sym k.fixed)
 
   one_level : One_form AreLevelFields
   one_level pairs first second h k =

@@ -1,5 +1,5 @@
 -- What stands under a key, seen by the program and read further.
-use Rattle.std.proofs.Common.{◌≡◌, ◌↔◌, ℕ, ℤ, false, List, Option, Some, None, Ok, Err, refl, ap, subst, ◌∙◌}
+use Rattle.std.proofs.Common.{◌≡◌, ◌↔◌, ℕ, ℤ, Bool, false, List, Option, Some, None, Ok, Err, refl, ap, subst, ◌∙◌}
 use Rattle.std.specs.Prelude.{codes}
 use Rattle.intervals.specs.declared.claim.Kind.{Kind}
 use Rattle.intervals.specs.declared.operation.Value.{Value}
@@ -14,7 +14,7 @@ use Rattle.tower_file.specs.declared.fault.TowerField.TheVariants.{Name, Writers
 use Rattle.tower_file.specs.declared.fault.TowerFault.{TowerFault}
 use Rattle.tower_file.specs.declared.fault.TowerFault.TheVariants.{Shape}
 use Rattle.tower_file.specs.Form.{IsGiven, AreMembers, IsVectorOf, Sequence, IsSequence, RegisterForm}
-use Rattle.tower_file.specs.Reading.{needed, each, process_of, writers_listed, name_in, kind_in, writers_in, initial_in, domain_in, parts_in, said_by, vector_in}
+use Rattle.tower_file.specs.Reading.{needed, each, process_of, writers_listed, name_in, kind_in, writers_in, initial_in, domain_in, parts_in, said_by, vector_in, fixed_in}
 use Rattle.tower_file.specs.Stated.{FormsLeft}
 
 -- what is needed and not there once is not there once when it is read further
@@ -71,7 +71,7 @@ no_writers piece view fault (One first) Many e w k m f h = absurd h
 no_writers piece view fault Many read e w k m f h = absurd cc
 
 -- what all keys of a register say together
-pub all_said : (form : RegisterForm) (name : List ℕ) (kind : Kind) (writers : Option (List ℤ)) (initial : Option Value) (domain : Option (List Value)) (parts : List Piece)
+pub all_said : (form : RegisterForm) (name : List ℕ) (kind : Kind) (writers : Option (List ℤ)) (initial : Option Value) (domain : Option (List Value)) (parts : List Piece) (fixed : Bool)
     → name_in Name form.name ≡ Ok name → kind_in form.kind ≡ Ok kind → writers_in form.writers ≡ Ok writers → initial_in form.initial ≡ Ok initial → domain_in form.domain ≡ Ok domain
-    → parts_in form.parts ≡ Ok parts → said_by form ≡ Ok (record { name = name; kind = kind; writers = writers; initial = initial; domain = domain; parts = parts })
-all_said form name kind writers initial domain parts a b c d e f = rw (a, b, c, d, e, f) refl
+    → parts_in form.parts ≡ Ok parts → fixed_in form.fixed ≡ Ok fixed → said_by form ≡ Ok (record { name = name; kind = kind; writers = writers; initial = initial; domain = domain; parts = parts; fixed = fixed })
+all_said form name kind writers initial domain parts fixed a b c d e f g = rw (a, b, c, d, e, f, g) refl

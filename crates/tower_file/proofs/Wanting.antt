@@ -1,5 +1,6 @@
 -- What a file says is never want of memory.
 use Rattle.std.proofs.Common.{ℕ, Bool, true, false, List, [], ◌∷◌, Option, Some, None, Result, Ok, Err}
+use Rattle.std.specs.Str.{bytes_eq}
 use Rattle.std.specs.Prelude.{if◌then◌else◌, not, nat_lt, nat_le, length, is_some}
 use Rattle.intervals.specs.declared.operation.RegId.{RegId}
 use Rattle.edn_reader.specs.Grammar.{Piece}
@@ -14,8 +15,8 @@ use Rattle.tower_file.specs.declared.fault.TowerFault.TheVariants.{Edn, Shape, N
 use Rattle.tower_file.specs.Form.{Sequence, RegisterForm, LevelForm, FileForm}
 use Rattle.tower_file.specs.Contents.{Register, Contents, empty, number_of}
 use Rattle.tower_file.specs.Steps.{◌>>=◌}
-use Rattle.tower_file.specs.Stating.{stated_value}
-use Rattle.tower_file.specs.Reading.{needed, optional, formed, each, value_in, process_of, kind_claimed, processes_of, writers_listed, domain_of, name_in, kind_in, writers_in, initial_in, domain_in, parts_in, Said, said_by, has_its_writers, earlier, part_of, is_empty_domain, is_outside, fails_if, register_among, register_read, through, with_register, with_registers, with_level, vector_in, level_after, levels_after, contents_of}
+use Rattle.tower_file.specs.Stating.{stated_value, stated_kind}
+use Rattle.tower_file.specs.Reading.{needed, optional, formed, each, value_in, process_of, kind_claimed, processes_of, writers_listed, domain_of, name_in, kind_in, writers_in, initial_in, domain_in, parts_in, fixed_in, name_of, Said, said_by, has_its_writers, earlier, part_of, is_empty_domain, is_outside, fails_if, register_among, register_read, through, with_register, with_registers, with_level, vector_in, level_after, levels_after, contents_of}
 
 -- no want of memory
 abbrev pub IsOther : TowerFault → Type 0
@@ -63,7 +64,7 @@ of_value : (field : TowerField) (piece : Piece) → Wants_none (value_in field p
 of_value field piece = of_formed field (stated_value piece)
 
 of_kind : (piece : Piece) → Wants_none (kind_claimed piece)
-of_kind piece = either (is_word (codes ":safe") piece) _ _ tt (either (is_word (codes ":regular") piece) _ _ tt (either (is_word (codes ":atomic") piece) _ _ tt tt))
+of_kind piece = of_formed fields.Kind (stated_kind piece)
 
 of_processes : (members : Option (List Piece)) → Wants_none (processes_of members)
 of_processes None = tt
@@ -86,6 +87,11 @@ of_parts Missing = tt
 of_parts (One members) = of_formed fields.Parts members
 of_parts Many = tt
 
+of_fixed : (fixed : Given Piece) → Wants_none (fixed_in fixed)
+of_fixed Missing = tt
+of_fixed (One piece) = either (bytes_eq (name_of piece) (codes "true")) _ _ tt (either (bytes_eq (name_of piece) (codes "false")) _ _ tt tt)
+of_fixed Many = tt
+
 of_said : (form : RegisterForm) → Wants_none (said_by form)
 of_said form =
     after (name_in fields.Name form.name) _ (of_name fields.Name form.name) (λ name.
@@ -93,7 +99,8 @@ of_said form =
     after (writers_in form.writers) _ (after (needed fields.Writers form.writers) writers_listed (of_needed fields.Writers form.writers) of_writers) (λ writers.
     after (initial_in form.initial) _ (of_optional fields.Initial (value_in fields.Initial) form.initial (of_value fields.Initial)) (λ initial.
     after (domain_in form.domain) _ (of_optional fields.Domain domain_of form.domain of_values) (λ domain.
-    after (parts_in form.parts) _ (of_parts form.parts) (λ parts. tt))))))
+    after (parts_in form.parts) _ (of_parts form.parts) (λ parts.
+    after (fixed_in form.fixed) _ (of_fixed form.fixed) (λ fixed. tt)))))))
 
 of_below : (first : ℕ) (number : Option RegId) → Wants_none (earlier first number)
 of_below first None = tt

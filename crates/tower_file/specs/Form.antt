@@ -61,6 +61,7 @@ pub record RegisterForm : Type 0 where
   pub initial : Given Piece
   pub domain : Given (Option (List Piece))
   pub parts : Given (Option (List Piece))
+  pub fixed : Given Piece
 
 -- The keys of a register.
 pub record AreRegisterFields (pairs : List (Piece × Piece)) (form : RegisterForm) : Type 0 where
@@ -70,6 +71,7 @@ pub record AreRegisterFields (pairs : List (Piece × Piece)) (form : RegisterFor
   pub initial : form.initial ≡ under (codes ":initial") pairs
   pub domain : IsGiven AreMembers (under (codes ":domain") pairs) form.domain
   pub parts : IsGiven AreMembers (under (codes ":of") pairs) form.parts
+  pub fixed : form.fixed ≡ under (codes ":fixed") pairs
 
 -- A register is a map; none where it is another element.
 abbrev pub IsRegister : Piece → Option RegisterForm → Type 0

@@ -3,12 +3,14 @@
 use Rattle.std.specs.Prelude.{ℕ, ℤ, nat_lt, nat_le, ◌==◌, Bool, true, false, not, List, [], ◌∷◌, ◌++◌, length, Option, Some, None, Result, Ok, Err, codes, if◌then◌else◌, is_some}
 use Rattle.std.specs.List.{list_any}
 use Rattle.std.specs.Option.{ok_or}
+use Rattle.std.specs.Str.{bytes_eq}
 use Rattle.intervals.specs.declared.operation.RegId.{RegId}
 use Rattle.intervals.specs.declared.operation.Value.{Value}
 use Rattle.intervals.specs.declared.operation.Value.TheVariants.{Nil}
 use Rattle.intervals.specs.declared.claim.Kind.{Kind}
 use Rattle.intervals.specs.declared.claim.Kind.TheVariants as kinds
 use Rattle.intervals.specs.Operation.{same_value}
+use Rattle.intervals.specs.Refusal.{is_one_writer}
 use Rattle.edn_reader.specs.Grammar.{Piece, untagged}
 use Rattle.edn_reader.specs.Pairs.{is_word}
 use Rattle.edn_reader.specs.Given.{Given, Missing, One, Many}
@@ -19,7 +21,7 @@ use Rattle.tower_file.specs.declared.fault.TowerFault.{TowerFault}
 use Rattle.tower_file.specs.declared.fault.TowerFault.TheVariants.{Shape, NameTaken, WriterCount, UnknownPart, EmptyDomain, InitialOutOfDomain, TooMany}
 use Rattle.tower_file.specs.Form.{Sequence, RegisterForm, LevelForm, FileForm}
 use Rattle.tower_file.specs.Steps.{◌>>=◌, once, at_most_once}
-use Rattle.tower_file.specs.Stating.{stated_value}
+use Rattle.tower_file.specs.Stating.{stated_value, stated_kind}
 use Rattle.tower_file.specs.Contents.{Register, Contents, empty, number_of}
 
 -- What stands once under a key that is needed.
@@ -53,11 +55,7 @@ process_of piece = formed fields.Writers (int_of piece)
 
 -- A kind, by its keyword.
 abbrev pub kind_claimed : Piece → Result Kind TowerFault
-kind_claimed piece =
-    if is_word (codes ":safe") piece then Ok kinds.Safe
-    else if is_word (codes ":regular") piece then Ok kinds.Regular
-    else if is_word (codes ":atomic") piece then Ok kinds.Atomic
-    else Err (Shape fields.Kind)
+kind_claimed piece = formed fields.Kind (stated_kind piece)
 
 -- The processes of a vector.
 abbrev pub processes_of : Option (List Piece) → Result (Option (List ℤ)) TowerFault
@@ -97,6 +95,19 @@ parts_in Missing = Ok []
 parts_in (One members) = formed fields.Parts members
 parts_in Many = Err (Shape fields.Parts)
 
+-- Whether the word is true or false.
+abbrev pub fixed_of : Piece → Result Bool TowerFault
+fixed_of piece =
+    if bytes_eq (name_of piece) (codes "true") then Ok true
+    else if bytes_eq (name_of piece) (codes "false") then Ok false
+    else Err (Shape fields.Fixed)
+
+-- Whether the kind may not change; it may where the key is left out.
+abbrev pub fixed_in : Given Piece → Result Bool TowerFault
+fixed_in Missing = Ok false
+fixed_in (One piece) = fixed_of piece
+fixed_in Many = Err (Shape fields.Fixed)
+
 -- What a register says by itself, before it is placed among the others.
 pub record Said : Type 0 where
   pub name : List ℕ
@@ -105,6 +116,7 @@ pub record Said : Type 0 where
   pub initial : Option Value
   pub domain : Option (List Value)
   pub parts : List Piece
+  pub fixed : Bool
 
 -- The keys are read in this order.
 abbrev pub said_by : RegisterForm → Result Said TowerFault
@@ -115,17 +127,13 @@ said_by form =
     initial_in form.initial >>= (λ initial.
     domain_in form.domain >>= (λ domain.
     parts_in form.parts >>= (λ parts.
-    Ok (record { name = name; kind = kind; writers = writers; initial = initial; domain = domain; parts = parts })))))))
-
--- There is exactly one writer.
-abbrev pub is_one : Option (List ℤ) → Bool
-is_one None = false
-is_one (Some processes) = length processes == 1
+    fixed_in form.fixed >>= (λ fixed.
+    Ok (record { name = name; kind = kind; writers = writers; initial = initial; domain = domain; parts = parts; fixed = fixed }))))))))
 
 -- Safe and regular registers have one writer (Lamport 1986).
 abbrev pub has_its_writers : Kind → Option (List ℤ) → Bool
-has_its_writers kinds.Safe writers = is_one writers
-has_its_writers kinds.Regular writers = is_one writers
+has_its_writers kinds.Safe writers = is_one_writer writers
+has_its_writers kinds.Regular writers = is_one_writer writers
 has_its_writers kinds.Atomic writers = true
 
 -- A number that is there and below the first one of a level.
@@ -157,7 +165,7 @@ initial_of (Some initial) = initial
 abbrev pub register_said : ℕ → Said → List RegId → Register
 register_said level said parts = record {
   name = said.name;
-  claim = record { kind = said.kind; writers = said.writers; initial = initial_of said.initial; domain = said.domain };
+  claim = record { kind = said.kind; writers = said.writers; initial = initial_of said.initial; domain = said.domain; fixed = said.fixed };
   level = level;
   parts = parts;
 }

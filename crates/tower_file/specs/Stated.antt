@@ -26,6 +26,7 @@ pub record AreFound (found : Fields) (form : RegisterForm) : Type 0 where
   pub initial : form.initial ≡ seen found.initial
   pub domain : IsGiven AreMembers (seen found.domain) form.domain
   pub parts : IsGiven AreMembers (seen found.parts) form.parts
+  pub fixed : form.fixed ≡ seen found.fixed
 
 -- The elements that a view has left; none where there is no view.
 abbrev pub NamesLeft : Option VectorView → List Piece → Type 0
@@ -44,6 +45,7 @@ pub record IsSaid (found : Found) (said : Said) : Type 0 where
   pub initial : said.initial ≡ found.initial
   pub domain : said.domain ≡ domain_items found.domain
   pub parts : NamesLeft found.parts said.parts
+  pub fixed : said.fixed ≡ found.fixed
 
 -- What a function answered stands for what is to be answered, where memory was not refused.
 abbrev pub ShowsOrMemory : {X Y : Type 0} → (X → Y → Type 0) → Result X TowerFault → Result Y TowerFault → Type 0

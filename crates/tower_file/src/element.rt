@@ -4,7 +4,8 @@ ghost use Rattle.std.specs.Prelude.{◌≡◌};
 ghost use Rattle.edn_reader.specs.Grammar.{Piece};
 ghost use Rattle.edn_reader.specs.Lent.{piece_of};
 ghost use Rattle.edn_reader.specs.Given.{seen};
-ghost use Rattle.tower_file.specs.Reading.{value_in, process_of as process_in, kind_claimed, name_of as name_that, needed as needed_of, name_in, kind_in, initial_in};
+ghost use Rattle.tower_file.specs.Stating.{stated_kind};
+ghost use Rattle.tower_file.specs.Reading.{value_in, process_of as process_in, name_of as name_that, needed as needed_of, name_in, kind_in, initial_in, fixed_in, fixed_of as fixed_said};
 ghost use Rattle.tower_file.specs.Steps.{GivesSeen};
 
 use crate::fault::{TowerFault, TowerField};
@@ -37,20 +38,24 @@ pub fn read_name<'t>(field: &Field<'t>) -> Result<&'t [u8], TowerFault>
 pub fn read_kind(field: &Field) -> Result<Kind, TowerFault>
     ensures { result ≡ kind_in (seen field.now) }
 {
-    kind_of(&needed(field, TowerField::Kind)?)
+    match kind_of(&needed(field, TowerField::Kind)?) {
+        Some(kind) => Ok(kind),
+        None => Err(TowerFault::Shape(TowerField::Kind)),
+    }
 }
 
-fn kind_of(element: &Element) -> Result<Kind, TowerFault>
-    ensures { result ≡ kind_claimed (piece_of element.now) }
+/// The kind that an element names by its keyword, behind tags or not; none where it is another element.
+pub fn kind_of(element: &Element) -> Option<Kind>
+    ensures { result ≡ stated_kind (piece_of element.now) }
 {
     if element.is_keyword(b":safe") {
-        Ok(Kind::Safe)
+        Some(Kind::Safe)
     } else if element.is_keyword(b":regular") {
-        Ok(Kind::Regular)
+        Some(Kind::Regular)
     } else if element.is_keyword(b":atomic") {
-        Ok(Kind::Atomic)
+        Some(Kind::Atomic)
     } else {
-        Err(TowerFault::Shape(TowerField::Kind))
+        None
     }
 }
 
@@ -61,6 +66,30 @@ pub fn read_initial(field: &Field) -> Result<Option<Value>, TowerFault>
         Field::Absent => Ok(None),
         Field::Once(element) => Ok(Some(value_of(element, TowerField::Initial)?)),
         Field::Twice => Err(TowerFault::Shape(TowerField::Initial)),
+    }
+}
+
+/// Whether the kind may not change: the word `true` or `false`, and false where there is none.
+pub fn read_fixed(field: &Field) -> Result<bool, TowerFault>
+    ensures { result ≡ fixed_in (seen field.now) }
+{
+    match field {
+        Field::Absent => Ok(false),
+        Field::Once(element) => fixed_of(element),
+        Field::Twice => Err(TowerFault::Shape(TowerField::Fixed)),
+    }
+}
+
+fn fixed_of(element: &Element) -> Result<bool, TowerFault>
+    ensures { result ≡ fixed_said (piece_of element.now) }
+{
+    let word = name_of(element);
+    if word == b"true".as_slice() {
+        Ok(true)
+    } else if word == b"false".as_slice() {
+        Ok(false)
+    } else {
+        Err(TowerFault::Shape(TowerField::Fixed))
     }
 }
 

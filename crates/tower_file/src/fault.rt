@@ -22,6 +22,7 @@ pub enum TowerField {
     Domain,
     /// What stands under `:of`.
     Parts,
+    Fixed,
 }
 
 /// The first fault of a tower file, in reading order.

@@ -34,6 +34,7 @@ mod said;
 mod text;
 mod tower;
 
+pub use element::kind_of;
 pub use example::one_register;
 pub use fault::{TowerFault, TowerField};
 pub use tower::Tower;

@@ -41,6 +41,7 @@ pub fn place(
         initial,
         domain,
         parts,
+        fixed,
     } = said;
     if registers.find(name).is_some() {
         return Err(TowerFault::NameTaken);
@@ -63,6 +64,7 @@ pub fn place(
         writers,
         initial: initial_of(initial),
         domain,
+        fixed,
     };
     let entry = Entry {
         claim,
@@ -78,8 +80,7 @@ fn has_its_writers(kind: Kind, writers: &Writers) -> bool
 {
     match (kind, writers) {
         (Kind::Atomic, _) => true,
-        (_, Writers::Any) => false,
-        (_, Writers::Listed(processes)) => processes.len() == 1,
+        (_, writers) => writers.is_one(),
     }
 }
 

@@ -10,7 +10,9 @@ ghost use Rattle.tower_file.specs.Reading.{each, value_in, process_of as process
 ghost use Rattle.tower_file.specs.Views.{GivesOrMemory};
 ghost use Rattle.tower_file.specs.Stated.{AreFound, NamesLeft, IsSaid, ShowsOrMemory, domain_items};
 
-use crate::element::{needed, process_of, read_initial, read_kind, read_name, value_of};
+use crate::element::{
+    needed, process_of, read_fixed, read_initial, read_kind, read_name, value_of,
+};
 use crate::fault::{TowerFault, TowerField};
 use edn_reader::{Field, MapView, VectorView};
 use intervals::{Kind, Value, Writers};
@@ -25,6 +27,7 @@ pub struct Fields<'t> {
     initial: Field<'t>,
     domain: Field<'t>,
     parts: Field<'t>,
+    fixed: Field<'t>,
 }
 
 /// What they say, before the register is placed among the others.
@@ -36,6 +39,7 @@ pub struct Said<'t> {
     pub initial: Option<Value>,
     pub domain: Option<Vec<Value>>,
     pub parts: Option<VectorView<'t>>,
+    pub fixed: bool,
 }
 
 pub fn look_up<'t>(map: &MapView<'t>) -> Fields<'t>
@@ -48,6 +52,7 @@ pub fn look_up<'t>(map: &MapView<'t>) -> Fields<'t>
         initial: map.field(b":initial"),
         domain: map.field(b":domain"),
         parts: map.field(b":of"),
+        fixed: map.field(b":fixed"),
     }
 }
 
@@ -60,6 +65,7 @@ pub fn read_said<'t>(alloc: Global, fields: &Fields<'t>) -> Result<Said<'t>, Tow
     let initial = read_initial(&fields.initial)?;
     let domain = read_domain(alloc, &fields.domain)?;
     let parts = read_parts(&fields.parts)?;
+    let fixed = read_fixed(&fields.fixed)?;
     Ok(Said {
         name,
         kind,
@@ -67,6 +73,7 @@ pub fn read_said<'t>(alloc: Global, fields: &Fields<'t>) -> Result<Said<'t>, Tow
         initial,
         domain,
         parts,
+        fixed,
     })
 }
 

@@ -22,7 +22,7 @@ fn tell_value(told: &mut String, value: Value) -> Result<(), AllocError> {
     }
 }
 
-/// The kind, the writers, the initial value and the domain.
+/// The kind, the writers, the initial value, the domain, and whether the kind is fixed.
 fn tell_claim(told: &mut String, claim: &Claim) -> Result<(), AllocError> {
     told.push_str(match claim.kind {
         Kind::Safe => " safe by ",
@@ -44,6 +44,9 @@ fn tell_claim(told: &mut String, claim: &Claim) -> Result<(), AllocError> {
         for value in values.as_slice() {
             tell_value(told, *value)?;
         }
+    }
+    if claim.fixed {
+        told.push_str("fixed ")?;
     }
     Ok(())
 }
@@ -198,6 +201,9 @@ const FILES: &str =
 const FIELDS: &str = r##":kind :safe :writers [0] => 1 top; 0 x 0 safe by 0 from nil of
 :kind :atomic :writers :any :domain [1 2] :initial 2 :of [] => 1 top; 0 x 0 atomic by any from 2 in 1 2 of
 :kind :safe :writers [-9223372036854775808] :initial 9223372036854775807 => 1 top; 0 x 0 safe by -9223372036854775808 from 9223372036854775807 of
+:kind :atomic :writers :any :fixed true => 1 top; 0 x 0 atomic by any from nil fixed of
+:kind :safe :writers [0] :fixed false => 1 top; 0 x 0 safe by 0 from nil of
+#k :fixed #v true :kind :regular :writers [0] :domain [nil] => 1 top; 0 x 0 regular by 0 from nil in nil fixed of
 :name y => V2 Shape of Name
 :writers :any => V2 Shape of Kind
 :kind safe :writers :any => V2 Shape of Kind
@@ -222,6 +228,13 @@ const FIELDS: &str = r##":kind :safe :writers [0] => 1 top; 0 x 0 safe by 0 from
 :domain x :initial x :writers [0] :kind :safe => V2 Shape of Initial
 :of x :domain x :writers [0] :kind :safe => V2 Shape of Domain
 :of x :writers :any :kind :safe => V2 Shape of Parts
+:kind :atomic :writers :any :fixed 1 => V2 Shape of Fixed
+:kind :atomic :writers :any :fixed nil => V2 Shape of Fixed
+:kind :atomic :writers :any :fixed :true => V2 Shape of Fixed
+:kind :atomic :writers :any :fixed True => V2 Shape of Fixed
+:kind :atomic :writers :any :fixed true :fixed true => V2 Shape of Fixed
+:fixed x :of x :writers [0] :kind :safe => V2 Shape of Parts
+:kind :safe :writers :any :fixed x => V2 Shape of Fixed
 :kind :safe :writers :any => V4 WriterCount
 :kind :regular :writers [] => V4 WriterCount
 :kind :safe :writers [0 0] => V4 WriterCount

@@ -6,7 +6,7 @@ use Rattle.intervals.specs.declared.operation.Op.{Op}
 use Rattle.intervals.specs.declared.operation.Value.{Value}
 use Rattle.intervals.specs.declared.edit.Edit.{Edit}
 use Rattle.intervals.specs.Operation.{is_write}
-use Rattle.intervals.specs.Edit.{op_of, new_op, edited, edit_id}
+use Rattle.intervals.specs.Edit.{new_op, edited, edit_id, found_by}
 use Rattle.intervals.specs.Refusal.{reply_to}
 use Rattle.intervals.specs.declared.claim.Kind.TheVariants.{Atomic}
 use Rattle.intervals.specs.Standing.{HasDistinctIds}
@@ -124,7 +124,7 @@ module _ (members : Members) (zones stretches : Contents) (prepared : Option Op)
         }
 
 module _ (claim : Terms) (ops : List Op) (edit : Edit) (apart : AreManyWriters claim ops) (accepted : reply_to claim ops edit ≡ None)
-    (old new : Option Op) (old_is : old ≡ judged_part (op_of ops (edit_id edit))) (new_is : new ≡ judged_part (new_op ops edit))
+    (old new : Option Op) (old_is : old ≡ judged_part (found_by ops (edit_id edit))) (new_is : new ≡ judged_part (new_op ops edit))
     (after : List Op) (after_is : after ≡ edited ops edit) where
   pub apart_after : AreManyWriters claim after
   apart_after = subst (AreManyWriters claim) (sym after_is) (apart_kept claim ops edit apart accepted)
@@ -132,8 +132,8 @@ module _ (claim : Terms) (ops : List Op) (edit : Edit) (apart : AreManyWriters c
   pub change_is : IsChange ops old new after
   change_is =
       subst (λ (o : Option Op). IsChange ops o new after) (sym old_is)
-      (subst (λ (n : Option Op). IsChange ops (judged_part (op_of ops (edit_id edit))) n after) (sym new_is)
-      (subst (λ (l : List Op). IsChange ops (judged_part (op_of ops (edit_id edit))) (judged_part (new_op ops edit)) l) (sym after_is) (change_of_edit claim ops edit apart accepted)))
+      (subst (λ (n : Option Op). IsChange ops (judged_part (found_by ops (edit_id edit))) n after) (sym new_is)
+      (subst (λ (l : List Op). IsChange ops (judged_part (found_by ops (edit_id edit))) (judged_part (new_op ops edit)) l) (sym after_is) (change_of_edit claim ops edit apart accepted)))
 
   module _ (first second : Option Value) (first_is : first ≡ value_in old) (second_is : second ≡ other_value first (value_in new))
       (earlier later : Option Zone × Option Zone) (tree : Contents) where

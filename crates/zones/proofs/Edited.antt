@@ -8,18 +8,19 @@ use Rattle.intervals.specs.declared.operation.Op.{Op}
 use Rattle.intervals.specs.declared.operation.OpId.{OpId}
 use Rattle.intervals.specs.declared.edit.Change.{Change}
 use Rattle.intervals.specs.declared.edit.Edit.{Edit}
-use Rattle.intervals.specs.declared.edit.Edit.TheVariants.{Append, Amend, Withdraw}
+use Rattle.intervals.specs.declared.edit.Edit.TheVariants.{Append, Amend, Withdraw, Claim}
 use Rattle.intervals.specs.declared.operation.Moment.{Moment}
 use Rattle.intervals.specs.Operation.{IsWrite, is_write, same_id, judged, value_of}
-use Rattle.intervals.specs.Edit.{op_of, amended, changed, edited, new_op, edit_id}
+use Rattle.intervals.specs.Edit.{op_of, found_by, has_id, amended, changed, edited, new_op, edit_id}
 use Rattle.intervals.specs.Refusal.{first_refusal, moments_refusal, reply_to}
 use Rattle.intervals.specs.Standing.{HasDistinctIds, ShareNoMoment}
 use Rattle.intervals.specs.Terms.{Terms}
 use Rattle.intervals.specs.declared.claim.Kind.TheVariants.{Atomic}
 use Rattle.intervals.proofs.Accepted.{edit_accepted}
 use Rattle.intervals.proofs.Found.{find-Some}
-use Rattle.intervals.proofs.Ids.{not_taken, none_of, found_alike, found_by_id, same_id-refl, distinct_edited}
-use Rattle.intervals.proofs.Standing.{HaveOtherValues, nothing_apart, edited_apart}
+use Rattle.intervals.proofs.Ids.{not_taken, none_of, found_alike, found_by_id, same_id-refl, distinct_edited, found_stands, found_again}
+use Rattle.intervals.proofs.Claimed.{HaveOtherValues}
+use Rattle.intervals.proofs.Standing.{nothing_apart, edited_apart}
 use Rattle.zones.specs.Cluster.{edge_of_end}
 use Rattle.zones.specs.Members.{HaveOwnPlaces, IsChange}
 use Rattle.zones.specs.Zoned.{AreManyWriters, judged_part}
@@ -53,7 +54,7 @@ amended_cases id change a = by_cases (same_id a.id id)
 
 -- it is the new operation of the edit, or one of another id
 abbrev pub StandsAfter : List Op → Edit → Op → Type 0
-StandsAfter ops edit x = (new_op ops edit ≡ Some x) ⊎ (Contains ops x × (same_id x.id (edit_id edit) ≡ false))
+StandsAfter ops edit x = (new_op ops edit ≡ Some x) ⊎ (Contains ops x × (has_id (edit_id edit) x ≡ false))
 
 pub from_edited : (ops : List Op) (edit : Edit) (x : Op) → HasDistinctIds ops → first_refusal ops edit ≡ None → Contains (edited ops edit) x → StandsAfter ops edit x
 from_edited ops (Append op) x d accepted h = by_cases (Contains-push_cases ops op x h)
@@ -67,6 +68,7 @@ from_edited ops (Amend id change) x d accepted h = let (a, k, e) = from_map (ame
     by_cases a k e (inl (s, f)) = inl (ap (option_map (λ op. changed op change)) (sym (found_alike ops a.id id s) ∙ found_by_id ops a d k) ∙ ap Some (sym f ∙ e))
     by_cases a k e (inr (s, f)) = inr (subst (λ (o : Op). Contains ops o × (same_id o.id id ≡ false)) (sym f ∙ e) (k, s))
 from_edited ops (Withdraw id) x d accepted h = let (k, t) = kept_stands (λ op. not (same_id op.id id)) ops x h in inr (k, not-true (same_id x.id id) t)
+from_edited ops (Claim kind) x d accepted h = inr (h, refl)
 
 pub in_edited : (ops : List Op) (edit : Edit) (x : Op) → StandsAfter ops edit x → Contains (edited ops edit) x
 in_edited ops (Append op) x (inl e) = let same : op ≡ x = cc in subst (λ (o : Op). Contains (ops ++ op ∷ []) o) same (Contains-push ops op)
@@ -83,6 +85,8 @@ in_edited ops (Amend id change) x (inr (k, s)) = by_cases (amended_cases id chan
     by_cases (inr (t, f)) = subst (λ (o : Op). Contains (map (amended id change) ops) o) f (mapped (amended id change) ops x k)
 in_edited ops (Withdraw id) x (inl e) = absurd (cc)
 in_edited ops (Withdraw id) x (inr (k, s)) = kept (λ op. not (same_id op.id id)) ops x k (not_from_false (same_id x.id id) s)
+in_edited ops (Claim kind) x (inl e) = absurd (cc)
+in_edited ops (Claim kind) x (inr (k, s)) = k
 
 -- what an option has that is judged
 part_is : (o : Option Op) (x : Op) → judged_part o ≡ Some x → (o ≡ Some x) × (is_judged x ≡ true)
@@ -151,42 +155,42 @@ module _ (claim : Terms) (ops : List Op) (edit : Edit) (apart : AreManyWriters c
   apart_kept = record { atomic = apart.atomic; kept = edited_apart claim ops edit apart.kept accepted }
 
   abbrev old : Option Op
-  old = judged_part (op_of ops (edit_id edit))
+  old = judged_part (found_by ops (edit_id edit))
 
   abbrev new : Option Op
   new = judged_part (new_op ops edit)
 
   -- the new operation is judged, or it was and is none of the edit's id
-  from_judged : (x : Op) → Contains (judged (edited ops edit)) x → (new ≡ Some x) ⊎ (Contains (judged ops) x × (same_id x.id (edit_id edit) ≡ false))
+  from_judged : (x : Op) → Contains (judged (edited ops edit)) x → (new ≡ Some x) ⊎ (Contains (judged ops) x × (has_id (edit_id edit) x ≡ false))
   from_judged x h = let (k, t) = kept_stands is_judged (edited ops edit) x h in by_cases t (from_edited ops edit x apart.kept.ids (edit_accepted claim ops edit accepted) k)
     where
-      by_cases : is_judged x ≡ true → StandsAfter ops edit x → (new ≡ Some x) ⊎ (Contains (judged ops) x × (same_id x.id (edit_id edit) ≡ false))
+      by_cases : is_judged x ≡ true → StandsAfter ops edit x → (new ≡ Some x) ⊎ (Contains (judged ops) x × (has_id (edit_id edit) x ≡ false))
       by_cases t (inl e) = inl (part_of (new_op ops edit) x e t)
       by_cases t (inr (k, s)) = inr (kept is_judged ops x k t, s)
 
   new_judged : (x : Op) → new ≡ Some x → Contains (judged (edited ops edit)) x
   new_judged x e = let (is, t) = part_is (new_op ops edit) x e in kept is_judged (edited ops edit) x (in_edited ops edit x (inl is)) t
 
-  still_judged : (x : Op) → Contains (judged ops) x → same_id x.id (edit_id edit) ≡ false → Contains (judged (edited ops edit)) x
+  still_judged : (x : Op) → Contains (judged ops) x → has_id (edit_id edit) x ≡ false → Contains (judged (edited ops edit)) x
   still_judged x h s = let (k, t) = kept_stands is_judged ops x h in kept is_judged (edited ops edit) x (in_edited ops edit x (inr (k, s))) t
 
-  old_id : (x : Op) → old ≡ Some x → same_id x.id (edit_id edit) ≡ true
-  old_id x e = (find-Some (λ op. same_id op.id (edit_id edit)) ops x (part_is (op_of ops (edit_id edit)) x e).0).1
+  old_id : (x : Op) → old ≡ Some x → has_id (edit_id edit) x ≡ true
+  old_id x e = (found_stands ops (edit_id edit) x (part_is (found_by ops (edit_id edit)) x e).0).1
 
   pub change_of_edit : IsChange ops old new (edited ops edit)
   change_of_edit = record {
-    goes = if_some (Contains (judged ops)) old (λ x e. let (is, t) = part_is (op_of ops (edit_id edit)) x e in kept is_judged ops x (find-Some (λ op. same_id op.id (edit_id edit)) ops x is).0 t);
+    goes = if_some (Contains (judged ops)) old (λ x e. let (is, t) = part_is (found_by ops (edit_id edit)) x e in kept is_judged ops x (found_stands ops (edit_id edit) x is).0 t);
     comes = if_some (Contains (judged (edited ops edit))) new new_judged;
-    stay = λ x h. by_id x h (same_id x.id (edit_id edit)) refl;
+    stay = λ x h. by_id x h (has_id (edit_id edit) x) refl;
     stood = λ x h. by_cases x (from_judged x h);
     apart_before = own_places claim ops apart;
     apart_after = own_places claim (edited ops edit) apart_kept;
   }
     where
-      by_id : (x : Op) → Contains (judged ops) x → (t : Bool) → same_id x.id (edit_id edit) ≡ t → (old ≡ Some x) ⊎ Contains (judged (edited ops edit)) x
-      by_id x h true t = let (k, j) = kept_stands is_judged ops x h in inl (part_of (op_of ops (edit_id edit)) x (sym (found_alike ops x.id (edit_id edit) t) ∙ found_by_id ops x apart.kept.ids k) j)
+      by_id : (x : Op) → Contains (judged ops) x → (t : Bool) → has_id (edit_id edit) x ≡ t → (old ≡ Some x) ⊎ Contains (judged (edited ops edit)) x
+      by_id x h true t = let (k, j) = kept_stands is_judged ops x h in inl (part_of (found_by ops (edit_id edit)) x (found_again ops (edit_id edit) x apart.kept.ids k t) j)
       by_id x h false t = inr (still_judged x h t)
 
-      by_cases : (x : Op) → (new ≡ Some x) ⊎ (Contains (judged ops) x × (same_id x.id (edit_id edit) ≡ false)) → (new ≡ Some x) ⊎ (Contains (judged ops) x × (old ≢ Some x))
+      by_cases : (x : Op) → (new ≡ Some x) ⊎ (Contains (judged ops) x × (has_id (edit_id edit) x ≡ false)) → (new ≡ Some x) ⊎ (Contains (judged ops) x × (old ≢ Some x))
       by_cases x (inl e) = inl e
-      by_cases x (inr (k, s)) = inr (k, λ e. both_ways (same_id x.id (edit_id edit)) s (old_id x e))
+      by_cases x (inr (k, s)) = inr (k, λ e. both_ways (has_id (edit_id edit) x) s (old_id x e))

@@ -12,7 +12,7 @@ use Rattle.intervals.specs.declared.claim.Kind.TheVariants.{Atomic}
 use Rattle.intervals.specs.declared.refusal.Refusal.{Refusal}
 use Rattle.intervals.specs.declared.refusal.Refusal.TheVariants.{NotAWriter, ValueTaken, OutOfDomain}
 use Rattle.intervals.specs.Operation.{IsWrite, is_write, same_id, same_value, value_of}
-use Rattle.intervals.specs.Refusal.{first_of, refused_if, is_holder, is_in_domain, kind_refusal, may_write, value_refusal, write_refusal}
+use Rattle.intervals.specs.Refusal.{first_of, refused_if, as_holder, holder_of, is_holder, is_in_domain, kind_refusal, may_write, value_refusal, write_refusal}
 use Rattle.intervals.specs.Terms.{Terms}
 use Rattle.intervals.proofs.Found.{find-None, find-none, find-Some}
 use Rattle.intervals.proofs.Holders.{Decides-is_holder}
@@ -46,17 +46,17 @@ module _ (claim : Terms) (ops : List Op) (op : Op) where
         by_found None e = absurd (both_ways (is_holder op write) (All-contains (λ x. is_holder op x ≡ false) ops write (find-None (is_holder op) ops e) is.stands) holds)
         by_found (Some x) e = let (h, t) = find-Some (is_holder op) ops x e in ap Some (one_holder x h t).0
 
-  -- the refusal by a value that is not the initial one
-  pub refused_by : (initial : Value) (found : Option Op) → claim.initial ≡ initial → same_value initial (value_of op.act) ≡ false → found ≡ find (is_holder op) ops
-      → value_refusal claim ops op ≡ option_map (λ other. ValueTaken (holders.Op other.id)) found
-  refused_by initial found same other is =
-      ap (λ (t : Bool). cond t (Some (ValueTaken holders.Initial)) (option_map (λ (other : Op). ValueTaken (holders.Op other.id)) (find (is_holder op) ops)))
+  -- the holder of a value that is not the initial one
+  pub held_by : (initial : Value) (found : Option Op) → claim.initial ≡ initial → same_value initial (value_of op.act) ≡ false → found ≡ find (is_holder op) ops
+      → holder_of claim ops op ≡ option_map as_holder found
+  held_by initial found same other is =
+      ap (λ (t : Bool). cond t (Some holders.Initial) (option_map as_holder (find (is_holder op) ops)))
       (ap (λ (i : Value). same_value i (value_of op.act)) same ∙ other)
-      ∙ ap (option_map (λ (other : Op). ValueTaken (holders.Op other.id))) (sym is)
+      ∙ ap (option_map as_holder) (sym is)
 
   -- an atomic register's refusal of a write is that beside the holder of its value
-  pub beside_is : (holder : Option Holder) → claim.kind ≡ Atomic → value_refusal claim ops op ≡ option_map ValueTaken holder → refusal_beside claim op holder ≡ write_refusal claim ops op
+  pub beside_is : (holder : Option Holder) → claim.kind ≡ Atomic → holder ≡ holder_of claim ops op → refusal_beside claim op holder ≡ write_refusal claim ops op
   beside_is holder atomic is =
       let kind : kind_refusal claim.kind claim ops op ≡ value_refusal claim ops op = ap (λ (k : Kind). kind_refusal k claim ops op) atomic in
       ap (λ (r : Option Refusal). cond (is_write op) (first_of (refused_if (not (may_write claim.writers op.process)) NotAWriter ∷ r ∷ refused_if (not (is_in_domain claim.domain (value_of op.act))) OutOfDomain ∷ [])) None)
-      (sym (kind ∙ is))
+      (sym (kind ∙ ap (option_map ValueTaken) (sym is)))

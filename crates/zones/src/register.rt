@@ -2,7 +2,7 @@
 
 ghost use Rattle.std.specs.Prelude.{◌≡◌, ◌↔◌, ◌+◌, ◌*◌, ◌≤◌, All, length, IsOk, ◌++◌, ◌∷◌, [], Contains, IfOk, IfSome, IsSome, IsNone, IsSomeAnd, IsTrue, OnOk, OnErr, None, Some, option_map};
 ghost use Rattle.intervals.specs.Operation.{IsWrite};
-ghost use Rattle.intervals.specs.Edit.{op_of as op_in, new_op, edited, is_append};
+ghost use Rattle.intervals.specs.Edit.{op_of as op_in, new_op, edited};
 ghost use Rattle.intervals.specs.Terms.{terms_of};
 ghost use Rattle.intervals.specs.Kind.{IsAtomic};
 ghost use Rattle.intervals.specs.Refusal.{first_refusal, write_refusal, reply_to, ok_unless};
@@ -170,7 +170,7 @@ impl<'t> Clusters<'t> {
         // That the zones stand in order is known of what is gone over.
         let _ = self.zones.iter();
         let initial = self.claim.initial;
-        let old = judged(op_of(&self.table, edit.id()));
+        let old = judged(self.table.find(edit.id()));
         let new = judged(new);
         let first = value_in(old);
         let second = other_value(first, value_in(new));
@@ -325,12 +325,6 @@ fn is_timely(stretches: &ZoneTree) -> bool
     ensures { IsTrue result ↔ All (λ z. ¬ IsForward z) stretches.now.zones }
 {
     stretches.first_reaching(Edge::Before).is_none()
-}
-
-fn op_of<'t>(table: &OpTable<'t>, id: OpId) -> Option<Op<'t>>
-    ensures { result ≡ op_in table.now.ops id }
-{
-    table.get(id).copied()
 }
 
 /// The operation, where it is a write or has an end.

@@ -1,8 +1,10 @@
 //! Rows of histories, as calls of a judge.
 
-ghost use Rattle.std.specs.Prelude.{◌≡◌, None, Some, OnOk};
+ghost use Rattle.std.specs.Prelude.{◌≡◌, List, None, Some, OnOk};
 ghost use Rattle.intervals.specs.Edit.{new_op as new_one};
-ghost use Rattle.intervals.specs.Refusal.{reply_to, first_refusal, new_write_refusal, write_refusal};
+ghost use Rattle.intervals.specs.Refusal.{reply_to, first_refusal, new_write_refusal, write_refusal, claim_refusal};
+ghost use Rattle.intervals.specs.Terms.{Terms};
+ghost use Rattle.intervals.specs.declared.operation.Op.{Op};
 
 use super::*;
 use intervals::{Act, Claim, Edit, Kind, Memory, Moment, Op, OpId, Parts, Refusal, Value, Writers};
@@ -17,6 +19,7 @@ const CLAIM: Claim = Claim {
     writers: Writers::Any,
     initial: Value::Nil,
     domain: None,
+    fixed: false,
 };
 
 fn number(word: &str) -> u64 {
@@ -93,14 +96,28 @@ fn new_refusal<'t>(clusters: &Clusters<'t>, edit: &Edit<'t>) -> Option<Refusal>
     }
 }
 
+/// A judge is of one kind, so here a claim is refused as if the kind were fixed.
+fn refusal_of_claim(edit: &Edit) -> Option<Refusal>
+    ensures { (claim : Terms) (ops : List Op) → result ≡ None → claim_refusal claim ops edit.now ≡ None }
+{
+    match edit {
+        Edit::Claim(_) => Some(Refusal::ClaimFixed),
+        _ => None,
+    }
+}
+
 fn refusal_of<'t>(clusters: &Clusters<'t>, edit: &Edit<'t>) -> Option<Refusal>
-    ensures { result ≡ reply_to clusters.now.claim clusters.now.ops edit.now }
+    ensures { result ≡ None → reply_to clusters.now.claim clusters.now.ops edit.now ≡ None }
 {
     let refusal = list_refusal(clusters, edit);
     if refusal.is_some() {
         return refusal;
     }
-    new_refusal(clusters, edit)
+    let refusal = new_refusal(clusters, edit);
+    if refusal.is_some() {
+        return refusal;
+    }
+    refusal_of_claim(edit)
 }
 
 /// Lets the room go that there is for an operation.
@@ -120,7 +137,7 @@ fn carried_out<'t>(clusters: &mut Clusters<'t>, edit: Edit<'t>) -> Result<(), Me
     match edit {
         Edit::Append(op) if op.is_write() => clusters.admit_write(&op),
         Edit::Append(op) => clusters.admit_read(&op),
-        Edit::Amend(..) => clusters.admit(edit),
+        Edit::Amend(..) | Edit::Claim(_) => clusters.admit(edit),
         Edit::Withdraw(id) => {
             withdraw(clusters, id);
             Ok(())

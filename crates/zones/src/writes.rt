@@ -1,9 +1,8 @@
 //! Which writes a claim allows beside those that stand.
 
-ghost use Rattle.std.specs.Prelude.{◌≡◌, List, find, option_map};
+ghost use Rattle.std.specs.Prelude.{◌≡◌, List, find};
 ghost use Rattle.intervals.specs.declared.operation.Op.{Op};
-ghost use Rattle.intervals.specs.declared.refusal.Refusal.{Refusal};
-ghost use Rattle.intervals.specs.Refusal.{write_refusal, value_refusal, ok_unless, is_holder};
+ghost use Rattle.intervals.specs.Refusal.{write_refusal, holder_of as held_by, ok_unless, is_holder};
 ghost use Rattle.intervals.specs.Terms.{Terms, terms_of};
 ghost use Rattle.intervals.specs.Standing.{HasDistinctIds};
 ghost use Rattle.zones.specs.Index.{AreMembers};
@@ -46,7 +45,7 @@ fn check_beside(claim: &Claim, op: &Op, holder: Option<Holder>) -> Result<(), Re
 /// Who has the value of the operation already.
 fn holder_of(initial: Value, members: &Members, table: &OpTable, op: &Op) -> Option<Holder>
     ensures { (claim : Terms) → AreMembers table.now.ops members.now → HasDistinctIds table.now.ops → AreManyWriters claim table.now.ops → claim.initial ≡ initial
-        → value_refusal claim table.now.ops op.now ≡ option_map Refusal.ValueTaken result }
+        → result ≡ held_by claim table.now.ops op.now }
 {
     if is_same_value(initial, op.value()) {
         return Some(Holder::Initial);

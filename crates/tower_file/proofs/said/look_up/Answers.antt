@@ -12,6 +12,7 @@ returns c pairs form h k =
     let initial = c.field-4.ensures.values pairs h in
     let domain = c.field-5.ensures.values pairs h in
     let parts = c.field-6.ensures.values pairs h in
+    let fixed = c.field-7.ensures.values pairs h in
     record {
       name = k.name ∙ sym name;
       kind = k.kind ∙ sym kind;
@@ -19,4 +20,5 @@ returns c pairs form h k =
       initial = k.initial ∙ sym initial;
       domain = subst (λ (given : Given Piece). IsGiven AreMembers given form.domain) (sym domain) k.domain;
       parts = subst (λ (given : Given Piece). IsGiven AreMembers given form.parts) (sym parts) k.parts;
+      fixed = k.fixed ∙ sym fixed;
     }

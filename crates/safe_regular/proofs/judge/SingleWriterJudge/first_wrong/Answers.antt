@@ -28,5 +28,5 @@ returns c =
       some = c.short_reads_are_told.ensures.some items;
       cover = λ spot. c.each_spot_has_a_last_cover.ensures items spot held.laid.order;
     } in
-    subst (λ (x : Judged). c.op_of.result ≡ first_wrong x.claim x.ops) c.self.view_is
-    (c.op_of.ensures ∙ named (terms_of c.self.inside.claim) c.self.inside.table.ops held.apart items held.laid told c.in_ok-item.item (sym c.in_ok-item.ensures.first))
+    subst (λ (x : Judged). c.find.result ≡ first_wrong x.claim x.ops) c.self.view_is
+    (c.find.ensures ∙ named (terms_of c.self.inside.claim) c.self.inside.table.ops held.apart items held.laid told c.in_ok-item.item (sym c.in_ok-item.ensures.first))

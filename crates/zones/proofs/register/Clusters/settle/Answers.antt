@@ -1,7 +1,7 @@
 use Rattle.std.proofs.Common.{◌≡◌, ◌+◌, ◌*◌, ◌≤◌, ℕ, length, None, Some, Option, ap, sym, subst, ◌∙◌, rules}
 use Rattle.std.specs.Prelude.{IfSome, IsSome}
 use Rattle.intervals.specs.declared.operation.Op.{Op}
-use Rattle.intervals.specs.Edit.{op_of, new_op, edited, edit_id}
+use Rattle.intervals.specs.Edit.{new_op, edited, edit_id, found_by}
 use Rattle.intervals.specs.Refusal.{reply_to}
 use Rattle.intervals.specs.Table.{Tabled, prepared_after}
 use Rattle.intervals.specs.Terms.{terms_of}
@@ -40,7 +40,7 @@ exchange-requires c =
     let ops = c.self.inside.table.ops in
     let prepared = c.self.inside.table.prepared in
     let accepted : reply_to claim ops c.args.edit ≡ None = subst (λ (x : Clustered). reply_to x.claim x.ops c.args.edit ≡ None) (sym c.self.view_is) c.requires.accepted in
-    let old_is : c.judged-old.result ≡ judged_part (op_of ops (edit_id c.args.edit)) = search rules in
+    let old_is : c.judged-old.result ≡ judged_part (found_by ops (edit_id c.args.edit)) = search rules in
     let asked : c.args.new ≡ new_op ops c.args.edit = subst (λ (x : Clustered). c.args.new ≡ new_op x.ops c.args.edit) (sym c.self.view_is) c.requires.new in
     let new_is : c.judged-new.result ≡ judged_part (new_op ops c.args.edit) = c.judged-new.ensures ∙ ap judged_part asked in
     let held : IfSome c.args.new (λ op. prepared ≡ Some op) = subst (λ (x : Clustered). IfSome c.args.new (λ op. x.prepared ≡ Some op)) (sym c.self.view_is) c.requires.prepared in
@@ -65,7 +65,7 @@ exchange-requires-2 c =
     let ops = c.self.inside.table.ops in
     let prepared = c.self.inside.table.prepared in
     let accepted : reply_to claim ops c.args.edit ≡ None = subst (λ (x : Clustered). reply_to x.claim x.ops c.args.edit ≡ None) (sym c.self.view_is) c.requires.accepted in
-    let old_is : c.judged-old.result ≡ judged_part (op_of ops (edit_id c.args.edit)) = search rules in
+    let old_is : c.judged-old.result ≡ judged_part (found_by ops (edit_id c.args.edit)) = search rules in
     let asked : c.args.new ≡ new_op ops c.args.edit = subst (λ (x : Clustered). c.args.new ≡ new_op x.ops c.args.edit) (sym c.self.view_is) c.requires.new in
     let new_is : c.judged-new.result ≡ judged_part (new_op ops c.args.edit) = c.judged-new.ensures ∙ ap judged_part asked in
     let held : IfSome c.args.new (λ op. prepared ≡ Some op) = subst (λ (x : Clustered). IfSome c.args.new (λ op. x.prepared ≡ Some op)) (sym c.self.view_is) c.requires.prepared in
@@ -92,7 +92,7 @@ invariant_of-self c =
     let zones = c.self.inside.zones in
     let stretches = c.self.inside.stretches in
     let accepted : reply_to claim ops c.args.edit ≡ None = subst (λ (x : Clustered). reply_to x.claim x.ops c.args.edit ≡ None) (sym c.self.view_is) c.requires.accepted in
-    let old_is : c.judged-old.result ≡ judged_part (op_of ops (edit_id c.args.edit)) = search rules in
+    let old_is : c.judged-old.result ≡ judged_part (found_by ops (edit_id c.args.edit)) = search rules in
     let asked : c.args.new ≡ new_op ops c.args.edit = subst (λ (x : Clustered). c.args.new ≡ new_op x.ops c.args.edit) (sym c.self.view_is) c.requires.new in
     let new_is : c.judged-new.result ≡ judged_part (new_op ops c.args.edit) = c.judged-new.ensures ∙ ap judged_part asked in
     let after = c.admit.new.self.ops in

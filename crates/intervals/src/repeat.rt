@@ -1,0 +1,122 @@
+//! Which writes that stand repeat a value.
+
+ghost use Rattle.std.specs.Prelude.{◌≡◌, ◌++◌, ◌∷◌, [], List, None, Ok, Err, IfOk, OnErr, option_map};
+ghost use Rattle.intervals.specs.declared.operation.Op.{Op};
+ghost use Rattle.intervals.specs.Edit.{op_of};
+ghost use Rattle.intervals.specs.Refusal.{holder_of, is_holder as holds};
+ghost use Rattle.intervals.specs.FirstWrites.{AreFirst};
+ghost use Rattle.intervals.specs.Refusal.{first_repeat as first_that_repeats, id_with, repeat_of as repeat_that};
+ghost use Rattle.intervals.specs.Standing.{HasDistinctIds};
+ghost use Rattle.intervals.specs.Table.{standing};
+ghost use Rattle.intervals.specs.Terms.{Terms, terms_of};
+
+use crate::{Claim, Holder, Memory, Moment, Op, OpId, OpTable, Shelf, Spot, Value, is_same_value};
+use std::alloc::Global;
+
+impl<'t> OpTable<'t> {
+    /// The first write, in the order of the appends, of a value that the register has at first or that a write
+    /// before it has, and who has it. It takes the time of a look-up for each write; where memory is refused each
+    /// write is looked for among those before it, and memory is wanting only where no value is repeated.
+    pub fn first_repeat(
+        &self,
+        alloc: Global,
+        claim: &Claim,
+    ) -> Result<Option<(OpId, Holder)>, Memory>
+        requires { HasDistinctIds self.now.ops }
+        ensures found { IfOk result (λ found. found ≡ first_that_repeats (terms_of claim.now) [] self.now.ops) }
+        ensures memory { OnErr result (first_that_repeats (terms_of claim.now) [] self.now.ops ≡ None) }
+    {
+        match repeat_by_value(alloc, self.slots(), claim.initial) {
+            Ok(found) => Ok(found),
+            Err(memory) => match repeat_by_pairs(self.slots(), claim.initial) {
+                Some(found) => Ok(Some(found)),
+                None => Err(memory),
+            },
+        }
+    }
+}
+
+/// The first repeat, by the first writes of the values that were met.
+fn repeat_by_value(
+    alloc: Global,
+    slots: &[Option<Op>],
+    initial: Value,
+) -> Result<Option<(OpId, Holder)>, Memory>
+    requires { HasDistinctIds (standing slots.now) }
+    ensures { (claim : Terms) → claim.initial ≡ initial → IfOk result (λ found. found ≡ first_that_repeats claim [] (standing slots.now)) }
+{
+    let mut first = Shelf::new(alloc);
+    for slot in slots {
+        if let Some(op) = slot {
+            if let Some(repeat) = repeat_of(&mut first, initial, op)? {
+                return Ok(Some(repeat));
+            }
+        }
+    }
+    Ok(None)
+}
+
+/// The operation as a repeat behind those of which these are the first writes of their values. Where it is a write and
+/// no repeat it is the first of its value.
+fn repeat_of(first: &mut Shelf, initial: Value, op: &Op) -> Result<Option<(OpId, Holder)>, Memory>
+    ensures repeat { (claim : Terms) (before : List Op) → claim.initial ≡ initial → AreFirst first.old before → op_of before op.now.id ≡ None
+        → IfOk result (λ found. found ≡ repeat_that claim before op.now) }
+    ensures first { (before : List Op) → AreFirst first.old before → result ≡ Ok None → AreFirst first.new (before ++ op.now ∷ []) }
+{
+    if !op.is_write() {
+        return Ok(None);
+    }
+    if is_same_value(initial, op.value()) {
+        return Ok(Some((op.id, Holder::Initial)));
+    }
+    let spot = Spot {
+        value: op.value(),
+        moment: Moment(0),
+    };
+    if let Some(id) = first.get(spot) {
+        return Ok(Some((op.id, Holder::Op(id))));
+    }
+    first.hold(spot)?;
+    first.put(spot, op.id);
+    Ok(None)
+}
+
+/// The first repeat, by each write and those before it.
+fn repeat_by_pairs(slots: &[Option<Op>], initial: Value) -> Option<(OpId, Holder)>
+    ensures { (claim : Terms) → claim.initial ≡ initial → result ≡ first_that_repeats claim [] (standing slots.now) }
+{
+    for place in 0..slots.len() {
+        if let Some(op) = &slots[place] {
+            if op.is_write() {
+                if let Some(holder) = holder_among(&slots[..place], initial, op) {
+                    return Some((op.id, holder));
+                }
+            }
+        }
+    }
+    None
+}
+
+/// Who has the value of the operation already, of the register at first and the writes in the slots.
+fn holder_among(slots: &[Option<Op>], initial: Value, op: &Op) -> Option<Holder>
+    ensures { (claim : Terms) → claim.initial ≡ initial → result ≡ holder_of claim (standing slots.now) op.now }
+{
+    if is_same_value(initial, op.value()) {
+        return Some(Holder::Initial);
+    }
+    for slot in slots {
+        if let Some(other) = slot {
+            if is_holder(op, other) {
+                return Some(Holder::Op(other.id));
+            }
+        }
+    }
+    None
+}
+
+/// Whether the second is another write and has the value of the first.
+fn is_holder(op: &Op, other: &Op) -> bool
+    ensures { result ≡ holds op.now other.now }
+{
+    !other.has_id(op.id) && other.is_write() && is_same_value(other.value(), op.value())
+}
