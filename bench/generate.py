@@ -97,6 +97,21 @@ ATOMIC_TOWER = "{:levels [{:name top :registers [{:name x :kind :atomic :writers
 REGULAR_TOWER = "{:levels [{:name top :registers [{:name x :kind :regular :writers [0] :initial 0}]}]}\n"
 
 
+CLAIMED_TOWER = "{:levels [{:name top :registers [{:name x :kind :atomic :writers [0]}]}]}\n"
+CLAIMED = ["regular", "safe", "atomic"]
+
+
+def claimed_trace(claims, operations=1_000):
+    """The lines of a trace of so many operations, writes and reads that return what was written, one after the other,
+    and then of so many claims of other kinds."""
+    for number in range(operations):
+        process, act, value = (0, "write", number) if number % 2 == 0 else (1, "read", number - 1)
+        yield EVENT % (process, "invoke", act, value, 2 * number)
+        yield EVENT % (process, "ok", act, value, 2 * number + 1)
+    for number in range(claims):
+        yield "{:edit :claim :register x :kind :%s}\n" % CLAIMED[number % len(CLAIMED)]
+
+
 def kind_of(register):
     return ["safe", "regular", "atomic"][register % 3]
 
