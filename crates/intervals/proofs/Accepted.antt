@@ -10,12 +10,12 @@ use Rattle.intervals.specs.declared.edit.Edit.TheVariants.{Append, Amend, Withdr
 use Rattle.intervals.specs.declared.claim.Kind.{Kind}
 use Rattle.intervals.specs.declared.claim.Kind.TheVariants.{Safe, Regular, Atomic}
 use Rattle.intervals.specs.declared.refusal.Refusal.{Refusal}
-use Rattle.intervals.specs.declared.refusal.Refusal.TheVariants.{OpTaken, EndNotAfterBegin, MomentTooLarge, NotAWriter, OutOfDomain, ClaimFixed, ClaimWriters}
+use Rattle.intervals.specs.declared.refusal.Refusal.TheVariants.{OpTaken, EndNotAfterBegin, MomentTooLarge, NotAWriter, OutOfDomain, ClaimFixed, ClaimWriters, ClaimInitial}
 use Rattle.intervals.specs.Terms.{Terms}
 use Rattle.intervals.specs.Operation.{Overlaps, IsWrite, is_write, overlaps, same_id, value_of}
 use Rattle.intervals.specs.Edit.{op_of, new_op}
 use Rattle.intervals.specs.Refusal.{first_of, refused_if, has_early_end, has_large_moment, is_in_domain, ends_by, is_at, is_moment_of, find_other_with, moment_taken, moments_refusal, amendment_refusal, first_refusal, may_write, is_overlapped, overlap_refusal, kind_refusal, new_write_refusal, first_overlap, is_one_writer, one_writer_refusal, overlap_claimed, to_kind_refusal, claim_refusal, reply_to}
-use Rattle.intervals.specs.Standing.{IsMomentOf, ShareNoMoment, IsHolder, IsPermitted}
+use Rattle.intervals.specs.Standing.{IsMomentOf, ShareNoMoment, IsHolder, IsInitial, IsPermitted}
 use Rattle.intervals.proofs.Agreement.{Decides-overlaps}
 use Rattle.intervals.proofs.Found.{not_mapped, find-None}
 use Rattle.intervals.proofs.Holders.{none_exactly}
@@ -114,9 +114,19 @@ not_false : (test : Bool) → not test ≡ false → test ≡ true
 not_false true e = refl
 not_false false e = absurd (cc)
 
--- the writers are one, and no writes overlap
-pub one_writer_accepted : (claim : Terms) (ops : List Op) → one_writer_refusal claim ops ≡ None → (refused_if (not (is_one_writer claim.writers)) ClaimWriters ≡ None) × (option_map overlap_claimed (first_overlap ops) ≡ None)
-one_writer_accepted claim ops e = none_of_two (refused_if (not (is_one_writer claim.writers)) ClaimWriters) (option_map overlap_claimed (first_overlap ops)) e
+-- the writers are one, the initial value is known, and no writes overlap
+pub one_writer_accepted : (claim : Terms) (ops : List Op) → one_writer_refusal claim ops ≡ None
+    → (refused_if (not (is_one_writer claim.writers)) ClaimWriters ≡ None) × (refused_if (not claim.known) ClaimInitial ≡ None) × (option_map overlap_claimed (first_overlap ops) ≡ None)
+one_writer_accepted claim ops e = none_of_three (refused_if (not (is_one_writer claim.writers)) ClaimWriters) (refused_if (not claim.known) ClaimInitial) (option_map overlap_claimed (first_overlap ops)) e
+
+known_accepted : (claim : Terms) (ops : List Op) → one_writer_refusal claim ops ≡ None → claim.known ≡ true
+known_accepted claim ops e = not_false claim.known (not_refused (not claim.known) ClaimInitial (one_writer_accepted claim ops e).1)
+
+-- where a register is claimed to have one writer, its initial value is known
+pub one_writer_known : (kind : Kind) (claim : Terms) (ops : List Op) → to_kind_refusal kind claim ops ≡ None → kind ≢ Atomic → claim.known ≡ true
+one_writer_known Safe claim ops e one_writer = known_accepted claim ops e
+one_writer_known Regular claim ops e one_writer = known_accepted claim ops e
+one_writer_known Atomic claim ops e one_writer = absurd (one_writer refl)
 
 -- of a claim the kind is not fixed, and what is claimed is not refused
 pub claim_accepted : (kind : Kind) (claim : Terms) (ops : List Op) → reply_to claim ops (Claim kind) ≡ None → to_kind_refusal kind claim ops ≡ None
@@ -161,7 +171,7 @@ overlaps_none Safe claim ops new one_writer e write = not_overlapped ops new e
 overlaps_none Regular claim ops new one_writer e write = not_overlapped ops new e
 
 -- where the refusal of a write is that of its value, nothing has it
-pub values_free : (kind : Kind) (claim : Terms) (ops : List Op) (new : Op) → kind ≡ Atomic → kind_refusal kind claim ops new ≡ None → (value_of new.act ≢ claim.initial) × All (λ other. ¬ IsHolder new other) ops
+pub values_free : (kind : Kind) (claim : Terms) (ops : List Op) (new : Op) → kind ≡ Atomic → kind_refusal kind claim ops new ≡ None → (¬ IsInitial claim (value_of new.act)) × All (λ other. ¬ IsHolder new other) ops
 values_free Atomic claim ops new atomic e = (none_exactly claim ops new).0 e
 values_free Safe claim ops new atomic e = absurd (cc)
 values_free Regular claim ops new atomic e = absurd (cc)

@@ -15,7 +15,7 @@ use Rattle.intervals.specs.declared.refusal.Refusal.{Refusal}
 use Rattle.intervals.specs.Operation.{IsWrite, Overlaps, is_write, overlaps, same_id, value_of}
 use Rattle.intervals.specs.Edit.{op_of}
 use Rattle.intervals.specs.Refusal.{ends_by, has_large_moment, is_overlapped, kind_refusal, moment_taken, moments_refusal, overlap_refusal, reply_to, value_refusal, write_refusal}
-use Rattle.intervals.specs.Standing.{HasDistinctIds, HasNoOverlappingWrites, HasDistinctValues, IsHolder, IsMomentHolder, IsMomentOf, IsPermitted, ShareNoMoment, StandApart}
+use Rattle.intervals.specs.Standing.{HasDistinctIds, HasNoOverlappingWrites, IsHolder, IsInitial, IsMomentHolder, IsMomentOf, IsPermitted, ShareNoMoment, StandApart}
 use Rattle.intervals.specs.Terms.{Terms}
 use Rattle.intervals.proofs.Agreement.{Decides-overlaps, false_unless}
 use Rattle.intervals.proofs.Claimed.{HaveOtherValues}
@@ -89,7 +89,7 @@ module _ (claim : Terms) (front : List Op) (op : Op) (rest : List Op) (apart : S
 
   no_holder : IsWrite op → claim.kind ≡ Atomic → value_refusal claim front op ≡ None
   no_holder write atomic =
-      nobody_back claim front op (All-contains (λ w. IsWrite w → value_of w.act ≢ claim.initial) all op (apart.values atomic).new stands write)
+      nobody_back claim front op (All-contains (λ w. IsWrite w → ¬ IsInitial claim (value_of w.act)) all op (apart.values atomic).new stands write)
       (all_from (λ other. ¬ IsHolder op other) front (λ a h holds.
       so HaveOtherValues (λ x y apart wy wx e. apart wx wy (sym e)) (apart.values atomic).apart a h holds.1 write holds.2))
 

@@ -1,6 +1,7 @@
 -- The texts that operations lend decide no verdict.
-use Rattle.std.proofs.Common.{◌≡◌, ◌↔◌, ℕ, ◌<◌, List, [], ◌∷◌, map, length, get_or, set, swap, IsPermutation, refl, sym, ap, subst, ◌∙◌, arith}
+use Rattle.std.proofs.Common.{◌≡◌, ◌≢◌, ◌↔◌, ℕ, Bool, true, false, ◌<◌, List, [], ◌∷◌, map, length, get_or, set, swap, IsPermutation, refl, sym, ap, subst, ◌∙◌, arith}
 use Rattle.std.specs.List.{AllByRecursion}
+use Rattle.std.proofs.lemmas.List.Elements.{All-nil, All-cons, All-head, All-tail}
 use Rattle.std.proofs.lemmas.List.{map-set, get_or-map, length-map}
 use Rattle.std.proofs.lemmas.List.Sorted.{IsPermutation-refl, IsPermutation-trans, IsPermutation-swap, IsPermutation-map, IsPermutation-keeps}
 use Rattle.intervals.specs.declared.operation.Op.{Op}
@@ -9,10 +10,10 @@ use Rattle.intervals.specs.declared.edit.Edit.{Edit}
 use Rattle.intervals.specs.declared.claim.Kind.{Kind}
 use Rattle.intervals.specs.declared.claim.Kind.TheVariants.{Safe, Regular, Atomic}
 use Rattle.intervals.specs.Terms.{Terms, Claimed, unedited}
-use Rattle.intervals.specs.Operation.{Precedes, judged}
+use Rattle.intervals.specs.Operation.{IsWrite, Precedes, judged, value_of}
 use Rattle.intervals.specs.Bare.{bare, bare_edit, bare_held}
 use Rattle.intervals.specs.Refusal.{standing}
-use Rattle.intervals.specs.Kind.{KeepsPrecedence, ReadsNearest, value_after, IsAtomic, Keeps, Holds}
+use Rattle.intervals.specs.Kind.{KeepsPrecedence, ReadsNearest, value_after, HasNoWrite, IsArranged, IsAtomicWhere, Keeps, Holds}
 use Rattle.intervals.proofs.JudgedAlone.{is_judged}
 use Rattle.intervals.proofs.Texts.{filter_bare, IsSafe-bare, IsRegular-bare, standing_alike}
 
@@ -70,8 +71,8 @@ reads_back : (value : Value) (order : List Op) → ReadsNearest value (map bare 
 reads_back value [] h = tt
 reads_back value (a ∷ later) h = (h.0, reads_back (value_after value a.act) later h.1)
 
-IsAtomic-bare : (claim : Terms) (ops : List Op) → IsAtomic claim ops → IsAtomic claim (map bare ops)
-IsAtomic-bare claim ops h = (
+IsArranged-bare : (claim : Terms) (ops : List Op) → IsArranged claim ops → IsArranged claim (map bare ops)
+IsArranged-bare claim ops h = (
   map bare h.0,
   record {
     each_once = subst (λ (l : List Op). IsPermutation l (map bare h.0)) (sym (judged_bare ops)) (IsPermutation-map bare (judged ops) h.0 h.1.each_once);
@@ -80,8 +81,8 @@ IsAtomic-bare claim ops h = (
   },
 )
 
-IsAtomic-back : (claim : Terms) (ops : List Op) → IsAtomic claim (map bare ops) → IsAtomic claim ops
-IsAtomic-back claim ops h =
+IsArranged-back : (claim : Terms) (ops : List Op) → IsArranged claim (map bare ops) → IsArranged claim ops
+IsArranged-back claim ops h =
     let image = permuted_before bare (judged ops) h.0 (subst (λ (l : List Op). IsPermutation l h.0) (judged_bare ops) h.1.each_once) in (
       image.0,
       record {
@@ -91,10 +92,29 @@ IsAtomic-back claim ops h =
       },
     )
 
+no_write_bare : (ops : List Op) (value : Value) → HasNoWrite ops value → HasNoWrite (map bare ops) value
+no_write_bare [] value none = All-nil _
+no_write_bare (op ∷ ops) value none =
+    All-cons (λ w. IsWrite w → value_of w.act ≢ value) (bare op) (map bare ops) (All-head (λ w. IsWrite w → value_of w.act ≢ value) op ops none)
+    (no_write_bare ops value (All-tail (λ w. IsWrite w → value_of w.act ≢ value) op ops none))
+
+no_write_back : (ops : List Op) (value : Value) → HasNoWrite (map bare ops) value → HasNoWrite ops value
+no_write_back [] value none = All-nil _
+no_write_back (op ∷ ops) value none =
+    All-cons (λ w. IsWrite w → value_of w.act ≢ value) op ops (All-head (λ w. IsWrite w → value_of w.act ≢ value) (bare op) (map bare ops) none)
+    (no_write_back ops value (All-tail (λ w. IsWrite w → value_of w.act ≢ value) (bare op) (map bare ops) none))
+
+atomic_both : (known : Bool) (claim : Terms) (ops : List Op) → IsAtomicWhere known claim (map bare ops) ↔ IsAtomicWhere known claim ops
+atomic_both true claim ops = (IsArranged-back claim ops, IsArranged-bare claim ops)
+atomic_both false claim ops = (
+  (λ h. (h.0, no_write_back ops h.0 h.1, IsArranged-back (record claim { initial = h.0 }) ops h.2)),
+  (λ h. (h.0, no_write_bare ops h.0 h.1, IsArranged-bare (record claim { initial = h.0 }) ops h.2)),
+)
+
 keeps_both : (kind : Kind) (claim : Terms) (ops : List Op) → Keeps kind claim (map bare ops) ↔ Keeps kind claim ops
 keeps_both Safe claim ops = IsSafe-bare claim ops
 keeps_both Regular claim ops = IsRegular-bare claim ops
-keeps_both Atomic claim ops = (IsAtomic-back claim ops, IsAtomic-bare claim ops)
+keeps_both Atomic claim ops = atomic_both claim.known claim ops
 
 pub Holds-bare : (claim : Terms) (ops : List Op) → Holds claim (map bare ops) ↔ Holds claim ops
 Holds-bare claim ops = keeps_both claim.kind claim ops

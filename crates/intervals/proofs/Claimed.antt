@@ -17,7 +17,7 @@ use Rattle.intervals.specs.Edit.{op_of}
 use Rattle.intervals.specs.declared.refusal.Refusal.TheVariants.{ValueTaken}
 use Rattle.intervals.specs.Least.{IsLeast, least_by}
 use Rattle.intervals.specs.Refusal.{begin_number, first_overlap, first_repeat, first_there, holder_of, id_with, ids_with, is_overlapped, overlap_claimed, overlap_of, overlaps_another, repeat_claimed, repeat_of, to_kind_refusal}
-use Rattle.intervals.specs.Standing.{HasDistinctIds, HasNoOverlappingWrites, HasDistinctValues, IsHolder, IsPermitted, StandApart}
+use Rattle.intervals.specs.Standing.{HasDistinctIds, HasNoOverlappingWrites, HasOwnValues, IsHolder, IsInitial, IsPermitted, StandApart}
 use Rattle.intervals.specs.Terms.{Terms}
 use Rattle.intervals.proofs.Accepted.{one_writer_accepted}
 use Rattle.intervals.proofs.Agreement.{Decides-overlaps, false_unless}
@@ -103,7 +103,7 @@ overlap_named ops a b = by_first (least_by begin_number (overlaps_another ops) o
 module _ (claim : Terms) where
   -- the value of the write is neither the initial one nor that of one of these
   abbrev IsNew : List Op → Op → Type 0
-  IsNew before w = IsWrite w → (value_of w.act ≢ claim.initial) × All (λ v. ¬ IsHolder w v) before
+  IsNew before w = IsWrite w → (¬ IsInitial claim (value_of w.act)) × All (λ v. ¬ IsHolder w v) before
 
   neither_there : (first later : Option (OpId × Holder)) → first_there first later ≡ None → (first ≡ None) × (later ≡ None)
   neither_there None later e = (refl, e)
@@ -127,12 +127,12 @@ module _ (claim : Terms) where
             rest.1,
       )
 
-  pub none_repeat : (ops : List Op) → HasDistinctIds ops → first_repeat claim [] ops ≡ None → HasDistinctValues claim.initial ops
+  pub none_repeat : (ops : List Op) → HasDistinctIds ops → first_repeat claim [] ops ≡ None → HasOwnValues claim ops
   none_repeat ops distinct e =
       let new = new_from [] ops distinct e in
-      record { apart = new.1; new = All-weaker (IsNew []) (λ w. IsWrite w → value_of w.act ≢ claim.initial) (λ w is write. (is write).0) ops new.0 }
+      record { apart = new.1; new = All-weaker (IsNew []) (λ w. IsWrite w → ¬ IsInitial claim (value_of w.act)) (λ w is write. (is write).0) ops new.0 }
 
-  alone : (before : List Op) (op : Op) (rest : List Op) → HasDistinctValues claim.initial (before ++ op ∷ rest) → repeat_of claim before op ≡ None
+  alone : (before : List Op) (op : Op) (rest : List Op) → HasOwnValues claim (before ++ op ∷ rest) → repeat_of claim before op ≡ None
   alone before op rest values = by_write (is_write op) refl
     where
       at_op : Contains (before ++ op ∷ rest) op
@@ -148,18 +148,18 @@ module _ (claim : Terms) where
 
       by_write : (t : Bool) → is_write op ≡ t → repeat_of claim before op ≡ None
       by_write true write =
-          let free = not_mapped ValueTaken (holder_of claim before op) (nobody_back claim before op (All-contains (λ w. IsWrite w → value_of w.act ≢ claim.initial) (before ++ op ∷ rest) op values.new at_op write) (no_holder write)) in
+          let free = not_mapped ValueTaken (holder_of claim before op) (nobody_back claim before op (All-contains (λ w. IsWrite w → ¬ IsInitial claim (value_of w.act)) (before ++ op ∷ rest) op values.new at_op write) (no_holder write)) in
           rw (write, free) refl
       by_write false read = rw read refl
 
-  repeat_behind : (before ops : List Op) → HasDistinctValues claim.initial (before ++ ops) → first_repeat claim before ops ≡ None
+  repeat_behind : (before ops : List Op) → HasOwnValues claim (before ++ ops) → first_repeat claim before ops ≡ None
   repeat_behind before [] values = refl
   repeat_behind before (op ∷ ops) values =
       ap (λ (first : Option (OpId × Holder)). first_there first (first_repeat claim (before ++ op ∷ []) ops)) (alone before op ops values)
-      ∙ repeat_behind (before ++ op ∷ []) ops (subst (HasDistinctValues claim.initial) (sym (append_assoc before (op ∷ []) ops)) values)
+      ∙ repeat_behind (before ++ op ∷ []) ops (subst (HasOwnValues claim) (sym (append_assoc before (op ∷ []) ops)) values)
 
   -- where values are apart, none is found
-  pub repeat_nowhere : (ops : List Op) → HasDistinctValues claim.initial ops → first_repeat claim [] ops ≡ None
+  pub repeat_nowhere : (ops : List Op) → HasOwnValues claim ops → first_repeat claim [] ops ≡ None
   repeat_nowhere ops values = repeat_behind [] ops values
 
   -- the write that is found, and those in front of it
@@ -228,11 +228,13 @@ claimed_apart kind claim ops apart e = record {
 }
   where
     one_by_one : (kind : Kind) → to_kind_refusal kind claim ops ≡ None → kind ≢ Atomic → HasNoOverlappingWrites ops
-    one_by_one Safe e one_writer = none_overlap ops (not_mapped overlap_claimed (first_overlap ops) (one_writer_accepted claim ops e).1) apart.ids
-    one_by_one Regular e one_writer = none_overlap ops (not_mapped overlap_claimed (first_overlap ops) (one_writer_accepted claim ops e).1) apart.ids
+    one_by_one Safe e one_writer = none_overlap ops (not_mapped overlap_claimed (first_overlap ops) (one_writer_accepted claim ops e).2) apart.ids
+    one_by_one Regular e one_writer = none_overlap ops (not_mapped overlap_claimed (first_overlap ops) (one_writer_accepted claim ops e).2) apart.ids
     one_by_one Atomic e one_writer = absurd (one_writer refl)
 
-    told_apart : (kind : Kind) → to_kind_refusal kind claim ops ≡ None → kind ≡ Atomic → HasDistinctValues claim.initial ops
+    told_apart : (of_kind : Kind) → to_kind_refusal of_kind claim ops ≡ None → of_kind ≡ Atomic → HasOwnValues (record claim { kind = kind }) ops
     told_apart Safe e atomic = absurd (cc)
     told_apart Regular e atomic = absurd (cc)
-    told_apart Atomic e atomic = none_repeat claim ops apart.ids (not_mapped repeat_claimed (first_repeat claim [] ops) e)
+    told_apart Atomic e atomic =
+        let values = none_repeat claim ops apart.ids (not_mapped repeat_claimed (first_repeat claim [] ops) e) in
+        record { apart = values.apart; new = values.new }

@@ -11,7 +11,7 @@ use Rattle.intervals.specs.declared.shelf.Shelf.{Shelf}
 use Rattle.intervals.specs.declared.shelf.Spot.{Spot}
 use Rattle.intervals.specs.Edit.{op_of}
 use Rattle.intervals.specs.Operation.{is_write, same_id, same_value, value_of}
-use Rattle.intervals.specs.Refusal.{as_holder, holder_of, is_holder}
+use Rattle.intervals.specs.Refusal.{as_holder, holder_of, is_holder, is_initial}
 use Rattle.intervals.specs.FirstWrites.{AreFirst, writes_value}
 use Rattle.intervals.specs.Refusal.{first_repeat, first_there, id_with, repeat_of}
 use Rattle.intervals.specs.Shelf.{id_at, joined, place_at, same_spot, spot_of}
@@ -59,11 +59,11 @@ abbrev pub at_first : Value → Spot
 at_first value = spot_of value (record { 0 = 0 })
 
 -- the repeat of a write whose value is not the initial one, by the first writes of the values before it
-pub repeat_by : (claim : Terms) (before : List Op) (op : Op) (first : Shelf) (initial : Value) → claim.initial ≡ initial → is_write op ≡ true → same_value initial (value_of op.act) ≡ false
+pub repeat_by : (claim : Terms) (before : List Op) (op : Op) (first : Shelf) → is_write op ≡ true → is_initial claim (value_of op.act) ≡ false
     → AreFirst first before → op_of before op.id ≡ None → repeat_of claim before op ≡ option_map (id_with op) (option_map holders.Op (id_at first (at_first (value_of op.act))))
-repeat_by claim before op first initial same write other are none =
+repeat_by claim before op first write other are none =
     ap (λ (t : Bool). cond t (option_map (id_with op) (holder_of claim before op)) None) write
-    ∙ ap (λ (t : Bool). option_map (id_with op) (cond t (Some holders.Initial) (option_map as_holder (find (is_holder op) before)))) (ap (λ (i : Value). same_value i (value_of op.act)) same ∙ other)
+    ∙ ap (λ (t : Bool). option_map (id_with op) (cond t (Some holders.Initial) (option_map as_holder (find (is_holder op) before)))) other
     ∙ ap (option_map (id_with op))
     (ap (option_map as_holder) (holder_is_writer op before none)
     ∙ by_id (find (writes_value (value_of op.act)) before)

@@ -9,15 +9,15 @@ use Rattle.intervals.specs.declared.edit.Edit.{Edit}
 use Rattle.intervals.specs.declared.edit.Edit.TheVariants.{Append, Amend, Withdraw, Claim}
 use Rattle.intervals.specs.declared.refusal.Refusal.{Refusal}
 use Rattle.intervals.specs.declared.claim.Kind.TheVariants.{Atomic}
-use Rattle.intervals.specs.Terms.{Terms, Claimed, unedited}
+use Rattle.intervals.specs.Terms.{Terms, Claimed, IsKnownUnlessAtomic, unedited}
 use Rattle.intervals.specs.Operation.{IsWrite, Overlaps, same_id, value_of}
 use Rattle.intervals.specs.Edit.{edited, new_op, claim_after}
 use Rattle.intervals.specs.Refusal.{first_refusal, has_large_moment, moments_refusal, reply_to, carried_out, after_edit, standing}
-use Rattle.intervals.specs.Standing.{ShareNoMoment, HasDistinctMoments, HasEndsAfterBeginnings, HasNoOverlappingWrites, HasDistinctValues, IsPermitted, StandApart}
+use Rattle.intervals.specs.Standing.{ShareNoMoment, HasDistinctMoments, HasEndsAfterBeginnings, HasNoOverlappingWrites, HasOwnValues, IsInitial, IsPermitted, StandApart}
 use Rattle.intervals.proofs.Ids.{distinct_edited, Decides-same_id_is}
 use Rattle.intervals.proofs.EachPair.{each_edited, pairs_edited}
 use Rattle.intervals.proofs.Claimed.{HaveOtherValues, claimed_apart}
-use Rattle.intervals.proofs.Accepted.{claim_accepted, edit_accepted, moments_accepted, write_accepted, ends_late, moments_low, shares_none, overlaps_none, values_free}
+use Rattle.intervals.proofs.Accepted.{claim_accepted, one_writer_known, edit_accepted, moments_accepted, write_accepted, ends_late, moments_low, shares_none, overlaps_none, values_free}
 
 -- two writes do not overlap
 abbrev pub AreApart : Op → Op → Type 0
@@ -59,13 +59,13 @@ module _ (claim : Terms) (ops : List Op) (edit : Edit) (apart : StandApart claim
       pairs_edited AreApart (λ v w apart write_w write_v (before, after). apart write_v write_w (after, before)) ops edit apart.ids (apart.writes one_writer) accepted
       (λ new is k f lt other write over. overlaps_none claim.kind claim ops new one_writer (write_accepted claim ops edit new e is write).1 write k f lt other over)
 
-  values_kept : claim.kind ≡ Atomic → HasDistinctValues claim.initial (edited ops edit)
+  values_kept : claim.kind ≡ Atomic → HasOwnValues claim (edited ops edit)
   values_kept atomic = record {
     apart = pairs_edited HaveOtherValues (λ v w apart write_w write_v same. apart write_v write_w (sym same)) ops edit apart.ids (apart.values atomic).apart accepted
         (λ new is k f lt other write over same.
         (values_free claim.kind claim ops new atomic (write_accepted claim ops edit new e is write).1).1 k f lt
         (not_from_Decides (same_id (slice_index_or ops k f).id new.id) (Decides-same_id_is (slice_index_or ops k f).id new.id) other, over, sym same));
-    new = each_edited (λ w. IsWrite w → value_of w.act ≢ claim.initial) ops edit apart.ids (apart.values atomic).new
+    new = each_edited (λ w. IsWrite w → ¬ IsInitial claim (value_of w.act)) ops edit apart.ids (apart.values atomic).new
         (λ new is write. (values_free claim.kind claim ops new atomic (write_accepted claim ops edit new e is write).1).0);
   }
 
@@ -87,6 +87,13 @@ carried_out_apart held (Amend id change) apart e = edited_apart held.claim held.
 carried_out_apart held (Withdraw id) apart e = edited_apart held.claim held.ops (Withdraw id) apart e
 carried_out_apart held (Claim kind) apart e = claimed_apart kind held.claim held.ops apart (claim_accepted kind held.claim held.ops e)
 
+-- a safe or regular register's initial value stays known
+pub carried_out_known : (held : Claimed) (edit : Edit) → IsKnownUnlessAtomic held.claim → reply_to held.claim held.ops edit ≡ None → IsKnownUnlessAtomic (carried_out held edit).claim
+carried_out_known held (Append op) known e = known
+carried_out_known held (Amend id change) known e = known
+carried_out_known held (Withdraw id) known e = known
+carried_out_known held (Claim kind) known e = one_writer_known kind held.claim held.ops (claim_accepted kind held.claim held.ops e)
+
 -- after one edit, accepted or not
 after_one : (P : Claimed → Type 0) (held : Claimed) (edit : Edit) → P held → (reply_to held.claim held.ops edit ≡ None → P (carried_out held edit)) → P (after_edit held edit)
 after_one P held edit p kept = by_cases (reply_to held.claim held.ops edit) refl
@@ -99,6 +106,14 @@ after_all : (held : Claimed) (edits : List Edit) → StandApart held.claim held.
 after_all held [] apart = apart
 after_all held (edit ∷ edits) apart =
     after_all (after_edit held edit) edits (after_one (λ (h : Claimed). StandApart h.claim h.ops) held edit apart (carried_out_apart held edit apart))
+
+known_after_all : (held : Claimed) (edits : List Edit) → IsKnownUnlessAtomic held.claim → IsKnownUnlessAtomic (standing held edits).claim
+known_after_all held [] known = known
+known_after_all held (edit ∷ edits) known =
+    known_after_all (after_edit held edit) edits (after_one (λ (h : Claimed). IsKnownUnlessAtomic h.claim) held edit known (carried_out_known held edit known))
+
+pub standing_known : (claim : Terms) (edits : List Edit) → IsKnownUnlessAtomic claim → IsKnownUnlessAtomic (standing (unedited claim) edits).claim
+standing_known claim edits known = known_after_all (unedited claim) edits known
 
 pub standing_apart : (claim : Terms) (edits : List Edit) → StandApart (standing (unedited claim) edits).claim (standing (unedited claim) edits).ops
 standing_apart claim edits = after_all (unedited claim) edits (nothing_apart claim)

@@ -21,7 +21,7 @@ use Rattle.intervals.specs.Operation.{is_write, is_judged_read, same_id, same_va
 use Rattle.intervals.specs.Edit.{op_of, amended, changed, edited, claim_after}
 use Rattle.intervals.specs.Bare.{bare, bare_change, bare_edit, bare_held}
 use Rattle.intervals.specs.Least.{is_less, less_of, least_from}
-use Rattle.intervals.specs.Refusal.{begin_number, first_overlap, first_repeat, first_there, holder_of, id_with, ids_with, overlap_of, overlaps_another, refused_if, repeat_claimed, repeat_of, to_kind_refusal, first_of, is_moment_of, find_other_with, moment_taken, moments_refusal, amendment_refusal, is_overlapped, overlap_refusal, as_holder, is_holder, value_refusal, kind_refusal, write_refusal, new_write_refusal, reply_to, carried_out, after_edit, standing}
+use Rattle.intervals.specs.Refusal.{begin_number, first_overlap, first_repeat, first_there, holder_of, is_initial, id_with, ids_with, overlap_of, overlaps_another, refused_if, repeat_claimed, repeat_of, to_kind_refusal, first_of, is_moment_of, find_other_with, moment_taken, moments_refusal, amendment_refusal, is_overlapped, overlap_refusal, as_holder, is_holder, value_refusal, kind_refusal, write_refusal, new_write_refusal, reply_to, carried_out, after_edit, standing}
 use Rattle.intervals.specs.Judging.{later_of, last_from, is_returned_at, returns_of, returns_last, is_write_over, is_returned_over, is_right_read, is_wrong_read, end_number, first_wrong}
 use Rattle.intervals.specs.Kind.{IsSafe, IsRegular}
 use Rattle.intervals.proofs.Found.{not_mapped}
@@ -143,7 +143,7 @@ value_bare : (claim : Terms) (ops : List Op) (op : Op) → value_refusal claim (
 value_bare claim ops op =
     let found = ap (option_map as_holder) (find_bare (is_holder op) (is_holder op) (λ other. refl) ops)
     ∙ mapped_bare as_holder (λ other. refl) (find (is_holder op) ops) in
-    ap (λ (h : Option Holder). option_map ValueTaken (cond (same_value claim.initial (value_of op.act)) (Some holders.Initial) h)) found
+    ap (λ (h : Option Holder). option_map ValueTaken (cond (is_initial claim (value_of op.act)) (Some holders.Initial) h)) found
 
 kind_bare : (kind : Kind) (claim : Terms) (ops : List Op) (op : Op) → kind_refusal kind claim (map bare ops) op ≡ kind_refusal kind claim ops op
 kind_bare Safe claim ops op = overlap_bare ops op
@@ -189,7 +189,7 @@ first_overlap-bare ops =
 
 holder_bare : (claim : Terms) (before : List Op) (op : Op) → holder_of claim (map bare before) (bare op) ≡ holder_of claim before op
 holder_bare claim before op =
-    ap (λ (h : Option Holder). cond (same_value claim.initial (value_of op.act)) (Some holders.Initial) h)
+    ap (λ (h : Option Holder). cond (is_initial claim (value_of op.act)) (Some holders.Initial) h)
     (ap (option_map as_holder) (find_bare (is_holder (bare op)) (is_holder op) (λ other. refl) before)
     ∙ mapped_bare as_holder (λ other. refl) (find (is_holder op) before))
 

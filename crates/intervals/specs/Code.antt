@@ -1,7 +1,7 @@
 -- The codes that users see of a register's refusals.
 use Rattle.std.specs.Prelude.{ℕ, List, codes}
 use Rattle.intervals.specs.declared.refusal.Refusal.{Refusal}
-use Rattle.intervals.specs.declared.refusal.Refusal.TheVariants.{UnknownOp, OpTaken, EndNotAfterBegin, MomentTaken, MomentTooLarge, NotAWriter, WritesOverlap, ValueTaken, OutOfDomain, ClaimFixed, ClaimWriters, ClaimOverlap, ClaimRepeats}
+use Rattle.intervals.specs.declared.refusal.Refusal.TheVariants.{UnknownOp, OpTaken, EndNotAfterBegin, MomentTaken, MomentTooLarge, NotAWriter, WritesOverlap, ValueTaken, OutOfDomain, ClaimFixed, ClaimWriters, ClaimOverlap, ClaimRepeats, ClaimInitial}
 
 abbrev pub code_of : Refusal → List ℕ
 code_of UnknownOp = codes "X1"
@@ -17,3 +17,4 @@ code_of ClaimFixed = codes "X10"
 code_of ClaimWriters = codes "X11"
 code_of (ClaimOverlap id other) = codes "X12"
 code_of (ClaimRepeats id holder) = codes "X13"
+code_of ClaimInitial = codes "X14"

@@ -1,5 +1,5 @@
 -- Worked histories and edits, small enough to judge by eye. Their texts are left empty.
-use Rattle.std.specs.Prelude.{ℕ, false, pos, List, [], ◌∷◌, map, take, Option, Some, None, option_map}
+use Rattle.std.specs.Prelude.{ℕ, true, false, pos, List, [], ◌∷◌, map, take, Option, Some, None, option_map}
 use Rattle.intervals.specs.declared.operation.Op.{Op}
 use Rattle.intervals.specs.declared.operation.OpId.{OpId}
 use Rattle.intervals.specs.declared.operation.Moment.{Moment}
@@ -41,7 +41,7 @@ from_to n act begin end = op n act begin (Some (record { 0 = end }))
 
 -- a claim of any process
 abbrev pub claim_of : Kind → Value → Option (List Value) → Terms
-claim_of kind initial domain = record { kind = kind; writers = None; initial = initial; domain = domain; fixed = false }
+claim_of kind initial domain = record { kind = kind; writers = None; initial = initial; known = true; domain = domain; fixed = false }
 
 -- a write of 1, and then a read
 abbrev pub read_after_write : Value → List Op
@@ -114,7 +114,7 @@ edits_with_refused_ones =
 
 -- a regular register that process 0 and process 3 may write, nil at first, of the values 1 and 2
 abbrev pub two_writers : Terms
-two_writers = record { kind = Regular; writers = Some (pos 0 ∷ pos 3 ∷ []); initial = Nil; domain = Some (number 1 ∷ number 2 ∷ []); fixed = false }
+two_writers = record { kind = Regular; writers = Some (pos 0 ∷ pos 3 ∷ []); initial = Nil; known = true; domain = Some (number 1 ∷ number 2 ∷ []); fixed = false }
 
 -- a write of 1 and then one of 2
 abbrev pub two_writes : List Op

@@ -1,5 +1,5 @@
 -- What each kind of register promises (Lamport 1986).
-use Rattle.std.specs.Prelude.{◌≡◌, ◌≤◌, ◌⊎◌, List, [], ◌∷◌, Option, Some, None, All, Any, Contains, IsPermutation}
+use Rattle.std.specs.Prelude.{◌≡◌, ◌≢◌, ◌≤◌, ◌⊎◌, Bool, true, false, List, [], ◌∷◌, Option, Some, None, All, Any, Contains, IsPermutation}
 use Rattle.std.specs.List.{AllByRecursion}
 use Rattle.intervals.specs.declared.operation.Op.{Op}
 use Rattle.intervals.specs.declared.operation.Value.{Value}
@@ -85,9 +85,27 @@ pub record Arranges (claim : Terms) (ops order : List Op) : Type 0 where
   pub keeps : KeepsPrecedence order
   pub reads : ReadsNearest claim.initial order
 
--- an atomic register (linearizable): there is such an arrangement
+-- there is such an arrangement
+abbrev pub IsArranged : Terms → List Op → Type 0
+IsArranged claim ops = (order : List Op) × Arranges claim ops order
+
+-- no write carries the value
+abbrev pub HasNoWrite : List Op → Value → Type 0
+HasNoWrite ops value = All (λ w. IsWrite w → value_of w.act ≢ value) ops
+
+-- there is a value at first, nil or a whole number of any size that no write carries, with which there is one
+abbrev pub IsArrangedFromSome : Terms → List Op → Type 0
+IsArrangedFromSome claim ops = (value : Value) × HasNoWrite ops value × IsArranged (record claim { initial = value }) ops
+
+-- by whether the initial value is known
+abbrev pub IsAtomicWhere : Bool → Terms → List Op → Type 0
+IsAtomicWhere true claim ops = IsArranged claim ops
+IsAtomicWhere false claim ops = IsArrangedFromSome claim ops
+
+-- an atomic register (linearizable): there is an arrangement, from the initial value where that is known and else
+-- from some value that no write carries
 abbrev pub IsAtomic : Terms → List Op → Type 0
-IsAtomic claim ops = (order : List Op) × Arranges claim ops order
+IsAtomic claim ops = IsAtomicWhere claim.known claim ops
 
 -- the verdict of the claimed kind
 abbrev pub Keeps : Kind → Terms → List Op → Type 0

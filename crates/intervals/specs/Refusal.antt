@@ -14,7 +14,7 @@ use Rattle.intervals.specs.declared.claim.Kind.TheVariants.{Safe, Regular, Atomi
 use Rattle.intervals.specs.declared.claim.Holder.{Holder}
 use Rattle.intervals.specs.declared.claim.Holder.TheVariants as holders
 use Rattle.intervals.specs.declared.refusal.Refusal.{Refusal}
-use Rattle.intervals.specs.declared.refusal.Refusal.TheVariants.{UnknownOp, OpTaken, EndNotAfterBegin, MomentTaken, MomentTooLarge, NotAWriter, WritesOverlap, ValueTaken, OutOfDomain, ClaimFixed, ClaimWriters, ClaimOverlap, ClaimRepeats}
+use Rattle.intervals.specs.declared.refusal.Refusal.TheVariants.{UnknownOp, OpTaken, EndNotAfterBegin, MomentTaken, MomentTooLarge, NotAWriter, WritesOverlap, ValueTaken, OutOfDomain, ClaimFixed, ClaimWriters, ClaimInitial, ClaimOverlap, ClaimRepeats}
 use Rattle.intervals.specs.Operation.{same_id, same_value, is_write, value_of, overlaps}
 use Rattle.intervals.specs.Least.{least_by}
 use Rattle.intervals.specs.Edit.{op_of, new_op, edited, claim_after}
@@ -121,10 +121,14 @@ is_holder op other = not (same_id other.id op.id) && is_write other && same_valu
 abbrev pub as_holder : Op → Holder
 as_holder op = holders.Op op.id
 
--- who has the value of the operation already: the register at first, else another write
+-- the value is the initial one, which is known
+abbrev pub is_initial : Terms → Value → Bool
+is_initial claim value = claim.known && same_value claim.initial value
+
+-- who has the value of the operation already: the register at first, where that is known, else another write
 abbrev pub holder_of : Terms → List Op → Op → Option Holder
 holder_of claim ops op =
-    if same_value claim.initial (value_of op.act)
+    if is_initial claim (value_of op.act)
     then Some holders.Initial
     else option_map as_holder (find (is_holder op) ops)
 
@@ -206,20 +210,21 @@ first_repeat claim before (op ∷ ops) = first_there (repeat_of claim before op)
 abbrev pub repeat_claimed : OpId × Holder → Refusal
 repeat_claimed repeat = ClaimRepeats repeat.0 repeat.1
 
--- X11 and X12 of a claim to be safe or regular
+-- X11, X14 and X12 of a claim to be safe or regular
 abbrev pub one_writer_refusal : Terms → List Op → Option Refusal
 one_writer_refusal claim ops = first_of (
     refused_if (not (is_one_writer claim.writers)) ClaimWriters
+    ∷ refused_if (not claim.known) ClaimInitial
     ∷ option_map overlap_claimed (first_overlap ops)
     ∷ [])
 
--- X11 to X13 of a claim, by the kind that is claimed
+-- X11 to X14 of a claim, by the kind that is claimed
 abbrev pub to_kind_refusal : Kind → Terms → List Op → Option Refusal
 to_kind_refusal Safe claim ops = one_writer_refusal claim ops
 to_kind_refusal Regular claim ops = one_writer_refusal claim ops
 to_kind_refusal Atomic claim ops = option_map repeat_claimed (first_repeat claim [] ops)
 
--- X10 to X13: a claim alone meets them
+-- X10 to X14: a claim alone meets them
 abbrev pub claim_refusal : Terms → List Op → Edit → Option Refusal
 claim_refusal claim ops (Append op) = None
 claim_refusal claim ops (Amend id change) = None

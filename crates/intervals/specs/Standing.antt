@@ -8,6 +8,7 @@ use Rattle.intervals.specs.declared.claim.Kind.TheVariants.{Atomic}
 use Rattle.intervals.specs.Operation.{IsWrite, Overlaps, value_of}
 use Rattle.intervals.specs.Edit.{op_of}
 use Rattle.intervals.specs.Refusal.{has_large_moment, may_write, is_in_domain}
+use Rattle.intervals.specs.Kind.{HasNoWrite}
 use Rattle.intervals.specs.Terms.{Terms}
 
 -- no two operations have one id
@@ -43,10 +44,23 @@ HasNoOverlappingWrites ops = AllPairs (λ v w. IsWrite v → IsWrite w → ¬ Ov
 abbrev pub IsHolder : Op → Op → Type 0
 IsHolder op other = (other.id ≢ op.id) × IsWrite other × (value_of other.act ≡ value_of op.act)
 
+-- no two writes have one value
+abbrev pub HasNoValueTwice : List Op → Type 0
+HasNoValueTwice ops = AllPairs (λ v w. IsWrite v → IsWrite w → value_of v.act ≢ value_of w.act) ops
+
 -- no two writes have one value, and none has the initial value
 pub record HasDistinctValues (initial : Value) (ops : List Op) : Type 0 where
-  pub apart : AllPairs (λ v w. IsWrite v → IsWrite w → value_of v.act ≢ value_of w.act) ops
-  pub new : All (λ w. IsWrite w → value_of w.act ≢ initial) ops
+  pub apart : HasNoValueTwice ops
+  pub new : HasNoWrite ops initial
+
+-- the value is the initial one, which is known
+abbrev pub IsInitial : Terms → Value → Type 0
+IsInitial claim value = (claim.known ≡ true) × (value ≡ claim.initial)
+
+-- no two writes have one value, and none has the initial value where that is known
+pub record HasOwnValues (claim : Terms) (ops : List Op) : Type 0 where
+  pub apart : HasNoValueTwice ops
+  pub new : All (λ w. IsWrite w → ¬ IsInitial claim (value_of w.act)) ops
 
 -- the claim allows the write: its process is a writer, and its value is in the domain
 pub record IsPermitted (claim : Terms) (w : Op) : Type 0 where
@@ -62,4 +76,4 @@ pub record StandApart (claim : Terms) (ops : List Op) : Type 0 where
   pub low : All (λ op. has_large_moment op ≡ false) ops
   pub allowed : All (λ w. IsWrite w → IsPermitted claim w) ops
   pub writes : claim.kind ≢ Atomic → HasNoOverlappingWrites ops
-  pub values : claim.kind ≡ Atomic → HasDistinctValues claim.initial ops
+  pub values : claim.kind ≡ Atomic → HasOwnValues claim ops

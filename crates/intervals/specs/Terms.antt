@@ -1,19 +1,25 @@
 -- What a claim says, apart from where its lists lie in memory.
-use Rattle.std.specs.Prelude.{ℤ, Bool, List, [], Option, Some, None, option_map, Vec}
+use Rattle.std.specs.Prelude.{◌≡◌, ◌≢◌, ℤ, Bool, true, false, List, [], Option, Some, None, option_map, Vec}
 use Rattle.std.specs.declared.alloc.Global.{Global}
 use Rattle.intervals.specs.declared.operation.Op.{Op}
 use Rattle.intervals.specs.declared.operation.Value.{Value}
+use Rattle.intervals.specs.declared.operation.Value.TheVariants.{Nil}
 use Rattle.intervals.specs.declared.claim.Claim.{Claim}
+use Rattle.intervals.specs.declared.claim.Initial.{Initial}
+use Rattle.intervals.specs.declared.claim.Initial.TheVariants.{Known, Unknown}
 use Rattle.intervals.specs.declared.claim.Kind.{Kind}
+use Rattle.intervals.specs.declared.claim.Kind.TheVariants.{Atomic}
 use Rattle.intervals.specs.declared.claim.Writers.{Writers}
 use Rattle.intervals.specs.declared.claim.Writers.TheVariants.{Any, Listed}
 
--- the claimed kind, the writers (none listed: any process), the value before any write, the value set (none
--- given: every value), and whether the kind may not change
+-- the claimed kind, the writers (none listed: any process), the value before any write, whether that is known
+-- (where it is not, the value says nothing), the value set (none given: every value), and whether the kind may not
+-- change
 pub record Terms : Type 0 where
   pub kind : Kind
   pub writers : Option (List ℤ)
   pub initial : Value
+  pub known : Bool
   pub domain : Option (List Value)
   pub fixed : Bool
 
@@ -22,15 +28,30 @@ abbrev pub writers_of : Writers → Option (List ℤ)
 writers_of Any = None
 writers_of (Listed processes) = Some processes.items
 
+-- the value before any write; nil where nobody knows it
+abbrev pub value_at_first : Initial → Value
+value_at_first (Known value) = value
+value_at_first Unknown = Nil
+
+-- it is known
+abbrev pub is_known : Initial → Bool
+is_known (Known value) = true
+is_known Unknown = false
+
 -- what a claim of the program says
 abbrev pub terms_of : Claim → Terms
 terms_of claim = record {
   kind = claim.kind;
   writers = writers_of claim.writers;
-  initial = claim.initial;
+  initial = value_at_first claim.initial;
+  known = is_known claim.initial;
   domain = option_map (λ (values : Vec Value Global). values.items) claim.domain;
   fixed = claim.fixed;
 }
+
+-- a safe or regular register's initial value is known
+abbrev pub IsKnownUnlessAtomic : Terms → Type 0
+IsKnownUnlessAtomic claim = claim.kind ≢ Atomic → claim.known ≡ true
 
 -- a claim, and the operations that are held under it
 pub record Claimed : Type 0 where

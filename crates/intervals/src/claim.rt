@@ -4,7 +4,7 @@ ghost use Rattle.intervals.specs.declared.operation.Value.{Value};
 ghost use Rattle.std.specs.List.{list_any};
 ghost use Rattle.std.specs.Ordering.{int_eq};
 ghost use Rattle.intervals.specs.Operation.{same_value};
-ghost use Rattle.intervals.specs.Refusal.{may_write as allows, is_in_domain, is_one_writer};
+ghost use Rattle.intervals.specs.Refusal.{may_write as allows, is_in_domain, is_initial as is_at_first, is_one_writer};
 ghost use Rattle.intervals.specs.Terms.{terms_of, writers_of};
 
 use crate::{Memory, OpId, Value, is_same_value};
@@ -25,13 +25,20 @@ pub enum Writers {
     Listed(Vec<i64>),
 }
 
+/// What a register holds before any write, as far as anybody knows it.
+#[derive(Clone, Copy, Debug, PartialEq, Eq)]
+pub enum Initial {
+    Known(Value),
+    Unknown,
+}
+
 /// A register's claimed kind, its writers, its value before any write, its value set, where one is
 /// given, and whether its kind may not change.
 #[derive(Debug, Drop)]
 pub struct Claim {
     pub kind: Kind,
     pub writers: Writers,
-    pub initial: Value,
+    pub initial: Initial,
     pub domain: Option<Vec<Value>>,
     pub fixed: bool,
 }
@@ -77,6 +84,33 @@ impl Claim {
             Writers::Any => true,
             Writers::Listed(processes) => is_listed(processes.as_slice(), process),
         }
+    }
+
+    /// Whether the initial value is known.
+    pub fn has_known_initial(&self) -> bool
+        ensures { result ≡ (terms_of self.now).known }
+    {
+        match self.initial {
+            Initial::Known(_) => true,
+            Initial::Unknown => false,
+        }
+    }
+
+    /// The value before any write; nil where nobody knows it.
+    pub fn at_first(&self) -> Value
+        ensures { result ≡ (terms_of self.now).initial }
+    {
+        match self.initial {
+            Initial::Known(value) => value,
+            Initial::Unknown => Value::Nil,
+        }
+    }
+
+    /// Whether the value is the initial one, which is known.
+    pub fn is_initial(&self, value: Value) -> bool
+        ensures { result ≡ is_at_first (terms_of self.now) value }
+    {
+        self.has_known_initial() && is_same_value(self.at_first(), value)
     }
 
     /// Whether the value is in the value set, or none is given.

@@ -1,16 +1,16 @@
 //! Laws of the definitions. Each is the contract of a function that does nothing.
 
-ghost use Rattle.std.specs.Prelude.{◌≡◌, ◌≢◌, ◌↔◌, ◌⊎◌, All, Contains, IsTrue, List, [], ◌∷◌, ◌++◌, true, map, length, take, drop, None, Some};
+ghost use Rattle.std.specs.Prelude.{◌≡◌, ◌≢◌, ◌↔◌, ◌⊎◌, All, Contains, IsTrue, List, [], ◌∷◌, ◌++◌, true, false, map, length, take, drop, None, Some};
 ghost use Rattle.intervals.specs.declared.operation.Op.{Op};
 ghost use Rattle.intervals.specs.declared.operation.OpId.{OpId};
 ghost use Rattle.intervals.specs.declared.operation.Moment.{Moment};
-ghost use Rattle.intervals.specs.declared.refusal.Refusal.TheVariants.{UnknownOp, OpTaken, EndNotAfterBegin, MomentTaken, MomentTooLarge, NotAWriter, WritesOverlap, ValueTaken, OutOfDomain, ClaimFixed, ClaimWriters, ClaimOverlap, ClaimRepeats};
+ghost use Rattle.intervals.specs.declared.refusal.Refusal.TheVariants.{UnknownOp, OpTaken, EndNotAfterBegin, MomentTaken, MomentTooLarge, NotAWriter, WritesOverlap, ValueTaken, OutOfDomain, ClaimFixed, ClaimWriters, ClaimInitial, ClaimOverlap, ClaimRepeats};
 ghost use Rattle.intervals.specs.declared.claim.Holder.{Holder};
 ghost use Rattle.intervals.specs.declared.claim.Holder.TheVariants as holders;
 ghost use Rattle.intervals.specs.declared.edit.Edit.{Edit};
 ghost use Rattle.intervals.specs.declared.edit.Edit.TheVariants.{Append, Withdraw, Claim as ToKind};
 ghost use Rattle.intervals.specs.declared.operation.Value.{Value};
-ghost use Rattle.intervals.specs.Terms.{Terms, Claimed, unedited};
+ghost use Rattle.intervals.specs.Terms.{Terms, Claimed, IsKnownUnlessAtomic, unedited};
 ghost use Rattle.intervals.specs.declared.claim.Kind.TheVariants.{Safe, Regular, Atomic};
 ghost use Rattle.intervals.specs.declared.operation.Act.TheVariants.{Read, Write};
 ghost use Rattle.intervals.specs.declared.operation.Value.TheVariants.{Nil};
@@ -18,7 +18,7 @@ ghost use Rattle.intervals.specs.Operation.{Precedes, Overlaps, IsWrite, IsJudge
 ghost use Rattle.intervals.specs.Edit.{op_of};
 ghost use Rattle.intervals.specs.Bare.{bare, bare_edit, bare_held};
 ghost use Rattle.intervals.specs.Refusal.{first_refusal, moments_refusal, moment_taken, write_refusal, overlap_refusal, is_overlapped, value_refusal, holder_of, overlaps_another, first_overlap, first_repeat, reply_to, carried_out, standing};
-ghost use Rattle.intervals.specs.Standing.{HasDistinctIds, HasNoOverlappingWrites, HasDistinctValues, StandApart, IsHolder, IsMomentHolder};
+ghost use Rattle.intervals.specs.Standing.{HasDistinctIds, HasNoOverlappingWrites, HasOwnValues, StandApart, IsHolder, IsInitial, IsMomentHolder};
 ghost use Rattle.intervals.specs.Least.{IsLeast, least_by};
 ghost use Rattle.intervals.specs.Kind.{IsSafe, IsRegular, IsSafeRead, IsRegularRead, Arranges, Holds};
 ghost use Rattle.intervals.specs.Judging.{first_wrong, is_wrong_read, end_number};
@@ -74,13 +74,13 @@ pub fn taken_moments_have_a_holder()
     ensures none { (ops : List Op) (op : Op) (moment : Moment) → (moment_taken ops op.id (Some moment) ≡ None) ↔ All (λ other. ¬ IsMomentHolder op moment other) ops }
 {}
 
-/// The holder that a taken value names has it: the register at first, or another write that stands;
+/// The holder that a taken value names has it: the register at first, where that is known, or another write that stands;
 /// and none is named exactly where none has it.
 pub fn taken_values_have_a_holder()
-    ensures initial { (claim : Terms) (ops : List Op) (op : Op) → (value_refusal claim ops op ≡ Some (ValueTaken holders.Initial)) ↔ (value_of op.act ≡ claim.initial) }
+    ensures initial { (claim : Terms) (ops : List Op) (op : Op) → (value_refusal claim ops op ≡ Some (ValueTaken holders.Initial)) ↔ IsInitial claim (value_of op.act) }
     ensures write { (claim : Terms) (ops : List Op) (op : Op) (id : OpId) → value_refusal claim ops op ≡ Some (ValueTaken (holders.Op id))
         → (other : Op) × (other.id ≡ id) × Contains ops other × IsHolder op other }
-    ensures none { (claim : Terms) (ops : List Op) (op : Op) → (value_refusal claim ops op ≡ None) ↔ ((value_of op.act ≢ claim.initial) × All (λ other. ¬ IsHolder op other) ops) }
+    ensures none { (claim : Terms) (ops : List Op) (op : Op) → (value_refusal claim ops op ≡ None) ↔ ((¬ IsInitial claim (value_of op.act)) × All (λ other. ¬ IsHolder op other) ops) }
 {}
 
 /// Of the overlap that a claim names the first write is, of those that overlap another, the one that begins
@@ -97,18 +97,22 @@ pub fn first_overlap_began_first()
 pub fn first_repeat_was_appended_first()
     ensures named { (claim : Terms) (ops : List Op) (id : OpId) (holder : Holder) → first_repeat claim [] ops ≡ Some (id, holder)
         → (front : List Op) × (w : Op) × (rest : List Op) × (ops ≡ front ++ w ∷ rest) × (w.id ≡ id) × IsWrite w × (holder_of claim front w ≡ Some holder) × (first_repeat claim [] front ≡ None) }
-    ensures none { (claim : Terms) (ops : List Op) → HasDistinctIds ops → (first_repeat claim [] ops ≡ None) ↔ HasDistinctValues claim.initial ops }
+    ensures none { (claim : Terms) (ops : List Op) → HasDistinctIds ops → (first_repeat claim [] ops ≡ None) ↔ HasOwnValues claim ops }
 {}
 
 /// What the reply rule keeps, after any edits from nothing: no two operations have one id, nor a
 /// moment in common; each end is after its beginning, and no moment is past the greatest; each write is
 /// one that the claim allows; on a safe or regular register no two writes overlap, and on an atomic one
-/// no two have one value, nor one the initial value. Each accepted edit keeps it under the kind that is
-/// claimed then, and of the claim nothing but the kind changes.
+/// no two have one value, nor one the initial value where that is known. Each accepted edit keeps it under the kind that is
+/// claimed then, no safe or regular register comes to have an unknown initial value, and of the claim nothing
+/// but the kind changes.
 pub fn edits_keep_operations_apart()
     ensures apart { (claim : Terms) (edits : List Edit) → let held = standing (unedited claim) edits in StandApart held.claim held.ops }
     ensures carried_out { (held : Claimed) (edit : Edit) → StandApart held.claim held.ops → reply_to held.claim held.ops edit ≡ None
         → let after = carried_out held edit in StandApart after.claim after.ops }
+    ensures known_after { (held : Claimed) (edit : Edit) → IsKnownUnlessAtomic held.claim → reply_to held.claim held.ops edit ≡ None
+        → IsKnownUnlessAtomic (carried_out held edit).claim }
+    ensures known { (claim : Terms) (edits : List Edit) → IsKnownUnlessAtomic claim → IsKnownUnlessAtomic (standing (unedited claim) edits).claim }
     ensures claim { (claim : Terms) (edits : List Edit) → let after = (standing (unedited claim) edits).claim in after ≡ record claim { kind = after.kind } }
 {}
 
@@ -203,6 +207,9 @@ pub fn worked_claims()
     ensures no_overlap { reply_to (claim_of_one Atomic) (take 1 writes_over_writes) (ToKind Safe) ≡ None }
     ensures repeat { reply_to (claim_of_one Safe) writes_over_writes (ToKind Atomic) ≡ Some (ClaimRepeats (place 3) (holders.Op (place 6))) }
     ensures initial { reply_to (claim_of_one Safe) (from_to 0 (Write (number 0)) 0 1 ∷ []) (ToKind Atomic) ≡ Some (ClaimRepeats (place 0) holders.Initial) }
+    ensures unknown { reply_to (record (claim_of_one Atomic) { known = false }) writes_over_writes (ToKind Safe) ≡ Some ClaimInitial }
+    ensures unknown_writers { reply_to (record (claim_of Atomic Nil None) { known = false }) [] (ToKind Regular) ≡ Some ClaimWriters }
+    ensures unknown_value { reply_to (record (claim_of Atomic (number 1) None) { known = false }) [] (Append (from_to 0 (Write (number 1)) 0 1)) ≡ None }
     ensures no_repeat { reply_to (claim_of_one Safe) (take 3 writes_over_writes) (ToKind Atomic) ≡ None }
     ensures turned { standing (unedited (claim_of_one Atomic)) claims_and_writes ≡ record { claim = claim_of_one Regular; ops = from_to 0 (Write (number 1)) 0 1 ∷ from_to 2 (Write (number 1)) 2 3 ∷ [] } }
 {}

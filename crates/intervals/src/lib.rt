@@ -38,7 +38,7 @@ mod shelf;
 mod table;
 
 pub use book::OpBook;
-pub use claim::{Claim, Holder, Kind, Writers};
+pub use claim::{Claim, Holder, Initial, Kind, Writers};
 pub use edit::{Change, Edit, Lent, amended, changed};
 pub use operation::{
     Act, Memory, Moment, Op, OpId, Parts, RegId, Value, is_same_value, overlaps, precedes,

@@ -48,6 +48,10 @@ pub enum Refusal {
     /// before it has: the first such write, and who had its value.
     #[error("X13 ClaimRepeats")]
     ClaimRepeats(OpId, Holder),
+    /// A claim to be safe or regular, and the register's initial value is unknown. It is asked after the writers
+    /// and before the overlap.
+    #[error("X14 ClaimInitial")]
+    ClaimInitial,
 }
 
 impl Refusal {
@@ -69,6 +73,7 @@ impl Refusal {
             Refusal::ClaimWriters => "X11",
             Refusal::ClaimOverlap(..) => "X12",
             Refusal::ClaimRepeats(..) => "X13",
+            Refusal::ClaimInitial => "X14",
         }
     }
 }

@@ -8,13 +8,13 @@ ghost use Rattle.intervals.specs.FirstWrites.{AreFirst};
 ghost use Rattle.intervals.specs.Refusal.{first_repeat as first_that_repeats, id_with, repeat_of as repeat_that};
 ghost use Rattle.intervals.specs.Standing.{HasDistinctIds};
 ghost use Rattle.intervals.specs.Table.{standing};
-ghost use Rattle.intervals.specs.Terms.{Terms, terms_of};
+ghost use Rattle.intervals.specs.Terms.{terms_of};
 
-use crate::{Claim, Holder, Memory, Moment, Op, OpId, OpTable, Shelf, Spot, Value, is_same_value};
+use crate::{Claim, Holder, Memory, Moment, Op, OpId, OpTable, Shelf, Spot, is_same_value};
 use std::alloc::Global;
 
 impl<'t> OpTable<'t> {
-    /// The first write, in the order of the appends, of a value that the register has at first or that a write
+    /// The first write, in the order of the appends, of a value that the register is known to have at first or that a write
     /// before it has, and who has it. It takes the time of a look-up for each write; where memory is refused each
     /// write is looked for among those before it, and memory is wanting only where no value is repeated.
     pub fn first_repeat(
@@ -26,9 +26,9 @@ impl<'t> OpTable<'t> {
         ensures found { IfOk result (λ found. found ≡ first_that_repeats (terms_of claim.now) [] self.now.ops) }
         ensures memory { OnErr result (first_that_repeats (terms_of claim.now) [] self.now.ops ≡ None) }
     {
-        match repeat_by_value(alloc, self.slots(), claim.initial) {
+        match repeat_by_value(alloc, self.slots(), claim) {
             Ok(found) => Ok(found),
-            Err(memory) => match repeat_by_pairs(self.slots(), claim.initial) {
+            Err(memory) => match repeat_by_pairs(self.slots(), claim) {
                 Some(found) => Ok(Some(found)),
                 None => Err(memory),
             },
@@ -40,15 +40,15 @@ impl<'t> OpTable<'t> {
 fn repeat_by_value(
     alloc: Global,
     slots: &[Option<Op>],
-    initial: Value,
+    claim: &Claim,
 ) -> Result<Option<(OpId, Holder)>, Memory>
     requires { HasDistinctIds (standing slots.now) }
-    ensures { (claim : Terms) → claim.initial ≡ initial → IfOk result (λ found. found ≡ first_that_repeats claim [] (standing slots.now)) }
+    ensures { IfOk result (λ found. found ≡ first_that_repeats (terms_of claim.now) [] (standing slots.now)) }
 {
     let mut first = Shelf::new(alloc);
     for slot in slots {
         if let Some(op) = slot {
-            if let Some(repeat) = repeat_of(&mut first, initial, op)? {
+            if let Some(repeat) = repeat_of(&mut first, claim, op)? {
                 return Ok(Some(repeat));
             }
         }
@@ -58,15 +58,15 @@ fn repeat_by_value(
 
 /// The operation as a repeat behind those of which these are the first writes of their values. Where it is a write and
 /// no repeat it is the first of its value.
-fn repeat_of(first: &mut Shelf, initial: Value, op: &Op) -> Result<Option<(OpId, Holder)>, Memory>
-    ensures repeat { (claim : Terms) (before : List Op) → claim.initial ≡ initial → AreFirst first.old before → op_of before op.now.id ≡ None
-        → IfOk result (λ found. found ≡ repeat_that claim before op.now) }
+fn repeat_of(first: &mut Shelf, claim: &Claim, op: &Op) -> Result<Option<(OpId, Holder)>, Memory>
+    ensures repeat { (before : List Op) → AreFirst first.old before → op_of before op.now.id ≡ None
+        → IfOk result (λ found. found ≡ repeat_that (terms_of claim.now) before op.now) }
     ensures first { (before : List Op) → AreFirst first.old before → result ≡ Ok None → AreFirst first.new (before ++ op.now ∷ []) }
 {
     if !op.is_write() {
         return Ok(None);
     }
-    if is_same_value(initial, op.value()) {
+    if claim.is_initial(op.value()) {
         return Ok(Some((op.id, Holder::Initial)));
     }
     let spot = Spot {
@@ -82,13 +82,13 @@ fn repeat_of(first: &mut Shelf, initial: Value, op: &Op) -> Result<Option<(OpId,
 }
 
 /// The first repeat, by each write and those before it.
-fn repeat_by_pairs(slots: &[Option<Op>], initial: Value) -> Option<(OpId, Holder)>
-    ensures { (claim : Terms) → claim.initial ≡ initial → result ≡ first_that_repeats claim [] (standing slots.now) }
+fn repeat_by_pairs(slots: &[Option<Op>], claim: &Claim) -> Option<(OpId, Holder)>
+    ensures { result ≡ first_that_repeats (terms_of claim.now) [] (standing slots.now) }
 {
     for place in 0..slots.len() {
         if let Some(op) = &slots[place] {
             if op.is_write() {
-                if let Some(holder) = holder_among(&slots[..place], initial, op) {
+                if let Some(holder) = holder_among(&slots[..place], claim, op) {
                     return Some((op.id, holder));
                 }
             }
@@ -98,10 +98,10 @@ fn repeat_by_pairs(slots: &[Option<Op>], initial: Value) -> Option<(OpId, Holder
 }
 
 /// Who has the value of the operation already, of the register at first and the writes in the slots.
-fn holder_among(slots: &[Option<Op>], initial: Value, op: &Op) -> Option<Holder>
-    ensures { (claim : Terms) → claim.initial ≡ initial → result ≡ holder_of claim (standing slots.now) op.now }
+fn holder_among(slots: &[Option<Op>], claim: &Claim, op: &Op) -> Option<Holder>
+    ensures { result ≡ holder_of (terms_of claim.now) (standing slots.now) op.now }
 {
-    if is_same_value(initial, op.value()) {
+    if claim.is_initial(op.value()) {
         return Some(Holder::Initial);
     }
     for slot in slots {

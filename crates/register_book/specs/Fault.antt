@@ -1,20 +1,20 @@
 -- Which operations show that a register breaks its claim.
-use Rattle.std.specs.Prelude.{◌≡◌, ◌≢◌, Contains, List, [], ◌∷◌, ◌++◌, Option, Some, None}
+use Rattle.std.specs.Prelude.{◌≡◌, ◌≢◌, true, false, Contains, List, [], ◌∷◌, ◌++◌, Option, Some, None}
 use Rattle.intervals.specs.declared.operation.Op.{Op}
-use Rattle.intervals.specs.declared.operation.Value.{Value}
 use Rattle.intervals.specs.declared.claim.Holder.{Holder}
 use Rattle.intervals.specs.declared.claim.Holder.TheVariants as holders
 use Rattle.intervals.specs.declared.claim.Kind.TheVariants.{Atomic}
 use Rattle.intervals.specs.Terms.{Terms}
 use Rattle.intervals.specs.Judging.{first_wrong}
-use Rattle.zones.specs.Fault.{IsUnwritten, IsEarly, first_unwritten, first_early}
-use Rattle.zones.specs.Crossing.{IsCrossing, IsFirstCrossing}
+use Rattle.zones.specs.AtFirst.{IsSplit, first_split, initial_of, start_of, unwritten_of}
+use Rattle.zones.specs.Fault.{IsUnwritten, IsEarly, first_early}
+use Rattle.zones.specs.Crossing.{IsCrossing, IsFirstCrossingFrom}
 use Rattle.register_book.specs.declared.fault.Fault.{Fault}
 use Rattle.register_book.specs.declared.fault.Fault.TheVariants as faults
 use Rattle.register_book.specs.declared.fault.Side.{Side}
 use Rattle.register_book.specs.declared.fault.Side.TheVariants as sides
 use Rattle.register_book.specs.declared.fault.Witness.{Witness}
-use Rattle.register_book.specs.declared.fault.Witness.TheVariants.{Wrong, Unwritten, Early, Crossing}
+use Rattle.register_book.specs.declared.fault.Witness.TheVariants.{Wrong, Unwritten, Split, Early, Crossing}
 
 -- an operation is itself, and none stands for the initial write
 abbrev pub op_at : Side → Option Op
@@ -22,24 +22,28 @@ op_at (sides.Op op) = Some op
 op_at sides.Initial = None
 
 -- the operations that show it. Safe and regular: the wrong read that ended first. Atomic: the unwritten
--- read that ended first; where there is none the early read that ended first, with its write; where
--- there is neither the crossing of the first conflict, whose second and fourth are operations
+-- read that ended first, or where nobody knows the initial value the first two reads of different values
+-- that no write carries; where there is none of these the early read that ended first, with its write; where
+-- there is no such either the crossing of the first conflict, whose second and fourth are operations
 abbrev pub IsWitness : Terms → List Op → Witness → Type 0
 IsWitness claim ops (Wrong read) = (claim.kind ≢ Atomic) × (first_wrong claim ops ≡ Some read)
-IsWitness claim ops (Unwritten read) = (claim.kind ≡ Atomic) × (first_unwritten claim.initial ops ≡ Some read)
-IsWitness claim ops (Early read write) = (claim.kind ≡ Atomic) × (first_unwritten claim.initial ops ≡ None) × (first_early ops ≡ Some (read, write))
+IsWitness claim ops (Unwritten read) = (claim.kind ≡ Atomic) × (unwritten_of claim ops ≡ Some read)
+IsWitness claim ops (Split first second) = (claim.kind ≡ Atomic) × (first_split claim ops ≡ Some (first, second))
+IsWitness claim ops (Early read write) = (claim.kind ≡ Atomic) × (unwritten_of claim ops ≡ None) × (first_split claim ops ≡ None) × (first_early ops ≡ Some (read, write))
 IsWitness claim ops (Crossing a (sides.Op b) c (sides.Op d)) =
-    (claim.kind ≡ Atomic) × (first_unwritten claim.initial ops ≡ None) × (first_early ops ≡ None) × IsFirstCrossing claim.initial ops (op_at a) b (op_at c) d
+    (claim.kind ≡ Atomic) × (unwritten_of claim ops ≡ None) × (first_split claim ops ≡ None) × (first_early ops ≡ None)
+    × IsFirstCrossingFrom (initial_of claim ops) (start_of claim ops) ops (op_at a) b (op_at c) d
 IsWitness claim ops (Crossing a b c d) = ⊥
 
--- an unwritten read, an early read with the write of its value, or four operations that cross: each
--- excludes every arrangement
-abbrev pub IsExcluding : Value → List Op → Witness → Type 0
-IsExcluding initial ops (Wrong read) = ⊥
-IsExcluding initial ops (Unwritten read) = Contains ops read × IsUnwritten initial ops read
-IsExcluding initial ops (Early read write) = Contains ops read × Contains ops write × IsEarly read write
-IsExcluding initial ops (Crossing a (sides.Op b) c (sides.Op d)) = IsCrossing initial ops (op_at a) b (op_at c) d
-IsExcluding initial ops (Crossing a b c d) = ⊥
+-- an unwritten read, two reads of different values that no write carries where nobody knows the initial value, an
+-- early read with the write of its value, or four operations that cross: each excludes every arrangement
+abbrev pub IsExcluding : Terms → List Op → Witness → Type 0
+IsExcluding claim ops (Wrong read) = ⊥
+IsExcluding claim ops (Unwritten read) = (claim.known ≡ true) × Contains ops read × IsUnwritten claim.initial ops read
+IsExcluding claim ops (Split first second) = (claim.known ≡ false) × IsSplit claim ops first second
+IsExcluding claim ops (Early read write) = Contains ops read × Contains ops write × IsEarly read write
+IsExcluding claim ops (Crossing a (sides.Op b) c (sides.Op d)) = IsCrossing (start_of claim ops) ops (op_at a) b (op_at c) d
+IsExcluding claim ops (Crossing a b c d) = ⊥
 
 -- an operation by its id, or the register at first
 abbrev pub holder_of : Side → Holder
@@ -50,6 +54,7 @@ holder_of sides.Initial = holders.Initial
 abbrev pub ids_of : Witness → Fault
 ids_of (Wrong read) = faults.Wrong read.id
 ids_of (Unwritten read) = faults.Unwritten read.id
+ids_of (Split first second) = faults.Split first.id second.id
 ids_of (Early read write) = faults.Early read.id write.id
 ids_of (Crossing a b c d) = faults.Crossing (holder_of a) (holder_of b) (holder_of c) (holder_of d)
 
@@ -62,5 +67,6 @@ ops_at sides.Initial = []
 abbrev pub operations_of : Witness → List Op
 operations_of (Wrong read) = read ∷ []
 operations_of (Unwritten read) = read ∷ []
+operations_of (Split first second) = first ∷ second ∷ []
 operations_of (Early read write) = read ∷ write ∷ []
 operations_of (Crossing a b c d) = ops_at a ++ ops_at b ++ ops_at c ++ ops_at d

@@ -1,8 +1,9 @@
 ghost use Rattle.std.specs.Prelude.{◌≡◌, ◌≢◌, ◌↔◌, ◌+◌, ◌≤◌, [], All, Some, None, false, length, IfOk, IfSome, OnOk, OnErr, IsNone, IsTrue, option_copied};
-ghost use Rattle.intervals.specs.Terms.{terms_of};
+ghost use Rattle.intervals.specs.Terms.{terms_of, IsKnownUnlessAtomic};
 ghost use Rattle.intervals.specs.Edit.{op_of, is_claim};
 ghost use Rattle.intervals.specs.Refusal.{reply_to, to_kind_refusal, carried_out, after_edit};
 ghost use Rattle.intervals.specs.Kind.{Holds};
+ghost use Rattle.zones.specs.AtFirst.{start_of};
 ghost use Rattle.zones.specs.Turn.{IsOrder};
 ghost use Rattle.register_book.specs.Kept.{claimed_of, most_steps};
 ghost use Rattle.register_book.specs.Reply.{IsReply, TakesMemory};
@@ -40,11 +41,11 @@ impl<'t> Model for RegisterBook<'t> {
 }
 
 impl<'t> RegisterBook<'t> {
-    /// A book of no operations. It keeps a claim of its own that says the same.
+    /// A book of no operations. It keeps a claim of its own that says the same. Of a safe or regular register the
+    /// initial value is known.
     pub fn new(alloc: Global, claim: &Claim) -> Result<Self, Memory>
-        ensures made { IfOk result (λ book. book ≡ record { claim = terms_of claim.now; ops = []; steps = book.steps }) }
-        ensures steps { IfOk result (λ book. book.steps ≤ 3) }
-        ensures none { IfOk result (λ book. book.claim.kind ≢ Kind.Atomic → book.steps ≡ 0) }
+        requires { IsKnownUnlessAtomic (terms_of claim.now) }
+        ensures made { IfOk result (λ book. book ≡ record { claim = terms_of claim.now; ops = []; steps = 0 }) }
     {
         Ok(RegisterBook {
             alloc,
@@ -83,7 +84,7 @@ impl<'t> RegisterBook<'t> {
         ensures err { OnErr result (self.new ≡ self.old) }
         ensures memory { OnErr result (reply_to self.old.claim self.old.ops edit.entry ≡ None) }
         ensures withdrawal { OnErr result (TakesMemory (claimed_of self.old) edit.entry) }
-        ensures steps { is_claim edit.entry ≡ false → self.new.steps ≤ self.old.steps + most_steps self.old.claim self.old.ops }
+        ensures steps { is_claim edit.entry ≡ false → self.new.steps ≤ self.old.steps + most_steps self.old.ops }
         ensures rises { self.old.steps ≤ self.new.steps }
         ensures none { is_claim edit.entry ≡ false → self.old.claim.kind ≢ Kind.Atomic → self.new.steps ≡ self.old.steps }
         ensures again { edit.entry ≡ Edit.Claim self.old.claim.kind → self.new.steps ≡ self.old.steps }
@@ -102,7 +103,7 @@ impl<'t> RegisterBook<'t> {
         ensures ok { OnOk result (claimed_of self.new ≡ carried_out (claimed_of self.old) edit.entry) }
         ensures err { OnErr result (self.new ≡ self.old) }
         ensures memory { OnErr result (TakesMemory (claimed_of self.old) edit.entry) }
-        ensures steps { is_claim edit.entry ≡ false → self.new.steps ≤ self.old.steps + most_steps self.old.claim self.old.ops }
+        ensures steps { is_claim edit.entry ≡ false → self.new.steps ≤ self.old.steps + most_steps self.old.ops }
         ensures rises { self.old.steps ≤ self.new.steps }
         ensures none { is_claim edit.entry ≡ false → self.old.claim.kind ≢ Kind.Atomic → self.new.steps ≡ self.old.steps }
         ensures again { edit.entry ≡ Edit.Claim self.old.claim.kind → self.new.steps ≡ self.old.steps }
@@ -138,7 +139,8 @@ impl<'t> RegisterBook<'t> {
         self.gone.saturating_add(self.judge.steps())
     }
 
-    /// Whether the register keeps the sentence of its kind.
+    /// Whether the register keeps the sentence of its kind; where its initial value is unknown, whether it does
+    /// for some initial value that no write carries.
     pub fn holds(&self) -> bool
         ensures { IsTrue result ↔ Holds self.now.claim self.now.ops }
     {
@@ -168,7 +170,7 @@ impl<'t> RegisterBook<'t> {
     /// An order of the operations that shows that an atomic register holds, by their ids: the clusters
     /// by the left edges of their zones, in each the write and then its reads by their beginnings.
     pub fn order(&self, alloc: Global) -> Result<Option<Vec<OpId>>, Memory>
-        ensures order { IfOk result (λ found. IfSome found (λ ids. IsOrder self.now.claim self.now.ops ids.items)) }
+        ensures order { IfOk result (λ found. IfSome found (λ ids. IsOrder (record self.now.claim { initial = start_of self.now.claim self.now.ops }) self.now.ops ids.items)) }
         ensures none { IfOk result (λ found. IsNone found ↔ ¬ ((self.now.claim.kind ≡ Kind.Atomic) × Holds self.now.claim self.now.ops)) }
         ensures memory { OnErr result ((self.now.claim.kind ≡ Kind.Atomic) × Holds self.now.claim self.now.ops) }
     {

@@ -8,15 +8,22 @@ use intervals::{Holder, Op, OpId};
 pub enum Fault {
     /// Safe or regular: the wrong read that ended first.
     Wrong(OpId),
-    /// Atomic: of the reads of values that nothing wrote the one that ended first.
+    /// Atomic, where the initial value is known: of the reads of other values that nothing wrote the one that
+    /// ended first.
     Unwritten(OpId),
-    /// Atomic, where there is no such read: of the reads that ended before the write of their value
-    /// began the one that ended first, and that write.
+    /// Atomic, where nobody knows the initial value: of the reads of values that nothing wrote the one that ended
+    /// first, and of those of another such value the one that ended first.
+    Split {
+        first: OpId,
+        second: OpId,
+    },
+    /// Atomic, where there is neither: of the reads that ended before the write of their value began the one
+    /// that ended first, and that write.
     Early {
         read: OpId,
         write: OpId,
     },
-    /// Atomic, where there is neither: `a` and `d` are of one value, `b` and `c` of another; `a`
+    /// Atomic, where there is none of these: `a` and `d` are of one value, `b` and `c` of another; `a`
     /// precedes `b` and `c` precedes `d`.
     Crossing {
         a: Holder,
@@ -38,6 +45,10 @@ pub enum Side<'t> {
 pub enum Witness<'t> {
     Wrong(Op<'t>),
     Unwritten(Op<'t>),
+    Split {
+        first: Op<'t>,
+        second: Op<'t>,
+    },
     Early {
         read: Op<'t>,
         write: Op<'t>,
@@ -58,6 +69,10 @@ impl Witness<'_> {
         match self {
             Witness::Wrong(read) => Fault::Wrong(read.id),
             Witness::Unwritten(read) => Fault::Unwritten(read.id),
+            Witness::Split { first, second } => Fault::Split {
+                first: first.id,
+                second: second.id,
+            },
             Witness::Early { read, write } => Fault::Early {
                 read: read.id,
                 write: write.id,

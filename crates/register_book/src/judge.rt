@@ -1,11 +1,12 @@
 //! The judge of a register's kind, asked alike whichever it is.
 
 ghost use Rattle.std.specs.Prelude.{◌≡◌, ◌≢◌, ◌↔◌, ◌+◌, ◌≤◌, [], None, IfOk, IfSome, OnOk, OnErr, IsNone, IsSome, IsTrue};
-ghost use Rattle.intervals.specs.Terms.{terms_of};
+ghost use Rattle.intervals.specs.Terms.{terms_of, IsKnownUnlessAtomic};
 ghost use Rattle.intervals.specs.Edit.{edited, new_op};
 ghost use Rattle.intervals.specs.Refusal.{reply_to, to_kind_refusal, write_refusal, ok_unless};
 ghost use Rattle.intervals.specs.Standing.{HasDistinctIds, StandApart};
 ghost use Rattle.intervals.specs.Kind.{Holds};
+ghost use Rattle.zones.specs.AtFirst.{start_of};
 ghost use Rattle.zones.specs.Turn.{IsOrder};
 ghost use Rattle.register_book.specs.Judge.{held_by, IsOfItsKind, HasNonePrepared};
 ghost use Rattle.register_book.specs.Kept.{claimed_of, most_steps};
@@ -28,8 +29,9 @@ pub enum Judge<'t> {
 
 impl<'t> Judge<'t> {
     pub fn new(alloc: Global, claim: &Claim) -> Result<Self, Memory>
+        requires { IsKnownUnlessAtomic (terms_of claim.now) }
         ensures held { IfOk result (λ judge. held_by judge ≡ record { claim = terms_of claim.now; ops = []; steps = (held_by judge).steps }) }
-        ensures steps { IfOk result (λ judge. (held_by judge).steps ≤ 3) }
+        ensures steps { IfOk result (λ judge. (held_by judge).steps ≡ 0) }
         ensures kind { IfOk result IsOfItsKind }
         ensures none_prepared { IfOk result HasNonePrepared }
     {
@@ -97,7 +99,7 @@ impl<'t> Judge<'t> {
         ensures memory { OnErr result (IsSome (new_op (held_by self.old).ops edit.entry)) }
         ensures kind { IsOfItsKind self.old → IsOfItsKind self.new }
         ensures left { HasNonePrepared self.new }
-        ensures steps { (held_by self.new).steps ≤ (held_by self.old).steps + most_steps (held_by self.old).claim (held_by self.old).ops }
+        ensures steps { (held_by self.new).steps ≤ (held_by self.old).steps + most_steps (held_by self.old).ops }
         ensures rises { (held_by self.old).steps ≤ (held_by self.new).steps }
     {
         match self {
@@ -141,7 +143,7 @@ impl<'t> Judge<'t> {
 
     pub fn order(&self, alloc: Global) -> Result<Option<Vec<OpId>>, Memory>
         requires { IsOfItsKind self.now }
-        ensures order { IfOk result (λ found. IfSome found (λ ids. IsOrder (held_by self.now).claim (held_by self.now).ops ids.items)) }
+        ensures order { IfOk result (λ found. IfSome found (λ ids. IsOrder (record (held_by self.now).claim { initial = start_of (held_by self.now).claim (held_by self.now).ops }) (held_by self.now).ops ids.items)) }
         ensures none { IfOk result (λ found. IsNone found ↔ ¬ (((held_by self.now).claim.kind ≡ Kind.Atomic) × Holds (held_by self.now).claim (held_by self.now).ops)) }
         ensures memory { OnErr result (((held_by self.now).claim.kind ≡ Kind.Atomic) × Holds (held_by self.now).claim (held_by self.now).ops) }
     {

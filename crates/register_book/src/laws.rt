@@ -1,6 +1,6 @@
 //! Laws of the definitions. Each is the contract of a function that does nothing.
 
-ghost use Rattle.std.specs.Prelude.{◌≡◌, All, List, [], Some, None};
+ghost use Rattle.std.specs.Prelude.{◌≡◌, All, List, [], ◌∷◌, ◌++◌, Some, None};
 ghost use Rattle.intervals.specs.declared.operation.Op.{Op};
 ghost use Rattle.intervals.specs.declared.edit.Edit.{Edit};
 ghost use Rattle.intervals.specs.declared.claim.Kind.TheVariants.{Atomic};
@@ -8,19 +8,19 @@ ghost use Rattle.intervals.specs.declared.operation.Value.TheVariants.{Nil};
 ghost use Rattle.intervals.specs.Terms.{Terms, unedited};
 ghost use Rattle.intervals.specs.Edit.{op_of};
 ghost use Rattle.intervals.specs.Refusal.{standing};
-ghost use Rattle.intervals.specs.Standing.{HasDistinctIds, HasDistinctMoments, HasDistinctValues};
+ghost use Rattle.intervals.specs.Standing.{HasDistinctIds, HasDistinctMoments, HasOwnValues};
 ghost use Rattle.intervals.specs.Kind.{IsAtomic, Holds};
 ghost use Rattle.intervals.specs.Histories.{claim_of, new_before_old};
-ghost use Rattle.zones.specs.Examples.{unwritten_read, read_of_nothing, early_read, late_write, read_before_write, first_write, second_read, first_read};
+ghost use Rattle.zones.specs.Examples.{unwritten_read, read_of_nothing, early_read, late_write, read_before_write, first_write, second_read, first_read, unknown, seven_and_one, read_of_seven, read_of_eight};
 ghost use Rattle.register_book.specs.declared.fault.Side.TheVariants as sides;
 ghost use Rattle.register_book.specs.declared.fault.Witness.{Witness};
-ghost use Rattle.register_book.specs.declared.fault.Witness.TheVariants.{Unwritten, Early, Crossing};
+ghost use Rattle.register_book.specs.declared.fault.Witness.TheVariants.{Unwritten, Split, Early, Crossing};
 ghost use Rattle.register_book.specs.Fault.{IsWitness, IsExcluding, operations_of};
 
 use intervals::laws::{edits_keep_operations_apart, first_wrong_read_ended_first};
 use zones::laws::{
-    first_early_ended_first, first_unwritten_ended_first, one_fault_excludes_every_arrangement,
-    one_first_crossing, worked_faults,
+    first_early_ended_first, first_split_ended_first, first_unwritten_ended_first,
+    one_fault_excludes_every_arrangement, one_first_crossing, worked_faults, worked_unknown,
 };
 
 /// The operations of a witness stand, each found by its id.
@@ -30,22 +30,24 @@ pub fn a_witness_stands()
 {
     first_wrong_read_ended_first();
     first_unwritten_ended_first();
+    first_split_ended_first();
     first_early_ended_first();
     one_first_crossing();
 }
 
-/// The witness of an atomic register is an unwritten read, an early read or a crossing, and each of
+/// The witness of an atomic register is an unwritten read, a split, an early read or a crossing, and each of
 /// these excludes every arrangement by itself: no order of the operations shows that the register
 /// holds, after any edits.
 pub fn a_witness_excludes_every_arrangement()
     ensures excluding { (claim : Terms) (ops : List Op) (witness : Witness) → claim.kind ≡ Atomic → IsWitness claim ops witness
-        → IsExcluding claim.initial ops witness }
-    ensures excludes { (claim : Terms) (ops : List Op) (witness : Witness) → HasDistinctValues claim.initial ops → IsExcluding claim.initial ops witness
+        → IsExcluding claim ops witness }
+    ensures excludes { (claim : Terms) (ops : List Op) (witness : Witness) → HasOwnValues claim ops → IsExcluding claim ops witness
         → ¬ IsAtomic claim ops }
     ensures after_edits { (claim : Terms) (edits : List Edit) (witness : Witness) → let held = standing (unedited claim) edits in held.claim.kind ≡ Atomic
-        → IsExcluding held.claim.initial held.ops witness → ¬ Holds held.claim held.ops }
+        → IsExcluding held.claim held.ops witness → ¬ Holds held.claim held.ops }
 {
     first_unwritten_ended_first();
+    first_split_ended_first();
     first_early_ended_first();
     one_first_crossing();
     one_fault_excludes_every_arrangement();
@@ -65,6 +67,8 @@ pub fn worked_witnesses()
     ensures unwritten { IsWitness (claim_of Atomic Nil None) read_of_nothing (Unwritten unwritten_read) }
     ensures early { IsWitness (claim_of Atomic Nil None) read_before_write (Early early_read late_write) }
     ensures crossing { IsWitness (claim_of Atomic Nil None) new_before_old (Crossing (sides.Op first_write) (sides.Op second_read) (sides.Op second_read) (sides.Op first_read)) }
+    ensures split { IsWitness unknown (seven_and_one ++ read_of_eight ∷ []) (Split read_of_seven read_of_eight) }
 {
     worked_faults();
+    worked_unknown();
 }

@@ -15,6 +15,11 @@
 //! early one, or four operations that no order has room for: the rows that begin with `atomic`. A claim of
 //! another kind is an edit like the others: the operations are judged by it from there on.
 //!
+//! The initial value of an atomic register may be unknown: the rows that begin with `atomic unknown`. Such a
+//! register holds where there is an order for some initial value that no write carries. So all reads of values
+//! that nothing wrote must return one value, which is then the initial one, and two that differ are its fault.
+//! It cannot be claimed to be safe or regular.
+//!
 //! Begin with `specs/Reply.antt` and `specs/Fault.antt`: what an edit is answered, and which operations
 //! show that a register fails. Their words are those of `intervals` and `zones`. Then come the calls, in
 //! `book.rt`, and what the words come to, in `laws.rt`.

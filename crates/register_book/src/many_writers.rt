@@ -3,7 +3,8 @@
 ghost use Rattle.std.specs.Prelude.{◌≡◌, ◌↔◌, IfSome, IsNone};
 ghost use Rattle.intervals.specs.Standing.{HasDistinctIds};
 ghost use Rattle.intervals.specs.Kind.{Holds};
-ghost use Rattle.zones.specs.Fault.{first_unwritten as first_unwritten_of, first_early as first_early_of};
+ghost use Rattle.zones.specs.AtFirst.{first_split as first_split_of, unwritten_of};
+ghost use Rattle.zones.specs.Fault.{first_early as first_early_of};
 ghost use Rattle.register_book.specs.Fault.{IsWitness, op_at};
 ghost use Rattle.register_book.specs.Judge.{pair_by};
 
@@ -11,7 +12,8 @@ use crate::{Side, Witness};
 use intervals::{Kind, Op, OpId, OpTable};
 use zones::Clusters;
 use zones::laws::{
-    faultless_where_no_fault_is_first, first_early_ended_first, first_unwritten_ended_first,
+    faultless_where_no_fault_is_first, first_early_ended_first, first_split_ended_first,
+    first_unwritten_ended_first,
 };
 
 /// The witness of the first fault, none where the register holds.
@@ -27,6 +29,9 @@ pub fn witness_of<'t>(clusters: &Clusters<'t>) -> Option<Witness<'t>>
     }
     if let Some(read) = first_unwritten(clusters) {
         return Some(Witness::Unwritten(read));
+    }
+    if let Some((first, second)) = first_split(clusters) {
+        return Some(Witness::Split { first, second });
     }
     if let Some((read, write)) = first_early(clusters) {
         return Some(Witness::Early { read, write });
@@ -50,13 +55,22 @@ fn side_of<'t>(op: Option<Op<'t>>) -> Side<'t>
     }
 }
 
-/// The unwritten read that ended first.
+/// Where the initial value is known, the unwritten read that ended first.
 fn first_unwritten<'t>(clusters: &Clusters<'t>) -> Option<Op<'t>>
     requires { HasDistinctIds clusters.now.ops }
-    ensures { result ≡ first_unwritten_of clusters.now.claim.initial clusters.now.ops }
+    ensures { result ≡ unwritten_of clusters.now.claim clusters.now.ops }
 {
     first_unwritten_ended_first();
     clusters.operations().find(clusters.first_unwritten())
+}
+
+/// Where nobody knows the initial value, the first two reads of different values that no write carries.
+fn first_split<'t>(clusters: &Clusters<'t>) -> Option<(Op<'t>, Op<'t>)>
+    requires { HasDistinctIds clusters.now.ops }
+    ensures { result ≡ first_split_of clusters.now.claim clusters.now.ops }
+{
+    first_split_ended_first();
+    ops_by(clusters.operations(), clusters.first_split())
 }
 
 /// The early read that ended first, and the write of its value.
@@ -72,8 +86,8 @@ fn first_early<'t>(clusters: &Clusters<'t>) -> Option<(Op<'t>, Op<'t>)>
 fn ops_by<'t>(ops: &OpTable<'t>, ids: Option<(OpId, OpId)>) -> Option<(Op<'t>, Op<'t>)>
     ensures { result ≡ pair_by ops.now.ops ids }
 {
-    let (read, write) = ids?;
-    let read = ops.get(read)?;
-    let write = ops.get(write)?;
-    Some((*read, *write))
+    let (one, other) = ids?;
+    let one = ops.get(one)?;
+    let other = ops.get(other)?;
+    Some((*one, *other))
 }

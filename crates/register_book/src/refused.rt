@@ -92,6 +92,9 @@ fn refusal_of_one_writer(judge: &Judge) -> Option<Refusal>
     if !judge.claim().writers.is_one() {
         return Some(Refusal::ClaimWriters);
     }
+    if !judge.claim().has_known_initial() {
+        return Some(Refusal::ClaimInitial);
+    }
     if judge.claim().kind != Kind::Atomic {
         return None;
     }

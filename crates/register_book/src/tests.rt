@@ -4,8 +4,8 @@ mod plain;
 
 use super::*;
 use intervals::{
-    Act, Change, Claim, Edit, Holder, Kind, Lent, Memory, Moment, Op, OpId, Parts, Refusal, Value,
-    Writers, changed,
+    Act, Change, Claim, Edit, Holder, Initial, Kind, Lent, Memory, Moment, Op, OpId, Parts,
+    Refusal, Value, Writers, changed,
 };
 use std::alloc::Global;
 use std::io::Write;
@@ -182,12 +182,19 @@ fn values_of(alloc: Global, words: &str) -> Result<Vec<Value>, Memory> {
     Ok(values)
 }
 
-/// A claim, as `regular 0 0,1,2`, `atomic nil` or `atomic nil one fixed`: the initial value, the domain, whether
-/// an atomic register has one writer, and whether the claim is fixed.
+fn initial_of(word: &str) -> Initial {
+    match word {
+        "unknown" => Initial::Unknown,
+        _ => Initial::Known(value(word)),
+    }
+}
+
+/// A claim, as `regular 0 0,1,2`, `atomic nil`, `atomic unknown` or `atomic nil one fixed`: the initial value, the
+/// domain, whether an atomic register has one writer, and whether the claim is fixed.
 fn claim_of(alloc: Global, text: &str) -> Result<Claim, Memory> {
     let mut rest = text.split(' ');
     let kind = kind_of(rest.next());
-    let initial = value(rest.next().unwrap_or("nil"));
+    let initial = initial_of(rest.next().unwrap_or("nil"));
     let mut claim = Claim {
         kind,
         writers: writers_of(alloc, kind != Kind::Atomic)?,
@@ -232,7 +239,7 @@ fn fault_anew<R: AllocGlobal + Abort>(
     ops: &[Op<'static>],
 ) -> Result<Option<Fault>, Memory> {
     if claim.kind == Kind::Atomic {
-        return plain::fault_of(rt.alloc(), claim.initial, ops);
+        return plain::fault_of(rt.alloc(), claim, ops);
     }
     Ok(plain::wrong_read_of(claim, ops))
 }
@@ -245,8 +252,10 @@ struct Beside {
     ops: Vec<Op<'static>>,
 }
 
+/// Only an atomic register may be of an unknown initial value.
 fn begun<R: AllocGlobal + Abort>(rt: &R, text: &str) -> Result<Beside, Memory> {
     let claim = claim_of(rt.alloc(), text)?;
+    assert!(rt; claim.kind == Kind::Atomic || claim.has_known_initial());
     let book = RegisterBook::new(rt.alloc(), &claim)?;
     Ok(Beside {
         claim,
@@ -339,6 +348,11 @@ fn tell_fault(told: &mut Vec<u8>, fault: Fault) {
             let _ = write!(told, " unwritten");
             tell_id(told, id);
         }
+        Fault::Split { first, second } => {
+            let _ = write!(told, " split");
+            tell_id(told, first);
+            tell_id(told, second);
+        }
         Fault::Early { read, write } => {
             let _ = write!(told, " early");
             tell_id(told, read);
@@ -421,6 +435,11 @@ fn tell_witness(told: &mut Vec<u8>, witness: Witness) {
         Witness::Unwritten(read) => {
             let _ = write!(told, ", unwritten");
             tell_op(told, &read);
+        }
+        Witness::Split { first, second } => {
+            let _ = write!(told, ", split");
+            tell_op(told, &first);
+            tell_op(told, &second);
         }
         Witness::Early { read, write } => {
             let _ = write!(told, ", early");
@@ -506,6 +525,7 @@ fn register(name: &'static str) -> (&'static str, &'static str) {
         "two writes" => ("regular 0 0,1,2", TWO_WRITES),
         "two wrong reads" => ("regular 0 0,1,2", TWO_WRONG_READS),
         "new before old" => ("atomic nil", NEW_BEFORE_OLD),
+        "seven and one" => ("atomic unknown", SEVEN_AND_ONE),
         _ => (name, ""),
     }
 }
@@ -545,6 +565,11 @@ const NEW_BEFORE_OLD: &str = "append 0:0 p0 w1 b0 e1
 append 0:2 p1 w2 b2 e9
 append 0:3 p2 r2 b4 e5
 append 0:5 p3 r1 b6 e7";
+
+/// A read of a value that no write carries, and a write with a read of its value.
+const SEVEN_AND_ONE: &str = "append 0:0 p0 r7 b0 e1
+append 0:2 p1 w1 b2 e3
+append 0:4 p2 r1 b4 e5";
 
 const ROWS: &str =
     "safe 0 0,1,2,3,4,5,6,7,8,9 | append 0:0 p0 w1 b0; append 0:1 p1 r b1; answer 0:1 v7 e2; answer 0:0 e3 => holds, holds, holds, holds, 2 stand
@@ -615,7 +640,20 @@ regular 0 0,1 fixed | claim safe; claim regular; claim atomic => X10 ClaimFixed,
 atomic nil fixed | append 0:0 p0 w1 b0; append 0:1 p1 w2 b1; claim safe => holds, holds, X10 ClaimFixed, 2 stand
 atomic nil | append 0:0 p0 w1 b0; append 0:1 p1 w2 b1; claim safe; claim regular; claim atomic => holds, holds, X11 ClaimWriters, X11 ClaimWriters, holds, 2 stand
 atomic nil one | append 0:5 p0 w1 b50; append 0:6 p0 w2 b60; append 0:2 p0 w3 b20 e29; append 0:3 p0 w4 b25 e35; claim regular; amend 0:3 b30; claim safe; amend 0:5 e55; claim safe => holds, holds, holds, holds, X12 ClaimOverlap 0:2 0:3, holds, X12 ClaimOverlap 0:5 0:6, holds, holds, 4 stand
-regular 0 | append 0:4 p0 w2 b40 e41; append 0:0 p0 w1 b0 e1; append 0:2 p0 w1 b2 e3; append 0:6 p0 w2 b6 e7; claim atomic; withdraw 0:2; claim atomic; amend 0:4 v0; claim atomic; amend 0:4 v3; claim atomic => holds, holds, holds, holds, X13 ClaimRepeats 0:2 0:0, holds, X13 ClaimRepeats 0:6 0:4, holds, X13 ClaimRepeats 0:4 initial, holds, holds, 3 stand";
+regular 0 | append 0:4 p0 w2 b40 e41; append 0:0 p0 w1 b0 e1; append 0:2 p0 w1 b2 e3; append 0:6 p0 w2 b6 e7; claim atomic; withdraw 0:2; claim atomic; amend 0:4 v0; claim atomic; amend 0:4 v3; claim atomic => holds, holds, holds, holds, X13 ClaimRepeats 0:2 0:0, holds, X13 ClaimRepeats 0:6 0:4, holds, X13 ClaimRepeats 0:4 initial, holds, holds, 3 stand
+atomic unknown | append 0:0 p0 r7 b0 e1; append 0:2 p1 w1 b2 e3; append 0:4 p2 r1 b4 e5; order; append 0:6 p3 r8 b6 e7; order => holds, holds, holds, order 0:0 0:2 0:4, fails split 0:0 0:6, no order, 4 stand, split 0:0 r7 0-1 (append 0:0 p0 r7 b0 e1) 0:6 r8 6-7 (append 0:6 p3 r8 b6 e7)
+seven and one | append 0:6 p3 r7 b6 e7; order; append 0:8 p4 w7 b8 e9 => fails crossing initial 0:4 0:2 0:6, no order, fails early 0:0 0:8, 5 stand, early 0:0 r7 0-1 (append 0:0 p0 r7 b0 e1) 0:8 w7 8-9 (append 0:8 p4 w7 b8 e9)
+seven and one | amend 0:0 v8; order; append 0:6 p3 r7 b6 e7; amend 0:0 v7; withdraw 0:2; amend 0:4 v7; order; append 0:2 p1 w7 b2 e3; withdraw 0:0; order; amend 0:2 v3; amend 0:2 v7 => holds, order 0:0 0:2 0:4, fails split 0:0 0:6, fails crossing initial 0:4 0:2 0:6, fails split 0:0 0:4, holds, order 0:0 0:4 0:6, fails early 0:0 0:2, holds, order 0:2 0:4 0:6, fails crossing initial 0:2 0:2 0:6, holds, 3 stand
+atomic unknown | append 0:20 p0 r7 b20 e29; append 0:10 p1 r8 b10 e19; append 0:0 p2 r9 b0 e5; append 0:6 p3 r8 b6 e7; withdraw 0:0; withdraw 0:6; withdraw 0:20; order; withdraw 0:10; order => holds, fails split 0:10 0:20, fails split 0:0 0:10, fails split 0:0 0:6, fails split 0:6 0:20, fails split 0:10 0:20, holds, order 0:10, holds, order, 0 stand
+atomic unknown | append 0:0 p0 r b0; append 0:2 p1 r b2; append 0:4 p2 r b4; append 0:6 p3 w1 b6; order; answer 0:0 v7 e1; answer 0:2 v8 e3; answer 0:4 v9 e5; amend 0:0 e10; amend 0:2 v7; amend 0:4 v7; order; amend 0:4 v8; amend 0:4 e; amend 0:2 e; amend 0:0 e; order => holds, holds, holds, holds, order 0:6, holds, fails split 0:0 0:2, fails split 0:0 0:2, fails split 0:2 0:4, fails split 0:2 0:4, holds, order 0:0 0:2 0:4 0:6, fails split 0:2 0:4, holds, holds, holds, order 0:6, 4 stand
+atomic unknown | append 0:0 p0 r7 b0 e1; append 0:2 p1 r8 b2 e3; append 0:4 p2 r9 b4 e5; amend 0:0 e; amend 0:2 e; amend 0:0 e6; amend 0:0 v9; order => holds, fails split 0:0 0:2, fails split 0:0 0:2, fails split 0:2 0:4, holds, fails split 0:4 0:0, holds, order 0:0 0:4, 3 stand
+atomic unknown | append 0:10 p0 r7 b10 e19; append 0:20 p0 r8 b20 e29; append 0:30 p0 r9 b30 e39; append 0:2 p1 w8 b2; append 0:3 p2 w9 b3; order; append 0:4 p3 w7 b4; order; amend 0:4 v6; order; amend 0:2 v5; amend 0:3 v8; amend 0:4 v7; withdraw 0:3; withdraw 0:4; withdraw 0:2; withdraw 0:10; withdraw 0:30 => holds, fails split 0:10 0:20, fails split 0:10 0:20, fails split 0:10 0:30, holds, order 0:10 0:2 0:20 0:3 0:30, holds, order 0:4 0:10 0:2 0:20 0:3 0:30, holds, order 0:10 0:4 0:2 0:20 0:3 0:30, fails split 0:10 0:20, fails split 0:10 0:30, fails crossing initial 0:10 0:10 0:30, fails split 0:20 0:30, fails split 0:10 0:20, fails split 0:10 0:20, fails split 0:20 0:30, holds, 1 stand
+atomic unknown | append 0:0 p0 r1 b0 e1; append 0:2 p1 w1 b2 e3; append 0:4 p2 r7 b4 e5; append 0:6 p3 r8 b6 e7; withdraw 0:6; withdraw 0:0 => holds, fails early 0:0 0:2, fails early 0:0 0:2, fails split 0:4 0:6, fails early 0:0 0:2, fails crossing initial 0:2 0:2 0:4, 2 stand, crossing initial 0:2 w1 2-3 (append 0:2 p1 w1 b2 e3) 0:2 w1 2-3 (append 0:2 p1 w1 b2 e3) 0:4 r7 4-5 (append 0:4 p2 r7 b4 e5)
+atomic unknown | append 0:0 p0 r b0 e1; append 0:2 p1 r0 b2 e3; append 0:4 p2 w b4 e5; amend 0:0 b6 e7; order => holds, fails split 0:0 0:2, fails early 0:0 0:4, holds, order 0:2 0:4 0:0, 3 stand
+atomic unknown one | claim safe; claim regular; claim atomic; append 0:0 p0 w1 b0; append 0:1 p0 w2 b1; claim safe; claim regular; claim atomic => X14 ClaimInitial, X14 ClaimInitial, holds, holds, holds, X14 ClaimInitial, X14 ClaimInitial, holds, 2 stand
+atomic unknown | claim safe; claim regular; claim atomic; append 0:0 p0 w1 b0; append 0:1 p1 w2 b1; claim safe => X11 ClaimWriters, X11 ClaimWriters, holds, holds, holds, X11 ClaimWriters, 2 stand
+atomic unknown one fixed | claim safe; claim regular; claim atomic => X10 ClaimFixed, X10 ClaimFixed, X10 ClaimFixed, 0 stand
+atomic unknown 0,1 | append 0:0 p0 r1 b0 e9; append 0:1 p1 w1 b1; append 0:2 p2 w1 b2; append 0:2 p2 w0 b2; amend 0:2 v1; append 0:3 p3 w b3; order; withdraw 0:1; order; amend 0:2 v1; order => holds, holds, X8 ValueTaken 0:1, holds, X8 ValueTaken 0:1, X9 OutOfDomain, order 0:1 0:0 0:2, holds, order 0:0 0:2, holds, order 0:2 0:0, 2 stand";
 
 fn is_told<R: AllocGlobal + Abort>(rt: &R, row: &'static str, want: &str) -> Result<bool, Memory> {
     let mut told = Vec::new(rt.alloc());
@@ -709,12 +747,14 @@ fn returned(value: Value, from: Moment, to: Option<Moment>) -> Words {
     }
 }
 
-/// How many edits were accepted, how often there was another fault than before, and another kind.
+/// How many edits were accepted, how often there was another fault than before, and another kind, and how
+/// often the fault was a split.
 #[derive(Clone, Copy)]
 struct Counts {
     accepted: u32,
     turns: u32,
     kinds: u32,
+    splits: u32,
 }
 
 fn counted(count: u32, is_one: bool) -> u32 {
@@ -738,6 +778,10 @@ fn carry_out_one<R: AllocGlobal + Abort>(
         accepted: counted(counts.accepted, !is_refused),
         turns: counted(counts.turns, beside.book.fault() != fault),
         kinds: counted(counts.kinds, beside.book.kind() != kind),
+        splits: counted(
+            counts.splits,
+            matches!(beside.book.fault(), Some(Fault::Split { .. })),
+        ),
     })
 }
 
@@ -757,6 +801,7 @@ fn judged_anew<R: AllocGlobal + Abort>(
         accepted: 0,
         turns: 0,
         kinds: 0,
+        splits: 0,
     };
     for _ in 0..600 {
         counts = carry_out_one(rt, &mut beside, counts, dice.edit())?;
@@ -766,17 +811,21 @@ fn judged_anew<R: AllocGlobal + Abort>(
 
 #[test]
 fn each_verdict_is_that_of_the_list_judged_anew(rt: HostRuntime) -> Result<(), Fail> {
-    for (claim, values, kinds) in [
-        ("safe 0 0,1", 3, 10),
-        ("regular 0 0,1", 3, 10),
-        ("atomic 0", 8, 0),
-        ("atomic 0 one", 30, 10),
+    for (claim, values, kinds, splits) in [
+        ("safe 0 0,1", 3, 10, 0),
+        ("regular 0 0,1", 3, 10, 0),
+        ("atomic 0", 8, 0, 0),
+        ("atomic 0 one", 30, 10, 0),
+        ("atomic unknown", 3, 0, 10),
+        ("atomic unknown", 8, 0, 10),
+        ("atomic unknown one", 30, 0, 10),
     ] {
         for seed in [1, 2, 3] {
             let counts = judged_anew(&rt, claim, values, seed)?;
             assert!(rt; counts.accepted > 100);
             assert!(rt; counts.turns > 20);
             assert!(rt; counts.kinds >= kinds);
+            assert!(rt; counts.splits >= splits);
         }
     }
     Ok(())
@@ -790,8 +839,8 @@ fn at_last<R: AllocGlobal + Abort>(rt: &R, claim: &str) -> Result<RegisterBook<'
     }
 }
 
-/// Where memory is refused the book is as it was, and the same edit is then answered as it would have
-/// been.
+/// Where memory is refused, which is never for a withdrawal, the book is as it was, and the same edit is then
+/// answered as it would have been.
 fn retried(
     rt: &impl Abort,
     book: &mut RegisterBook<'static>,
@@ -801,6 +850,7 @@ fn retried(
     match book.apply(edit) {
         Ok(reply) => Ok(reply),
         Err(Memory) => {
+            assert!(rt; !matches!(edit, Edit::Withdraw(_)));
             assert!(rt; (book.kind(), book.len(), book.steps(), book.fault()) == before);
             book.apply(edit)
         }
@@ -810,7 +860,7 @@ fn retried(
 fn is_said(reply: Reply, word: &str) -> bool {
     match reply {
         Reply::Accepted { holds } => word == if holds { "holds" } else { "fails" },
-        Reply::Refused(refusal) => word == "X2" && refusal == Refusal::OpTaken,
+        Reply::Refused(refusal) => word == refusal.code(),
     }
 }
 
@@ -829,8 +879,27 @@ claim regular => fails
 withdraw 0:1 => holds
 claim atomic => holds";
 
-fn each_is_said(rt: &impl Abort, book: &mut RegisterBook<'static>) -> Result<(), Memory> {
-    for line in STEPS.lines() {
+/// The same of a register whose initial value nobody knows.
+const UNKNOWN_STEPS: &str = "append 0:1 p1 r7 b10 e19 => holds
+append 0:2 p1 r8 b20 e29 => fails
+append 0:3 p0 w8 b1 => holds
+append 0:3 p0 w8 b1 => X2
+append 0:4 p0 w8 b2 => X8
+claim safe => X14
+claim atomic => holds
+append 0:4 p1 r9 b30 e39 => fails
+withdraw 0:1 => fails
+amend 0:4 v8 => holds
+withdraw 0:3 => holds
+amend 0:4 e => holds
+withdraw 0:2 => holds";
+
+fn each_is_said(
+    rt: &impl Abort,
+    book: &mut RegisterBook<'static>,
+    steps: &'static str,
+) -> Result<(), Memory> {
+    for line in steps.lines() {
         let (step, want) = line.split_once(" => ").unwrap_or((line, ""));
         let reply = retried(rt, book, edit_of(step))?;
         assert!(rt; is_said(reply, want), "{line}");
@@ -841,9 +910,13 @@ fn each_is_said(rt: &impl Abort, book: &mut RegisterBook<'static>) -> Result<(),
 /// To be run with each allocation refused in turn.
 #[test]
 fn refused_memory_changes_nothing(rt: HostRuntime) -> Result<(), Fail> {
-    for claim in ["regular 0 0,1,7", "atomic 0 0,1,7 one"] {
+    for (claim, steps) in [
+        ("regular 0 0,1,7", STEPS),
+        ("atomic 0 0,1,7 one", STEPS),
+        ("atomic unknown one", UNKNOWN_STEPS),
+    ] {
         let mut book = at_last(&rt, claim)?;
-        each_is_said(&rt, &mut book)?;
+        each_is_said(&rt, &mut book, steps)?;
         assert!(rt; book.len() == 1);
         assert!(rt; has_order(&rt, &book)?);
     }

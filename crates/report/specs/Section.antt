@@ -14,7 +14,7 @@ use Rattle.register_book.specs.declared.fault.Fault.TheVariants as faults
 use Rattle.register_book.specs.declared.fault.Side.{Side}
 use Rattle.register_book.specs.declared.fault.Side.TheVariants as sides
 use Rattle.register_book.specs.declared.fault.Witness.{Witness}
-use Rattle.register_book.specs.declared.fault.Witness.TheVariants.{Wrong, Unwritten, Early, Crossing}
+use Rattle.register_book.specs.declared.fault.Witness.TheVariants.{Wrong, Unwritten, Split, Early, Crossing}
 use Rattle.register_book.specs.Fault.{ids_of, ops_at}
 use Rattle.report.specs.declared.finding.Finding.{Finding}
 use Rattle.report.specs.Names.{printed, kind_word, verdict_word, id_text}
@@ -33,6 +33,7 @@ holder_text holders.Initial = codes "initial"
 abbrev pub fault_line : Fault → List ℕ
 fault_line (faults.Wrong read) = codes "  wrong " ++ id_text read ++ 10 ∷ []
 fault_line (faults.Unwritten read) = codes "  unwritten " ++ id_text read ++ 10 ∷ []
+fault_line (faults.Split first second) = codes "  unwritten " ++ id_text first ++ codes " and " ++ id_text second ++ 10 ∷ []
 fault_line (faults.Early read write) = codes "  early " ++ id_text read ++ codes " before " ++ id_text write ++ 10 ∷ []
 fault_line (faults.Crossing a b c d) =
     codes "  conflict " ++ holder_text a ++ codes " " ++ holder_text b ++ codes " " ++ holder_text c ++ codes " " ++ holder_text d ++ 10 ∷ []
@@ -60,6 +61,7 @@ is_one sides.Initial b = false
 abbrev pub shown_of : Witness → List Op
 shown_of (Wrong read) = read ∷ []
 shown_of (Unwritten read) = read ∷ []
+shown_of (Split first second) = first ∷ second ∷ []
 shown_of (Early read write) = read ∷ write ∷ []
 shown_of (Crossing a b c d) = ops_at a ++ ops_at b ++ (if is_one b c then [] else ops_at c) ++ ops_at d
 

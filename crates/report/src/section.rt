@@ -65,9 +65,16 @@ fn push_witness(text: &mut String, witness: &Witness) -> Result<(), AllocError>
     push_fault(text, witness.ids())?;
     match witness {
         Witness::Wrong(read) | Witness::Unwritten(read) => push_parts(text, read),
-        Witness::Early { read, write } => {
-            push_parts(text, read)?;
-            push_parts(text, write)
+        Witness::Split {
+            first: one,
+            second: other,
+        }
+        | Witness::Early {
+            read: one,
+            write: other,
+        } => {
+            push_parts(text, one)?;
+            push_parts(text, other)
         }
         Witness::Crossing { a, b, c, d } => push_crossing(text, a, b, c, d),
     }
@@ -129,6 +136,7 @@ fn push_fault(text: &mut String, fault: Fault) -> Result<(), AllocError>
     match fault {
         Fault::Wrong(read) => push_read(text, "  wrong ", read),
         Fault::Unwritten(read) => push_read(text, "  unwritten ", read),
+        Fault::Split { first, second } => push_split(text, first, second),
         Fault::Early { read, write } => push_early(text, read, write),
         Fault::Crossing { a, b, c, d } => push_conflict(text, a, b, c, d),
     }
@@ -139,6 +147,16 @@ fn push_read(text: &mut String, word: &str, read: OpId) -> Result<(), AllocError
 {
     text.push_str(word)?;
     push_id(text, read)?;
+    text.push_str("\n")
+}
+
+fn push_split(text: &mut String, first: OpId, second: OpId) -> Result<(), AllocError>
+    ensures { OnOk result (string_bytes text.new ≡ string_bytes text.old ++ fault_line (Fault.Split first second)) }
+{
+    text.push_str("  unwritten ")?;
+    push_id(text, first)?;
+    text.push_str(" and ")?;
+    push_id(text, second)?;
     text.push_str("\n")
 }
 

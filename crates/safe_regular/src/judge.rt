@@ -42,7 +42,8 @@ impl<'t> Model for SingleWriterJudge<'t> {
 impl<'t> SingleWriterJudge<'t> {
     /// A judge of no operations.
     pub fn new(alloc: Global, claim: &Claim) -> Result<Self, Memory>
-        requires { claim.now.kind ≢ Kind.Atomic }
+        requires kind { claim.now.kind ≢ Kind.Atomic }
+        requires known { IsTrue (terms_of claim.now).known }
         ensures { IfOk result (λ judge. judge ≡ record { claim = terms_of claim.now; ops = []; prepared = None }) }
     {
         let mut line = ReadTree::new(alloc);

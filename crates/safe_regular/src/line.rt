@@ -47,9 +47,9 @@ fn has_rows(kind: Kind) -> bool
 }
 
 fn is_allowed(claim: &Claim, value: Value) -> bool
-    ensures { result ≡ allowed (terms_of claim.now).domain claim.now.initial value }
+    ensures { result ≡ allowed (terms_of claim.now).domain (terms_of claim.now).initial value }
 {
-    claim.has_in_domain(value) || is_same_value(claim.initial, value)
+    claim.has_in_domain(value) || is_same_value(claim.at_first(), value)
 }
 
 fn read_reach(claim: &Claim, read: &Op) -> u64
@@ -119,7 +119,7 @@ pub fn initial_item(claim: &Claim, next: Option<Op>) -> Item
     ensures { result ≡ item_of_initial (terms_of claim.now) next.entry }
 {
     Item {
-        value: claim.initial,
+        value: claim.at_first(),
         moment: Moment(0),
         reach: initial_reach(claim.kind, next),
         id: OpId {

@@ -1,15 +1,15 @@
 //! Rows of histories, as calls of a judge.
 
-ghost use Rattle.std.specs.Prelude.{◌≡◌, ◌≢◌, List, None, Some, OnOk};
+ghost use Rattle.std.specs.Prelude.{◌≡◌, ◌≢◌, IsTrue, List, None, Some, OnOk};
 ghost use Rattle.intervals.specs.Edit.{new_op as new_one};
 ghost use Rattle.intervals.specs.Refusal.{reply_to, first_refusal, new_write_refusal, write_refusal, claim_refusal};
-ghost use Rattle.intervals.specs.Terms.{Terms};
+ghost use Rattle.intervals.specs.Terms.{Terms, terms_of};
 ghost use Rattle.intervals.specs.declared.operation.Op.{Op};
 
 use super::*;
 use intervals::{
-    Act, Change, Claim, Edit, Kind, Lent, Memory, Moment, Op, OpBook, OpId, Parts, Refusal, Value,
-    Writers,
+    Act, Change, Claim, Edit, Initial, Kind, Lent, Memory, Moment, Op, OpBook, OpId, Parts,
+    Refusal, Value, Writers,
 };
 use std::alloc::Global;
 use std::fmt::Write;
@@ -19,7 +19,7 @@ use std::test::Fail;
 const SAFE: Claim = Claim {
     kind: Kind::Safe,
     writers: Writers::Any,
-    initial: Value::Int(0),
+    initial: Initial::Known(Value::Int(0)),
     domain: None,
     fixed: false,
 };
@@ -27,7 +27,7 @@ const SAFE: Claim = Claim {
 const REGULAR: Claim = Claim {
     kind: Kind::Regular,
     writers: Writers::Any,
-    initial: Value::Int(0),
+    initial: Initial::Known(Value::Int(0)),
     domain: None,
     fixed: false,
 };
@@ -301,7 +301,8 @@ fn roomy(alloc: Global) -> Result<String, Memory> {
 }
 
 fn begun(alloc: Global, claim: &Claim) -> Result<SingleWriterJudge<'static>, Memory>
-    requires { claim.now.kind ≢ Kind.Atomic }
+    requires kind { claim.now.kind ≢ Kind.Atomic }
+    requires known { IsTrue (terms_of claim.now).known }
 {
     match SingleWriterJudge::new(alloc, claim) {
         Ok(judge) => Ok(judge),
@@ -315,7 +316,8 @@ fn told<R: AllocGlobal + Abort>(
     claim: &Claim,
     words: &'static str,
 ) -> Result<String, Memory>
-    requires { claim.now.kind ≢ Kind.Atomic }
+    requires kind { claim.now.kind ≢ Kind.Atomic }
+    requires known { IsTrue (terms_of claim.now).known }
 {
     let mut told = roomy(rt.alloc())?;
     let mut judge = begun(rt.alloc(), claim)?;

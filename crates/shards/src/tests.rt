@@ -148,6 +148,11 @@ fn tell_fault(told: &mut String, fault: Fault) -> Result<(), AllocError> {
             told.push_str(" unwritten")?;
             tell_id(told, id)
         }
+        Fault::Split { first, second } => {
+            told.push_str(" split")?;
+            tell_id(told, first)?;
+            tell_id(told, second)
+        }
         Fault::Early { read, write } => {
             told.push_str(" early")?;
             tell_id(told, read)?;

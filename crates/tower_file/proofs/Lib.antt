@@ -9,5 +9,6 @@ pub mod Forms
 pub mod Unique
 pub mod Wanting
 pub mod Answering
+pub mod Knowing
 pub mod Spelled
 pub mod Alone

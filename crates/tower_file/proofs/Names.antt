@@ -1,18 +1,21 @@
--- Names of registers, by their bytes.
-use Rattle.std.proofs.Common.{◌≡◌, ℕ, ◌+◌, Bool, true, false, List, [], ◌∷◌, ◌++◌, Option, Some, None, refl, sym, ap, ◌∙◌, position, map}
+-- Names of registers, by their bytes, and what is known of each entry.
+use Rattle.std.proofs.Common.{arith, ◌≡◌, ◌≤◌, ◌<◌, ℕ, ◌+◌, Bool, true, false, List, [], ◌∷◌, ◌++◌, Option, Some, None, refl, sym, ap, subst, ◌∙◌, length, position, map}
 use Rattle.std.specs.Prelude.{Vec}
-use Rattle.std.specs.List.{position_or_len}
-use Rattle.std.specs.Option.{option_map}
+use Rattle.std.specs.List.{position_or_len, slice_get}
+use Rattle.std.specs.Option.{option_map, IfSome}
 use Rattle.std.specs.Str.{bytes_eq}
 use Rattle.std.specs.declared.alloc.Global.{Global}
 use Rattle.std.specs.Map.{keys_of}
-use Rattle.std.proofs.lemmas.List.{length-map}
+use Rattle.std.proofs.lemmas.List.{length-map, length-append}
+use Rattle.std.proofs.lemmas.List.Elements.{All-get_or}
+use Rattle.std.proofs.lemmas.Option.{slice_get_within, get_or_from_slice_get}
 use Rattle.intervals.specs.declared.operation.RegId.{RegId}
+use Rattle.intervals.specs.Terms.{terms_of, IsKnownUnlessAtomic}
 use Rattle.indexmap.specs.IndexMap.{insert_entry}
 use Rattle.indexmap.proofs.MapLemmas.{Missing-position, insert_entry-absent}
 use Rattle.tower_file.specs.declared.registers.Entry.{Entry}
 use Rattle.tower_file.specs.Contents.{Register, number_of}
-use Rattle.tower_file.specs.Views.{kept_register}
+use Rattle.tower_file.specs.Views.{kept_register, AreKnown}
 
 -- the entries of the program
 abbrev pub Entries : Type 0
@@ -64,3 +67,21 @@ pushed entries name entry none =
 pub map_pushed : (entries : Entries) (name : Vec ℕ Global) (entry : Entry) → map kept_register (entries ++ (name, entry) ∷ []) ≡ map kept_register entries ++ kept_register (name, entry) ∷ []
 map_pushed [] name entry = refl
 map_pushed (first ∷ entries) name entry = ap (λ (registers : List Register). kept_register first ∷ registers) (map_pushed entries name entry)
+
+-- one more that is pushed finds room, where there was room in what is kept
+pub pushed_room : (entries : Entries) (entry : Vec ℕ Global × Entry) (registers : List Register) → map kept_register entries ≡ registers → length registers < 65536
+    → length (entries ++ entry ∷ []) ≤ 65536
+pushed_room entries entry registers e room =
+    let kept : length registers ≡ length entries = ap length (sym e) ∙ length-map entries kept_register in
+    let more : length (entries ++ entry ∷ []) ≡ length entries + 1 = length-append entries (entry ∷ []) in omega arith
+
+-- an entry's claim has a known initial value, where it is safe or regular
+abbrev pub Is_known : Vec ℕ Global × Entry → Type 0
+Is_known entry = IsKnownUnlessAtomic (terms_of entry.1.claim)
+
+-- one that is found is one of them
+pub found_known : {Found : Type 0} (read : Found → Vec ℕ Global × Entry) (entries : Entries) (place : ℕ) (found : Option Found) → option_map read found ≡ slice_get entries place → AreKnown entries
+    → IfSome found (λ entry. Is_known (read entry))
+found_known read entries place None e h = tt
+found_known read entries place (Some entry) e h =
+    subst Is_known (get_or_from_slice_get entries place (read entry) (read entry) (sym e)) (All-get_or Is_known entries place (read entry) (slice_get_within entries place (read entry) (sym e)) h)

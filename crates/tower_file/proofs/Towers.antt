@@ -12,7 +12,7 @@ use Rattle.edn_reader.specs.Fault.{FaultOf}
 use Rattle.edn_reader.specs.Given.{Missing, One, Many, given, seen}
 use Rattle.tower_file.specs.declared.fault.TowerField.TheVariants.{File}
 use Rattle.tower_file.specs.declared.fault.TowerFault.{TowerFault}
-use Rattle.tower_file.specs.declared.fault.TowerFault.TheVariants.{Edn, Shape, NameTaken, WriterCount, UnknownPart, EmptyDomain, InitialOutOfDomain, TooMany, Memory}
+use Rattle.tower_file.specs.declared.fault.TowerFault.TheVariants.{Edn, Shape, NameTaken, WriterCount, UnknownPart, EmptyDomain, InitialOutOfDomain, TooMany, Memory, UnknownInitial}
 use Rattle.tower_file.specs.Form.{FileForm, IsMapOf, AreFileFields, IsFile, IsFileOf}
 use Rattle.tower_file.specs.Contents.{Contents}
 use Rattle.tower_file.specs.Reading.{contents_of}
@@ -32,6 +32,7 @@ memory_or EmptyDomain = inr (λ h. absurd cc)
 memory_or InitialOutOfDomain = inr (λ h. absurd cc)
 memory_or TooMany = inr (λ h. absurd cc)
 memory_or Memory = inl refl
+memory_or UnknownInitial = inr (λ h. absurd cc)
 
 -- no text has a fault
 abbrev pub NotBoth : List ℕ → Type 0
@@ -56,6 +57,7 @@ refused_text_reads bytes EmptyDomain both h tower t = absurd h
 refused_text_reads bytes InitialOutOfDomain both h tower t = absurd h
 refused_text_reads bytes TooMany both h tower t = absurd h
 refused_text_reads bytes Memory both h tower t = inr refl
+refused_text_reads bytes UnknownInitial both h tower t = absurd h
 
 refused_by : (bytes : List ℕ) (e : EdnFault) (fault : TowerFault) → NotBoth bytes → OneFault bytes → FaultOf bytes e → HasTowerFault bytes fault
     → ◌≡◌ {A = Result Contents TowerFault} (Err (Edn e)) (Err fault) ⊎ (◌≡◌ {A = Result Contents TowerFault} (Err (Edn e)) (Err Memory))
@@ -73,6 +75,7 @@ refused_text_refuses bytes EmptyDomain both one h other t = absurd h
 refused_text_refuses bytes InitialOutOfDomain both one h other t = absurd h
 refused_text_refuses bytes TooMany both one h other t = absurd h
 refused_text_refuses bytes Memory both one h other t = inr refl
+refused_text_refuses bytes UnknownInitial both one h other t = absurd h
 
 -- where it has none: a file is written there, and what each file that is written there says is answered
 pub record IsAnswered (bytes : List ℕ) (result : Result Contents TowerFault) : Type 0 where

@@ -2,6 +2,7 @@
 use Rattle.std.proofs.Common.{◌≡◌, ◌↔◌, ℕ, ℤ, Bool, false, List, Option, Some, None, Ok, Err, refl, ap, subst, ◌∙◌}
 use Rattle.std.specs.Prelude.{codes}
 use Rattle.intervals.specs.declared.claim.Kind.{Kind}
+use Rattle.intervals.specs.declared.claim.Initial.{Initial}
 use Rattle.intervals.specs.declared.operation.Value.{Value}
 use Rattle.edn_reader.specs.declared.element.ElementKind.TheVariants.{Vector}
 use Rattle.edn_reader.specs.declared.view.VectorView.{VectorView}
@@ -71,7 +72,7 @@ no_writers piece view fault (One first) Many e w k m f h = absurd h
 no_writers piece view fault Many read e w k m f h = absurd cc
 
 -- what all keys of a register say together
-pub all_said : (form : RegisterForm) (name : List ℕ) (kind : Kind) (writers : Option (List ℤ)) (initial : Option Value) (domain : Option (List Value)) (parts : List Piece) (fixed : Bool)
+pub all_said : (form : RegisterForm) (name : List ℕ) (kind : Kind) (writers : Option (List ℤ)) (initial : Option Initial) (domain : Option (List Value)) (parts : List Piece) (fixed : Bool)
     → name_in Name form.name ≡ Ok name → kind_in form.kind ≡ Ok kind → writers_in form.writers ≡ Ok writers → initial_in form.initial ≡ Ok initial → domain_in form.domain ≡ Ok domain
     → parts_in form.parts ≡ Ok parts → fixed_in form.fixed ≡ Ok fixed → said_by form ≡ Ok (record { name = name; kind = kind; writers = writers; initial = initial; domain = domain; parts = parts; fixed = fixed })
 all_said form name kind writers initial domain parts fixed a b c d e f g = rw (a, b, c, d, e, f, g) refl

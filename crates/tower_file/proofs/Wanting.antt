@@ -11,12 +11,12 @@ use Rattle.std.specs.Prelude.{codes}
 use Rattle.tower_file.specs.declared.fault.TowerField.{TowerField}
 use Rattle.tower_file.specs.declared.fault.TowerField.TheVariants as fields
 use Rattle.tower_file.specs.declared.fault.TowerFault.{TowerFault}
-use Rattle.tower_file.specs.declared.fault.TowerFault.TheVariants.{Edn, Shape, NameTaken, WriterCount, UnknownPart, EmptyDomain, InitialOutOfDomain, TooMany, Memory}
+use Rattle.tower_file.specs.declared.fault.TowerFault.TheVariants.{Edn, Shape, NameTaken, WriterCount, UnknownPart, EmptyDomain, InitialOutOfDomain, TooMany, Memory, UnknownInitial}
 use Rattle.tower_file.specs.Form.{Sequence, RegisterForm, LevelForm, FileForm}
 use Rattle.tower_file.specs.Contents.{Register, Contents, empty, number_of}
 use Rattle.tower_file.specs.Steps.{◌>>=◌}
-use Rattle.tower_file.specs.Stating.{stated_value, stated_kind}
-use Rattle.tower_file.specs.Reading.{needed, optional, formed, each, value_in, process_of, kind_claimed, processes_of, writers_listed, domain_of, name_in, kind_in, writers_in, initial_in, domain_in, parts_in, fixed_in, name_of, Said, said_by, has_its_writers, earlier, part_of, is_empty_domain, is_outside, fails_if, register_among, register_read, through, with_register, with_registers, with_level, vector_in, level_after, levels_after, contents_of}
+use Rattle.tower_file.specs.Stating.{stated_value, stated_initial, stated_kind}
+use Rattle.tower_file.specs.Reading.{needed, optional, formed, each, value_of, initial_claimed, process_of, kind_claimed, processes_of, writers_listed, domain_of, name_in, kind_in, writers_in, initial_in, domain_in, parts_in, fixed_in, name_of, Said, said_by, has_its_writers, has_its_initial, earlier, part_of, is_empty_domain, is_outside, fails_if, register_among, register_read, through, with_register, with_registers, with_level, vector_in, level_after, levels_after, contents_of}
 
 -- no want of memory
 abbrev pub IsOther : TowerFault → Type 0
@@ -29,6 +29,7 @@ IsOther EmptyDomain = Unit {0}
 IsOther InitialOutOfDomain = Unit {0}
 IsOther TooMany = Unit {0}
 IsOther Memory = ⊥
+IsOther UnknownInitial = Unit {0}
 
 abbrev pub Wants_none : {X : Type 0} → Result X TowerFault → Type 0
 Wants_none (Ok x) = Unit {0}
@@ -60,8 +61,11 @@ of_each : {X Y : Type 0} (read : X → Result Y TowerFault) (xs : List X) → ((
 of_each read [] h = tt
 of_each read (x ∷ xs) h = after (read x) (λ y. each read xs >>= (λ ys. Ok (y ∷ ys))) (h x) (λ y. after (each read xs) (λ ys. Ok (y ∷ ys)) (of_each read xs h) (λ ys. tt))
 
-of_value : (field : TowerField) (piece : Piece) → Wants_none (value_in field piece)
-of_value field piece = of_formed field (stated_value piece)
+of_value : (piece : Piece) → Wants_none (value_of piece)
+of_value piece = of_formed fields.Domain (stated_value piece)
+
+of_initial : (piece : Piece) → Wants_none (initial_claimed piece)
+of_initial piece = of_formed fields.Initial (stated_initial piece)
 
 of_kind : (piece : Piece) → Wants_none (kind_claimed piece)
 of_kind piece = of_formed fields.Kind (stated_kind piece)
@@ -75,7 +79,7 @@ of_writers writers = either (is_word (codes ":any") writers.element) _ (processe
 
 of_values : (members : Option (List Piece)) → Wants_none (domain_of members)
 of_values None = tt
-of_values (Some members) = of_each (value_in fields.Domain) members (of_value fields.Domain)
+of_values (Some members) = of_each value_of members of_value
 
 of_name : (field : TowerField) (name : Given Piece) → Wants_none (name_in field name)
 of_name field Missing = tt
@@ -97,7 +101,7 @@ of_said form =
     after (name_in fields.Name form.name) _ (of_name fields.Name form.name) (λ name.
     after (kind_in form.kind) _ (after (needed fields.Kind form.kind) kind_claimed (of_needed fields.Kind form.kind) of_kind) (λ kind.
     after (writers_in form.writers) _ (after (needed fields.Writers form.writers) writers_listed (of_needed fields.Writers form.writers) of_writers) (λ writers.
-    after (initial_in form.initial) _ (of_optional fields.Initial (value_in fields.Initial) form.initial (of_value fields.Initial)) (λ initial.
+    after (initial_in form.initial) _ (of_optional fields.Initial initial_claimed form.initial of_initial) (λ initial.
     after (domain_in form.domain) _ (of_optional fields.Domain domain_of form.domain of_values) (λ domain.
     after (parts_in form.parts) _ (of_parts form.parts) (λ parts.
     after (fixed_in form.fixed) _ (of_fixed form.fixed) (λ fixed. tt)))))))
@@ -114,10 +118,11 @@ of_placed : (level first : ℕ) (registers : List Register) (said : Said) → Wa
 of_placed level first registers said =
     after (fails_if (is_some (number_of registers said.name)) NameTaken) _ (of_refused _ NameTaken tt) (λ taken.
     after (fails_if (not (has_its_writers said.kind said.writers)) WriterCount) _ (of_refused _ WriterCount tt) (λ writers.
+    after (fails_if (not (has_its_initial said.kind said.initial)) UnknownInitial) _ (of_refused _ UnknownInitial tt) (λ known.
     after (each (part_of first registers) said.parts) _ (of_each (part_of first registers) said.parts (λ piece. of_below first _)) (λ parts.
     after (fails_if (is_empty_domain said.domain) EmptyDomain) _ (of_refused _ EmptyDomain tt) (λ domain.
     after (fails_if (is_outside said.initial said.domain) InitialOutOfDomain) _ (of_refused _ InitialOutOfDomain tt) (λ initial.
-    after (fails_if (nat_le 65536 (length registers)) TooMany) _ (of_refused _ TooMany tt) (λ room. tt))))))
+    after (fails_if (nat_le 65536 (length registers)) TooMany) _ (of_refused _ TooMany tt) (λ room. tt)))))))
 
 of_register : (level first : ℕ) (registers : List Register) (form : Option RegisterForm) → Wants_none (register_read level first registers form)
 of_register level first registers None = tt

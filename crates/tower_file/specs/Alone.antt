@@ -1,5 +1,5 @@
 -- A tower file of one register, as an example of what a text says.
-use Rattle.std.specs.Prelude.{ℕ, false, pos, List, [], ◌∷◌, Some, None, codes}
+use Rattle.std.specs.Prelude.{ℕ, true, false, pos, List, [], ◌∷◌, Some, None, codes}
 use Rattle.intervals.specs.Terms.{Terms}
 use Rattle.intervals.specs.declared.operation.Value.TheVariants.{Int}
 use Rattle.intervals.specs.declared.claim.Kind.TheVariants.{Safe}
@@ -11,7 +11,7 @@ alone_text = codes "{:levels [{:name top :registers [{:name r :kind :safe :write
 
 -- What its register claims: it is safe, process 0 writes it, and it holds 0 before any write.
 abbrev pub alone_claim : Terms
-alone_claim = record { kind = Safe; writers = Some (pos 0 ∷ []); initial = Int (pos 0); domain = None; fixed = false }
+alone_claim = record { kind = Safe; writers = Some (pos 0 ∷ []); initial = Int (pos 0); known = true; domain = None; fixed = false }
 
 -- The tower that it says.
 abbrev pub alone_tower : Contents

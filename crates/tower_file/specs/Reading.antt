@@ -7,10 +7,13 @@ use Rattle.std.specs.Str.{bytes_eq}
 use Rattle.intervals.specs.declared.operation.RegId.{RegId}
 use Rattle.intervals.specs.declared.operation.Value.{Value}
 use Rattle.intervals.specs.declared.operation.Value.TheVariants.{Nil}
+use Rattle.intervals.specs.declared.claim.Initial.{Initial}
+use Rattle.intervals.specs.declared.claim.Initial.TheVariants.{Known, Unknown}
 use Rattle.intervals.specs.declared.claim.Kind.{Kind}
 use Rattle.intervals.specs.declared.claim.Kind.TheVariants as kinds
 use Rattle.intervals.specs.Operation.{same_value}
 use Rattle.intervals.specs.Refusal.{is_one_writer}
+use Rattle.intervals.specs.Terms.{Terms, value_at_first, is_known}
 use Rattle.edn_reader.specs.Grammar.{Piece, untagged}
 use Rattle.edn_reader.specs.Pairs.{is_word}
 use Rattle.edn_reader.specs.Given.{Given, Missing, One, Many}
@@ -18,10 +21,10 @@ use Rattle.edn_reader.specs.Integer.{int_of}
 use Rattle.tower_file.specs.declared.fault.TowerField.{TowerField}
 use Rattle.tower_file.specs.declared.fault.TowerField.TheVariants as fields
 use Rattle.tower_file.specs.declared.fault.TowerFault.{TowerFault}
-use Rattle.tower_file.specs.declared.fault.TowerFault.TheVariants.{Shape, NameTaken, WriterCount, UnknownPart, EmptyDomain, InitialOutOfDomain, TooMany}
+use Rattle.tower_file.specs.declared.fault.TowerFault.TheVariants.{Shape, NameTaken, WriterCount, UnknownPart, EmptyDomain, InitialOutOfDomain, TooMany, UnknownInitial}
 use Rattle.tower_file.specs.Form.{Sequence, RegisterForm, LevelForm, FileForm}
 use Rattle.tower_file.specs.Steps.{◌>>=◌, once, at_most_once}
-use Rattle.tower_file.specs.Stating.{stated_value, stated_kind}
+use Rattle.tower_file.specs.Stating.{stated_value, stated_initial, stated_kind}
 use Rattle.tower_file.specs.Contents.{Register, Contents, empty, number_of}
 
 -- What stands once under a key that is needed.
@@ -45,9 +48,13 @@ each read (x ∷ xs) = read x >>= (λ y. each read xs >>= (λ ys. Ok (y ∷ ys))
 abbrev pub name_of : Piece → List ℕ
 name_of piece = (untagged piece).text
 
--- The value that is stated.
-abbrev pub value_in : TowerField → Piece → Result Value TowerFault
-value_in field piece = formed field (stated_value piece)
+-- A value of a domain: the one that is stated.
+abbrev pub value_of : Piece → Result Value TowerFault
+value_of piece = formed fields.Domain (stated_value piece)
+
+-- The initial value that is stated: a value, or that nobody knows it.
+abbrev pub initial_claimed : Piece → Result Initial TowerFault
+initial_claimed piece = formed fields.Initial (stated_initial piece)
 
 -- A process: an integer that fits.
 abbrev pub process_of : Piece → Result ℤ TowerFault
@@ -67,7 +74,7 @@ writers_listed writers = if is_word (codes ":any") writers.element then Ok None 
 
 -- The values of a vector.
 abbrev pub domain_of : Option (List Piece) → Result (List Value) TowerFault
-domain_of members = formed fields.Domain members >>= each (value_in fields.Domain)
+domain_of members = formed fields.Domain members >>= each value_of
 
 -- What is said under each key of a register.
 abbrev pub name_in : TowerField → Given Piece → Result (List ℕ) TowerFault
@@ -81,9 +88,9 @@ kind_in kind = needed fields.Kind kind >>= kind_claimed
 abbrev pub writers_in : Given Sequence → Result (Option (List ℤ)) TowerFault
 writers_in writers = needed fields.Writers writers >>= writers_listed
 
--- The value before any write, where one stands under its key.
-abbrev pub initial_in : Given Piece → Result (Option Value) TowerFault
-initial_in initial = optional fields.Initial (value_in fields.Initial) initial
+-- The initial value, where one stands under its key.
+abbrev pub initial_in : Given Piece → Result (Option Initial) TowerFault
+initial_in initial = optional fields.Initial initial_claimed initial
 
 -- The domain, where one stands under its key.
 abbrev pub domain_in : Given (Option (List Piece)) → Result (Option (List Value)) TowerFault
@@ -113,7 +120,7 @@ pub record Said : Type 0 where
   pub name : List ℕ
   pub kind : Kind
   pub writers : Option (List ℤ)
-  pub initial : Option Value
+  pub initial : Option Initial
   pub domain : Option (List Value)
   pub parts : List Piece
   pub fixed : Bool
@@ -136,6 +143,17 @@ has_its_writers kinds.Safe writers = is_one_writer writers
 has_its_writers kinds.Regular writers = is_one_writer writers
 has_its_writers kinds.Atomic writers = true
 
+-- The initial value; nil, which is known, where none is said.
+abbrev pub initial_of : Option Initial → Initial
+initial_of None = Known Nil
+initial_of (Some initial) = initial
+
+-- The initial value of a safe or regular register is known.
+abbrev pub has_its_initial : Kind → Option Initial → Bool
+has_its_initial kinds.Safe initial = is_known (initial_of initial)
+has_its_initial kinds.Regular initial = is_known (initial_of initial)
+has_its_initial kinds.Atomic initial = true
+
 -- A number that is there and below the first one of a level.
 abbrev pub earlier : ℕ → Option RegId → Result RegId TowerFault
 earlier first None = Err UnknownPart
@@ -150,22 +168,29 @@ abbrev pub is_empty_domain : Option (List Value) → Bool
 is_empty_domain None = false
 is_empty_domain (Some values) = length values == 0
 
--- The initial value and the domain are there, and the one is not in the other.
-abbrev pub is_outside : Option Value → Option (List Value) → Bool
+-- A known initial value and the domain are there, and the one is not in the other.
+abbrev pub is_outside : Option Initial → Option (List Value) → Bool
 is_outside None domain = false
-is_outside (Some initial) None = false
-is_outside (Some initial) (Some values) = not (list_any (λ value. same_value value initial) values)
+is_outside (Some Unknown) domain = false
+is_outside (Some (Known initial)) None = false
+is_outside (Some (Known initial)) (Some values) = not (list_any (λ value. same_value value initial) values)
 
--- The value before any write; nil where none is said.
-abbrev pub initial_of : Option Value → Value
-initial_of None = Nil
-initial_of (Some initial) = initial
+-- What is claimed of the register that is said.
+abbrev pub claim_said : Said → Terms
+claim_said said = record {
+  kind = said.kind;
+  writers = said.writers;
+  initial = value_at_first (initial_of said.initial);
+  known = is_known (initial_of said.initial);
+  domain = said.domain;
+  fixed = said.fixed;
+}
 
 -- The register that is said, on a level.
 abbrev pub register_said : ℕ → Said → List RegId → Register
 register_said level said parts = record {
   name = said.name;
-  claim = record { kind = said.kind; writers = said.writers; initial = initial_of said.initial; domain = said.domain; fixed = said.fixed };
+  claim = claim_said said;
   level = level;
   parts = parts;
 }
@@ -180,11 +205,12 @@ abbrev pub register_among : ℕ → ℕ → List Register → Said → Result Re
 register_among level first registers said =
     fails_if (is_some (number_of registers said.name)) NameTaken >>= (λ _.
     fails_if (not (has_its_writers said.kind said.writers)) WriterCount >>= (λ _.
+    fails_if (not (has_its_initial said.kind said.initial)) UnknownInitial >>= (λ _.
     each (part_of first registers) said.parts >>= (λ parts.
     fails_if (is_empty_domain said.domain) EmptyDomain >>= (λ _.
     fails_if (is_outside said.initial said.domain) InitialOutOfDomain >>= (λ _.
     fails_if (nat_le 65536 (length registers)) TooMany >>= (λ _.
-    Ok (register_said level said parts)))))))
+    Ok (register_said level said parts))))))))
 
 -- The register that an element is, on a level, among those before it.
 abbrev pub register_read : ℕ → ℕ → List Register → Option RegisterForm → Result Register TowerFault

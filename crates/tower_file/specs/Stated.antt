@@ -13,7 +13,7 @@ use Rattle.intervals.specs.Terms.{writers_of}
 use Rattle.tower_file.specs.declared.said.Fields.{Fields}
 use Rattle.tower_file.specs.declared.said.Said.{Said as Found}
 use Rattle.tower_file.specs.declared.fault.TowerFault.{TowerFault}
-use Rattle.tower_file.specs.declared.fault.TowerFault.TheVariants.{Edn, Shape, NameTaken, WriterCount, UnknownPart, EmptyDomain, InitialOutOfDomain, TooMany, Memory}
+use Rattle.tower_file.specs.declared.fault.TowerFault.TheVariants.{Edn, Shape, NameTaken, WriterCount, UnknownPart, EmptyDomain, InitialOutOfDomain, TooMany, Memory, UnknownInitial}
 use Rattle.tower_file.specs.Form.{RegisterForm, IsGiven, IsSequence, AreMembers, Each}
 use Rattle.tower_file.specs.Reading.{Said}
 use Rattle.tower_file.specs.Tower.{NestsDeeply}
@@ -67,3 +67,4 @@ IsTextFault bytes EmptyDomain = ⊥
 IsTextFault bytes InitialOutOfDomain = ⊥
 IsTextFault bytes TooMany = ⊥
 IsTextFault bytes Memory = NestsDeeply bytes
+IsTextFault bytes UnknownInitial = ⊥

@@ -4,13 +4,13 @@ ghost use Rattle.std.specs.Prelude.{◌≡◌};
 ghost use Rattle.edn_reader.specs.Grammar.{Piece};
 ghost use Rattle.edn_reader.specs.Lent.{piece_of};
 ghost use Rattle.edn_reader.specs.Given.{seen};
-ghost use Rattle.tower_file.specs.Stating.{stated_kind};
-ghost use Rattle.tower_file.specs.Reading.{value_in, process_of as process_in, name_of as name_that, needed as needed_of, name_in, kind_in, initial_in, fixed_in, fixed_of as fixed_said};
+ghost use Rattle.tower_file.specs.Stating.{stated_value as value_stated, stated_initial as initial_stated, stated_kind};
+ghost use Rattle.tower_file.specs.Reading.{value_of as value_in, process_of as process_in, name_of as name_that, needed as needed_of, name_in, kind_in, initial_in, fixed_in, fixed_of as fixed_said};
 ghost use Rattle.tower_file.specs.Steps.{GivesSeen};
 
 use crate::fault::{TowerFault, TowerField};
 use edn_reader::{Element, Field};
-use intervals::{Kind, Value};
+use intervals::{Initial, Kind, Value};
 
 /// What stands once under a key that is needed.
 pub fn needed<'t>(field: &Field<'t>, name: TowerField) -> Result<Element<'t>, TowerFault>
@@ -59,14 +59,29 @@ pub fn kind_of(element: &Element) -> Option<Kind>
     }
 }
 
-pub fn read_initial(field: &Field) -> Result<Option<Value>, TowerFault>
+/// The initial value, where one is said.
+pub fn read_initial(field: &Field) -> Result<Option<Initial>, TowerFault>
     ensures { result ≡ initial_in (seen field.now) }
 {
     match field {
         Field::Absent => Ok(None),
-        Field::Once(element) => Ok(Some(value_of(element, TowerField::Initial)?)),
+        Field::Once(element) => match stated_initial(element) {
+            Some(initial) => Ok(Some(initial)),
+            None => Err(TowerFault::Shape(TowerField::Initial)),
+        },
         Field::Twice => Err(TowerFault::Shape(TowerField::Initial)),
     }
+}
+
+/// The initial value that an element states: a value, or unknown by its keyword, behind tags or not; none where it
+/// is another element.
+fn stated_initial(element: &Element) -> Option<Initial>
+    ensures { result ≡ initial_stated (piece_of element.now) }
+{
+    if element.is_keyword(b":unknown") {
+        return Some(Initial::Unknown);
+    }
+    Some(Initial::Known(stated_value(element)?))
 }
 
 /// Whether the kind may not change: the word `true` or `false`, and false where there is none.
@@ -93,16 +108,23 @@ fn fixed_of(element: &Element) -> Result<bool, TowerFault>
     }
 }
 
-/// A value: nil, or an integer that fits.
-pub fn value_of(element: &Element, name: TowerField) -> Result<Value, TowerFault>
-    ensures { result ≡ value_in name (piece_of element.now) }
+/// The value that an element states: nil, or an integer that fits; none where it is another element.
+fn stated_value(element: &Element) -> Option<Value>
+    ensures { result ≡ value_stated (piece_of element.now) }
 {
     if element.is_nil() {
-        return Ok(Value::Nil);
+        return Some(Value::Nil);
     }
-    match element.as_int() {
-        Some(number) => Ok(Value::Int(number)),
-        None => Err(TowerFault::Shape(name)),
+    Some(Value::Int(element.as_int()?))
+}
+
+/// A value of a domain: nil, or an integer that fits.
+pub fn value_of(element: &Element) -> Result<Value, TowerFault>
+    ensures { result ≡ value_in (piece_of element.now) }
+{
+    match stated_value(element) {
+        Some(value) => Ok(value),
+        None => Err(TowerFault::Shape(TowerField::Domain)),
     }
 }
 

@@ -55,6 +55,9 @@ pub enum TowerFault {
     /// A growth was refused.
     #[error("V9 Memory")]
     Memory,
+    /// The initial value of a safe or regular register is unknown.
+    #[error("V10 UnknownInitial")]
+    UnknownInitial,
 }
 
 impl TowerFault {
@@ -72,6 +75,7 @@ impl TowerFault {
             TowerFault::InitialOutOfDomain => "V7",
             TowerFault::TooMany => "V8",
             TowerFault::Memory => "V9",
+            TowerFault::UnknownInitial => "V10",
         }
     }
 }

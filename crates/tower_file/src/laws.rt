@@ -2,7 +2,7 @@
 
 ghost use Rattle.std.specs.Prelude.{◌≡◌, ◌⊎◌, ℕ, List};
 ghost use Rattle.tower_file.specs.Alone.{alone_text, alone_tower};
-ghost use Rattle.tower_file.specs.Contents.{Contents};
+ghost use Rattle.tower_file.specs.Contents.{Contents, AreKnownUnlessAtomic};
 ghost use Rattle.tower_file.specs.Tower.{IsTowerOf, HasTowerFault};
 ghost use Rattle.tower_file.specs.declared.fault.TowerFault.{TowerFault};
 ghost use Rattle.tower_file.specs.declared.fault.TowerFault.TheVariants.{Memory};
@@ -46,6 +46,11 @@ pub fn tower_or_fault()
 /// Want of memory is no fault of a text.
 pub fn no_text_wants_memory()
     ensures { (bytes : List ℕ) → HasTowerFault bytes Memory → ⊥ }
+{}
+
+/// Of each register that a text says to be safe or regular the initial value is known.
+pub fn known_unless_atomic()
+    ensures { (bytes : List ℕ) (tower : Contents) → IsTowerOf bytes tower → AreKnownUnlessAtomic tower.registers }
 {}
 
 /// The text of `one_register` says the register `r` on the level `top`, and no other.

@@ -1,8 +1,9 @@
 //! Reads a tower file: the levels of a tower, its registers, what each claims to be and what it is made of.
 //!
 //! The file is one EDN map, in a form of this project's own (docs/FORMATS.md). Its levels stand from the lowest
-//! up, registers are numbered in file order, and a register is made of registers of lower levels. A text says one
-//! tower or has one fault, from V1 to V8: one of the text as EDN, and else the first in reading order.
+//! up, registers are numbered in file order, and a register is made of registers of lower levels. A register's value
+//! before any write is nil or an integer; of an atomic one it may be `:unknown`. A text says one tower or has one
+//! fault, from V1 to V8 or V10: one of the text as EDN, and else the first in reading order. V9 is want of memory.
 //!
 //! ```text
 //! // {:levels [{:name "bits" :registers [{:name 0 :kind :regular :writers [1] :initial 0}]}
@@ -18,7 +19,8 @@
 //! The first row of `tests.rt` is this tower; its other rows have each fault and each field. Begin with
 //! `Tower::read`: its clauses name the file as it is written (specs/Form.antt), what it says
 //! (specs/Reading.antt) and what a text says (specs/Tower.antt). `laws` has what follows: one tower, one fault,
-//! one of the two, and what the text of `one_register` says, worked out token by token.
+//! one of the two, a known initial value unless a register is atomic, and what the text of `one_register` says,
+//! worked out token by token.
 #![tactic(auto)]
 
 mod element;

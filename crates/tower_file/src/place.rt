@@ -5,9 +5,9 @@ ghost use Rattle.edn_reader.specs.Grammar.{Piece};
 ghost use Rattle.edn_reader.specs.Lent.{piece_of, MembersLeft};
 ghost use Rattle.std.specs.List.{list_any};
 ghost use Rattle.intervals.specs.Operation.{same_value};
-ghost use Rattle.intervals.specs.Terms.{writers_of as listed_writers};
+ghost use Rattle.intervals.specs.Terms.{writers_of as listed_writers, terms_of, IsKnownUnlessAtomic};
 ghost use Rattle.tower_file.specs.Contents.{number_of};
-ghost use Rattle.tower_file.specs.Reading.{each, Said as SaidBy, has_its_writers as has_writers, part_of as part_that, is_empty_domain, is_outside as is_that_outside, initial_of as initial_that, register_among};
+ghost use Rattle.tower_file.specs.Reading.{each, Said as SaidBy, has_its_writers as has_writers, has_its_initial as has_initial, part_of as part_that, is_empty_domain, is_outside as is_that_outside, initial_of as initial_that, register_among};
 ghost use Rattle.tower_file.specs.Views.{kept_register, GivesOrMemory};
 ghost use Rattle.tower_file.specs.Stated.{NamesLeft, IsSaid, domain_items};
 
@@ -16,7 +16,7 @@ use crate::fault::TowerFault;
 use crate::registers::{Entry, Registers};
 use crate::said::Said;
 use edn_reader::{Element, VectorView};
-use intervals::{Claim, Kind, RegId, Value, Writers};
+use intervals::{Claim, Initial, Kind, RegId, Value, Writers};
 use std::alloc::Global;
 
 /// How many registers a tower may have.
@@ -33,6 +33,7 @@ pub fn place(
     ensures placed { (form : SaidBy) → IsSaid said.entry form → GivesOrMemory kept_register result (register_among level first registers.now form) }
     ensures new { IfOk result (λ entry. number_of registers.now entry.0.items ≡ None) }
     ensures room { OnOk result (length registers.now < 65536) }
+    ensures known { IfOk result (λ entry. IsKnownUnlessAtomic (terms_of entry.1.claim)) }
 {
     let Said {
         name,
@@ -48,6 +49,9 @@ pub fn place(
     }
     if !has_its_writers(kind, &writers) {
         return Err(TowerFault::WriterCount);
+    }
+    if !has_its_initial(kind, initial) {
+        return Err(TowerFault::UnknownInitial);
     }
     let parts = read_parts(alloc, parts, first, registers)?;
     if is_empty(&domain) {
@@ -84,6 +88,17 @@ fn has_its_writers(kind: Kind, writers: &Writers) -> bool
     }
 }
 
+/// Whether the initial value of a safe or regular register is known.
+fn has_its_initial(kind: Kind, initial: Option<Initial>) -> bool
+    ensures { result ≡ has_initial kind initial }
+{
+    match (kind, initial) {
+        (Kind::Atomic, _) => true,
+        (_, Some(Initial::Unknown)) => false,
+        _ => true,
+    }
+}
+
 fn is_empty(domain: &Option<Vec<Value>>) -> bool
     ensures { result ≡ is_empty_domain (domain_items domain.now) }
 {
@@ -93,12 +108,12 @@ fn is_empty(domain: &Option<Vec<Value>>) -> bool
     }
 }
 
-/// Whether an initial value is given that is not in a domain that is given.
-fn is_outside(initial: Option<Value>, domain: &Option<Vec<Value>>) -> bool
+/// Whether a known initial value is given that is not in a domain that is given.
+fn is_outside(initial: Option<Initial>, domain: &Option<Vec<Value>>) -> bool
     ensures { result ≡ is_that_outside initial (domain_items domain.now) }
 {
     match (initial, domain) {
-        (Some(initial), Some(values)) => !is_among(values.as_slice(), initial),
+        (Some(Initial::Known(value)), Some(values)) => !is_among(values.as_slice(), value),
         _ => false,
     }
 }
@@ -115,12 +130,13 @@ fn is_same(a: Value, b: Value) -> bool
     a == b
 }
 
-fn initial_of(initial: Option<Value>) -> Value
+/// The initial value that is said; nil where none is.
+fn initial_of(initial: Option<Initial>) -> Initial
     ensures { result ≡ initial_that initial }
 {
     match initial {
-        Some(value) => value,
-        None => Value::Nil,
+        Some(initial) => initial,
+        None => Initial::Known(Value::Nil),
     }
 }
 

@@ -2,6 +2,7 @@
 
 ghost use Rattle.std.specs.Prelude.{◌≡◌, ◌≢◌, ◌<◌, List, Option, None, Ok, Err, IfOk, IfErr, OnOk, length};
 ghost use Rattle.edn_reader.specs.Lent.{piece_of};
+ghost use Rattle.intervals.specs.Terms.{terms_of, IsKnownUnlessAtomic};
 ghost use Rattle.tower_file.specs.Form.{RegisterForm, IsRegister};
 ghost use Rattle.tower_file.specs.Contents.{number_of};
 ghost use Rattle.tower_file.specs.Reading.{register_read, with_registers};
@@ -47,6 +48,7 @@ fn read_register(
     ensures register { (form : Option RegisterForm) → IsRegister (piece_of element.now) form → GivesOrMemory kept_register result (register_read level first registers.now form) }
     ensures new { IfOk result (λ entry. number_of registers.now entry.0.items ≡ None) }
     ensures room { OnOk result (length registers.now < 65536) }
+    ensures known { IfOk result (λ entry. IsKnownUnlessAtomic (terms_of entry.1.claim)) }
 {
     match element.as_map() {
         Some(map) => {

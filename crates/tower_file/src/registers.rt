@@ -1,8 +1,9 @@
 //! The registers of a tower by number, and by name.
 
-ghost use Rattle.std.specs.Prelude.{◌≡◌, ◌≤◌, ◌<◌, ◌∷◌, ◌++◌, [], length, None, OnOk, OnErr, IfErr};
+ghost use Rattle.std.specs.Prelude.{◌≡◌, ◌≤◌, ◌<◌, ◌∷◌, ◌++◌, [], length, None, IfSome, OnOk, OnErr, IfErr};
 ghost use Rattle.std.specs.Option.{option_map};
 ghost use Rattle.std.specs.List.{slice_get};
+ghost use Rattle.intervals.specs.Terms.{terms_of, IsKnownUnlessAtomic};
 ghost use Rattle.tower_file.specs.Contents.{number_of};
 ghost use Rattle.tower_file.specs.Views.{kept_register};
 
@@ -29,13 +30,13 @@ pub struct Registers {
 impl Model for Registers {
     ghost use Rattle.std.specs.Prelude.{◌≤◌, List, map, length};
     ghost use Rattle.tower_file.specs.Contents.{Register};
-    ghost use Rattle.tower_file.specs.Views.{kept_register};
+    ghost use Rattle.tower_file.specs.Views.{kept_register, AreKnown};
 
     ghost Value = { List Register };
 
     ghost view = { λ r. map kept_register r.by_name.entries };
 
-    ghost invariant = { λ r. length r.by_name.entries ≤ 65536 };
+    ghost invariant = { λ r. (length r.by_name.entries ≤ 65536) × AreKnown r.by_name.entries };
 }
 
 impl Registers {
@@ -66,7 +67,8 @@ impl Registers {
 
     /// The name of a register, and what is kept beside it.
     pub fn get(&self, id: RegId) -> Option<(&Vec<u8>, &Entry)>
-        ensures { option_map (λ entry. kept_register (entry.0.now, entry.1.now)) result ≡ slice_get self.now id.0 }
+        ensures kept { option_map (λ entry. kept_register (entry.0.now, entry.1.now)) result ≡ slice_get self.now id.0 }
+        ensures known { IfSome result (λ entry. IsKnownUnlessAtomic (terms_of entry.1.now.claim)) }
     {
         self.by_name.get_index(id.0 as usize)
     }
@@ -75,6 +77,7 @@ impl Registers {
     pub fn push(&mut self, name: Vec<u8>, entry: Entry) -> Result<(), TowerFault>
         requires new { number_of self.old name.items ≡ None }
         requires room { length self.old < 65536 }
+        requires known { IsKnownUnlessAtomic (terms_of entry.claim) }
         ensures ok { OnOk result (self.new ≡ self.old ++ kept_register (name, entry) ∷ []) }
         ensures err { OnErr result (self.new ≡ self.old) }
         ensures memory { IfErr result (λ fault. fault ≡ TowerFault.Memory) }

@@ -6,7 +6,7 @@ ghost use Rattle.edn_reader.specs.Given.{Given, seen};
 ghost use Rattle.edn_reader.specs.Lent.{PairsLeft as PairsOfView, MembersLeft};
 ghost use Rattle.intervals.specs.Terms.{writers_of as listed_writers};
 ghost use Rattle.tower_file.specs.Form.{Sequence, RegisterForm, AreRegisterFields, IsGiven, IsSequence, AreMembers};
-ghost use Rattle.tower_file.specs.Reading.{each, value_in, process_of as process_in, writers_in, domain_in, parts_in, said_by};
+ghost use Rattle.tower_file.specs.Reading.{each, value_of as value_in, process_of as process_in, writers_in, domain_in, parts_in, said_by};
 ghost use Rattle.tower_file.specs.Views.{GivesOrMemory};
 ghost use Rattle.tower_file.specs.Stated.{AreFound, NamesLeft, IsSaid, ShowsOrMemory, domain_items};
 
@@ -15,7 +15,7 @@ use crate::element::{
 };
 use crate::fault::{TowerFault, TowerField};
 use edn_reader::{Field, MapView, VectorView};
-use intervals::{Kind, Value, Writers};
+use intervals::{Initial, Kind, Value, Writers};
 use std::alloc::Global;
 
 /// What a register has under the keys that are read.
@@ -36,7 +36,7 @@ pub struct Said<'t> {
     pub name: &'t [u8],
     pub kind: Kind,
     pub writers: Writers,
-    pub initial: Option<Value>,
+    pub initial: Option<Initial>,
     pub domain: Option<Vec<Value>>,
     pub parts: Option<VectorView<'t>>,
     pub fixed: bool,
@@ -116,12 +116,12 @@ fn read_domain(alloc: Global, field: &Field) -> Result<Option<Vec<Value>>, Tower
 }
 
 fn values_of(alloc: Global, view: VectorView) -> Result<Vec<Value>, TowerFault>
-    ensures { (members : List Piece) → MembersLeft view.entry members → GivesOrMemory (λ found. found.items) result (each (value_in TowerField.Domain) members) }
+    ensures { (members : List Piece) → MembersLeft view.entry members → GivesOrMemory (λ found. found.items) result (each value_in members) }
 {
     let mut left = view;
     let mut values = Vec::new(alloc);
     while let Some(element) = left.next() {
-        values.push(value_of(&element, TowerField::Domain)?)?;
+        values.push(value_of(&element)?)?;
     }
     Ok(values)
 }

@@ -1,7 +1,7 @@
 //! Rows of a text and what is told of the tower that it says, or of its fault.
 
 use crate::{Tower, TowerFault};
-use intervals::{Claim, Kind, RegId, Value, Writers};
+use intervals::{Claim, Initial, Kind, RegId, Value, Writers};
 use std::alloc::{AllocError, Global};
 use std::fmt::Write;
 use std::process::Abort;
@@ -38,7 +38,10 @@ fn tell_claim(told: &mut String, claim: &Claim) -> Result<(), AllocError> {
         }
     }
     told.push_str("from ")?;
-    tell_value(told, claim.initial)?;
+    match claim.initial {
+        Initial::Known(value) => tell_value(told, value)?,
+        Initial::Unknown => told.push_str("unknown ")?,
+    }
     if let Some(values) = &claim.domain {
         told.push_str("in ")?;
         for value in values.as_slice() {
@@ -195,6 +198,7 @@ const FILES: &str =
 {:levels [{:name a :registers [{:name x} nil]}]} => V2 Shape of Kind
 {:levels [{:name a :registers [{:name x :kind :atomic :writers :any}]} {:name b :registers [{:name #t x :kind :atomic :writers :any}]}]} => V3 NameTaken
 {:levels [{:name a :registers [{:name x :kind :atomic :writers :any} {:name x :kind :safe :writers :any}]}]} => V3 NameTaken
+{:levels [{:name a :registers [{:name x :kind :atomic :writers :any} {:name x :kind :safe :writers [0] :initial :unknown}]}]} => V3 NameTaken
 {:levels [{:name a :registers [{:name x :kind :atomic :writers :any} {:name y :kind :atomic :writers :any :of [x]}]}]} => V5 UnknownPart"##;
 
 /// What stands beside the name of the one register `x`, whatever the order of its keys.
@@ -204,6 +208,10 @@ const FIELDS: &str = r##":kind :safe :writers [0] => 1 top; 0 x 0 safe by 0 from
 :kind :atomic :writers :any :fixed true => 1 top; 0 x 0 atomic by any from nil fixed of
 :kind :safe :writers [0] :fixed false => 1 top; 0 x 0 safe by 0 from nil of
 #k :fixed #v true :kind :regular :writers [0] :domain [nil] => 1 top; 0 x 0 regular by 0 from nil in nil fixed of
+:kind :atomic :writers :any :initial :unknown => 1 top; 0 x 0 atomic by any from unknown of
+:kind :atomic :writers [3] :initial #t :unknown :fixed true => 1 top; 0 x 0 atomic by 3 from unknown fixed of
+:kind :atomic :writers :any :initial :unknown :domain [1 2] => 1 top; 0 x 0 atomic by any from unknown in 1 2 of
+:kind :atomic :writers :any :initial nil :domain [nil] => 1 top; 0 x 0 atomic by any from nil in nil of
 :name y => V2 Shape of Name
 :writers :any => V2 Shape of Kind
 :kind safe :writers :any => V2 Shape of Kind
@@ -217,6 +225,14 @@ const FIELDS: &str = r##":kind :safe :writers [0] => 1 top; 0 x 0 safe by 0 from
 :kind :atomic :writers :any :initial x => V2 Shape of Initial
 :kind :atomic :writers :any :initial 9223372036854775808 => V2 Shape of Initial
 :kind :atomic :writers :any :initial 1 :initial 1 => V2 Shape of Initial
+:kind :atomic :writers :any :initial :unknown :initial :unknown => V2 Shape of Initial
+:kind :atomic :writers :any :initial :unknownx => V2 Shape of Initial
+:kind :atomic :writers :any :initial :unknow => V2 Shape of Initial
+:kind :atomic :writers :any :initial unknown => V2 Shape of Initial
+:kind :atomic :writers :any :initial :Unknown => V2 Shape of Initial
+:kind :atomic :writers :any :initial ":unknown" => V2 Shape of Initial
+:kind :atomic :writers :any :initial [:unknown] => V2 Shape of Initial
+:kind :atomic :writers :any :domain [:unknown] => V2 Shape of Domain
 :kind :atomic :writers :any :domain nil => V2 Shape of Domain
 :kind :atomic :writers :any :domain [1 01] => V2 Shape of Domain
 :kind :atomic :writers :any :domain [1] :domain [1] => V2 Shape of Domain
@@ -239,6 +255,15 @@ const FIELDS: &str = r##":kind :safe :writers [0] => 1 top; 0 x 0 safe by 0 from
 :kind :regular :writers [] => V4 WriterCount
 :kind :safe :writers [0 0] => V4 WriterCount
 :kind :safe :writers :any :of [x] => V4 WriterCount
+:kind :safe :writers [0] :initial :unknown => V10 UnknownInitial
+:kind :regular :writers [0] :initial #t :unknown => V10 UnknownInitial
+:kind :safe :writers :any :initial :unknown => V4 WriterCount
+:kind :regular :writers [0] :initial :unknown :of [x] => V10 UnknownInitial
+:kind :safe :writers [0] :initial :unknown :domain [] => V10 UnknownInitial
+:kind :regular :writers [0] :initial :unknown :domain [1 2] => V10 UnknownInitial
+:kind :atomic :writers :any :initial :unknown :of [x] => V5 UnknownPart
+:kind :atomic :writers :any :initial :unknown :domain [] => V6 EmptyDomain
+:kind :safe :writers [0] :initial :unknown :fixed 1 => V2 Shape of Fixed
 :kind :atomic :writers :any :of [x] => V5 UnknownPart
 :kind :safe :writers [0] :of [x] :domain [] => V5 UnknownPart
 :kind :atomic :writers :any :domain [] => V6 EmptyDomain

@@ -1,9 +1,9 @@
 //! A tower: its levels and its registers.
 
-ghost use Rattle.std.specs.Prelude.{◌≡◌, ◌≢◌, ◌≤◌, ◌⊎◌, length, Ok, Err, IfOk, IfErr};
+ghost use Rattle.std.specs.Prelude.{◌≡◌, ◌≢◌, ◌≤◌, ◌⊎◌, length, Ok, Err, IfOk, IfErr, IfSome};
 ghost use Rattle.std.specs.Option.{option_map};
 ghost use Rattle.std.specs.List.{slice_get};
-ghost use Rattle.intervals.specs.Terms.{terms_of};
+ghost use Rattle.intervals.specs.Terms.{terms_of, IsKnownUnlessAtomic};
 ghost use Rattle.tower_file.specs.Contents.{Contents, number_of};
 ghost use Rattle.tower_file.specs.Tower.{IsTowerOf, HasTowerFault, MayWantMemory};
 ghost use Rattle.tower_file.specs.declared.fault.TowerFault.{TowerFault as Fault};
@@ -68,9 +68,10 @@ impl Tower {
         self.registers.len()
     }
 
-    /// What a register claims to be.
+    /// What a register claims to be. Of a safe or regular one the initial value is known.
     pub fn claim(&self, id: RegId) -> Option<&Claim>
-        ensures { option_map (λ claim. terms_of claim.now) result ≡ option_map (λ register. register.claim) (slice_get self.now.registers id.0) }
+        ensures claim { option_map (λ claim. terms_of claim.now) result ≡ option_map (λ register. register.claim) (slice_get self.now.registers id.0) }
+        ensures known { IfSome result (λ claim. IsKnownUnlessAtomic (terms_of claim.now)) }
     {
         match self.registers.get(id) {
             Some((_, entry)) => Some(&entry.claim),

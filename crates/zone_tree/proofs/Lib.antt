@@ -15,6 +15,7 @@ mod Tops
 mod Items
 mod Seams
 mod FirstConflicts
+mod InFront
 mod Counts
 mod Replaced
 pub mod Crosses

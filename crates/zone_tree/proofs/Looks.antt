@@ -10,11 +10,13 @@ use Rattle.zone_tree.specs.declared.edge.Edge.{Edge}
 use Rattle.zone_tree.specs.declared.edge.Edge.TheVariants.{Before, At, Never}
 use Rattle.zone_tree.specs.declared.zone.Zone.{Zone}
 use Rattle.zone_tree.specs.declared.summary.Summary.{Summary}
+use Rattle.intervals.specs.declared.operation.Value.{Value}
+use Rattle.intervals.specs.Operation.{same_value}
 use Rattle.zone_tree.specs.Edge.{comes_before, ComesBefore}
 use Rattle.zone_tree.specs.Zone.{HasOrderedEdges}
 use Rattle.zone_tree.specs.Order.{IsByLeft, StandInOrder}
 use Rattle.zone_tree.specs.Summary.{latest, one_zone, join, summary_of}
-use Rattle.zone_tree.specs.Look.{is_behind, reaches, falls_short, begins_before, last_that, has_forward}
+use Rattle.zone_tree.specs.Look.{is_behind, reaches, reaches_but, falls_short, begins_before, last_that, has_forward}
 use Rattle.zone_tree.proofs.EdgeOrder.{before_transitive, before-false, not_after_before}
 use Rattle.zone_tree.proofs.Places.{find_none}
 use Rattle.zone_tree.proofs.Sides.{earlier_edges, later_edges}
@@ -111,6 +113,20 @@ none_reaches_far edge zones h = find_none (reaches edge) zones (all_short edge z
 
 pub none_reaches : (edge : Edge) (zones : List Zone) → StandInOrder zones → has_forward (summary_of zones) ≡ false → find (reaches edge) zones ≡ None
 none_reaches edge zones order none = find_no_forward (λ z. not (comes_before z.right edge)) zones order none
+
+-- nor one of another value
+find_no_other : (edge : Edge) (value : Value) (zones : List Zone) → All (λ z. reaches edge z ≡ false) zones → find (reaches_but edge value) zones ≡ None
+find_no_other edge value zones none =
+    find_none (reaches_but edge value) zones
+    (All-weaker (λ z. reaches edge z ≡ false) (λ z. reaches_but edge value z ≡ false) (λ z b. ap (λ r. r && not (same_value z.value value)) b) zones none)
+
+pub no_other_reaches_far : (edge : Edge) (value : Value) (zones : List Zone) → ComesBefore (summary_of zones).last_forward edge → find (reaches_but edge value) zones ≡ None
+no_other_reaches_far edge value zones h = find_no_other edge value zones (all_short edge zones h)
+
+pub no_other_reaches : (edge : Edge) (value : Value) (zones : List Zone) → StandInOrder zones → has_forward (summary_of zones) ≡ false → find (reaches_but edge value) zones ≡ None
+no_other_reaches edge value zones order none =
+    find_no_other edge value zones
+    (All-weaker (λ z. z.forward ≡ false) (λ z. reaches edge z ≡ false) (λ z b. ap (λ f. f && not (comes_before z.right edge)) b) zones (no_forward_all zones order.edges none))
 
 -- the last zone that passes
 pub last_empty : (p : Zone → Bool) → last_that p [] ≡ None

@@ -114,7 +114,7 @@ seam_by z zones lefts edges (inr b) =
       (λ all. is ∙ (or_clear (comes_before s.first_forward Before) (comes_before s.first_backward Before)).1 (not_before_all s.first_forward, not_before_all s.first_backward)),
     )
 
-one_is_clear : (z : Zone) → (z.forward ≡ true) ⊎ (z.forward ≡ false) → (one_zone z).conflict ≡ false
+pub one_is_clear : (z : Zone) → (z.forward ≡ true) ⊎ (z.forward ≡ false) → (one_zone z).conflict ≡ false
 one_is_clear z (inl f) = ap (λ (s : Summary). s.conflict) (one_forward z f)
 one_is_clear z (inr b) = ap (λ (s : Summary). s.conflict) (one_backward z b)
 

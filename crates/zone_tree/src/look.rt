@@ -3,11 +3,12 @@
 ghost use Rattle.std.specs.Prelude.{◌≡◌, false};
 ghost use Rattle.std.specs.List.{find};
 ghost use Rattle.zone_tree.specs.Order.{StandInOrder, zone_at};
-ghost use Rattle.zone_tree.specs.Look.{is_behind as behind_edge, reaches as reaches_edge, falls_short as falls_short_of, begins_before as begins, last_that, has_forward as with_forward, IsMetFirst};
+ghost use Rattle.zone_tree.specs.Look.{is_behind as behind_edge, reaches as reaches_edge, reaches_but as reaches_edge_but, falls_short as falls_short_of, begins_before as begins, last_that, has_forward as with_forward, IsMetFirst};
 
 use crate::node::Tree;
 use crate::summary::Summary;
 use crate::{Edge, Zone};
+use intervals::{Value, is_same_value};
 
 impl Summary {
     /// Whether a zone is forward.
@@ -31,6 +32,12 @@ fn reaches(edge: Edge, zone: &Zone) -> bool
     ensures { result ≡ reaches_edge edge zone.now }
 {
     zone.forward && !zone.right.comes_before(edge)
+}
+
+fn reaches_but(edge: Edge, value: Value, zone: &Zone) -> bool
+    ensures { result ≡ reaches_edge_but edge value zone.now }
+{
+    reaches(edge, zone) && !is_same_value(zone.value, value)
 }
 
 fn falls_short(edge: Edge, zone: &Zone) -> bool
@@ -95,6 +102,27 @@ impl Tree {
             return Some(node.zone);
         }
         node.right.first_reaching(edge)
+    }
+
+    /// The first forward zone whose right edge is not before that one and whose value is another than that.
+    #[tactic(auto, using(crate::proofs::Looks::no_other_reaches, crate::proofs::Looks::no_other_reaches_far, crate::proofs::Looks::find_in_left, crate::proofs::Looks::find_here, crate::proofs::Looks::find_in_right))]
+    pub fn first_reaching_but(&self, edge: Edge, value: Value) -> Option<Zone>
+        requires { StandInOrder self.now.zones }
+        ensures { result ≡ find (reaches_edge_but edge value) self.now.zones }
+    {
+        let Some(node) = self.top() else {
+            return None;
+        };
+        if !node.summary.has_forward() || node.summary.last_forward.comes_before(edge) {
+            return None;
+        }
+        if let Some(zone) = node.left.first_reaching_but(edge, value) {
+            return Some(zone);
+        }
+        if reaches_but(edge, value, &node.zone) {
+            return Some(node.zone);
+        }
+        node.right.first_reaching_but(edge, value)
     }
 
     /// The first forward zone whose right edge comes before that one.

@@ -1,6 +1,7 @@
 //! Rows of zones, as calls of a tree.
 
-ghost use Rattle.std.specs.Prelude.{◌≤◌, OnOk};
+ghost use Rattle.std.specs.Prelude.{◌≡◌, ◌≤◌, All, IsTrue, OnOk};
+ghost use Rattle.zone_tree.specs.Edge.{ComesBefore};
 
 use super::*;
 use crate::laws::{a_removed_zone_leaves_the_others, nothing_is_removed_where_no_zone_is};
@@ -19,15 +20,23 @@ fn edge(word: &str) -> Edge {
     }
 }
 
-/// `1>6` is a forward zone, `4<5` a backward one.
+fn value(word: &str) -> Value {
+    match word {
+        "nil" => Value::Nil,
+        _ => Value::Int(word.parse::<i64>().unwrap_or(0)),
+    }
+}
+
+/// `1>6` is a forward zone, `4<5` a backward one, and `1>6#2` is of the value 2 in place of nil.
 fn zone(word: &str) -> Zone {
-    let forward = word.contains('>');
-    let (left, right) = word.split_once(['<', '>']).unwrap_or(("-", "-"));
+    let (edges, of) = word.split_once('#').unwrap_or((word, "nil"));
+    let forward = edges.contains('>');
+    let (left, right) = edges.split_once(['<', '>']).unwrap_or(("-", "-"));
     Zone {
         left: edge(left),
         right: edge(right),
         forward,
-        value: Value::Nil,
+        value: value(of),
     }
 }
 
@@ -133,16 +142,17 @@ fn told(alloc: Global, tree: &ZoneTree) -> Result<String, Memory> {
     for zone in tree.iter() {
         tell(&mut told, &zone);
     }
-    match tree.first_conflict() {
-        Some((first, second)) => {
-            let _ = write!(told, "of ");
-            tell(&mut told, &first);
-            tell(&mut told, &second);
-        }
-        None => {}
-    }
-    let _ = write!(told, "{}", if tree.clean() { "clean" } else { "conflict" });
+    tell_conflict(&mut told, tree.first_conflict(), tree.clean());
     Ok(told)
+}
+
+fn tell_conflict(told: &mut String, conflict: Option<(Zone, Zone)>, clean: bool) {
+    if let Some((first, second)) = conflict {
+        let _ = write!(told, "of ");
+        tell(told, &first);
+        tell(told, &second);
+    }
+    let _ = write!(told, "{}", if clean { "clean" } else { "conflict" });
 }
 
 const ROWS: &str = "3>4 -<- 7<+ 0<1 => -<- 0<1 3>4 7<+ clean
@@ -228,6 +238,78 @@ fn looks_are_told(rt: HostRuntime) -> Result<(), Fail> {
         let tree = tree_of(&rt, zones)?;
         let found = looked(rt.alloc(), &tree, edge(at))?;
         assert!(rt; found.as_str() == want.trim_end_matches('|'), "{row}");
+    }
+    Ok(())
+}
+
+/// The first zone that reaches an edge and is of another value than the one behind it.
+const OTHERS: &str = "1>3#1 4>8#2 6>9#1 ? 2 1 => 4>8 |
+1>3#1 4>8#2 6>9#1 ? 2 2 => 1>3 |
+1>3#1 4>8#2 6>9#1 ? 9 2 => 6>9 |
+1>3#1 4>8#2 6>9#1 ? 9 1 => none |
+1>3#1 4>8#2 6>9#1 ? 4 nil => 4>8 |
+0<5#1 2>4 ? 0 1 => 2>4 |
+0<5#1 2>4 ? 0 nil => none |
+->9#1 2>4#1 5>7#1 8>+#3 ? 3 1 => 8>+ |";
+
+#[test]
+fn zones_of_another_value_are_told(rt: HostRuntime) -> Result<(), Fail> {
+    for row in OTHERS.lines() {
+        let (words, want) = row.split_once(" => ").ok_or("a row")?;
+        let (zones, at) = words.split_once(" ? ").ok_or("an edge")?;
+        let (at, but) = at.split_once(' ').ok_or("a value")?;
+        let tree = tree_of(&rt, zones)?;
+        let mut told = roomy(rt.alloc())?;
+        tell_found(&mut told, tree.first_reaching_but(edge(at), value(but)));
+        assert!(rt; told.as_str() == want.trim_end_matches('|'), "{row}");
+    }
+    Ok(())
+}
+
+fn stands_in_front(first: &Zone, tree: &ZoneTree) -> bool
+    ensures { IsTrue result → All (λ z. ComesBefore first.now.left z.left) tree.now.zones }
+{
+    tree.iter().all(|zone| first.left.comes_before(zone.left))
+}
+
+/// The first conflict of the zones and one in front of them.
+fn told_behind(alloc: Global, tree: &ZoneTree, first: &Zone) -> Result<String, Memory> {
+    let mut told = roomy(alloc)?;
+    if !first.has_ordered_edges() || !stands_in_front(first, tree) {
+        let _ = write!(told, "not in front");
+        return Ok(told);
+    }
+    let conflict = tree.first_conflict_behind(first);
+    tell_conflict(&mut told, conflict, tree.clean_behind(first));
+    Ok(told)
+}
+
+const BEHIND: &str = "0>5 | 6>8 9<9 => clean
+0>5 | 5>8 9<9 => clean
+0>5 | 4>8 9<9 => of 0>5 4>8 conflict
+0>5 | 1<4 6>8 => of 0>5 1<4 conflict
+0>5 | 1<5 6>8 => clean
+0<5 | 1<4 2>3 => clean
+0<5 | 2>6 3<4 => of 2>6 3<4 conflict
+0>2 | 3>7 4<6 => of 3>7 4<6 conflict
+0>5 | 6>9 4<6 7<8 => of 6>9 7<8 conflict
+0>5 | 7<8 9<+ 4>6 => of 0>5 4>6 conflict
+0>9 | 1>3 2<2 => of 0>9 1>3 conflict
+->1 | 1>3 3>6 6>8 7<7 => of 6>8 7<7 conflict
+->+ | 2<4 => of ->+ 2<4 conflict
+3>5 | 3>6 => not in front
+4>5 | 6>7 3>6 => not in front";
+
+#[test]
+fn conflicts_behind_a_zone_are_told(rt: HostRuntime) -> Result<(), Fail> {
+    for row in BEHIND.lines() {
+        let (words, want) = row.split_once(" => ").ok_or("a row")?;
+        let (first, zones) = words.split_once(" | ").ok_or("a zone in front")?;
+        let tree = tree_of(&rt, zones)?;
+        assert!(rt;
+            told_behind(rt.alloc(), &tree, &zone(first))?.as_str() == want,
+            "{row}"
+        );
     }
     Ok(())
 }

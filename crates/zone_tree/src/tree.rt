@@ -1,6 +1,7 @@
-ghost use Rattle.std.specs.Prelude.{◌≡◌, ◌+◌, ◌*◌, ◌<◌, ◌≤◌, ◌↔◌, ◌&&◌, not, [], length, is_some, if◌then◌else◌, OnOk, OnErr, IsNone, IsSome, IsTrue, IfSome};
+ghost use Rattle.std.specs.Prelude.{◌≡◌, ◌+◌, ◌*◌, ◌<◌, ◌≤◌, ◌↔◌, ◌&&◌, not, All, [], ◌∷◌, length, is_some, if◌then◌else◌, OnOk, OnErr, IsNone, IsSome, IsTrue, IfSome};
 ghost use Rattle.std.specs.List.{find};
-ghost use Rattle.zone_tree.specs.Edge.{comes_before};
+ghost use Rattle.intervals.specs.Operation.{same_value};
+ghost use Rattle.zone_tree.specs.Edge.{comes_before, ComesBefore};
 ghost use Rattle.zone_tree.specs.Zone.{HasOrderedEdges};
 ghost use Rattle.zone_tree.specs.Conflict.{IsClean, IsFirstConflict};
 ghost use Rattle.zone_tree.specs.Order.{StandInOrder, HasNoZoneAt, with_zone, without_zone_at, zone_at};
@@ -10,7 +11,7 @@ use crate::node::Tree;
 use crate::stock::Stock;
 use crate::summary::Summary;
 use crate::{Edge, Zone, Zones};
-use intervals::Memory;
+use intervals::{Memory, Value};
 use std::alloc::Global;
 use std::marker::Model;
 
@@ -144,6 +145,14 @@ impl ZoneTree {
         self.tree.first_reaching(edge)
     }
 
+    /// The first forward zone by left edge whose right edge is not before that one and whose value is
+    /// another than that.
+    pub fn first_reaching_but(&self, edge: Edge, value: Value) -> Option<Zone>
+        ensures { result ≡ find (λ z. z.forward && not (comes_before z.right edge) && not (same_value z.value value)) self.now.zones }
+    {
+        self.tree.first_reaching_but(edge, value)
+    }
+
     /// The first forward zone by left edge whose right edge comes before that one.
     pub fn first_short_of(&self, edge: Edge) -> Option<Zone>
         ensures { result ≡ find (λ z. z.forward && comes_before z.right edge) self.now.zones }
@@ -156,6 +165,15 @@ impl ZoneTree {
         ensures { IsTrue result ↔ IsClean self.now.zones }
     {
         !self.tree.conflict()
+    }
+
+    /// Whether no two conflict of these zones and one in front of them.
+    pub fn clean_behind(&self, first: &Zone) -> bool
+        requires edges { HasOrderedEdges first.now }
+        requires before { All (λ z. ComesBefore first.now.left z.left) self.now.zones }
+        ensures { IsTrue result ↔ IsClean (first.now ∷ self.now.zones) }
+    {
+        !self.tree.behind(Summary::of_one(first)).conflict
     }
 
     /// The earlier forward zone of greatest right edge, and the first zone by left edge that conflicts
@@ -171,5 +189,22 @@ impl ZoneTree {
             unreachable!()
         };
         Some((first, second))
+    }
+
+    /// The same, of these zones and one in front of them.
+    pub fn first_conflict_behind(&self, first: &Zone) -> Option<(Zone, Zone)>
+        requires edges { HasOrderedEdges first.now }
+        requires before { All (λ z. ComesBefore first.now.left z.left) self.now.zones }
+        ensures first { IfSome result (λ pair. IsFirstConflict (first.now ∷ self.now.zones) pair.0 pair.1) }
+        ensures none { IsNone result ↔ IsClean (first.now ∷ self.now.zones) }
+    {
+        let Some(second) = self.tree.first_meeting(Summary::of_one(first)) else {
+            return None;
+        };
+        // Where none conflicts before, forward zones end one after another.
+        match self.tree.last_forward_before(second.left) {
+            Some(last) => Some((last, second)),
+            None => Some((*first, second)),
+        }
     }
 }

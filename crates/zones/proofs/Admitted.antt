@@ -1,56 +1,41 @@
 -- What the parts of a register's judge are to each other after an edit.
-use Rattle.std.proofs.Common.{◌≡◌, ◌⊎◌, ◌≤◌, inl, inr, List, [], ◌∷◌, length, Option, Some, None, Bool, true, false, cond, ◌||◌, refl, sym, subst, arith}
-use Rattle.std.specs.Prelude.{Contains, IfSome, IsSome, is_some}
+use Rattle.std.proofs.Common.{◌≡◌, ◌≤◌, List, [], length, Option, Some, None, Bool, true, false, cond, ◌||◌, refl, sym, ◌∙◌, subst, arith}
+use Rattle.std.specs.Prelude.{IfSome, IsSome, is_some}
+use Rattle.std.proofs.lemmas.List.{length-map}
 use Rattle.std.proofs.lemmas.List.Sorted.{length_permutation}
 use Rattle.intervals.specs.declared.operation.Op.{Op}
 use Rattle.intervals.specs.declared.operation.Value.{Value}
 use Rattle.intervals.specs.declared.edit.Edit.{Edit}
-use Rattle.intervals.specs.Operation.{is_write}
+use Rattle.intervals.specs.Operation.{is_write, value_of, writes}
 use Rattle.intervals.specs.Edit.{new_op, edited, edit_id, found_by}
 use Rattle.intervals.specs.Refusal.{reply_to}
 use Rattle.intervals.specs.declared.claim.Kind.TheVariants.{Atomic}
-use Rattle.intervals.specs.Standing.{HasDistinctIds}
 use Rattle.intervals.specs.Table.{Tabled, prepared_after}
 use Rattle.intervals.specs.Terms.{Terms}
 use Rattle.zone_tree.specs.declared.zone.Zone.{Zone}
 use Rattle.zone_tree.specs.Order.{Contents, StandInOrder}
 use Rattle.zones.specs.declared.index.Members.{Members}
-use Rattle.zones.specs.Cluster.{zone_of, zones_of}
+use Rattle.zones.specs.Cluster.{values_from, written_zone, zones_from}
 use Rattle.zones.specs.Faults.{AreStretched, AreStretchesAt}
 use Rattle.zones.specs.Index.{AreMembers, HasPlaces, HasPlacesOf, HoldsOnlyFor}
 use Rattle.zones.specs.Members.{IsChange}
 use Rattle.zones.specs.Together.{HasRoomFor, HoldTogether}
 use Rattle.zones.specs.Zoned.{AreExchanged, AreZoned, AreZonesAt, CanExchange, NeedsNoRoom, AreManyWriters, judged_part, other_value, value_in}
-use Rattle.zones.proofs.Members.{here, in_none, contains_cases}
-use Rattle.zones.proofs.Cluster.{value_is}
+use Rattle.zones.proofs.Members.{in_none}
 use Rattle.zones.proofs.Edited.{apart_kept, apart_none, change_of_edit}
 use Rattle.zones.proofs.InTree.{zones_each_once}
 use Rattle.zones.proofs.Moved.{can_move, keeps_room, moved_zoned}
 use Rattle.zones.proofs.Stretches.{moved_stretched, stretched_none, stretches_can_move, stretches_keep_room}
-use Rattle.zones.proofs.Written.{IsWritten}
 
--- of no operations a tree has the zone of the initial value alone
-zoned_at_first : (initial : Value) (zone : Zone) → zone ≡ zone_of initial [] initial → AreZoned initial [] (zone ∷ [])
-zoned_at_first initial zone is = record {
-  each = λ v h. by_value v (contains_cases initial [] v h);
-  only = λ z h. by_zone z (contains_cases zone [] z h);
-}
-  where
-    by_value : (v : Value) → (initial ≡ v) ⊎ Contains [] v → Contains (zone ∷ []) (zone_of initial [] v)
-    by_value v (inl e) = subst (λ (u : Value). Contains (zone ∷ []) (zone_of initial [] u)) e (subst (Contains (zone ∷ [])) is (here zone []))
-    by_value v (inr h) = absurd (in_none v h)
+-- of no operations a tree has no zones
+zoned_none : AreZoned [] []
+zoned_none = record { each = λ v (w, is). absurd (in_none w is.stands); only = λ z h. absurd (in_none z h) }
 
-    at_first : IsWritten initial [] (zone_of initial [] initial).value × (zone_of initial [] initial ≡ zone_of initial [] (zone_of initial [] initial).value)
-    at_first = subst (λ (u : Value). IsWritten initial [] u × (zone_of initial [] initial ≡ zone_of initial [] u)) (sym (value_is initial [] initial)) (here initial [], refl)
-
-    by_zone : (z : Zone) → (zone ≡ z) ⊎ Contains [] z → IsWritten initial [] z.value × (z ≡ zone_of initial [] z.value)
-    by_zone z (inl e) = subst (λ (x : Zone). IsWritten initial [] x.value × (x ≡ zone_of initial [] x.value)) e (subst (λ (x : Zone). IsWritten initial [] x.value × (x ≡ zone_of initial [] x.value)) (sym is) at_first)
-    by_zone z (inr h) = absurd (in_none z h)
-
--- a tree of a register has as many zones as the register
-pub as_many_zones : (claim : Terms) (ops : List Op) (tree : List Zone) → AreManyWriters claim ops → StandInOrder tree → AreZoned claim.initial ops tree → length tree ≡ length (zones_of claim.initial ops)
-as_many_zones claim ops tree apart order zoned =
-    length_permutation (zones_of claim.initial ops) tree (zones_each_once claim.initial ops tree apart.kept.moments (apart.kept.values apart.atomic) order zoned)
+-- a tree of a register has as many zones as there are writes
+pub as_many_writes : (claim : Terms) (ops : List Op) (tree : List Zone) → AreManyWriters claim ops → StandInOrder tree → AreZoned ops tree → length tree ≡ length (writes ops)
+as_many_writes claim ops tree apart order zoned =
+    length_permutation (zones_from None ops) tree (zones_each_once ops tree apart.kept.moments (apart.kept.values apart.atomic).apart order zoned)
+    ∙ (length-map (values_from None ops) (written_zone ops) ∙ length-map (writes ops) (λ w. value_of w.act))
 
 pub room_of_none : (members : Members) (zones stretches : Contents) (prepared : Option Op) → prepared ≡ None → IfSome prepared (HasRoomFor members zones stretches)
 room_of_none members zones stretches prepared e = subst (λ (p : Option Op). IfSome p (HasRoomFor members zones stretches)) (sym e) tt
@@ -60,18 +45,17 @@ room_of_one members zones stretches prepared op e places more most =
     subst (λ (p : Option Op). IfSome p (HasRoomFor members zones stretches)) (sym e) (record { places = places; zones_free = more; stretches_free = most })
 
 -- of no operations
-pub together_at_first : (claim : Terms) → claim.kind ≡ Atomic → (table : Tabled) (members : Members) (zones stretches : Contents) (zone : Zone) → table ≡ record { ops = []; prepared = None } → AreMembers [] members → HoldsOnlyFor None members
-    → (AreMembers table.ops members → HasDistinctIds table.ops → zone ≡ zone_of claim.initial table.ops claim.initial) → zones.zones ≡ zone ∷ [] → stretches.zones ≡ [] → HoldTogether claim table members zones stretches
-together_at_first claim atomic table members zones stretches zone e are only is zones_are none =
-    subst (λ (t : Tabled). (AreMembers t.ops members → HasDistinctIds t.ops → zone ≡ zone_of claim.initial t.ops claim.initial) → HoldTogether claim t members zones stretches) (sym e)
-    (λ first. record {
+pub together_at_first : (claim : Terms) → claim.kind ≡ Atomic → (table : Tabled) (members : Members) (zones stretches : Contents) → table ≡ record { ops = []; prepared = None } → AreMembers [] members → HoldsOnlyFor None members
+    → zones.zones ≡ [] → stretches.zones ≡ [] → HoldTogether claim table members zones stretches
+together_at_first claim atomic table members zones stretches e are only no_zones none =
+    subst (λ (t : Tabled). HoldTogether claim t members zones stretches) (sym e) (record {
       apart = apart_none claim atomic;
       members_of = are;
-      zoned = subst (AreZoned claim.initial []) (sym zones_are) (zoned_at_first claim.initial zone (first are tt));
-      stretched = subst (AreStretched claim.initial []) (sym none) (stretched_none claim.initial);
+      zoned = subst (AreZoned []) (sym no_zones) zoned_none;
+      stretched = subst (AreStretched claim []) (sym none) (stretched_none claim);
       room = tt;
       only = only;
-    }) is
+    })
 
 -- of the same operations
 pub together_kept : (claim : Terms) (table other : Tabled) (members changed : Members) (zones others stretches rest : Contents) → HoldTogether claim table members zones stretches
@@ -79,8 +63,8 @@ pub together_kept : (claim : Terms) (table other : Tabled) (members changed : Me
 together_kept claim table other members changed zones others stretches rest together same are zones_same rest_same room only = record {
   apart = subst (AreManyWriters claim) (sym same) together.apart;
   members_of = subst (λ (l : List Op). AreMembers l changed) (sym same) are;
-  zoned = subst (λ (l : List Op). AreZoned claim.initial l others.zones) (sym same) (subst (AreZoned claim.initial table.ops) (sym zones_same) together.zoned);
-  stretched = subst (λ (l : List Op). AreStretched claim.initial l rest.zones) (sym same) (subst (AreStretched claim.initial table.ops) (sym rest_same) together.stretched);
+  zoned = subst (λ (l : List Op). AreZoned l others.zones) (sym same) (subst (AreZoned table.ops) (sym zones_same) together.zoned);
+  stretched = subst (λ (l : List Op). AreStretched claim l rest.zones) (sym same) (subst (AreStretched claim table.ops) (sym rest_same) together.stretched);
   room = room;
   only = only;
 }
@@ -137,46 +121,46 @@ module _ (claim : Terms) (ops : List Op) (edit : Edit) (apart : AreManyWriters c
 
   module _ (first second : Option Value) (first_is : first ≡ value_in old) (second_is : second ≡ other_value first (value_in new))
       (earlier later : Option Zone × Option Zone) (tree : Contents) where
-    module _ (zoned : AreZoned claim.initial ops tree.zones) (earlier_is : AreZonesAt claim.initial ops first second earlier) (later_is : AreZonesAt claim.initial after first second later) where
-      at_values : (list : List Op) (found : Option Zone × Option Zone) → AreZonesAt claim.initial list first second found → AreZonesAt claim.initial list (value_in old) (other_value (value_in old) (value_in new)) found
+    module _ (zoned : AreZoned ops tree.zones) (earlier_is : AreZonesAt ops first second earlier) (later_is : AreZonesAt after first second later) where
+      at_values : (list : List Op) (found : Option Zone × Option Zone) → AreZonesAt list first second found → AreZonesAt list (value_in old) (other_value (value_in old) (value_in new)) found
       at_values list found is =
-          subst (λ (u : Option Value). AreZonesAt claim.initial list u (other_value u (value_in new)) found) first_is
-          (subst (λ (u : Option Value). AreZonesAt claim.initial list first u found) second_is is)
+          subst (λ (u : Option Value). AreZonesAt list u (other_value u (value_in new)) found) first_is
+          (subst (λ (u : Option Value). AreZonesAt list first u found) second_is is)
 
       pub can_exchange_zones : (IsSome new → 2 ≤ tree.free) → CanExchange tree earlier later
       can_exchange_zones enough gone come changes =
-          can_move claim.initial ops old new after change_is apart.kept.moments apart_after.kept.moments tree.zones zoned earlier later gone come changes
+          can_move ops old new after change_is apart.kept.moments apart_after.kept.moments tree.zones zoned earlier later gone come changes
           (at_values ops earlier earlier_is) (at_values after later later_is) tree.free tree.steps enough
 
       pub zones_need_no_room : new ≡ None → NeedsNoRoom tree.zones earlier later
       zones_need_no_room none gone come changes =
-          keeps_room claim.initial ops old new after change_is apart.kept.moments apart_after.kept.moments tree.zones zoned earlier later gone come changes
+          keeps_room ops old new after change_is apart.kept.moments apart_after.kept.moments tree.zones zoned earlier later gone come changes
           (at_values ops earlier earlier_is) (at_values after later later_is) none
 
-      pub zoned_after : (result : List Zone) → AreExchanged earlier later tree.zones result → AreZoned claim.initial after result
+      pub zoned_after : (result : List Zone) → AreExchanged earlier later tree.zones result → AreZoned after result
       zoned_after result is =
-          subst (AreZoned claim.initial after) (sym is.moves)
-          (moved_zoned claim.initial ops old new after change_is apart.kept.moments apart_after.kept.moments tree.zones zoned earlier later is.gone is.come is.changes
+          subst (AreZoned after) (sym is.moves)
+          (moved_zoned ops old new after change_is apart.kept.moments apart_after.kept.moments tree.zones zoned earlier later is.gone is.come is.changes
           (at_values ops earlier earlier_is) (at_values after later later_is))
 
-    module _ (stretched : AreStretched claim.initial ops tree.zones) (earlier_is : AreStretchesAt claim.initial ops first second earlier) (later_is : AreStretchesAt claim.initial after first second later) where
-      stretches_at : (list : List Op) (found : Option Zone × Option Zone) → AreStretchesAt claim.initial list first second found → AreStretchesAt claim.initial list (value_in old) (other_value (value_in old) (value_in new)) found
+    module _ (stretched : AreStretched claim ops tree.zones) (earlier_is : AreStretchesAt claim ops first second earlier) (later_is : AreStretchesAt claim after first second later) where
+      stretches_at : (list : List Op) (found : Option Zone × Option Zone) → AreStretchesAt claim list first second found → AreStretchesAt claim list (value_in old) (other_value (value_in old) (value_in new)) found
       stretches_at list found is =
-          subst (λ (u : Option Value). AreStretchesAt claim.initial list u (other_value u (value_in new)) found) first_is
-          (subst (λ (u : Option Value). AreStretchesAt claim.initial list first u found) second_is is)
+          subst (λ (u : Option Value). AreStretchesAt claim list u (other_value u (value_in new)) found) first_is
+          (subst (λ (u : Option Value). AreStretchesAt claim list first u found) second_is is)
 
       pub can_exchange_stretches : (IsSome new → 2 ≤ tree.free) → CanExchange tree earlier later
       can_exchange_stretches enough gone come changes =
-          stretches_can_move claim.initial ops old new after change_is apart.kept.moments apart_after.kept.moments tree.zones stretched earlier later gone come changes
+          stretches_can_move claim ops old new after change_is apart.kept.moments apart_after.kept.moments tree.zones stretched earlier later gone come changes
           (stretches_at ops earlier earlier_is) (stretches_at after later later_is) tree.free tree.steps enough
 
       pub stretches_need_no_room : new ≡ None → NeedsNoRoom tree.zones earlier later
       stretches_need_no_room none gone come changes =
-          stretches_keep_room claim.initial ops old new after change_is apart.kept.moments apart_after.kept.moments tree.zones stretched earlier later gone come changes
+          stretches_keep_room claim ops old new after change_is apart.kept.moments apart_after.kept.moments tree.zones stretched earlier later gone come changes
           (stretches_at ops earlier earlier_is) (stretches_at after later later_is) none
 
-      pub stretched_after : (result : List Zone) → AreExchanged earlier later tree.zones result → AreStretched claim.initial after result
+      pub stretched_after : (result : List Zone) → AreExchanged earlier later tree.zones result → AreStretched claim after result
       stretched_after result is =
-          subst (AreStretched claim.initial after) (sym is.moves)
-          (moved_stretched claim.initial ops old new after change_is apart.kept.moments apart_after.kept.moments tree.zones stretched earlier later is.gone is.come is.changes
+          subst (AreStretched claim after) (sym is.moves)
+          (moved_stretched claim ops old new after change_is apart.kept.moments apart_after.kept.moments tree.zones stretched earlier later is.gone is.come is.changes
           (stretches_at ops earlier earlier_is) (stretches_at after later later_is))

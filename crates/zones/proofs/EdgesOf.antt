@@ -1,27 +1,29 @@
 -- The edges of a value: what an edit makes of them, and what its zone and its stretch are by them.
-use Rattle.std.proofs.Common.{◌≡◌, ◌≢◌, ◌↔◌, ◌⊎◌, inl, inr, Bool, true, false, ◌&&◌, ◌||◌, List, Option, Some, None, refl, sym, ap, ◌∙◌, subst, cond}
-use Rattle.std.specs.Prelude.{Contains, IfSome, IsSome, IsTrue}
-use Rattle.std.proofs.lemmas.Bool.{both_ways}
+use Rattle.std.proofs.Common.{◌≡◌, ◌≢◌, ◌↔◌, ◌⊎◌, inl, inr, Bool, true, false, ◌&&◌, List, Option, Some, None, refl, sym, ap, ◌∙◌, subst, cond}
+use Rattle.std.specs.Prelude.{Contains, IfSome, IsSome}
 use Rattle.std.proofs.lemmas.List.Elements.{All-contains}
 use Rattle.intervals.specs.declared.operation.Op.{Op}
 use Rattle.intervals.specs.declared.operation.Value.{Value}
 use Rattle.intervals.specs.Operation.{IsJudgedRead, IsWrite, is_judged_read, is_write, judged, same_value, value_of}
 use Rattle.zone_tree.specs.declared.edge.Edge.{Edge}
 use Rattle.zone_tree.specs.declared.edge.Edge.TheVariants.{Before, At, Never}
-use Rattle.zone_tree.specs.Edge.{ComesBefore, comes_before}
-use Rattle.zones.specs.Cluster.{earlier_of, edge_of_end, later_of, written_values, zone_between}
+use Rattle.zone_tree.specs.Edge.{ComesBefore}
+use Rattle.zones.specs.Cluster.{earlier_of, edge_of_end, later_of, zone_between}
 use Rattle.zones.specs.Edges.{AreEdges, AreReadEdges, AreWriteEdges, part_of, read_part, write_part}
 use Rattle.zone_tree.specs.declared.zone.Zone.{Zone}
 use Rattle.zones.specs.declared.edges.Edges.{Edges}
-use Rattle.zones.specs.Faults.{IsRead, IsStretchAt, begin_of, first_end_of}
-use Rattle.zones.specs.Members.{HasNoWrite, IsChange, IsGreatestBegin, IsLeastEnd, IsTheWriteAt}
+use Rattle.zones.specs.Faults.{IsRead, IsStretchAt, begin_of_write, first_end_of, write_of}
+use Rattle.intervals.specs.Standing.{IsInitial}
+use Rattle.intervals.specs.Terms.{Terms}
+use Rattle.intervals.specs.Kind.{HasNoWrite}
+use Rattle.zones.specs.Members.{HasWrite, IsChange, IsGreatestBegin, IsLeastEnd, IsTheWriteAt}
 use Rattle.zones.specs.Zoned.{IsZoneAt}
 use Rattle.zones.proofs.EdgeOrder.{AtMost, at_most_both, at_most_itself, at_most_transitive, earlier-cases, earlier-left, earlier-right, later-cases, later-left, later-right}
 use Rattle.zones.proofs.Ends.{in_judged-read, in_judged-write, none_begins, none_ends}
 use Rattle.zones.proofs.Judged.{is_judged}
 use Rattle.zones.proofs.Members.{Decides-same_value, all_from, kept_stands}
 use Rattle.zones.proofs.Stretches.{begin_at_write, begin_never, first_at_most, first_held, no_write}
-use Rattle.zones.proofs.Written.{never_last, written_by, written_cases, written_initial}
+use Rattle.zones.proofs.Written.{never_last}
 
 -- what passes a test and has the value
 passes : (test : Op → Bool) (v : Value) (op : Op) → test op ≡ true → value_of op.act ≡ v → part_of test v (Some op) ≡ Some op
@@ -232,21 +234,12 @@ module _ (P : Op → Type 0) (ops : List Op) (v : Value) (edge : Edge) (is : IsG
       by_edge (At m) k = refl
       by_edge Never k = refl
 
--- a value is written that is the initial one or has a write
-pub written_by_edge : (initial : Value) (ops : List Op) (v : Value) (begin end : Edge) → AreWriteEdges ops v begin end → IsTrue (same_value initial v || comes_before Before begin) ↔ Contains (written_values initial ops) v
-written_by_edge initial ops v begin end are = (forward (same_value initial v) refl, back)
-  where
-    forward : (t : Bool) → same_value initial v ≡ t → IsTrue (t || comes_before Before begin) → Contains (written_values initial ops) v
-    forward true e h = subst (λ (u : Value). Contains (written_values initial ops) u) ((Decides-same_value initial v).0 e) (written_initial initial ops)
-    forward false e h = let (w, k, t, s, f) = begun IsWrite ops v begin are.begin h in written_by initial ops v w (record { stands = k; write = t; same = s })
-
-    by_cases : (t : Bool) → same_value initial v ≡ t → (initial ≡ v) ⊎ ((w : Op) × IsTheWriteAt ops v w) → IsTrue (t || comes_before Before begin)
-    by_cases true e found = refl
-    by_cases false e (inl f) = absurd (both_ways (same_value initial v) e ((Decides-same_value initial v).1 f))
-    by_cases false e (inr (w, is)) = has_begun IsWrite ops v begin are.begin w is.stands is.write is.same
-
-    back : Contains (written_values initial ops) v → IsTrue (same_value initial v || comes_before Before begin)
-    back h = by_cases (same_value initial v) refl (written_cases initial ops v h)
+-- a value has a write where one has begun
+pub written_by_edge : (ops : List Op) (v : Value) (begin end : Edge) → AreWriteEdges ops v begin end → ComesBefore Before begin ↔ HasWrite ops v
+written_by_edge ops v begin end are = (
+  (λ h. let (w, k, t, s, f) = begun IsWrite ops v begin are.begin h in (w, record { stands = k; write = t; same = s })),
+  (λ (w, is). has_begun IsWrite ops v begin are.begin w is.stands is.write is.same),
+)
 
 -- the first end of the reads
 pub first_end_by_edge : (ops : List Op) (v : Value) (begin end : Edge) → AreReadEdges ops v begin end → first_end_of ops v ≡ end
@@ -268,40 +261,43 @@ read_by_edge ops v begin end are = (
 )
 
 -- where the write begins
-module _ (initial : Value) (ops : List Op) (v : Value) (begin end : Edge) (are : AreWriteEdges ops v begin end) (other : initial ≢ v) where
-  pub begin_by_edge : ComesBefore Before begin → begin ≡ begin_of initial ops v
+module _ (ops : List Op) (v : Value) (begin end : Edge) (are : AreWriteEdges ops v begin end) where
+  pub begin_by_edge : ComesBefore Before begin → begin ≡ begin_of_write (write_of ops v)
   begin_by_edge h =
       let (w, k, t, s, f) = begun IsWrite ops v begin are.begin h in
       let is : IsTheWriteAt ops v w = record { stands = k; write = t; same = s } in
-      sym f ∙ sym (begin_at_write initial ops v other w is (λ x is_x. are.one x w is_x is))
+      sym f ∙ sym (begin_at_write ops v w is (λ x is_x. are.one x w is_x is))
 
-  pub begin_by_none : ¬ ComesBefore Before begin → Never ≡ begin_of initial ops v
-  begin_by_none n = sym (begin_never initial ops v other (no_write ops v (λ w is. n (has_begun IsWrite ops v begin are.begin w is.stands is.write is.same))))
+  pub begin_by_none : ¬ ComesBefore Before begin → Never ≡ begin_of_write (write_of ops v)
+  begin_by_none n = sym (begin_never ops v (no_write ops v (λ w is. n (has_begun IsWrite ops v begin are.begin w is.stands is.write is.same))))
 
 -- edges are those of the value that they name
 pub at_itself : (ops : List Op) (v : Value) (edges : Edges) → AreEdges ops v edges → AreEdges ops edges.value edges
 at_itself ops v edges are = subst (λ (u : Value). AreEdges ops u edges) (sym are.same) are
 
 -- the stretch of a value
-module _ (initial : Value) (ops : List Op) (v : Value) (begin end : Edge) (are : AreReadEdges ops v begin end) where
-  pub stretch_by_edge : ComesBefore Before begin → (at : Edge) → at ≡ begin_of initial ops v → (zone : Zone) → zone ≡ zone_between end at v → IsStretchAt initial ops v (Some zone)
-  stretch_by_edge h at at_is zone e = record {
+module _ (claim : Terms) (ops : List Op) (v : Value) (begin end : Edge) (are : AreReadEdges ops v begin end) where
+  pub stretch_by_edge : ¬ IsInitial claim v → ComesBefore Before begin → (at : Edge) → at ≡ begin_of_write (write_of ops v) → (zone : Zone) → zone ≡ zone_between end at v → IsStretchAt claim ops v (Some zone)
+  stretch_by_edge later h at at_is zone e = record {
     stretch =
         e
         ∙ (ap (λ (m : Edge). zone_between m at v) (sym (first_end_by_edge ops v begin end are))
         ∙ ap (λ (m : Edge). zone_between (first_end_of ops v) m v) at_is);
     none = λ n. absurd (cc);
-    some = λ n. (read_by_edge ops v begin end are).0 h;
+    some = λ n. ((read_by_edge ops v begin end are).0 h, later);
   }
 
-  pub no_stretch_by_edge : ¬ ComesBefore Before begin → IsStretchAt initial ops v None
+  pub no_stretch_by_edge : ¬ ComesBefore Before begin → IsStretchAt claim ops v None
   no_stretch_by_edge n = record {
     stretch = tt;
-    none = λ none read. n ((read_by_edge ops v begin end are).1 read);
+    none = λ none read. n ((read_by_edge ops v begin end are).1 read.0);
     some = λ some. absurd (cc);
   }
 
--- a zone is found where the value is written
-pub found_where_written : (initial : Value) (ops : List Op) (v : Value) (found : Option Zone) → IsZoneAt initial ops v found → IsSome found ↔ Contains (written_values initial ops) v
-found_where_written initial ops v None is = (is.some, λ h. absurd (is.none refl h))
-found_where_written initial ops v (Some zone) is = (is.some, λ h. refl)
+pub no_stretch_at_first : (claim : Terms) (ops : List Op) (v : Value) → IsInitial claim v → IsStretchAt claim ops v None
+no_stretch_at_first claim ops v first = record { stretch = tt; none = λ none read. read.1 first; some = λ some. absurd (cc) }
+
+-- a zone is found where a write has the value
+pub found_where_written : (ops : List Op) (v : Value) (found : Option Zone) → IsZoneAt ops v found → IsSome found ↔ HasWrite ops v
+found_where_written ops v None is = (is.some, λ h. absurd (is.none refl h))
+found_where_written ops v (Some zone) is = (is.some, λ h. refl)

@@ -2,7 +2,7 @@
 use Rattle.std.proofs.Common.{◌≡◌, ◌≢◌, ◌⊎◌, inl, inr, Bool, true, false, not, ◌||◌, List, [], ◌∷◌, ◌++◌, Option, Some, None, refl, sym, ap, ◌∙◌, cond, subst}
 use Rattle.std.specs.Prelude.{Contains, IfSome, IsTrue, is_some, map, option_map}
 use Rattle.std.specs.List.{AllPairs}
-use Rattle.std.proofs.lemmas.List.Elements.{All-contains, All-nil, Contains-append_left, Contains-push, Contains-push_cases}
+use Rattle.std.proofs.lemmas.List.Elements.{All-contains, Contains-append_left, Contains-push, Contains-push_cases}
 use Rattle.std.proofs.lemmas.Bool.{both_ways, not-true, not_from_false}
 use Rattle.intervals.specs.declared.operation.Op.{Op}
 use Rattle.intervals.specs.declared.operation.OpId.{OpId}
@@ -18,14 +18,14 @@ use Rattle.intervals.specs.Terms.{Terms}
 use Rattle.intervals.specs.declared.claim.Kind.TheVariants.{Atomic}
 use Rattle.intervals.proofs.Accepted.{edit_accepted}
 use Rattle.intervals.proofs.Found.{find-Some}
-use Rattle.intervals.proofs.Ids.{not_taken, none_of, found_alike, found_by_id, same_id-refl, distinct_edited, found_stands, found_again}
+use Rattle.intervals.proofs.Ids.{not_taken, none_of, found_alike, found_by_id, same_id-refl, found_stands, found_again}
 use Rattle.intervals.proofs.Claimed.{HaveOtherValues}
 use Rattle.intervals.proofs.Standing.{nothing_apart, edited_apart}
 use Rattle.zones.specs.Cluster.{edge_of_end}
 use Rattle.zones.specs.Members.{HaveOwnPlaces, IsChange}
 use Rattle.zones.specs.Zoned.{AreManyWriters, judged_part}
 use Rattle.zones.proofs.Judged.{is_judged}
-use Rattle.zones.proofs.Members.{in_none, contains_cases, kept, kept_stands, mapped, here, there, pair_of, pairs_nil}
+use Rattle.zones.proofs.Members.{in_none, contains_cases, kept, kept_stands, mapped, here, there, pair_of}
 
 -- an element of an image is the image of an element
 pub from_map : {X Y : Type 0} (f : X → Y) (xs : List X) (y : Y) → Contains (map f xs) y → (x : X) × Contains xs x × (f x ≡ y)

@@ -18,16 +18,17 @@ use Rattle.zone_tree.specs.declared.edge.Edge.TheVariants.{Before, At, Never}
 use Rattle.zone_tree.specs.Edge.{ComesBefore, comes_before}
 use Rattle.zones.specs.declared.index.Members.{Members}
 use Rattle.zones.specs.declared.index.Row.TheVariants.{Writes}
-use Rattle.zones.specs.Cluster.{cluster_of, earlier_of, edge_of_end, greatest_begin_of, later_of, least_end_of}
+use Rattle.zones.specs.Cluster.{cluster_of, earlier_of, edge_of_end, greatest_begin_of, later_of, least_end_of, written_zone, zone_between, zone_of}
 use Rattle.zones.specs.Crossing.{HasLeastEnd}
 use Rattle.zones.specs.Index.{AreMembers, at_first}
-use Rattle.zones.specs.Members.{BeginsLastOf, EndsFirstOf, HasNoRead, HasNoWrite, IsGreatestBegin, IsLastToBegin, IsLeastEnd, IsTheWriteAt, began_last, end_of, ended_first}
-use Rattle.zones.proofs.Cluster.{greatest_at_least, greatest_of_one, least_at_most, least_of_one, member_of, members_of}
+use Rattle.intervals.specs.Kind.{HasNoWrite}
+use Rattle.zones.specs.Members.{BeginsLastOf, EndsFirstOf, HasNoRead, IsGreatestBegin, IsLastToBegin, IsLeastEnd, IsTheWriteAt, began_last, end_of, ended_first}
+use Rattle.zones.proofs.Cluster.{greatest_at_least, greatest_of_one, least_at_most, least_initial, least_of_one, member_of, members_of}
 use Rattle.zones.proofs.EdgeOrder.{AtMost, at_most_both, at_most_itself, at_most_transitive, before_all, earlier-cases, earlier-left, earlier-right, later-cases, later-left, later-right}
 use Rattle.zones.proofs.Judged.{is_judged, is_judged_by_end, judged_read, judged_write}
 use Rattle.zones.proofs.Lookups.{has_end}
 use Rattle.zones.proofs.Members.{all_from, here, kept, kept_stands}
-use Rattle.zones.proofs.Written.{never_last}
+use Rattle.zones.proofs.Written.{never_last, other_than, written_zone_is}
 
 -- where an operation ends or begins that there may be
 abbrev end_at : Option Op → Edge
@@ -311,3 +312,24 @@ module _ (ops : List Op) (v : Value) (distinct : HasDistinctIds ops) where
         }),
         by_id,
       )
+
+-- the zone of a written value by the edges of its write and of its reads
+pub written_zone_by_edges : (ops : List Op) (v : Value) (write_end read_end write_begin read_begin : Edge) → IsLeastEnd IsWrite ops v write_end → IsLeastEnd IsJudgedRead ops v read_end
+    → IsGreatestBegin IsWrite ops v write_begin → IsGreatestBegin IsJudgedRead ops v read_begin → zone_between (earlier_of write_end read_end) (later_of write_begin read_begin) v ≡ written_zone ops v
+written_zone_by_edges ops v write_end read_end write_begin read_begin a b c d =
+    let (u, n) = other_than v in
+    ap (λ (m : Edge). zone_between m (later_of write_begin read_begin) v) (least_is ops v u write_end read_end n a b)
+    ∙ (ap (λ (m : Edge). zone_between (least_end_of u ops v) m v) (greatest_is ops v u write_begin read_begin c d)
+    ∙ written_zone_is u ops v n)
+
+-- the zone of the initial value, which no write has, by where its last read begins
+pub initial_zone_by_edge : (ops : List Op) (initial : Value) (read_begin : Edge) → HasNoWrite ops initial → IsGreatestBegin IsJudgedRead ops initial read_begin → zone_between Before read_begin initial ≡ zone_of initial ops initial
+initial_zone_by_edge ops initial read_begin none is =
+    ap (λ (m : Edge). zone_between m read_begin initial) (sym (least_initial initial ops))
+    ∙ ap (λ (m : Edge). zone_between (least_end_of initial ops initial) m initial)
+    (sym (later_before read_begin) ∙ greatest_is ops initial initial Before read_begin (none_begins ops initial IsWrite none) is)
+  where
+    later_before : (e : Edge) → later_of Before e ≡ e
+    later_before Before = refl
+    later_before (At m) = refl
+    later_before Never = refl

@@ -11,7 +11,7 @@ use Rattle.intervals.specs.declared.operation.Op.{Op}
 use Rattle.intervals.specs.declared.operation.Value.{Value}
 use Rattle.intervals.specs.Terms.{Terms}
 use Rattle.intervals.specs.Operation.{Precedes, IsWrite, is_write, value_of, judged, writes}
-use Rattle.intervals.specs.Kind.{Arranges, IsAtomic}
+use Rattle.intervals.specs.Kind.{Arranges, IsArranged}
 use Rattle.intervals.specs.Standing.{HasDistinctMoments, HasDistinctValues}
 use Rattle.zone_tree.specs.Zone.{Conflicts, HasOrderedEdges}
 use Rattle.zones.specs.Cluster.{zone_of, written_values, zones_of}
@@ -91,21 +91,21 @@ module _ (claim : Terms) (ops : List Op) where
           by_cases (inl none) = none a b x.one_value refl (stands a b x.a_stands x.b_stands (λ e. x.apart (sym e ∙ x.one_value)) x.a_before_b)
           by_cases (inr none) = none c d x.other_value refl (stands c d x.c_stands x.d_stands (λ e. x.apart (sym x.other_value ∙ e)) x.c_before_d)
 
-  pub unwritten_excludes : (r : Op) → Contains ops r → IsUnwritten claim.initial ops r → ¬ IsAtomic claim ops
+  pub unwritten_excludes : (r : Op) → Contains ops r → IsUnwritten claim.initial ops r → ¬ IsArranged claim ops
   unwritten_excludes r h u (order, arranges) = not_unwritten order arranges r h u
 
-  pub early_excludes : (r w : Op) → HasDistinctValues claim.initial ops → Contains ops r → Contains ops w → IsEarly r w → ¬ IsAtomic claim ops
+  pub early_excludes : (r w : Op) → HasDistinctValues claim.initial ops → Contains ops r → Contains ops w → IsEarly r w → ¬ IsArranged claim ops
   early_excludes r w values h k e (order, arranges) = not_early order arranges values r w h k e
 
-  pub crossing_excludes : (a : Option Op) (b : Op) (c : Option Op) (d : Op) → HasDistinctValues claim.initial ops → IsCrossing claim.initial ops a b c d → ¬ IsAtomic claim ops
+  pub crossing_excludes : (a : Option Op) (b : Op) (c : Option Op) (d : Op) → HasDistinctValues claim.initial ops → IsCrossing claim.initial ops a b c d → ¬ IsArranged claim ops
   crossing_excludes a b c d values x (order, arranges) = not_crossing order arranges values a b c d x
 
-  none_crosses : (u v : Value) → HasDistinctValues claim.initial ops → IsAtomic claim ops → ¬ Cross claim.initial ops u v
+  none_crosses : (u v : Value) → HasDistinctValues claim.initial ops → IsArranged claim ops → ¬ Cross claim.initial ops u v
   none_crosses u v values atomic (a, b, c, d, x, e, f) = crossing_excludes a b c d values x atomic
 
   -- a register that has an arrangement is faultless
-  pub atomic_is_faultless : HasDistinctValues claim.initial ops → IsAtomic claim ops → IsFaultless claim.initial ops
-  atomic_is_faultless values atomic = record {
+  pub arranged_is_faultless : HasDistinctValues claim.initial ops → IsArranged claim ops → IsFaultless claim.initial ops
+  arranged_is_faultless values atomic = record {
     written = all_from (λ r. ¬ IsUnwritten claim.initial ops r) ops (λ r h u. unwritten_excludes r h u atomic);
     timely = all_from (λ r. All (λ w. ¬ IsEarly r w) ops) ops (λ r h. all_from (λ w. ¬ IsEarly r w) ops (λ w k e. early_excludes r w values h k e atomic));
     clean = pairs_mapped (zone_of claim.initial ops) (λ v. Unit {0}) (λ u v. u ≢ v) (λ a b. ¬ Conflicts a b)

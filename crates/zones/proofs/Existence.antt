@@ -5,14 +5,9 @@ use Rattle.std.proofs.lemmas.Bool.{cases_lt}
 use Rattle.std.proofs.lemmas.List.Sorted.{IsPermutation-sym, Contains-permutation}
 use Rattle.intervals.specs.declared.operation.Op.{Op}
 use Rattle.intervals.specs.declared.operation.Value.{Value}
-use Rattle.intervals.specs.Terms.{Terms, unedited}
+use Rattle.intervals.specs.Terms.{Terms}
 use Rattle.intervals.specs.Operation.{is_write, value_of, judged}
-use Rattle.intervals.specs.declared.edit.Edit.{Edit}
-use Rattle.intervals.specs.declared.claim.Kind.{Kind}
-use Rattle.intervals.specs.declared.claim.Kind.TheVariants.{Atomic}
-use Rattle.intervals.specs.Refusal.{standing}
-use Rattle.intervals.specs.Kind.{Arranges, IsAtomic, Keeps, Holds}
-use Rattle.intervals.proofs.Standing.{standing_apart}
+use Rattle.intervals.specs.Kind.{Arranges, IsArranged}
 use Rattle.intervals.specs.Standing.{HasDistinctMoments, HasEndsAfterBeginnings, HasDistinctValues}
 use Rattle.zone_tree.specs.declared.edge.Edge.{Edge}
 use Rattle.zone_tree.specs.Edge.{ComesBefore}
@@ -23,7 +18,7 @@ use Rattle.zones.proofs.EdgeOrder.{before_cases, before_irreflexive, before_tran
 use Rattle.zones.proofs.Members.{by_recursion_from, from_recursion}
 use Rattle.zones.proofs.Sorting.{InOrder, ordered}
 use Rattle.zones.proofs.InTurn.{turn_keeps, turn_reads}
-use Rattle.zones.proofs.Excluded.{atomic_is_faultless}
+use Rattle.zones.proofs.Excluded.{arranged_is_faultless}
 
 -- writes come before reads
 abbrev rank : Bool → ℕ
@@ -125,19 +120,11 @@ turn_arranges claim ops order moments ends faultless moved turn = record {
   reads = turn_reads claim.initial ops moments ends faultless order moved turn;
 }
 
-pub faultless_is_atomic : (claim : Terms) (ops : List Op) → HasDistinctMoments ops → HasEndsAfterBeginnings ops → IsFaultless claim.initial ops → IsAtomic claim ops
-faultless_is_atomic claim ops moments ends faultless = by_order (turn_exists claim.initial ops)
+pub faultless_is_arranged : (claim : Terms) (ops : List Op) → HasDistinctMoments ops → HasEndsAfterBeginnings ops → IsFaultless claim.initial ops → IsArranged claim ops
+faultless_is_arranged claim ops moments ends faultless = by_order (turn_exists claim.initial ops)
   where
-    by_order : ((order : List Op) × IsPermutation (judged ops) order × IsInTurn claim.initial ops order) → IsAtomic claim ops
+    by_order : ((order : List Op) × IsPermutation (judged ops) order × IsInTurn claim.initial ops order) → IsArranged claim ops
     by_order (order, moved, turn) = (order, turn_arranges claim ops order moments ends faultless moved turn)
 
-pub faultless_exactly : (claim : Terms) (ops : List Op) → HasDistinctMoments ops → HasEndsAfterBeginnings ops → HasDistinctValues claim.initial ops → IsFaultless claim.initial ops ↔ IsAtomic claim ops
-faultless_exactly claim ops moments ends values = (faultless_is_atomic claim ops moments ends, atomic_is_faultless claim ops values)
-
--- after any edits of an atomic register
-pub faultless_after_edits : (claim : Terms) (edits : List Edit) → let held = standing (unedited claim) edits in held.claim.kind ≡ Atomic → IsFaultless held.claim.initial held.ops ↔ Holds held.claim held.ops
-faultless_after_edits claim edits atomic =
-    let held = standing (unedited claim) edits in
-    let apart = standing_apart claim edits in
-    subst (λ (kind : Kind). IsFaultless held.claim.initial held.ops ↔ Keeps kind held.claim held.ops) (sym atomic)
-    (faultless_exactly held.claim held.ops apart.moments apart.ends (apart.values atomic))
+pub faultless_exactly : (claim : Terms) (ops : List Op) → HasDistinctMoments ops → HasEndsAfterBeginnings ops → HasDistinctValues claim.initial ops → IsFaultless claim.initial ops ↔ IsArranged claim ops
+faultless_exactly claim ops moments ends values = (faultless_is_arranged claim ops moments ends, arranged_is_faultless claim ops values)

@@ -9,7 +9,7 @@ use Rattle.intervals.specs.declared.operation.Op.{Op}
 use Rattle.intervals.specs.declared.operation.Moment.{Moment}
 use Rattle.intervals.specs.declared.operation.Value.{Value}
 use Rattle.intervals.specs.Operation.{Precedes, IsWrite, IsJudgedRead, is_write, is_judged_read, precedes, value_of, same_value}
-use Rattle.intervals.specs.Standing.{HasDistinctMoments, HasDistinctValues}
+use Rattle.intervals.specs.Standing.{HasDistinctMoments, HasNoValueTwice}
 use Rattle.intervals.specs.Least.{least_by}
 use Rattle.intervals.specs.Judging.{end_number}
 use Rattle.intervals.proofs.Agreement.{Decides-list_any, Decides-precedes}
@@ -21,7 +21,7 @@ use Rattle.zones.specs.Fault.{IsUnwritten, IsEarly, HasLateWrite, IsFirstOf, IsF
 use Rattle.zones.proofs.Members.{Decides-same_value, all_from}
 use Rattle.zones.proofs.OneTurn.{one_or_related, one_holder, same_moment}
 
-Decides-itself : (b : Bool) → Decides b (IsTrue b)
+pub Decides-itself : (b : Bool) → Decides b (IsTrue b)
 Decides-itself b = (λ e. e, λ e. e)
 
 -- w is a write of the value of r
@@ -35,7 +35,7 @@ Decides-write_of r w = Decides-and (is_write w) (same_value (value_of w.act) (va
 pub none_of : (P : Op → Type 0) (ops : List Op) → ¬ Any P ops → All (λ op. ¬ P op) ops
 none_of P ops none = all_from (λ op. ¬ P op) ops (λ op h p. none (h.0, op, h.1, h.2, p))
 
-not_some : (P : Op → Type 0) (ops : List Op) → All (λ op. ¬ P op) ops → ¬ Any P ops
+pub not_some : (P : Op → Type 0) (ops : List Op) → All (λ op. ¬ P op) ops → ¬ Any P ops
 not_some P ops none some = All-contains (λ op. ¬ P op) ops some.1 none (some.0, some.2, some.3) some.4
 
 pub some_stands : (P : Op → Type 0) (ops : List Op) → Any P ops → (w : Op) × Contains ops w × P w
@@ -100,7 +100,7 @@ one_end ops moments x y h k p q e =
     one_holder ops moments x y h k m (inr f) (inr (g ∙ ap Some (sym (same_moment m o (a ∙ (e ∙ sym b))))))
 
 module _ (test : Op → Bool) (Property : Op → Type 0) (decides : (r : Op) → Decides (test r) (Property r)) (read : (r : Op) → Property r → IsJudgedRead r) (ops : List Op) where
-  least_first : (r : Op) → least_by end_number test ops ≡ Some r → IsFirstOf Property ops r
+  pub least_first : (r : Op) → least_by end_number test ops ≡ Some r → IsFirstOf Property ops r
   least_first r e =
       let is = least_by-IsLeast end_number test ops r e in
       record {
@@ -109,13 +109,13 @@ module _ (test : Op → Bool) (Property : Op → Type 0) (decides : (r : Op) →
         first = All-weaker (λ other. IsTrue (test other) → end_number r ≤ end_number other) (λ other. Property other → end_number r ≤ end_number other) (λ other h p. h ((decides other).1 p)) ops is.least;
       }
 
-  least_none : least_by end_number test ops ≡ None → All (λ r. ¬ Property r) ops
+  pub least_none : least_by end_number test ops ≡ None → All (λ r. ¬ Property r) ops
   least_none e = All-weaker (λ r. ¬ IsTrue (test r)) (λ r. ¬ Property r) (λ r h p. h ((decides r).1 p)) ops (least_from-None end_number test None ops e).1
 
-  none_least : All (λ r. ¬ Property r) ops → least_by end_number test ops ≡ None
+  pub none_least : All (λ r. ¬ Property r) ops → least_by end_number test ops ≡ None
   none_least none = least_from-none end_number test None ops (All-weaker (λ r. ¬ Property r) (λ r. ¬ IsTrue (test r)) (λ r h t. h ((decides r).0 t)) ops none)
 
-  first_least : HasDistinctMoments ops → (r : Op) → IsFirstOf Property ops r → least_by end_number test ops ≡ Some r
+  pub first_least : HasDistinctMoments ops → (r : Op) → IsFirstOf Property ops r → least_by end_number test ops ≡ Some r
   first_least moments r is = by_cases (least_by end_number test ops) refl
     where
       by_cases : (found : Option Op) → least_by end_number test ops ≡ found → least_by end_number test ops ≡ Some r
@@ -147,7 +147,7 @@ module _ (initial : Value) (ops : List Op) where
   )
 
 -- the two of a pair that is there
-same_pair : (x r v w : Op) → ◌≡◌ {A = Option (Op × Op)} (Some (x, v)) (Some (r, w)) → (x ≡ r) × (v ≡ w)
+pub same_pair : (x r v w : Op) → ◌≡◌ {A = Option (Op × Op)} (Some (x, v)) (Some (r, w)) → (x ≡ r) × (v ≡ w)
 same_pair x r v w e = (ap read_of e, ap write_of e)
   where
     read_of : Option (Op × Op) → Op
@@ -192,18 +192,18 @@ module _ (ops : List Op) where
       by_least (Some x) f e = by_write x f (late_write x (earliest_first x f).holds) e
 
   -- two writes of one value are one
-  pub one_write : (initial : Value) → HasDistinctValues initial ops → (v w : Op) → Contains ops v → Contains ops w → IsWrite v → IsWrite w → value_of v.act ≡ value_of w.act → v ≡ w
-  one_write initial values v w h k p q e = by_cases (one_or_related (λ v w. IsWrite v → IsWrite w → ¬ (value_of v.act ≡ value_of w.act)) (λ a b n p q e. n q p (sym e)) ops values.apart v w h k)
+  pub one_write : HasNoValueTwice ops → (v w : Op) → Contains ops v → Contains ops w → IsWrite v → IsWrite w → value_of v.act ≡ value_of w.act → v ≡ w
+  one_write apart v w h k p q e = by_cases (one_or_related (λ v w. IsWrite v → IsWrite w → ¬ (value_of v.act ≡ value_of w.act)) (λ a b n p q e. n q p (sym e)) ops apart v w h k)
     where
       by_cases : (v ≡ w) ⊎ (IsWrite v → IsWrite w → ¬ (value_of v.act ≡ value_of w.act)) → v ≡ w
       by_cases (inl same) = same
       by_cases (inr n) = absurd (n p q e)
 
-  pub first_is_early : (initial : Value) (r w : Op) → HasDistinctMoments ops → HasDistinctValues initial ops → IsFirstOf (HasLateWrite ops) ops r → Contains ops w → IsEarly r w → first_early ops ≡ Some (r, w)
-  first_is_early initial r w moments values is stands early =
+  pub first_is_early : (r w : Op) → HasDistinctMoments ops → HasNoValueTwice ops → IsFirstOf (HasLateWrite ops) ops r → Contains ops w → IsEarly r w → first_early ops ≡ Some (r, w)
+  first_is_early r w moments apart is stands early =
       let least : earliest ≡ Some r = first_least (is_early ops) (HasLateWrite ops) (Decides-early ops) (early_read ops) ops moments r is in
       let (v, found, stood, late) = late_write r is.holds in
-      let same : v ≡ w = one_write initial values v w stood stands late.write early.write (late.one_value ∙ sym early.one_value) in
+      let same : v ≡ w = one_write apart v w stood stands late.write early.write (late.one_value ∙ sym early.one_value) in
       ap (with_late_write ops) least ∙ (ap (option_map (λ w. (r, w))) found ∙ ap (λ (w : Op). Some (r, w)) same)
 
   none_each : All (λ r. ¬ HasLateWrite ops r) ops → All (λ r. All (λ w. ¬ IsEarly r w) ops) ops

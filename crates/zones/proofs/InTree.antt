@@ -1,25 +1,34 @@
 -- A tree that has the zones of a register has each once.
 use Rattle.std.proofs.Common.{◌≡◌, ◌≢◌, ◌⊎◌, inl, inr, Bool, true, false, not, List, [], ◌∷◌, Option, Some, None, refl, sym, ap, ◌∙◌, subst, cond}
-use Rattle.std.specs.Prelude.{Contains, IsPermutation, IsSome}
+use Rattle.std.specs.Prelude.{All, Contains, IsPermutation, IsSome, map}
 use Rattle.std.specs.List.{AllPairs}
 use Rattle.std.proofs.lemmas.Bool.{both_ways, not-true, not_from_false, false_from_ne_true}
 use Rattle.std.proofs.lemmas.List.Elements.{All-contains}
+use Rattle.std.proofs.lemmas.List.Kept.{AllPairs-cons}
 use Rattle.std.proofs.lemmas.List.Sorted.{IsPermutation-refl, IsPermutation-sym, IsPermutation-cons, IsPermutation-trans}
 use Rattle.intervals.specs.declared.operation.Value.{Value}
 use Rattle.intervals.specs.declared.operation.Op.{Op}
-use Rattle.intervals.specs.Standing.{HasDistinctMoments, HasDistinctValues}
+use Rattle.intervals.specs.Standing.{HasDistinctMoments, HasNoValueTwice}
+use Rattle.intervals.specs.Kind.{HasNoWrite}
+use Rattle.intervals.specs.Operation.{IsWrite, is_write, value_of, writes}
 use Rattle.zone_tree.specs.declared.edge.Edge.{Edge}
+use Rattle.zone_tree.specs.declared.edge.Edge.TheVariants.{Before, At, Never}
 use Rattle.zone_tree.specs.declared.zone.Zone.{Zone}
-use Rattle.zone_tree.specs.Edge.{same_edge}
-use Rattle.zone_tree.specs.Order.{StandInOrder, without_zone_at, zone_at}
+use Rattle.zone_tree.specs.Edge.{ComesBefore, same_edge}
+use Rattle.zone_tree.specs.Order.{IsByLeft, StandInOrder, without_zone_at, zone_at}
 use Rattle.zone_tree.proofs.EdgeOrder.{Decides-same_edge}
 use Rattle.zone_tree.proofs.Places.{members_without, order_left}
-use Rattle.zones.specs.Cluster.{zone_of, written_values, zones_of}
+use Rattle.zones.specs.AtFirst.{fresh}
+use Rattle.zones.specs.Cluster.{zone_of, written_zone, values_from, zones_from, zones_of}
+use Rattle.zones.specs.Members.{HasWrite}
 use Rattle.zones.specs.Zoned.{AreZoned}
-use Rattle.zones.proofs.Members.{here, there, in_none, contains_cases, kept, kept_stands, mapped, pairs_head, pairs_tail}
+use Rattle.zones.proofs.Members.{all_from, here, there, in_none, contains_cases, kept, kept_stands, mapped, pairs_head, pairs_tail}
 use Rattle.zones.proofs.Edited.{from_map}
 use Rattle.zones.proofs.Excluded.{zones_apart}
+use Rattle.zones.proofs.Cluster.{EdgeIn, left, left_in, left_initial}
+use Rattle.zones.proofs.Fresh.{fresh_is_new, fresh_not_written}
 use Rattle.zones.proofs.PerValue.{found_standing}
+use Rattle.zones.proofs.Written.{write_member, written_zone_is}
 
 abbrev Apart : Zone → Zone → Type 0
 Apart a b = a.left ≢ b.left
@@ -69,8 +78,64 @@ each_once (a ∷ zones) tree apart order each only =
         (IsPermutation-cons a zones (without_zone_at a.left tree) (later still stood))
         (IsPermutation-sym tree (a ∷ without_zone_at a.left tree) (members_without a.left tree a order (e ∙ ap Some same)))
 
-pub zones_each_once : (initial : Value) (ops : List Op) (tree : List Zone) → HasDistinctMoments ops → HasDistinctValues initial ops → StandInOrder tree → AreZoned initial ops tree → IsPermutation (zones_of initial ops) tree
-zones_each_once initial ops tree moments values order zoned =
-    each_once (zones_of initial ops) tree (zones_apart initial ops moments values) order
-    (λ z h. let (v, k, e) = from_map (zone_of initial ops) (written_values initial ops) z h in subst (Contains tree) e (zoned.each v k))
-    (λ z h. let (k, e) = zoned.only z h in subst (Contains (zones_of initial ops)) (sym e) (mapped (zone_of initial ops) (written_values initial ops) z.value k))
+-- an image of a list by two functions that agree on it
+same_image : {X Y : Type 0} (f g : X → Y) (xs : List X) → ((x : X) → Contains xs x → f x ≡ g x) → map f xs ≡ map g xs
+same_image f g [] same = refl
+same_image f g (x ∷ xs) same = let rest = same_image f g xs (λ y h. same y (there x xs y h)) in let first = same x (here x xs) in λ i. first i ∷ rest i
+
+-- what writes carry
+pub has_write : (ops : List Op) (v : Value) → Contains (values_from None ops) v → HasWrite ops v
+has_write ops v h =
+    let (w, k, e) = from_map (λ w. value_of w.act) (writes ops) v h in
+    let (stands, write) = kept_stands is_write ops w k in (w, record { stands = stands; write = write; same = e })
+
+pub carried : (ops : List Op) (v : Value) → HasWrite ops v → Contains (values_from None ops) v
+carried ops v (w, is) =
+    subst (Contains (values_from None ops)) is.same (mapped (λ w. value_of w.act) (writes ops) w (kept is_write ops w is.stands is.write))
+
+-- where no write has the initial value its zone stands in front of those of the writes
+pub zones_behind : (initial : Value) (ops : List Op) → HasNoWrite ops initial → zones_of initial ops ≡ zone_of initial ops initial ∷ zones_from None ops
+zones_behind initial ops none =
+    ap (λ (zones : List Zone). zone_of initial ops initial ∷ zones)
+    (same_image (zone_of initial ops) (written_zone ops) (values_from None ops) (λ v h.
+    let (w, is) = has_write ops v h in
+    written_zone_is initial ops v (λ e. All-contains (λ w. IsWrite w → value_of w.act ≢ initial) ops w none is.stands is.write (is.same ∙ e))))
+
+written_apart : (ops : List Op) → HasDistinctMoments ops → HasNoValueTwice ops → AllPairs Apart (zones_from None ops)
+written_apart ops moments apart =
+    let i = fresh ops in
+    pairs_tail Apart (zone_of i ops i) (zones_from None ops)
+    (subst (AllPairs Apart) (zones_behind i ops (fresh_not_written ops)) (zones_apart i ops moments (record { apart = apart; new = fresh_not_written ops })))
+
+pub zones_each_once : (ops : List Op) (tree : List Zone) → HasDistinctMoments ops → HasNoValueTwice ops → StandInOrder tree → AreZoned ops tree → IsPermutation (zones_from None ops) tree
+zones_each_once ops tree moments apart order zoned =
+    each_once (zones_from None ops) tree (written_apart ops moments apart) order
+    (λ z h. let (v, k, e) = from_map (written_zone ops) (values_from None ops) z h in subst (Contains tree) e (zoned.each v (has_write ops v k)))
+    (λ z h. let (k, e) = zoned.only z h in subst (Contains (zones_from None ops)) (sym e) (mapped (written_zone ops) (values_from None ops) z.value (carried ops z.value k)))
+
+-- a value with a write has a zone that begins after the initial write
+pub begins_later : (ops : List Op) (v : Value) → HasWrite ops v → ComesBefore Before (written_zone ops v).left
+begins_later ops v (w, is) =
+    let i = fresh ops in
+    let n : v ≢ i = λ e. fresh_is_new ops w is.stands (is.same ∙ e) in
+    subst (λ (z : Zone). ComesBefore Before z.left) (written_zone_is i ops v n)
+    (by_edge i n (left i ops v) (left_in i ops v w (write_member i ops v w is)))
+  where
+    by_edge : (i : Value) → v ≢ i → (e : Edge) → EdgeIn i ops v e → ComesBefore Before e
+    by_edge i n Before is = absurd (n is)
+    by_edge i n (At m) is = refl
+    by_edge i n Never is = absurd is
+
+-- the initial zone before those of a tree is each of the register's zones once
+pub behind_once : (initial : Value) (ops : List Op) (tree : List Zone) → HasNoWrite ops initial → IsPermutation (zones_from None ops) tree → IsPermutation (zones_of initial ops) (zone_of initial ops initial ∷ tree)
+behind_once initial ops tree none once =
+    subst (λ (zones : List Zone). IsPermutation zones (zone_of initial ops initial ∷ tree)) (sym (zones_behind initial ops none))
+    (IsPermutation-cons (zone_of initial ops initial) (zones_from None ops) tree once)
+
+pub stands_before : (initial : Value) (ops : List Op) (tree : List Zone) → AreZoned ops tree → All (λ z. ComesBefore (zone_of initial ops initial).left z.left) tree
+stands_before initial ops tree zoned = all_from (λ z. ComesBefore (zone_of initial ops initial).left z.left) tree (λ z h.
+    let (has, e) = zoned.only z h in
+    subst (λ (a : Edge). ComesBefore a z.left) (sym (left_initial initial ops)) (subst (λ (x : Zone). ComesBefore Before x.left) (sym e) (begins_later ops z.value has)))
+
+pub by_left_behind : (initial : Value) (ops : List Op) (tree : List Zone) → AreZoned ops tree → IsByLeft tree → IsByLeft (zone_of initial ops initial ∷ tree)
+by_left_behind initial ops tree zoned by_left = AllPairs-cons (λ a b. ComesBefore a.left b.left) (zone_of initial ops initial) tree (stands_before initial ops tree zoned) by_left

@@ -1,6 +1,7 @@
 mod EdgeOrder
 mod Members
 mod Judged
+mod Fresh
 mod Rows
 mod Held
 mod Lookups
@@ -11,6 +12,7 @@ mod Exchanged
 mod Excluded
 mod InTurn
 mod Existence
+mod Start
 mod OneTurn
 mod AnyOrder
 mod Edited
@@ -27,9 +29,11 @@ mod Admitted
 mod Verdict
 mod Refusals
 mod FirstReads
+mod Writeless
 mod Stretches
-mod StretchFound
+mod OneWrite
 mod EdgesOf
 mod FirstStretch
+mod Front
 mod KeyOrder
 pub mod Crosses

@@ -14,7 +14,8 @@ use Rattle.intervals.specs.Shelf.{id_at, spot_of}
 use Rattle.intervals.specs.Standing.{HasDistinctIds}
 use Rattle.intervals.proofs.Ids.{found_by_id}
 use Rattle.zones.specs.declared.index.Row.TheVariants.{Writes, Ends, Begins}
-use Rattle.zones.specs.Members.{BeginsLastOf, EndsFirstOf, HasNoRead, HasNoWrite, IsTheWriteAt}
+use Rattle.intervals.specs.Kind.{HasNoWrite}
+use Rattle.zones.specs.Members.{BeginsLastOf, EndsFirstOf, HasNoRead, IsTheWriteAt}
 use Rattle.zones.specs.Index.{IsRow, at_first, at_last}
 use Rattle.zones.proofs.Members.{all_from}
 use Rattle.zones.proofs.Rows.{begun, ended, written}

@@ -5,38 +5,37 @@ use Rattle.intervals.specs.declared.operation.Op.{Op}
 use Rattle.intervals.specs.declared.operation.Value.{Value}
 use Rattle.intervals.specs.Standing.{HasDistinctMoments}
 use Rattle.zone_tree.specs.declared.zone.Zone.{Zone}
-use Rattle.zones.specs.Cluster.{zone_of}
-use Rattle.zones.specs.Members.{IsChange}
+use Rattle.zones.specs.Cluster.{written_zone}
+use Rattle.zones.specs.Members.{HasWrite, IsChange}
 use Rattle.zones.specs.Zoned.{AreChanges, AreZoned, AreZonesAt, CanMove, IsZoneAtSome, KeepsRoom, moved, other_value, value_in}
-use Rattle.zones.proofs.Cluster.{edges_in_order, value_is}
 use Rattle.zones.proofs.PerValue.{StandForValues, HasZonesBut, IsZoneForSome, DifferWhereTouched, moved_tree, tree_can_move, tree_keeps_room}
-use Rattle.zones.proofs.Written.{IsWritten, one_left, written_still, written_stood, zone_kept}
+use Rattle.zones.proofs.Written.{one_left, write_still, write_stood, written_in_order, written_value, written_zone_kept}
 
-zones_stand : (initial : Value) (ops : List Op) → HasDistinctMoments ops → StandForValues (IsWritten initial ops) (zone_of initial ops)
-zones_stand initial ops moments = record {
-  value = value_is initial ops;
-  order = edges_in_order initial ops;
-  one_left = one_left initial ops moments;
+zones_stand : (ops : List Op) → HasDistinctMoments ops → StandForValues (HasWrite ops) (written_zone ops)
+zones_stand ops moments = record {
+  value = written_value ops;
+  order = written_in_order ops;
+  one_left = one_left ops moments;
 }
 
-zone_for : (initial : Value) (ops : List Op) (value : Option Value) (found : Option Zone) → IsZoneAtSome initial ops value found → IsZoneForSome (IsWritten initial ops) (zone_of initial ops) value found
-zone_for initial ops None found is = is
-zone_for initial ops (Some value) found is = record { zone = is.zone; none = is.none; some = is.some }
+zone_for : (ops : List Op) (value : Option Value) (found : Option Zone) → IsZoneAtSome ops value found → IsZoneForSome (HasWrite ops) (written_zone ops) value found
+zone_for ops None found is = is
+zone_for ops (Some value) found is = record { zone = is.zone; none = is.none; some = is.some }
 
 -- an edit's zones are moved
-module _ (initial : Value) (before : List Op) (old new : Option Op) (after : List Op) (change : IsChange before old new after)
-    (moments : HasDistinctMoments before) (moments_after : HasDistinctMoments after) (zones : List Zone) (zoned : AreZoned initial before zones)
+module _ (before : List Op) (old new : Option Op) (after : List Op) (change : IsChange before old new after)
+    (moments : HasDistinctMoments before) (moments_after : HasDistinctMoments after) (zones : List Zone) (zoned : AreZoned before zones)
     (earlier later gone come : Option Zone × Option Zone) (changes : AreChanges earlier later gone come)
-    (earlier_is : AreZonesAt initial before (value_in old) (other_value (value_in old) (value_in new)) earlier)
-    (later_is : AreZonesAt initial after (value_in old) (other_value (value_in old) (value_in new)) later) where
-  differ : DifferWhereTouched old new (IsWritten initial before) (IsWritten initial after) (zone_of initial before) (zone_of initial after)
+    (earlier_is : AreZonesAt before (value_in old) (other_value (value_in old) (value_in new)) earlier)
+    (later_is : AreZonesAt after (value_in old) (other_value (value_in old) (value_in new)) later) where
+  differ : DifferWhereTouched old new (HasWrite before) (HasWrite after) (written_zone before) (written_zone after)
   differ = record {
-    still = λ v is. written_still initial before old new after change v is.by_old;
-    stood = λ v. written_stood initial before old new after change v;
-    same = λ v is. zone_kept initial before old new after change v is.by_old is.by_new;
+    still = λ v is. write_still before old new after change v is.by_old;
+    stood = λ v. write_stood before old new after change v;
+    same = λ v is. written_zone_kept before old new after change v is.by_old is.by_new;
   }
 
-  tree : HasZonesBut (IsWritten initial before) (zone_of initial before) (λ v. ⊥) zones
+  tree : HasZonesBut (HasWrite before) (written_zone before) (λ v. ⊥) zones
   tree = record {
     each = λ v written out. zoned.each v written;
     only = λ z h. let (written, e) = zoned.only z h in (written, (λ n. n), e);
@@ -48,13 +47,13 @@ module _ (initial : Value) (before : List Op) (old new : Option Op) (after : Lis
   abbrev second : Option Value
   second = other_value (value_in old) (value_in new)
 
-  pub moved_zoned : AreZoned initial after (moved gone come zones)
+  pub moved_zoned : AreZoned after (moved gone come zones)
   moved_zoned =
       let whole =
-      moved_tree old new (IsWritten initial before) (IsWritten initial after) (zone_of initial before) (zone_of initial after)
-      (zones_stand initial before moments) (zones_stand initial after moments_after) differ zones tree earlier later gone come changes
-      (zone_for initial before first earlier.0 earlier_is.one) (zone_for initial before second earlier.1 earlier_is.other)
-      (zone_for initial after first later.0 later_is.one) (zone_for initial after second later.1 later_is.other)
+      moved_tree old new (HasWrite before) (HasWrite after) (written_zone before) (written_zone after)
+      (zones_stand before moments) (zones_stand after moments_after) differ zones tree earlier later gone come changes
+      (zone_for before first earlier.0 earlier_is.one) (zone_for before second earlier.1 earlier_is.other)
+      (zone_for after first later.0 later_is.one) (zone_for after second later.1 later_is.other)
       in
       record {
         each = λ v written. whole.each v written (λ n. n);
@@ -63,14 +62,14 @@ module _ (initial : Value) (before : List Op) (old new : Option Op) (after : Lis
 
   pub can_move : (free steps : ℕ) → (IsSome new → 2 ≤ free) → CanMove (record { zones = zones; free = free; steps = steps }) gone come
   can_move =
-      tree_can_move old new (IsWritten initial before) (IsWritten initial after) (zone_of initial before) (zone_of initial after)
-      (zones_stand initial before moments) (zones_stand initial after moments_after) differ zones tree earlier later gone come changes
-      (zone_for initial before first earlier.0 earlier_is.one) (zone_for initial before second earlier.1 earlier_is.other)
-      (zone_for initial after first later.0 later_is.one) (zone_for initial after second later.1 later_is.other)
+      tree_can_move old new (HasWrite before) (HasWrite after) (written_zone before) (written_zone after)
+      (zones_stand before moments) (zones_stand after moments_after) differ zones tree earlier later gone come changes
+      (zone_for before first earlier.0 earlier_is.one) (zone_for before second earlier.1 earlier_is.other)
+      (zone_for after first later.0 later_is.one) (zone_for after second later.1 later_is.other)
 
   pub keeps_room : new ≡ None → KeepsRoom zones gone come
   keeps_room =
-      tree_keeps_room old new (IsWritten initial before) (IsWritten initial after) (zone_of initial before) (zone_of initial after)
-      (zones_stand initial before moments) (zones_stand initial after moments_after) differ zones tree earlier later gone come changes
-      (zone_for initial before first earlier.0 earlier_is.one) (zone_for initial before second earlier.1 earlier_is.other)
-      (zone_for initial after first later.0 later_is.one) (zone_for initial after second later.1 later_is.other)
+      tree_keeps_room old new (HasWrite before) (HasWrite after) (written_zone before) (written_zone after)
+      (zones_stand before moments) (zones_stand after moments_after) differ zones tree earlier later gone come changes
+      (zone_for before first earlier.0 earlier_is.one) (zone_for before second earlier.1 earlier_is.other)
+      (zone_for after first later.0 later_is.one) (zone_for after second later.1 later_is.other)

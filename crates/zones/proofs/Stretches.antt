@@ -1,5 +1,5 @@
 -- The stretches of the values that are read: their edges, and what an edit makes of them.
-use Rattle.std.proofs.Common.{◌≡◌, ◌≢◌, ◌⊎◌, ◌≤◌, ◌<◌, ℕ, inl, inr, Bool, true, false, ◌&&◌, List, [], Option, Some, None, Decides, refl, sym, ap, ◌∙◌, subst, cond, arith}
+use Rattle.std.proofs.Common.{◌≡◌, ◌≢◌, ◌⊎◌, ◌≤◌, ◌<◌, ℕ, inl, inr, true, false, ◌&&◌, List, [], Option, Some, None, Decides, refl, sym, ap, ◌∙◌, subst, arith}
 use Rattle.std.specs.Prelude.{Contains, IsSome, filter, map}
 use Rattle.std.proofs.lemmas.Bool.{cond_both, both_ways, cases_order, lt-ltb, ltb-true}
 use Rattle.std.proofs.lemmas.Bool.Decides.{Decides-and, not_from_Decides}
@@ -11,15 +11,17 @@ use Rattle.intervals.specs.declared.operation.Value.{Value}
 use Rattle.intervals.specs.Operation.{IsJudgedRead, IsWrite, is_judged_read, is_write, judged, same_value, value_of}
 use Rattle.intervals.specs.Standing.{HasDistinctMoments}
 use Rattle.intervals.specs.Judging.{end_number}
+use Rattle.intervals.specs.Terms.{Terms}
 use Rattle.intervals.proofs.Found.{find-None, find-Some}
 use Rattle.zone_tree.specs.declared.edge.Edge.{Edge}
-use Rattle.zone_tree.specs.declared.edge.Edge.TheVariants.{Before, At, Never}
+use Rattle.zone_tree.specs.declared.edge.Edge.TheVariants.{At, Never}
 use Rattle.zone_tree.specs.declared.zone.Zone.{Zone}
 use Rattle.zone_tree.specs.Edge.{ComesBefore, comes_before}
 use Rattle.zone_tree.specs.Zone.{HasOrderedEdges, IsForward}
 use Rattle.zones.specs.Cluster.{Span, edge_of_end, has_value, span_of, zone_between}
-use Rattle.zones.specs.Faults.{AreStretched, AreStretchesAt, IsRead, IsStretchAtSome, begin_of, begin_of_write, first_end_of, reads_of, stretch_of, write_of}
-use Rattle.zones.specs.Members.{EndsFirstOf, HasNoWrite, IsChange, IsTheWriteAt}
+use Rattle.zones.specs.Faults.{AreStretched, AreStretchesAt, IsRead, IsReadLater, IsStretchAtSome, begin_of_write, first_end_of, reads_of, stretch_of, write_of}
+use Rattle.intervals.specs.Kind.{HasNoWrite}
+use Rattle.zones.specs.Members.{EndsFirstOf, IsChange, IsTheWriteAt}
 use Rattle.zones.specs.Zoned.{AreChanges, CanMove, KeepsRoom, moved, other_value, value_in}
 use Rattle.zones.proofs.Cluster.{EdgeIn, least-bound, least-held, settle}
 use Rattle.zones.proofs.EdgeOrder.{AtMost, at_most_both}
@@ -185,78 +187,63 @@ module _ (ops : List Op) (v : Value) where
           inl (w, e, record { stands = h; write = write; same = same })
 
 -- where the write of a value begins
-module _ (initial : Value) (ops : List Op) (v : Value) where
+module _ (ops : List Op) (v : Value) where
+  abbrev pub begin : Edge
+  begin = begin_of_write (write_of ops v)
+
   abbrev pub BeginsAtWrite : Type 0
-  BeginsAtWrite = (w : Op) × IsTheWriteAt ops v w × (initial ≢ v) × (begin_of initial ops v ≡ At w.begin)
+  BeginsAtWrite = (w : Op) × IsTheWriteAt ops v w × (begin ≡ At w.begin)
 
   abbrev pub BeginsNever : Type 0
-  BeginsNever = (initial ≢ v) × HasNoWrite ops v × (begin_of initial ops v ≡ Never)
+  BeginsNever = HasNoWrite ops v × (begin ≡ Never)
 
   abbrev pub BeginCases : Type 0
-  BeginCases = ((initial ≡ v) × (begin_of initial ops v ≡ Before)) ⊎ (BeginsAtWrite ⊎ BeginsNever)
+  BeginCases = BeginsAtWrite ⊎ BeginsNever
 
   pub begin_cases : BeginCases
-  begin_cases = by_value (same_value initial v) refl
+  begin_cases = by_write (write_cases ops v)
     where
-      begin_by : (t : Bool) → same_value initial v ≡ t → begin_of initial ops v ≡ cond t Before (begin_of_write (write_of ops v))
-      begin_by t e = ap (λ (b : Bool). cond b Before (begin_of_write (write_of ops v))) e
+      by_write : ((w : Op) × (write_of ops v ≡ Some w) × IsTheWriteAt ops v w) ⊎ ((write_of ops v ≡ None) × HasNoWrite ops v) → BeginCases
+      by_write (inl (w, e, is)) = inl (w, is, ap begin_of_write e)
+      by_write (inr (e, none)) = inr (none, ap begin_of_write e)
 
-      by_write : same_value initial v ≡ false → ((w : Op) × (write_of ops v ≡ Some w) × IsTheWriteAt ops v w) ⊎ ((write_of ops v ≡ None) × HasNoWrite ops v) → BeginCases
-      by_write f (inl (w, e, is)) = inr (inl (w, is, not_from_Decides (same_value initial v) (Decides-same_value initial v) f, begin_by false f ∙ ap begin_of_write e))
-      by_write f (inr (e, none)) = inr (inr (not_from_Decides (same_value initial v) (Decides-same_value initial v) f, none, begin_by false f ∙ ap begin_of_write e))
-
-      by_value : (t : Bool) → same_value initial v ≡ t → BeginCases
-      by_value true t = inl ((Decides-same_value initial v).0 t, begin_by true t)
-      by_value false f = by_write f (write_cases ops v)
-
-  pub begin_initial : initial ≡ v → begin_of initial ops v ≡ Before
-  begin_initial i = by_cases begin_cases
+  pub begin_at_write : (w : Op) → IsTheWriteAt ops v w → ((x : Op) → IsTheWriteAt ops v x → x ≡ w) → begin ≡ At w.begin
+  begin_at_write w is one = by_cases begin_cases
     where
-      by_cases : BeginCases → begin_of initial ops v ≡ Before
-      by_cases (inl (j, e)) = e
-      by_cases (inr (inl (w, is, n, e))) = absurd (n i)
-      by_cases (inr (inr (n, none, e))) = absurd (n i)
+      by_cases : BeginCases → begin ≡ At w.begin
+      by_cases (inl (x, other, e)) = e ∙ ap (λ (o : Op). At o.begin) (one x other)
+      by_cases (inr (none, e)) = absurd (no_write_at ops v none w is)
 
-  pub begin_at_write : initial ≢ v → (w : Op) → IsTheWriteAt ops v w → ((x : Op) → IsTheWriteAt ops v x → x ≡ w) → begin_of initial ops v ≡ At w.begin
-  begin_at_write n w is one = by_cases begin_cases
+  pub begin_never : HasNoWrite ops v → begin ≡ Never
+  begin_never none = by_cases begin_cases
     where
-      by_cases : BeginCases → begin_of initial ops v ≡ At w.begin
-      by_cases (inl (i, e)) = absurd (n i)
-      by_cases (inr (inl (x, other, m, e))) = e ∙ ap (λ (o : Op). At o.begin) (one x other)
-      by_cases (inr (inr (m, none, e))) = absurd (no_write_at ops v none w is)
+      by_cases : BeginCases → begin ≡ Never
+      by_cases (inl (x, other, e)) = absurd (no_write_at ops v none x other)
+      by_cases (inr (none, e)) = e
 
-  pub begin_never : initial ≢ v → HasNoWrite ops v → begin_of initial ops v ≡ Never
-  begin_never n none = by_cases begin_cases
+  -- the left edge of a stretch is a moment of the value's operations
+  pub left_of_stretch : (initial : Value) → IsRead ops v → EdgeIn initial ops v (stretch_of ops v).left
+  left_of_stretch initial read = let (end, id, is) = first_of_reads ops v read in by_cases end id is (between_cases (first_end_of ops v) begin v)
     where
-      by_cases : BeginCases → begin_of initial ops v ≡ Never
-      by_cases (inl (i, e)) = absurd (n i)
-      by_cases (inr (inl (x, other, m, e))) = absurd (no_write_at ops v none x other)
-      by_cases (inr (inr (m, none, e))) = e
-
-  -- the left edge of a stretch is of the initial write, or a moment of the value's operations
-  pub left_of_stretch : IsRead ops v → EdgeIn initial ops v (stretch_of initial ops v).left
-  left_of_stretch read = let (end, id, is) = first_of_reads ops v read in by_cases end id is (between_cases (first_end_of ops v) (begin_of initial ops v) v)
-    where
-      by_begin : (end : Moment) → first_end_of ops v ≡ At end → ¬ ComesBefore (first_end_of ops v) (begin_of initial ops v) → BeginCases → EdgeIn initial ops v (begin_of initial ops v)
-      by_begin end first n (inl (i, e)) = subst (EdgeIn initial ops v) (sym e) (sym i)
-      by_begin end first n (inr (inl (w, is, m, e))) = subst (EdgeIn initial ops v) (sym e) (w, write_member initial ops v w is, inl refl)
-      by_begin end first n (inr (inr (m, none, e))) = absurd (n (rw (first, e) refl))
+      by_begin : (end : Moment) → first_end_of ops v ≡ At end → ¬ ComesBefore (first_end_of ops v) begin → BeginCases → EdgeIn initial ops v begin
+      by_begin end first n (inl (w, is, e)) = subst (EdgeIn initial ops v) (sym e) (w, write_member initial ops v w is, inl refl)
+      by_begin end first n (inr (none, e)) = absurd (n (rw (first, e) refl))
 
       by_cases : (end : Moment) (id : OpId) → EndsFirstOf ops v end id
-          → (ComesBefore (first_end_of ops v) (begin_of initial ops v) × (stretch_of initial ops v ≡ forward_zone (first_end_of ops v) (begin_of initial ops v) v)) ⊎ ((¬ ComesBefore (first_end_of ops v) (begin_of initial ops v)) × (stretch_of initial ops v ≡ backward_zone (first_end_of ops v) (begin_of initial ops v) v))
-          → EdgeIn initial ops v (stretch_of initial ops v).left
+          → (ComesBefore (first_end_of ops v) begin × (stretch_of ops v ≡ forward_zone (first_end_of ops v) begin v)) ⊎ ((¬ ComesBefore (first_end_of ops v) begin) × (stretch_of ops v ≡ backward_zone (first_end_of ops v) begin v))
+          → EdgeIn initial ops v (stretch_of ops v).left
       by_cases end id is (inl (p, e)) =
-          let left : (stretch_of initial ops v).left ≡ At end = ap (λ (z : Zone). z.left) e ∙ first_end_is ops v end id is in
+          let left : (stretch_of ops v).left ≡ At end = ap (λ (z : Zone). z.left) e ∙ first_end_is ops v end id is in
           subst (EdgeIn initial ops v) (sym left) (is.read, (kept is_judged ops is.read is.stands (judged_read is.read is.judged).0, is.same), inr is.ended)
       by_cases end id is (inr (n, e)) =
           subst (EdgeIn initial ops v) (sym (ap (λ (z : Zone). z.left) e)) (by_begin end (first_end_is ops v end id is) n begin_cases)
 
-pub stretches_stand : (initial : Value) (ops : List Op) → HasDistinctMoments ops → StandForValues (IsRead ops) (stretch_of initial ops)
-stretches_stand initial ops moments = record {
-  value = λ v. value_between (first_end_of ops v) (begin_of initial ops v) v;
-  order = λ v. order_between (first_end_of ops v) (begin_of initial ops v) v;
+pub stretches_stand : (claim : Terms) (ops : List Op) → HasDistinctMoments ops → StandForValues (IsReadLater claim ops) (stretch_of ops)
+stretches_stand claim ops moments = record {
+  value = λ v. value_between (first_end_of ops v) (begin ops v) v;
+  order = λ v. order_between (first_end_of ops v) (begin ops v) v;
   one_left = λ u v h k e.
-      settle initial ops moments u v (stretch_of initial ops v).left (subst (EdgeIn initial ops u) e (left_of_stretch initial ops u h)) (left_of_stretch initial ops v k);
+      settle claim.initial ops moments u v (stretch_of ops v).left (subst (EdgeIn claim.initial ops u) e (left_of_stretch ops u claim.initial h.0)) (left_of_stretch ops v claim.initial k.0);
 }
 
 -- more reads have no later first end
@@ -268,7 +255,7 @@ first_of_more ops more v each = by_cases (first_held ops v)
     by_cases (inr (r, h, e)) = subst (λ (x : Edge). AtMost (first_end_of more v) x) e (first_at_most more v r (each r h))
 
 -- a change touches the values of what goes and of what comes alone
-module _ (initial : Value) (before : List Op) (old new : Option Op) (after : List Op) (change : IsChange before old new after) (v : Value) where
+module _ (before : List Op) (old new : Option Op) (after : List Op) (change : IsChange before old new after) (v : Value) where
   stays : ((op : Op) → old ≡ Some op → value_of op.act ≢ v) → (op : Op) → Contains before op → is_judged op ≡ true → value_of op.act ≡ v → Contains after op
   stays apart op h j e = by_cases (change.stay op (kept is_judged before op h j))
     where
@@ -302,44 +289,43 @@ module _ (initial : Value) (before : List Op) (old new : Option Op) (after : Lis
       (a.same ∙ sym b.same) a.write b.write
 
   module _ (untouched : IsUntouched old new v) where
-    begin_kept : begin_of initial before v ≡ begin_of initial after v
-    begin_kept = by_cases (begin_cases initial before v)
+    begin_kept : begin before v ≡ begin after v
+    begin_kept = by_cases (begin_cases before v)
       where
-        by_cases : BeginCases initial before v → begin_of initial before v ≡ begin_of initial after v
-        by_cases (inl (i, e)) = e ∙ sym (begin_initial initial after v i)
-        by_cases (inr (inl (w, is, n, e))) =
+        by_cases : BeginCases before v → begin before v ≡ begin after v
+        by_cases (inl (w, is, e)) =
             let stands = write_still untouched.by_old w is in
-            e ∙ sym (begin_at_write initial after v n w stands (λ x other. one_after x w other stands))
-        by_cases (inr (inr (n, none, e))) =
-            e ∙ sym (begin_never initial after v n (no_write after v (λ w is. no_write_at before v none w (write_stood untouched.by_new w is))))
+            e ∙ sym (begin_at_write after v w stands (λ x other. one_after x w other stands))
+        by_cases (inr (none, e)) =
+            e ∙ sym (begin_never after v (no_write after v (λ w is. no_write_at before v none w (write_stood untouched.by_new w is))))
 
-    stretch_kept : stretch_of initial before v ≡ stretch_of initial after v
+    stretch_kept : stretch_of before v ≡ stretch_of after v
     stretch_kept =
         let first : first_end_of before v ≡ first_end_of after v =
         at_most_both (first_end_of before v) (first_end_of after v)
         (first_of_more after before v (read_stood untouched.by_new)) (first_of_more before after v (read_still untouched.by_old))
         in
-        ap (λ (m : Edge). zone_between m (begin_of initial before v) v) first
+        ap (λ (m : Edge). zone_between m (begin before v) v) first
         ∙ ap (λ (m : Edge). zone_between (first_end_of after v) m v) begin_kept
 
-stretch_for : (initial : Value) (ops : List Op) (value : Option Value) (found : Option Zone) → IsStretchAtSome initial ops value found → IsZoneForSome (IsRead ops) (stretch_of initial ops) value found
-stretch_for initial ops None found is = is
-stretch_for initial ops (Some value) found is = record { zone = is.stretch; none = is.none; some = is.some }
+stretch_for : (claim : Terms) (ops : List Op) (value : Option Value) (found : Option Zone) → IsStretchAtSome claim ops value found → IsZoneForSome (IsReadLater claim ops) (stretch_of ops) value found
+stretch_for claim ops None found is = is
+stretch_for claim ops (Some value) found is = record { zone = is.stretch; none = is.none; some = is.some }
 
 -- an edit's stretches are moved
-module _ (initial : Value) (before : List Op) (old new : Option Op) (after : List Op) (change : IsChange before old new after)
-    (moments : HasDistinctMoments before) (moments_after : HasDistinctMoments after) (stretches : List Zone) (stretched : AreStretched initial before stretches)
+module _ (claim : Terms) (before : List Op) (old new : Option Op) (after : List Op) (change : IsChange before old new after)
+    (moments : HasDistinctMoments before) (moments_after : HasDistinctMoments after) (stretches : List Zone) (stretched : AreStretched claim before stretches)
     (earlier later gone come : Option Zone × Option Zone) (changes : AreChanges earlier later gone come)
-    (earlier_is : AreStretchesAt initial before (value_in old) (other_value (value_in old) (value_in new)) earlier)
-    (later_is : AreStretchesAt initial after (value_in old) (other_value (value_in old) (value_in new)) later) where
-  differ : DifferWhereTouched old new (IsRead before) (IsRead after) (stretch_of initial before) (stretch_of initial after)
+    (earlier_is : AreStretchesAt claim before (value_in old) (other_value (value_in old) (value_in new)) earlier)
+    (later_is : AreStretchesAt claim after (value_in old) (other_value (value_in old) (value_in new)) later) where
+  differ : DifferWhereTouched old new (IsReadLater claim before) (IsReadLater claim after) (stretch_of before) (stretch_of after)
   differ = record {
-    still = λ v is (r, h, j, e). let (k, t, f) = read_still initial before old new after change v is.by_old r (h, j, e) in (r, k, t, f);
-    stood = λ v apart (r, h, j, e). let (k, t, f) = read_stood initial before old new after change v apart r (h, j, e) in (r, k, t, f);
-    same = λ v is. stretch_kept initial before old new after change v is;
+    still = λ v is ((r, h, j, e), later). let (k, t, f) = read_still before old new after change v is.by_old r (h, j, e) in ((r, k, t, f), later);
+    stood = λ v apart ((r, h, j, e), later). let (k, t, f) = read_stood before old new after change v apart r (h, j, e) in ((r, k, t, f), later);
+    same = λ v is. stretch_kept before old new after change v is;
   }
 
-  tree : HasZonesBut (IsRead before) (stretch_of initial before) (λ v. ⊥) stretches
+  tree : HasZonesBut (IsReadLater claim before) (stretch_of before) (λ v. ⊥) stretches
   tree = record {
     each = λ v read out. stretched.each v read;
     only = λ z h. let (read, e) = stretched.only z h in (read, (λ n. n), e);
@@ -351,13 +337,13 @@ module _ (initial : Value) (before : List Op) (old new : Option Op) (after : Lis
   abbrev second : Option Value
   second = other_value (value_in old) (value_in new)
 
-  pub moved_stretched : AreStretched initial after (moved gone come stretches)
+  pub moved_stretched : AreStretched claim after (moved gone come stretches)
   moved_stretched =
       let whole =
-      moved_tree old new (IsRead before) (IsRead after) (stretch_of initial before) (stretch_of initial after)
-      (stretches_stand initial before moments) (stretches_stand initial after moments_after) differ stretches tree earlier later gone come changes
-      (stretch_for initial before first earlier.0 earlier_is.one) (stretch_for initial before second earlier.1 earlier_is.other)
-      (stretch_for initial after first later.0 later_is.one) (stretch_for initial after second later.1 later_is.other)
+      moved_tree old new (IsReadLater claim before) (IsReadLater claim after) (stretch_of before) (stretch_of after)
+      (stretches_stand claim before moments) (stretches_stand claim after moments_after) differ stretches tree earlier later gone come changes
+      (stretch_for claim before first earlier.0 earlier_is.one) (stretch_for claim before second earlier.1 earlier_is.other)
+      (stretch_for claim after first later.0 later_is.one) (stretch_for claim after second later.1 later_is.other)
       in
       record {
         each = λ v read. whole.each v read (λ n. n);
@@ -366,20 +352,20 @@ module _ (initial : Value) (before : List Op) (old new : Option Op) (after : Lis
 
   pub stretches_can_move : (free steps : ℕ) → (IsSome new → 2 ≤ free) → CanMove (record { zones = stretches; free = free; steps = steps }) gone come
   stretches_can_move =
-      tree_can_move old new (IsRead before) (IsRead after) (stretch_of initial before) (stretch_of initial after)
-      (stretches_stand initial before moments) (stretches_stand initial after moments_after) differ stretches tree earlier later gone come changes
-      (stretch_for initial before first earlier.0 earlier_is.one) (stretch_for initial before second earlier.1 earlier_is.other)
-      (stretch_for initial after first later.0 later_is.one) (stretch_for initial after second later.1 later_is.other)
+      tree_can_move old new (IsReadLater claim before) (IsReadLater claim after) (stretch_of before) (stretch_of after)
+      (stretches_stand claim before moments) (stretches_stand claim after moments_after) differ stretches tree earlier later gone come changes
+      (stretch_for claim before first earlier.0 earlier_is.one) (stretch_for claim before second earlier.1 earlier_is.other)
+      (stretch_for claim after first later.0 later_is.one) (stretch_for claim after second later.1 later_is.other)
 
   pub stretches_keep_room : new ≡ None → KeepsRoom stretches gone come
   stretches_keep_room =
-      tree_keeps_room old new (IsRead before) (IsRead after) (stretch_of initial before) (stretch_of initial after)
-      (stretches_stand initial before moments) (stretches_stand initial after moments_after) differ stretches tree earlier later gone come changes
-      (stretch_for initial before first earlier.0 earlier_is.one) (stretch_for initial before second earlier.1 earlier_is.other)
-      (stretch_for initial after first later.0 later_is.one) (stretch_for initial after second later.1 later_is.other)
+      tree_keeps_room old new (IsReadLater claim before) (IsReadLater claim after) (stretch_of before) (stretch_of after)
+      (stretches_stand claim before moments) (stretches_stand claim after moments_after) differ stretches tree earlier later gone come changes
+      (stretch_for claim before first earlier.0 earlier_is.one) (stretch_for claim before second earlier.1 earlier_is.other)
+      (stretch_for claim after first later.0 later_is.one) (stretch_for claim after second later.1 later_is.other)
 
-pub stretched_none : (initial : Value) → AreStretched initial [] []
-stretched_none initial = record {
-  each = λ v (r, h, j, e). absurd (in_none r h);
+pub stretched_none : (claim : Terms) → AreStretched claim [] []
+stretched_none claim = record {
+  each = λ v ((r, h, j, e), later). absurd (in_none r h);
   only = λ z h. absurd (in_none z h);
 }

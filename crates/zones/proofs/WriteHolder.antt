@@ -4,15 +4,14 @@ use Rattle.std.specs.Prelude.{All, Contains, IsTrue, find, option_map}
 use Rattle.std.proofs.lemmas.Bool.{both_ways}
 use Rattle.std.proofs.lemmas.List.Elements.{All-contains}
 use Rattle.intervals.specs.declared.operation.Op.{Op}
-use Rattle.intervals.specs.declared.operation.Value.{Value}
 use Rattle.intervals.specs.declared.claim.Holder.{Holder}
 use Rattle.intervals.specs.declared.claim.Holder.TheVariants as holders
 use Rattle.intervals.specs.declared.claim.Kind.{Kind}
 use Rattle.intervals.specs.declared.claim.Kind.TheVariants.{Atomic}
 use Rattle.intervals.specs.declared.refusal.Refusal.{Refusal}
 use Rattle.intervals.specs.declared.refusal.Refusal.TheVariants.{NotAWriter, ValueTaken, OutOfDomain}
-use Rattle.intervals.specs.Operation.{IsWrite, is_write, same_id, same_value, value_of}
-use Rattle.intervals.specs.Refusal.{first_of, refused_if, as_holder, holder_of, is_holder, is_in_domain, kind_refusal, may_write, value_refusal, write_refusal}
+use Rattle.intervals.specs.Operation.{IsWrite, is_write, same_id, value_of}
+use Rattle.intervals.specs.Refusal.{first_of, refused_if, as_holder, holder_of, is_holder, is_in_domain, is_initial, kind_refusal, may_write, value_refusal, write_refusal}
 use Rattle.intervals.specs.Terms.{Terms}
 use Rattle.intervals.proofs.Found.{find-None, find-none, find-Some}
 use Rattle.intervals.proofs.Holders.{Decides-is_holder}
@@ -47,11 +46,9 @@ module _ (claim : Terms) (ops : List Op) (op : Op) where
         by_found (Some x) e = let (h, t) = find-Some (is_holder op) ops x e in ap Some (one_holder x h t).0
 
   -- the holder of a value that is not the initial one
-  pub held_by : (initial : Value) (found : Option Op) → claim.initial ≡ initial → same_value initial (value_of op.act) ≡ false → found ≡ find (is_holder op) ops
-      → holder_of claim ops op ≡ option_map as_holder found
-  held_by initial found same other is =
-      ap (λ (t : Bool). cond t (Some holders.Initial) (option_map as_holder (find (is_holder op) ops)))
-      (ap (λ (i : Value). same_value i (value_of op.act)) same ∙ other)
+  pub held_by : (found : Option Op) → is_initial claim (value_of op.act) ≡ false → found ≡ find (is_holder op) ops → holder_of claim ops op ≡ option_map as_holder found
+  held_by found other is =
+      ap (λ (t : Bool). cond t (Some holders.Initial) (option_map as_holder (find (is_holder op) ops))) other
       ∙ ap (option_map as_holder) (sym is)
 
   -- an atomic register's refusal of a write is that beside the holder of its value

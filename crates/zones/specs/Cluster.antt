@@ -80,6 +80,12 @@ zone_between least greatest value =
 abbrev pub zone_of : Value → List Op → Value → Zone
 zone_of initial ops value = zone_between (least_end_of initial ops value) (greatest_begin_of initial ops value) value
 
+-- the zone of a value that some write has, which is not the initial one
+abbrev pub written_zone : List Op → Value → Zone
+written_zone ops value =
+    let spans = map span_of (cluster_of ops value) in
+    zone_between (least_end_in spans) (greatest_begin_in spans) value
+
 -- the values that have a write: the initial one, and those of the writes that stand
 abbrev pub written_values : Value → List Op → List Value
 written_values initial ops = initial ∷ map (λ w. value_of w.act) (writes ops)
@@ -87,3 +93,13 @@ written_values initial ops = initial ∷ map (λ w. value_of w.act) (writes ops)
 -- the zones of a list of operations: one for each value that has a write
 abbrev pub zones_of : Value → List Op → List Zone
 zones_of initial ops = map (zone_of initial ops) (written_values initial ops)
+
+-- the values that have a write, where the initial one is there, and where it is not
+abbrev pub values_from : Option Value → List Op → List Value
+values_from None ops = map (λ w. value_of w.act) (writes ops)
+values_from (Some initial) ops = written_values initial ops
+
+-- the zones, where there is an initial value, and where there is none
+abbrev pub zones_from : Option Value → List Op → List Zone
+zones_from None ops = map (written_zone ops) (values_from None ops)
+zones_from (Some initial) ops = zones_of initial ops

@@ -7,7 +7,7 @@ use Rattle.zone_tree.specs.declared.edge.Edge.TheVariants.{At}
 use Rattle.zone_tree.specs.declared.zone.Zone.{Zone}
 use Rattle.zone_tree.specs.Order.{IsByLeft}
 use Rattle.zone_tree.specs.Conflict.{IsFirstConflict}
-use Rattle.zones.specs.Cluster.{edge_of_end, cluster_of, least_end_of, greatest_begin_of, zones_of}
+use Rattle.zones.specs.Cluster.{edge_of_end, cluster_of, least_end_of, greatest_begin_of, zones_from}
 
 -- the value of an operation; none stands for the initial write
 abbrev pub value_at : Value → Option Op → Value
@@ -55,15 +55,23 @@ pub record AreExtremes (initial : Value) (ops : List Op) (one other : Value) (a 
   pub d_greatest : HasGreatestBegin initial ops one d
 
 -- the first conflict of the register's zones, by their left edges
-pub record HasFirstConflict (initial : Value) (ops : List Op) (first second : Zone) : Type 0 where
+pub record HasFirstConflictFrom (initial : Option Value) (ops : List Op) (first second : Zone) : Type 0 where
   pub zones : List Zone
-  pub each_once : IsPermutation (zones_of initial ops) zones
+  pub each_once : IsPermutation (zones_from initial ops) zones
   pub by_left : IsByLeft zones
   pub conflict : IsFirstConflict zones first second
 
+-- the same with an initial value
+abbrev pub HasFirstConflict : Value → List Op → Zone → Zone → Type 0
+HasFirstConflict initial ops first second = HasFirstConflictFrom (Some initial) ops first second
+
 -- the extremes of the clusters of the first conflict
-pub record IsFirstCrossing (initial : Value) (ops : List Op) (a : Option Op) (b : Op) (c : Option Op) (d : Op) : Type 0 where
+pub record IsFirstCrossingFrom (initial : Option Value) (start : Value) (ops : List Op) (a : Option Op) (b : Op) (c : Option Op) (d : Op) : Type 0 where
   pub first : Zone
   pub second : Zone
-  pub conflict : HasFirstConflict initial ops first second
-  pub extremes : AreExtremes initial ops first.value second.value a b c d
+  pub conflict : HasFirstConflictFrom initial ops first second
+  pub extremes : AreExtremes start ops first.value second.value a b c d
+
+-- the same with an initial value
+abbrev pub IsFirstCrossing : Value → List Op → Option Op → Op → Option Op → Op → Type 0
+IsFirstCrossing initial ops a b c d = IsFirstCrossingFrom (Some initial) initial ops a b c d

@@ -4,7 +4,9 @@ use Rattle.intervals.specs.declared.operation.Op.{Op}
 use Rattle.intervals.specs.declared.operation.Act.TheVariants.{Read, Write}
 use Rattle.intervals.specs.declared.operation.Value.{Value}
 use Rattle.intervals.specs.declared.operation.Value.TheVariants.{Nil}
-use Rattle.intervals.specs.Histories.{number, op, from_to}
+use Rattle.intervals.specs.declared.claim.Kind.TheVariants.{Atomic}
+use Rattle.intervals.specs.Histories.{number, claim_of, op, from_to}
+use Rattle.intervals.specs.Terms.{Terms}
 use Rattle.zone_tree.specs.declared.edge.Edge.{Edge}
 use Rattle.zone_tree.specs.declared.edge.Edge.TheVariants.{At}
 use Rattle.zone_tree.specs.declared.zone.Zone.{Zone}
@@ -84,3 +86,35 @@ nil_read = from_to 2 (Read Nil) 2 3
 -- a write of 1, and after it a read of nil
 abbrev pub back_to_nil : List Op
 back_to_nil = first_write ∷ nil_read ∷ []
+
+-- an atomic register of any writers whose initial value nobody knows
+abbrev pub unknown : Terms
+unknown = record (claim_of Atomic Nil None) { known = false }
+
+-- a read of 7
+abbrev pub read_of_seven : Op
+read_of_seven = from_to 0 (Read (number 7)) 0 1
+
+-- a write of 1, later
+abbrev pub one_written : Op
+one_written = from_to 2 (Write (number 1)) 2 3
+
+-- a read of it
+abbrev pub one_read : Op
+one_read = from_to 4 (Read (number 1)) 4 5
+
+-- a read of 7, and then a write of 1 and a read of it
+abbrev pub seven_and_one : List Op
+seven_and_one = read_of_seven ∷ one_written ∷ one_read ∷ []
+
+-- a read of 8 behind them
+abbrev pub read_of_eight : Op
+read_of_eight = from_to 6 (Read (number 8)) 6 7
+
+-- another read of 7 behind them
+abbrev pub late_seven : Op
+late_seven = from_to 6 (Read (number 7)) 6 7
+
+-- a write of 7 behind them all
+abbrev pub seven_written : Op
+seven_written = from_to 8 (Write (number 7)) 8 9

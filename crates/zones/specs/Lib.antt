@@ -1,6 +1,7 @@
 -- what the public clauses speak of
 pub mod Cluster
 pub mod Fault
+pub mod AtFirst
 pub mod Crossing
 pub mod Turn
 -- worked histories

@@ -39,9 +39,9 @@ pub record IsChange (before : List Op) (old new : Option Op) (after : List Op) :
   pub apart_before : HaveOwnPlaces before
   pub apart_after : HaveOwnPlaces after
 
--- no write has the value
-abbrev pub HasNoWrite : List Op → Value → Type 0
-HasNoWrite ops value = All (λ w. IsWrite w → value_of w.act ≢ value) ops
+-- some write has the value
+abbrev pub HasWrite : List Op → Value → Type 0
+HasWrite ops value = (w : Op) × IsTheWriteAt ops value w
 
 -- no judged read has the value
 abbrev pub HasNoRead : List Op → Value → Type 0

@@ -28,7 +28,7 @@ pub record HasRoomFor (members : Members) (zones stretches : Contents) (op : Op)
 pub record HoldTogether (claim : Terms) (table : Tabled) (members : Members) (zones stretches : Contents) : Type 0 where
   pub apart : AreManyWriters claim table.ops
   pub members_of : AreMembers table.ops members
-  pub zoned : AreZoned claim.initial table.ops zones.zones
-  pub stretched : AreStretched claim.initial table.ops stretches.zones
+  pub zoned : AreZoned table.ops zones.zones
+  pub stretched : AreStretched claim table.ops stretches.zones
   pub room : IfSome table.prepared (HasRoomFor members zones stretches)
   pub only : HoldsOnlyFor table.prepared members

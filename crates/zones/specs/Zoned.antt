@@ -1,5 +1,5 @@
 -- The zones of a register in a tree, and what an edit does to them. No public clause speaks of these words.
-use Rattle.std.specs.Prelude.{◌≡◌, ◌≤◌, ◌⊎◌, Contains, List, Option, Some, None, IsNone, IsSome, IsSomeAnd, IfSome, option_map, ◌||◌, is_some, if◌then◌else◌}
+use Rattle.std.specs.Prelude.{◌≡◌, ◌≢◌, ◌≤◌, ◌⊎◌, Bool, false, Contains, List, Option, Some, None, IsNone, IsSome, IsSomeAnd, IfSome, option_map, ◌||◌, is_some, if◌then◌else◌}
 use Rattle.intervals.specs.declared.operation.Op.{Op}
 use Rattle.intervals.specs.declared.operation.Value.{Value}
 use Rattle.intervals.specs.Operation.{is_write, value_of, same_value}
@@ -9,7 +9,8 @@ use Rattle.intervals.specs.Terms.{Terms}
 use Rattle.zone_tree.specs.declared.zone.Zone.{Zone}
 use Rattle.zone_tree.specs.Order.{Contents, HasNoZoneAt, with_zone, without_zone_at}
 use Rattle.zone_tree.specs.Zone.{HasOrderedEdges}
-use Rattle.zones.specs.Cluster.{written_values, zone_of}
+use Rattle.zones.specs.Cluster.{written_zone}
+use Rattle.zones.specs.Members.{HasWrite}
 
 -- the operations are those of an atomic register, and what the reply rule keeps of them
 pub record AreManyWriters (claim : Terms) (ops : List Op) : Type 0 where
@@ -31,21 +32,31 @@ other_value None second = second
 other_value (Some first) None = None
 other_value (Some first) (Some second) = if same_value first second then None else Some second
 
+-- a value that there may be is this one
+abbrev pub is_that : Option Value → Value → Bool
+is_that None value = false
+is_that (Some initial) value = same_value initial value
+
+-- a register may begin with the value: it is the initial one, or where there is none not the value that is looked at
+abbrev pub MayStart : Option Value → Value → Value → Type 0
+MayStart None start value = value ≢ start
+MayStart (Some initial) start value = start ≡ initial
+
 -- the zone of the value, where that has a write
-pub record IsZoneAt (initial : Value) (ops : List Op) (value : Value) (found : Option Zone) : Type 0 where
-  pub zone : IfSome found (λ zone. zone ≡ zone_of initial ops value)
-  pub none : IsNone found → ¬ Contains (written_values initial ops) value
-  pub some : IsSome found → Contains (written_values initial ops) value
+pub record IsZoneAt (ops : List Op) (value : Value) (found : Option Zone) : Type 0 where
+  pub zone : IfSome found (λ zone. zone ≡ written_zone ops value)
+  pub none : IsNone found → ¬ HasWrite ops value
+  pub some : IsSome found → HasWrite ops value
 
 -- the same of a value that there may be
-abbrev pub IsZoneAtSome : Value → List Op → Option Value → Option Zone → Type 0
-IsZoneAtSome initial ops None found = found ≡ None
-IsZoneAtSome initial ops (Some value) found = IsZoneAt initial ops value found
+abbrev pub IsZoneAtSome : List Op → Option Value → Option Zone → Type 0
+IsZoneAtSome ops None found = found ≡ None
+IsZoneAtSome ops (Some value) found = IsZoneAt ops value found
 
 -- a tree has the zones of the values that have a write, and no others
-pub record AreZoned (initial : Value) (ops : List Op) (zones : List Zone) : Type 0 where
-  pub each : (value : Value) → Contains (written_values initial ops) value → Contains zones (zone_of initial ops value)
-  pub only : (zone : Zone) → Contains zones zone → Contains (written_values initial ops) zone.value × (zone ≡ zone_of initial ops zone.value)
+pub record AreZoned (ops : List Op) (zones : List Zone) : Type 0 where
+  pub each : (value : Value) → HasWrite ops value → Contains zones (written_zone ops value)
+  pub only : (zone : Zone) → Contains zones zone → HasWrite ops zone.value × (zone ≡ written_zone ops zone.value)
 
 -- the zones without that one's left edge, where there is one
 abbrev pub without : Option Zone → List Zone → List Zone
@@ -58,9 +69,9 @@ with None zones = zones
 with (Some zone) zones = with_zone zone zones
 
 -- the zones of two values
-pub record AreZonesAt (initial : Value) (ops : List Op) (first second : Option Value) (found : Option Zone × Option Zone) : Type 0 where
-  pub one : IsZoneAtSome initial ops first found.0
-  pub other : IsZoneAtSome initial ops second found.1
+pub record AreZonesAt (ops : List Op) (first second : Option Value) (found : Option Zone × Option Zone) : Type 0 where
+  pub one : IsZoneAtSome ops first found.0
+  pub other : IsZoneAtSome ops second found.1
 
 -- two zones for two others
 abbrev pub moved : Option Zone × Option Zone → Option Zone × Option Zone → List Zone → List Zone

@@ -10,7 +10,9 @@ ghost use Rattle.zone_tree.specs.Zone.{Conflicts};
 ghost use Rattle.zones.specs.Cluster.{least_end_of, zone_of, cluster_of, edge_of_end};
 ghost use Rattle.zones.specs.Crossing.{HasLeastEnd, AreExtremes};
 ghost use Rattle.intervals.specs.Standing.{HasDistinctIds};
+ghost use Rattle.intervals.specs.declared.operation.Value.{Value as AValue};
 ghost use Rattle.zones.specs.Index.{AreMembers};
+ghost use Rattle.zones.specs.Zoned.{MayStart, is_that};
 
 use crate::edges::edge_of_end;
 use crate::index::Members;
@@ -30,12 +32,12 @@ pub struct Crossing<'t> {
 pub fn extremes<'t>(
     members: &Members,
     table: &OpTable<'t>,
-    initial: Value,
+    initial: Option<Value>,
     one: Value,
     other: Value,
 ) -> Option<Crossing<'t>>
-    ensures { AreMembers table.now.ops members.now → HasDistinctIds table.now.ops → Conflicts (zone_of initial table.now.ops one) (zone_of initial table.now.ops other)
-        → IsSomeAnd result (λ x. AreExtremes initial table.now.ops one other x.a x.b x.c x.d) }
+    ensures { (start : AValue) → MayStart initial start one → MayStart initial start other → AreMembers table.now.ops members.now → HasDistinctIds table.now.ops
+        → Conflicts (zone_of start table.now.ops one) (zone_of start table.now.ops other) → IsSomeAnd result (λ x. AreExtremes start table.now.ops one other x.a x.b x.c x.d) }
 {
     let b = last_to_begin(members, table, other)?;
     let d = last_to_begin(members, table, one)?;
@@ -51,18 +53,29 @@ pub fn extremes<'t>(
 fn first_to_end<'t>(
     members: &Members,
     table: &OpTable<'t>,
-    initial: Value,
+    initial: Option<Value>,
     value: Value,
 ) -> Option<Op<'t>>
-    ensures { AreMembers table.now.ops members.now → HasDistinctIds table.now.ops → least_end_of initial table.now.ops value ≢ Never → HasLeastEnd initial table.now.ops value result }
+    ensures { (start : AValue) → MayStart initial start value → AreMembers table.now.ops members.now → HasDistinctIds table.now.ops → least_end_of start table.now.ops value ≢ Never
+        → HasLeastEnd start table.now.ops value result }
 {
-    if is_same_value(initial, value) {
+    if is_the(initial, value) {
         return None;
     }
     ended_first(
         members.write_of(table, value),
         first_read(members, table, value),
     )
+}
+
+/// Whether the value is the initial one, where there is one.
+pub fn is_the(initial: Option<Value>, value: Value) -> bool
+    ensures { result ≡ is_that initial value }
+{
+    match initial {
+        Some(initial) => is_same_value(initial, value),
+        None => false,
+    }
 }
 
 /// Of the judged operations of the value the one that began last.

@@ -5,11 +5,12 @@ ghost use Rattle.std.specs.Prelude.{◌≡◌, List, Option, Contains, IfSome, N
 ghost use Rattle.intervals.specs.declared.operation.Op.{Op as AnOp};
 ghost use Rattle.intervals.specs.declared.operation.Value.{Value as AValue};
 ghost use Rattle.intervals.specs.Operation.{IsJudgedRead, IsWrite, judged};
+ghost use Rattle.intervals.specs.Kind.{HasNoWrite};
 ghost use Rattle.intervals.specs.Standing.{HasDistinctIds};
 ghost use Rattle.zones.specs.Cluster.{edge_of_end as edge_of, earlier_of as earlier, later_of as later};
 ghost use Rattle.zones.specs.Edges.{AreEdges, AreEdgesAt, AreEdgesAtSome, AreReadEdges, AreWriteEdges, read_part, write_part};
 ghost use Rattle.zones.specs.Index.{AreMembers};
-ghost use Rattle.zones.specs.Members.{HasNoWrite, IsChange, IsGreatestBegin, IsLeastEnd, IsTheWriteAt};
+ghost use Rattle.zones.specs.Members.{IsChange, IsGreatestBegin, IsLeastEnd, IsTheWriteAt};
 
 use crate::index::Members;
 use intervals::{Moment, Op, OpTable, Value, is_same_value};
@@ -193,7 +194,8 @@ fn read_end(members: &Members, value: Value) -> Edge
     }
 }
 
-fn read_begin(members: &Members, value: Value) -> Edge
+/// Where the last of the judged reads of the value begins; `Before` where there is none.
+pub fn read_begin(members: &Members, value: Value) -> Edge
     ensures { (ops : List AnOp) → AreMembers ops members.now → IsGreatestBegin IsJudgedRead ops value result }
 {
     match members.last_to_begin(value) {

@@ -7,7 +7,8 @@ ghost use Rattle.intervals.specs.Edit.{op_of};
 ghost use Rattle.intervals.specs.Shelf.{place_at, id_at, is_spot};
 ghost use Rattle.intervals.specs.Standing.{HasDistinctIds};
 ghost use Rattle.intervals.specs.Table.{prepared_after};
-ghost use Rattle.zones.specs.Members.{IsChange, IsTheWriteAt, EndsFirstOf, BeginsLastOf, HasNoRead, HasNoWrite};
+ghost use Rattle.zones.specs.Members.{IsChange, IsTheWriteAt, EndsFirstOf, BeginsLastOf, HasNoRead};
+ghost use Rattle.intervals.specs.Kind.{HasNoWrite};
 ghost use Rattle.zones.specs.Index.{AreMembers, HasPlaces, HasPlacesOf, HasPlaceAt, HaveSamePlaces, HoldsOnlyFor, IsInTime, IsMade, IsStill, spot_on as on, spot_in as in_row, taken_at, put_at, come_at};
 
 use intervals::{Memory, Moment, Op, OpId, OpTable, Shelf, Spot, Value};

@@ -1,6 +1,6 @@
 //! Laws of the definitions. Each is the contract of a function that does nothing.
 
-ghost use Rattle.std.specs.Prelude.{◌≡◌, ◌≢◌, ◌↔◌, ◌⊎◌, All, Contains, IsPermutation, List, [], ◌∷◌, Option, Some, None};
+ghost use Rattle.std.specs.Prelude.{◌≡◌, ◌≢◌, ◌↔◌, ◌⊎◌, All, Contains, IsPermutation, List, [], ◌∷◌, ◌++◌, Option, Some, None, true, false};
 ghost use Rattle.std.specs.List.{AllPairs};
 ghost use Rattle.intervals.specs.declared.operation.Op.{Op};
 ghost use Rattle.intervals.specs.declared.operation.Value.{Value};
@@ -10,43 +10,57 @@ ghost use Rattle.intervals.specs.declared.claim.Kind.TheVariants.{Atomic};
 ghost use Rattle.intervals.specs.Terms.{Terms, unedited};
 ghost use Rattle.intervals.specs.Operation.{value_of, judged};
 ghost use Rattle.intervals.specs.Refusal.{standing};
-ghost use Rattle.intervals.specs.Standing.{HasDistinctMoments, HasEndsAfterBeginnings, HasDistinctValues};
-ghost use Rattle.intervals.specs.Kind.{Arranges, IsAtomic, Holds};
+ghost use Rattle.intervals.specs.Standing.{HasDistinctMoments, HasEndsAfterBeginnings, HasDistinctValues, HasOwnValues};
+ghost use Rattle.intervals.specs.Kind.{Arranges, HasNoWrite, IsAtomic, Holds};
 ghost use Rattle.intervals.specs.Histories.{number, claim_of, new_before_old, unfinished_write, write_between};
 ghost use Rattle.zone_tree.specs.declared.edge.Edge.TheVariants.{Before, At, Never};
 ghost use Rattle.zone_tree.specs.declared.zone.Zone.{Zone};
 ghost use Rattle.zone_tree.specs.Edge.{ComesBefore};
 ghost use Rattle.zone_tree.specs.Conflict.{IsClean};
 ghost use Rattle.zone_tree.specs.Zone.{Conflicts, HasOrderedEdges};
-ghost use Rattle.zones.specs.Cluster.{edge_of_end, cluster_of, least_end_of, greatest_begin_of, zone_of, zones_of};
+ghost use Rattle.zones.specs.Cluster.{edge_of_end, cluster_of, least_end_of, greatest_begin_of, zone_of, zones_from, zones_of};
+ghost use Rattle.zones.specs.AtFirst.{IsSplit, IsWriteless, first_split, initial_of, start_of, unwritten_of};
 ghost use Rattle.zones.specs.Fault.{IsUnwritten, IsEarly, HasLateWrite, IsFirstOf, IsFaultless, first_unwritten, first_early};
-ghost use Rattle.zones.specs.Crossing.{IsCrossing, AreExtremes, HasFirstConflict, IsFirstCrossing};
+ghost use Rattle.zones.specs.Crossing.{IsCrossing, AreExtremes, HasFirstConflict, IsFirstCrossing, IsFirstCrossingFrom};
 ghost use Rattle.zones.specs.Turn.{IsInTurn};
-ghost use Rattle.zones.specs.Examples.{at, forward, backward, reads_of_nil, write_alone, read_after, read_within, never_ended, never_ended_and_read, unwritten_read, read_of_nothing, early_read, late_write, read_before_write, first_write, second_read, first_read, nil_read, back_to_nil};
+ghost use Rattle.zones.specs.Examples.{at, forward, backward, reads_of_nil, write_alone, read_after, read_within, never_ended, never_ended_and_read, unwritten_read, read_of_nothing, early_read, late_write, read_before_write, first_write, second_read, first_read, nil_read, back_to_nil, unknown, seven_and_one, read_of_seven, read_of_eight, late_seven, one_read, one_written, seven_written};
 
 use zone_tree::laws::{one_first_conflict, zones_have_one_order};
 
-/// A register of many writers has an arrangement exactly where no read is unwritten, no read is
-/// early and no two zones conflict.
+/// A register of many writers has an arrangement exactly where, from what it begins with, no read is unwritten,
+/// no read is early and no two zones conflict.
 pub fn faultless_exactly_where_arranged()
-    ensures { (claim : Terms) (ops : List Op) → HasDistinctMoments ops → HasEndsAfterBeginnings ops → HasDistinctValues claim.initial ops
-        → IsFaultless claim.initial ops ↔ IsAtomic claim ops }
+    ensures { (claim : Terms) (ops : List Op) → HasDistinctMoments ops → HasEndsAfterBeginnings ops → HasOwnValues claim ops
+        → IsFaultless (start_of claim ops) ops ↔ IsAtomic claim ops }
+{}
+
+/// A register whose initial value is known begins with it. Where nobody knows it, it begins with the value of the
+/// reads of values without a write, where these have one; where they have none or several, with a value that
+/// no operation has.
+pub fn a_register_begins_with_its_initial_value()
+    ensures known { (claim : Terms) (ops : List Op) → claim.known ≡ true → (initial_of claim ops ≡ Some claim.initial) × (start_of claim ops ≡ claim.initial) }
+    ensures read { (claim : Terms) (ops : List Op) (value : Value) → claim.known ≡ false → initial_of claim ops ≡ Some value
+        → (start_of claim ops ≡ value) × ((r : Op) × Contains ops r × IsWriteless claim ops r × (value_of r.act ≡ value)) × ((r : Op) → Contains ops r → IsWriteless claim ops r → value_of r.act ≡ value) }
+    ensures none { (claim : Terms) (ops : List Op) (op : Op) → initial_of claim ops ≡ None → Contains ops op → value_of op.act ≢ start_of claim ops }
+    ensures not_written { (claim : Terms) (ops : List Op) → HasOwnValues claim ops → HasNoWrite ops (start_of claim ops) }
 {}
 
 /// The same of what stands after any edits of an atomic register, with nothing asked of the edits.
 pub fn faultless_exactly_after_any_edits()
     ensures { (claim : Terms) (edits : List Edit) → let held = standing (unedited claim) edits in held.claim.kind ≡ Atomic
-        → IsFaultless held.claim.initial held.ops ↔ Holds held.claim held.ops }
+        → IsFaultless (start_of held.claim held.ops) held.ops ↔ Holds held.claim held.ops }
 {}
 
-/// An unwritten read, an early read, or four operations that cross exclude every arrangement, each by
-/// itself. The initial write may be the first or the third of the four.
+/// An unwritten read, two reads of different values without a write where nobody knows the initial value, an early
+/// read, or four operations that cross exclude every arrangement, each by itself. The initial write may be the first
+/// or the third of the four.
 pub fn one_fault_excludes_every_arrangement()
-    ensures unwritten { (claim : Terms) (ops : List Op) (r : Op) → Contains ops r → IsUnwritten claim.initial ops r → ¬ IsAtomic claim ops }
-    ensures early { (claim : Terms) (ops : List Op) (r w : Op) → HasDistinctValues claim.initial ops
+    ensures unwritten { (claim : Terms) (ops : List Op) (r : Op) → claim.known ≡ true → Contains ops r → IsUnwritten claim.initial ops r → ¬ IsAtomic claim ops }
+    ensures split { (claim : Terms) (ops : List Op) (a b : Op) → claim.known ≡ false → IsSplit claim ops a b → ¬ IsAtomic claim ops }
+    ensures early { (claim : Terms) (ops : List Op) (r w : Op) → HasOwnValues claim ops
         → Contains ops r → Contains ops w → IsEarly r w → ¬ IsAtomic claim ops }
-    ensures crossing { (claim : Terms) (ops : List Op) (a : Option Op) (b : Op) (c : Option Op) (d : Op) → HasDistinctValues claim.initial ops
-        → IsCrossing claim.initial ops a b c d → ¬ IsAtomic claim ops }
+    ensures crossing { (claim : Terms) (ops : List Op) (a : Option Op) (b : Op) (c : Option Op) (d : Op) → HasOwnValues claim ops
+        → IsCrossing (start_of claim ops) ops a b c d → ¬ IsAtomic claim ops }
 {}
 
 /// Where a register is faultless each order in turn is an arrangement; and there is such an order, and
@@ -107,11 +121,22 @@ pub fn first_early_ended_first()
     ensures none { (ops : List Op) → (first_early ops ≡ None) ↔ All (λ r. All (λ w. ¬ IsEarly r w) ops) ops }
 {}
 
+/// The first of a split is the read that ended first of those of values without a write, and the second the one that
+/// ended first of those of another such value; and there is none exactly where all such reads return one value.
+pub fn first_split_ended_first()
+    ensures first { (claim : Terms) (ops : List Op) (a b : Op) → first_split claim ops ≡ Some (a, b) → (claim.known ≡ false)
+        × IsFirstOf (IsWriteless claim ops) ops a × IsFirstOf (λ r. IsWriteless claim ops r × (value_of r.act ≢ value_of a.act)) ops b }
+    ensures split { (claim : Terms) (ops : List Op) (a b : Op) → first_split claim ops ≡ Some (a, b) → IsSplit claim ops a b }
+    ensures none { (claim : Terms) (ops : List Op) → claim.known ≡ false → first_split claim ops ≡ None → (a b : Op) → ¬ IsSplit claim ops a b }
+{}
+
 /// A register is faultless exactly where there is no first unwritten read, no first early read and no
-/// conflict.
+/// conflict; and from what it begins with exactly where there is no first split either.
 pub fn faultless_where_no_fault_is_first()
-    ensures { (initial : Value) (ops : List Op) → IsFaultless initial ops
+    ensures initial { (initial : Value) (ops : List Op) → IsFaultless initial ops
         ↔ ((first_unwritten initial ops ≡ None) × (first_early ops ≡ None) × IsClean (zones_of initial ops)) }
+    ensures start { (claim : Terms) (ops : List Op) → IsFaultless (start_of claim ops) ops
+        ↔ ((unwritten_of claim ops ≡ None) × (first_split claim ops ≡ None) × (first_early ops ≡ None) × IsClean (zones_from (initial_of claim ops) ops)) }
 {}
 
 /// Zones have their edges in order, and no two of one register have one left edge.
@@ -126,13 +151,16 @@ pub fn clean_in_any_order()
     ensures { (zones others : List Zone) → IsPermutation zones others → IsClean zones ↔ IsClean others }
 {}
 
-/// A register has at most one first conflict and at most one first crossing, and that is a crossing.
+/// A register has at most one first conflict and at most one first crossing, and that is a crossing. A first crossing
+/// where there may be no initial value is one from what the register begins with.
 pub fn one_first_crossing()
     ensures one_conflict { (initial : Value) (ops : List Op) (first second third fourth : Zone) → HasFirstConflict initial ops first second
         → HasFirstConflict initial ops third fourth → (first ≡ third) × (second ≡ fourth) }
     ensures one { (initial : Value) (ops : List Op) (a : Option Op) (b : Op) (c : Option Op) (d : Op) (e : Option Op) (f : Op) (g : Option Op) (h : Op) → HasDistinctMoments ops
         → IsFirstCrossing initial ops a b c d → IsFirstCrossing initial ops e f g h → (a ≡ e) × (b ≡ f) × (c ≡ g) × (d ≡ h) }
     ensures crossing { (initial : Value) (ops : List Op) (a : Option Op) (b : Op) (c : Option Op) (d : Op) → IsFirstCrossing initial ops a b c d → IsCrossing initial ops a b c d }
+    ensures start { (claim : Terms) (ops : List Op) (a : Option Op) (b : Op) (c : Option Op) (d : Op)
+        → IsFirstCrossingFrom (initial_of claim ops) (start_of claim ops) ops a b c d → IsFirstCrossing (start_of claim ops) ops a b c d }
 {
     zones_have_one_order();
     one_first_conflict();
@@ -185,4 +213,20 @@ pub fn worked_turns()
     ensures zones { zones_of Nil unfinished_write ≡ forward Before (at 2) Nil ∷ backward (at 5) (at 6) (number 1) ∷ [] }
     ensures in_turn { IsInTurn Nil unfinished_write write_between }
     ensures by_beginning { ¬ IsInTurn Nil unfinished_write unfinished_write }
+{}
+
+/// Where nobody knows the initial value: reads of 7 and then of 1, which was written between, begin with 7; a read of 8
+/// splits them; a second read of 7 behind the others crosses them; and with a write of 7 behind all the first read is
+/// early.
+pub fn worked_unknown()
+    ensures initial { initial_of unknown seven_and_one ≡ Some (number 7) }
+    ensures split { first_split unknown (seven_and_one ++ read_of_eight ∷ []) ≡ Some (read_of_seven, read_of_eight) }
+    ensures is_split { IsSplit unknown (seven_and_one ++ read_of_eight ∷ []) read_of_seven read_of_eight }
+    ensures no_initial { initial_of unknown (seven_and_one ++ read_of_eight ∷ []) ≡ None }
+    ensures no_order_with_split { ¬ IsAtomic unknown (seven_and_one ++ read_of_eight ∷ []) }
+    ensures zones { zones_from (initial_of unknown (seven_and_one ++ late_seven ∷ [])) (seven_and_one ++ late_seven ∷ []) ≡ forward Before (at 6) (number 7) ∷ forward (at 3) (at 4) (number 1) ∷ [] }
+    ensures crossing { IsCrossing (number 7) (seven_and_one ++ late_seven ∷ []) None one_read (Some one_written) late_seven }
+    ensures no_order_with_crossing { ¬ IsAtomic unknown (seven_and_one ++ late_seven ∷ []) }
+    ensures early { first_early (seven_and_one ++ late_seven ∷ seven_written ∷ []) ≡ Some (read_of_seven, seven_written) }
+    ensures nothing_tells { initial_of unknown write_alone ≡ None }
 {}

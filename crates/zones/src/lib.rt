@@ -19,15 +19,22 @@
 //! clusters.holds()                     // true
 //! ```
 //!
-//! The rows of `tests.rt` run these calls; `laws::worked_faults` is this history, computed from the
-//! definitions.
+//! The rows of `tests.rt` run these calls, and `tests/short.rt` goes over all short histories;
+//! `laws::worked_faults` is this history, computed from the definitions.
 //!
-//! Read `specs/Cluster.antt` first: the cluster of a value and its zone; then `specs/Fault.antt`, the
-//! three ways to fail, `specs/Crossing.antt`, four operations that no order has room for, and
-//! `specs/Turn.antt`, the order in which a faultless register's operations are given. `laws.rt` has what
+//! Where nobody knows what a register held at first, it holds if its operations can be arranged from some
+//! value that no write carries. So all reads of values without a write must return one value, and that is
+//! the initial one (where there are none, anything may be); where they return several the register fails by a
+//! split: `first_split` names two of them. The zone of the initial value, known or told by the reads, is not kept in
+//! the tree: it is made when it is asked for, and stands in front of the tree's zones.
+//!
+//! Read `specs/Cluster.antt` first: the cluster of a value and its zone; then `specs/AtFirst.antt`, what a
+//! register held at first, `specs/Fault.antt`, the three ways to fail, `specs/Crossing.antt`, four
+//! operations that no order has room for, and `specs/Turn.antt`, the order in which a faultless
+//! register's operations are given. `laws.rt` has what
 //! these come to: faultless is the same as 'there is an arrangement', on every list of operations with
 //! distinct moments, ends after beginnings and distinct written values, and so after any edits; an
-//! unwritten read, an early read or a crossing excludes every arrangement by itself; an order in turn
+//! unwritten read, a split, an early read or a crossing excludes every arrangement by itself; an order in turn
 //! is an arrangement. Zones, edges and conflicts themselves are those of `zone_tree`.
 //!
 //! The calls are in `register.rt`. `index.rt` keeps the ids of the judged operations of each value on

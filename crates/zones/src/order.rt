@@ -4,7 +4,8 @@ ghost use Rattle.std.specs.Prelude.{◌≡◌, ◌++◌, ◌∷◌, [], ◌↔�
 ghost use Rattle.intervals.specs.Operation.{judged, value_of, is_write as writes};
 ghost use Rattle.intervals.specs.Kind.{Arranges, IsAtomic};
 ghost use Rattle.intervals.specs.Table.{standing};
-ghost use Rattle.zones.specs.Cluster.{written_values};
+ghost use Rattle.zones.specs.AtFirst.{initial_of, start_of};
+ghost use Rattle.zones.specs.Cluster.{values_from};
 ghost use Rattle.zones.specs.Fault.{IsFaultless};
 ghost use Rattle.zones.specs.Turn.{IsInTurn, IsOrder};
 ghost use Rattle.zones.specs.Order.{turn_of as turn_in, placed_of};
@@ -33,7 +34,7 @@ impl<'t> Clusters<'t> {
     /// the latest write before it, one such order, by ids: the clusters by the left edges of their zones, in
     /// each the write and then its reads by their beginnings.
     pub fn order(&self, alloc: Global) -> Result<Option<Vec<OpId>>, Memory>
-        ensures order { IfOk result (λ found. IfSome found (λ ids. IsOrder self.now.claim self.now.ops ids.items)) }
+        ensures order { IfOk result (λ found. IfSome found (λ ids. IsOrder (record self.now.claim { initial = start_of self.now.claim self.now.ops }) self.now.ops ids.items)) }
         ensures none { IfOk result (λ found. IsNone found ↔ ¬ IsAtomic self.now.claim self.now.ops) }
         ensures memory { OnErr result (IsAtomic self.now.claim self.now.ops) }
     {
@@ -47,9 +48,9 @@ impl<'t> Clusters<'t> {
 
     /// The judged operations in turn.
     fn in_turn(&self, alloc: Global) -> Result<Vec<Placed<'t>>, Memory>
-        requires { IsFaultless self.now.claim.initial self.now.ops }
-        ensures arranges { IfOk result (λ placed. Arranges self.now.claim self.now.ops (map (λ p. p.op) placed.items)) }
-        ensures in_turn { IfOk result (λ placed. IsInTurn self.now.claim.initial self.now.ops (map (λ p. p.op) placed.items)) }
+        requires { IsFaultless (start_of self.now.claim self.now.ops) self.now.ops }
+        ensures arranges { IfOk result (λ placed. Arranges (record self.now.claim { initial = start_of self.now.claim self.now.ops }) self.now.ops (map (λ p. p.op) placed.items)) }
+        ensures in_turn { IfOk result (λ placed. IsInTurn (start_of self.now.claim self.now.ops) self.now.ops (map (λ p. p.op) placed.items)) }
     {
         let mut placed = self.placed(alloc, self.operations().slots())?;
         placed.sort_unstable_by_key(|p| p.turn);
@@ -59,8 +60,8 @@ impl<'t> Clusters<'t> {
     /// The judged operations, each with what it stands by.
     fn placed(&self, alloc: Global, slots: &[Option<Op<'t>>]) -> Result<Vec<Placed<'t>>, Memory>
         requires all { standing slots.now ≡ self.now.ops }
-        requires faultless { IsFaultless self.now.claim.initial self.now.ops }
-        ensures { IfOk result (λ placed. placed.items ≡ map (placed_of self.now.claim.initial self.now.ops) (judged self.now.ops)) }
+        requires faultless { IsFaultless (start_of self.now.claim self.now.ops) self.now.ops }
+        ensures { IfOk result (λ placed. placed.items ≡ map (placed_of (start_of self.now.claim self.now.ops) self.now.ops) (judged self.now.ops)) }
     {
         let mut placed = Vec::new(alloc);
         for slot in slots {
@@ -71,9 +72,9 @@ impl<'t> Clusters<'t> {
 
     /// Adds the operation that is there, if any.
     fn place_slot(&self, placed: &mut Vec<Placed<'t>>, slot: Option<Op<'t>>) -> Result<(), Memory>
-        requires faultless { IsFaultless self.now.claim.initial self.now.ops }
+        requires faultless { IsFaultless (start_of self.now.claim self.now.ops) self.now.ops }
         requires stands { IfSome slot (Contains self.now.ops) }
-        ensures { OnOk result (placed.new.items ≡ placed.old.items ++ map (placed_of self.now.claim.initial self.now.ops) (judged (standing (slot.entry ∷ [])))) }
+        ensures { OnOk result (placed.new.items ≡ placed.old.items ++ map (placed_of (start_of self.now.claim self.now.ops) self.now.ops) (judged (standing (slot.entry ∷ [])))) }
     {
         match slot {
             Some(op) => self.place(placed, &op),
@@ -83,9 +84,9 @@ impl<'t> Clusters<'t> {
 
     /// Adds the operation where it is judged.
     fn place(&self, placed: &mut Vec<Placed<'t>>, op: &Op<'t>) -> Result<(), Memory>
-        requires faultless { IsFaultless self.now.claim.initial self.now.ops }
+        requires faultless { IsFaultless (start_of self.now.claim self.now.ops) self.now.ops }
         requires stands { Contains self.now.ops op.now }
-        ensures { OnOk result (placed.new.items ≡ placed.old.items ++ map (placed_of self.now.claim.initial self.now.ops) (judged (op.now ∷ []))) }
+        ensures { OnOk result (placed.new.items ≡ placed.old.items ++ map (placed_of (start_of self.now.claim self.now.ops) self.now.ops) (judged (op.now ∷ []))) }
     {
         if is_judged(op) {
             let turn = self.turn_of(op);
@@ -95,8 +96,8 @@ impl<'t> Clusters<'t> {
     }
 
     fn turn_of(&self, op: &Op) -> Turn
-        requires { Contains (written_values self.now.claim.initial self.now.ops) (value_of op.now.act) }
-        ensures { result ≡ turn_in self.now.claim.initial self.now.ops op.now }
+        requires { Contains (values_from (initial_of self.now.claim self.now.ops) self.now.ops) (value_of op.now.act) }
+        ensures { result ≡ turn_in (start_of self.now.claim self.now.ops) self.now.ops op.now }
     {
         let Some(zone) = self.zone_of(op.value()) else {
             unreachable!()

@@ -1,7 +1,7 @@
 //! The calls of an atomic register's judge.
 
 ghost use Rattle.std.specs.Prelude.{◌≡◌, ◌↔◌, ◌+◌, ◌*◌, ◌≤◌, All, length, IsOk, ◌++◌, ◌∷◌, [], Contains, IfOk, IfSome, IsSome, IsNone, IsSomeAnd, IsTrue, OnOk, OnErr, None, Some, option_map};
-ghost use Rattle.intervals.specs.Operation.{IsWrite};
+ghost use Rattle.intervals.specs.Operation.{IsWrite, writes};
 ghost use Rattle.intervals.specs.Edit.{op_of as op_in, new_op, edited};
 ghost use Rattle.intervals.specs.Terms.{terms_of};
 ghost use Rattle.intervals.specs.Kind.{IsAtomic};
@@ -10,27 +10,26 @@ ghost use Rattle.intervals.specs.Standing.{HasDistinctMoments, HasEndsAfterBegin
 ghost use Rattle.intervals.specs.Table.{prepared_after};
 ghost use Rattle.zone_tree.specs.Conflict.{IsClean};
 ghost use Rattle.zone_tree.specs.Digits.{digits};
-ghost use Rattle.zone_tree.specs.Zone.{IsForward};
-ghost use Rattle.zone_tree.specs.Zone.{HasOrderedEdges};
-ghost use Rattle.zones.specs.Cluster.{written_values, zone_of as zone_in_list, zones_of};
-ghost use Rattle.zones.specs.Crossing.{HasFirstConflict, IsFirstCrossing};
-ghost use Rattle.zones.specs.Fault.{IsFaultless, first_unwritten as unwritten_first, first_early as early_first};
+ghost use Rattle.zones.specs.AtFirst.{first_split as split_first, initial_of, start_of, unwritten_of};
+ghost use Rattle.zones.specs.Cluster.{values_from, zone_of as zone_in_list, zones_from};
+ghost use Rattle.zones.specs.Crossing.{HasFirstConflictFrom, IsFirstCrossingFrom};
+ghost use Rattle.zones.specs.Fault.{IsFaultless, first_early as early_first};
 ghost use Rattle.zones.specs.Index.{AreMembers};
 ghost use Rattle.zones.specs.Members.{IsChange};
 ghost use Rattle.zones.specs.Zoned.{judged_part, value_in as value_of_some, other_value as other};
 
-use crate::crossing::{Crossing, extremes};
+use crate::crossing::{Crossing, extremes, is_the};
 use crate::edges::{edges_after, edges_in, edges_of};
 use crate::index::Members;
-use crate::laws::faultless_exactly_where_arranged;
+use crate::laws::{faultless_exactly_where_arranged, faultless_where_no_fault_is_first};
 use crate::moves::exchange;
-use crate::stretch::{first_early, first_unwritten, stretches_in};
+use crate::stretch::{first_early, first_split, first_writeless, sole_value, stretches_in};
 use crate::writes::check_write;
-use crate::zone_in::{zone_in, zone_of, zones_in};
+use crate::zone_in::{initial_zone, zone_in, zones_in};
 use intervals::{Claim, Edit, Kind, Memory, Op, OpId, OpTable, Refusal, Value, is_same_value};
 use std::alloc::Global;
 use std::marker::Model;
-use zone_tree::{Edge, Zone, ZoneTree};
+use zone_tree::{Zone, ZoneTree};
 
 /// The operations of one atomic register, by the clusters of their values.
 #[derive(Drop)]
@@ -57,14 +56,12 @@ impl<'t> Clusters<'t> {
     /// Clusters of no operations.
     pub fn new(alloc: Global, claim: &Claim) -> Result<Self, Memory>
         requires { claim.now.kind ≡ Kind.Atomic }
-        ensures made { IfOk result (λ clusters. clusters ≡ record { claim = terms_of claim.now; ops = []; prepared = None; steps = clusters.steps }) }
-        ensures steps { IfOk result (λ clusters. clusters.steps ≤ 3) }
+        ensures made { IfOk result (λ clusters. clusters ≡ record { claim = terms_of claim.now; ops = []; prepared = None; steps = 0 }) }
     {
         let claim = claim.try_clone(alloc)?;
         let table = OpTable::new(alloc);
         let members = Members::new(alloc);
-        let edges = edges_of(&members, &table, None, claim.initial);
-        let zones = tree_of(alloc, zone_of(&edges, claim.initial))?;
+        let zones = ZoneTree::new(alloc);
         let stretches = ZoneTree::new(alloc);
         Ok(Clusters {
             claim,
@@ -145,7 +142,7 @@ impl<'t> Clusters<'t> {
         ensures ok { OnOk result (self.new ≡ record self.old { ops = edited self.old.ops edit.entry; prepared = prepared_after (new_op self.old.ops edit.entry) self.old.prepared; steps = self.new.steps }) }
         ensures err { OnErr result (self.new ≡ self.old) }
         ensures memory { OnErr result (IsSome (new_op self.old.ops edit.entry) × (self.old.prepared ≡ None)) }
-        ensures steps { self.new.steps ≤ self.old.steps + 4 * (2 * digits (length (zones_of self.old.claim.initial self.old.ops) + 1) + 1) }
+        ensures steps { self.new.steps ≤ self.old.steps + 4 * (2 * digits (length (writes self.old.ops) + 1) + 1) }
         ensures rises { self.old.steps ≤ self.new.steps }
     {
         let new = self.table.new_op(&edit);
@@ -164,12 +161,11 @@ impl<'t> Clusters<'t> {
         requires new { new ≡ new_op self.old.ops edit }
         requires prepared { IfSome new (λ op. self.old.prepared ≡ Some op) }
         ensures edited { self.new ≡ record self.old { ops = edited self.old.ops edit.entry; prepared = prepared_after new.entry self.old.prepared; steps = self.new.steps } }
-        ensures steps { self.new.steps ≤ self.old.steps + 4 * (2 * digits (length (zones_of self.old.claim.initial self.old.ops) + 1) + 1) }
+        ensures steps { self.new.steps ≤ self.old.steps + 4 * (2 * digits (length (writes self.old.ops) + 1) + 1) }
         ensures rises { self.old.steps ≤ self.new.steps }
     {
         // That the zones stand in order is known of what is gone over.
         let _ = self.zones.iter();
-        let initial = self.claim.initial;
         let old = judged(self.table.find(edit.id()));
         let new = judged(new);
         let first = value_in(old);
@@ -178,10 +174,10 @@ impl<'t> Clusters<'t> {
         self.members.change(old, new, self.table.prepared());
         self.table.admit(edit);
         let after = edges_after(edges, &self.members, &self.table, old, new);
-        let zones = zones_in(&edges, initial);
-        let zones_after = zones_in(&after, initial);
-        let stretches = stretches_in(&edges, initial);
-        let stretches_after = stretches_in(&after, initial);
+        let zones = zones_in(&edges);
+        let zones_after = zones_in(&after);
+        let stretches = stretches_in(&edges, &self.claim);
+        let stretches_after = stretches_in(&after, &self.claim);
         exchange(&mut self.zones, &zones, &zones_after);
         exchange(&mut self.stretches, &stretches, &stretches_after);
     }
@@ -193,7 +189,7 @@ impl<'t> Clusters<'t> {
         ensures succeeds { IsSome self.old.prepared → IsOk result }
         ensures ok { OnOk result (self.new ≡ record self.old { ops = self.old.ops ++ write.now ∷ []; prepared = None; steps = self.new.steps }) }
         ensures err { OnErr result (self.new ≡ self.old) }
-        ensures steps { self.new.steps ≤ self.old.steps + 4 * (2 * digits (length (zones_of self.old.claim.initial self.old.ops) + 1) + 1) }
+        ensures steps { self.new.steps ≤ self.old.steps + 4 * (2 * digits (length (writes self.old.ops) + 1) + 1) }
         ensures rises { self.old.steps ≤ self.new.steps }
     {
         self.admit(Edit::Append(*write))
@@ -207,7 +203,7 @@ impl<'t> Clusters<'t> {
         ensures succeeds { IsSome self.old.prepared → IsOk result }
         ensures ok { OnOk result (self.new ≡ record self.old { ops = self.old.ops ++ read.now ∷ []; prepared = None; steps = self.new.steps }) }
         ensures err { OnErr result (self.new ≡ self.old) }
-        ensures steps { self.new.steps ≤ self.old.steps + 4 * (2 * digits (length (zones_of self.old.claim.initial self.old.ops) + 1) + 1) }
+        ensures steps { self.new.steps ≤ self.old.steps + 4 * (2 * digits (length (writes self.old.ops) + 1) + 1) }
         ensures rises { self.old.steps ≤ self.new.steps }
     {
         self.admit(Edit::Append(*read))
@@ -216,7 +212,7 @@ impl<'t> Clusters<'t> {
     pub fn drop_write(&mut self, id: OpId)
         requires { IsSomeAnd (op_in self.old.ops id) IsWrite }
         ensures dropped { self.new ≡ record self.old { ops = edited self.old.ops (Edit.Withdraw id); steps = self.new.steps } }
-        ensures steps { self.new.steps ≤ self.old.steps + 4 * (2 * digits (length (zones_of self.old.claim.initial self.old.ops) + 1) + 1) }
+        ensures steps { self.new.steps ≤ self.old.steps + 4 * (2 * digits (length (writes self.old.ops) + 1) + 1) }
         ensures rises { self.old.steps ≤ self.new.steps }
     {
         // A withdrawal takes no memory.
@@ -226,30 +222,62 @@ impl<'t> Clusters<'t> {
     pub fn drop_read(&mut self, id: OpId)
         requires { IsSomeAnd (op_in self.old.ops id) (λ op. ¬ IsWrite op) }
         ensures dropped { self.new ≡ record self.old { ops = edited self.old.ops (Edit.Withdraw id); steps = self.new.steps } }
-        ensures steps { self.new.steps ≤ self.old.steps + 4 * (2 * digits (length (zones_of self.old.claim.initial self.old.ops) + 1) + 1) }
+        ensures steps { self.new.steps ≤ self.old.steps + 4 * (2 * digits (length (writes self.old.ops) + 1) + 1) }
         ensures rises { self.old.steps ≤ self.new.steps }
     {
         // A withdrawal takes no memory.
         let _ = self.admit(Edit::Withdraw(id));
     }
 
-    /// The zone of a value that is the initial one or has a write.
-    pub fn zone_of(&self, value: Value) -> Option<Zone>
-        ensures zone { IfSome result (λ zone. zone ≡ zone_in_list self.now.claim.initial self.now.ops value) }
-        ensures written { IsSome result ↔ Contains (written_values self.now.claim.initial self.now.ops) value }
-    {
-        let edges = edges_of(&self.members, &self.table, None, value);
-        zone_in(&edges, self.claim.initial)
-    }
-
-    /// The unwritten read that ended first.
-    pub fn first_unwritten(&self) -> Option<OpId>
-        ensures { result ≡ option_map (λ op. op.id) (unwritten_first self.now.claim.initial self.now.ops) }
+    /// The initial value: the known one, or the one that all reads of values without a write return.
+    fn initial(&self) -> Option<Value>
+        ensures { result ≡ initial_of self.now.claim self.now.ops }
     {
         // That the stretches stand in order is known of what is gone over.
         let _ = self.stretches.iter();
-        let read = first_unwritten(&self.stretches, &self.members, &self.table)?;
+        if self.claim.has_known_initial() {
+            return Some(self.claim.at_first());
+        }
+        sole_value(&self.stretches, &self.members, &self.table)
+    }
+
+    /// The zone of a value that has a write or is the initial one, where there is one.
+    pub fn zone_of(&self, value: Value) -> Option<Zone>
+        ensures zone { IfSome result (λ zone. zone ≡ zone_in_list (start_of self.now.claim self.now.ops) self.now.ops value) }
+        ensures written { IsSome result ↔ Contains (values_from (initial_of self.now.claim self.now.ops) self.now.ops) value }
+    {
+        if is_the(self.initial(), value) {
+            return Some(initial_zone(&self.members, value));
+        }
+        let edges = edges_of(&self.members, &self.table, None, value);
+        zone_in(&edges)
+    }
+
+    /// Where the initial value is known, the unwritten read that ended first.
+    pub fn first_unwritten(&self) -> Option<OpId>
+        ensures { result ≡ option_map (λ op. op.id) (unwritten_of self.now.claim self.now.ops) }
+    {
+        // That the stretches stand in order is known of what is gone over.
+        let _ = self.stretches.iter();
+        if !self.claim.has_known_initial() {
+            return None;
+        }
+        let read = first_writeless(&self.stretches, &self.members, &self.table)?;
         Some(read.id)
+    }
+
+    /// Where nobody knows the initial value, the read that ended first of those of values without a write, and of
+    /// those of another such value the one that ended first.
+    pub fn first_split(&self) -> Option<(OpId, OpId)>
+        ensures { result ≡ option_map (λ pair. (pair.0.id, pair.1.id)) (split_first self.now.claim self.now.ops) }
+    {
+        // That the stretches stand in order is known of what is gone over.
+        let _ = self.stretches.iter();
+        if self.claim.has_known_initial() {
+            return None;
+        }
+        let (first, other) = first_split(&self.stretches, &self.members, &self.table)?;
+        Some((first.id, other.id))
     }
 
     /// The early read that ended first, and the write of its value.
@@ -264,67 +292,71 @@ impl<'t> Clusters<'t> {
 
     /// Whether no two zones conflict.
     pub fn clean(&self) -> bool
-        ensures { IsTrue result ↔ IsClean (zones_of self.now.claim.initial self.now.ops) }
+        ensures { IsTrue result ↔ IsClean (zones_from (initial_of self.now.claim self.now.ops) self.now.ops) }
     {
         // That the zones stand in order is known of what is gone over.
         let _ = self.zones.iter();
-        self.zones.clean()
+        match self.initial() {
+            Some(initial) => self
+                .zones
+                .clean_behind(&initial_zone(&self.members, initial)),
+            None => self.zones.clean(),
+        }
     }
 
     /// The earlier forward zone of greatest right edge, and the first zone by left edge that conflicts
     /// with an earlier forward one.
     pub fn first_conflict(&self) -> Option<(Zone, Zone)>
-        ensures first { IfSome result (λ pair. HasFirstConflict self.now.claim.initial self.now.ops pair.0 pair.1) }
-        ensures none { IsNone result ↔ IsClean (zones_of self.now.claim.initial self.now.ops) }
+        ensures first { IfSome result (λ pair. HasFirstConflictFrom (initial_of self.now.claim self.now.ops) self.now.ops pair.0 pair.1) }
+        ensures none { IsNone result ↔ IsClean (zones_from (initial_of self.now.claim self.now.ops) self.now.ops) }
     {
         // That the zones stand in order is known of what is gone over.
         let _ = self.zones.iter();
-        self.zones.first_conflict()
+        match self.initial() {
+            Some(initial) => self
+                .zones
+                .first_conflict_behind(&initial_zone(&self.members, initial)),
+            None => self.zones.first_conflict(),
+        }
     }
 
     /// The extremes of the clusters of the first conflict.
     pub fn crossing(&self) -> Option<Crossing<'t>>
-        ensures first { IfSome result (λ x. IsFirstCrossing self.now.claim.initial self.now.ops x.a x.b x.c x.d) }
-        ensures none { IsNone result ↔ IsClean (zones_of self.now.claim.initial self.now.ops) }
+        ensures first { IfSome result (λ x. IsFirstCrossingFrom (initial_of self.now.claim self.now.ops) (start_of self.now.claim self.now.ops) self.now.ops x.a x.b x.c x.d) }
+        ensures none { IsNone result ↔ IsClean (zones_from (initial_of self.now.claim self.now.ops) self.now.ops) }
     {
         let (first, second) = self.first_conflict()?;
         extremes(
             &self.members,
             &self.table,
-            self.claim.initial,
+            self.initial(),
             first.value,
             second.value,
         )
     }
 
     /// Whether some order of the judged operations keeps precedence and lets every read return the
-    /// latest write before it.
+    /// latest write before it: no read is unwritten or early, they tell of one initial value, and no zones conflict.
     pub fn holds(&self) -> bool
         ensures atomic { IsTrue result ↔ IsAtomic self.now.claim self.now.ops }
-        ensures faultless { IsTrue result ↔ IsFaultless self.now.claim.initial self.now.ops }
+        ensures faultless { IsTrue result ↔ IsFaultless (start_of self.now.claim self.now.ops) self.now.ops }
     {
+        // What is asked of the operations is known of the table.
+        let _ = &self.table;
         faultless_exactly_where_arranged();
-        is_timely(&self.stretches) && self.clean()
+        self.is_faultless()
     }
-}
 
-/// A tree of one zone.
-fn tree_of(alloc: Global, zone: Zone) -> Result<ZoneTree, Memory>
-    requires { HasOrderedEdges zone }
-    ensures zones { IfOk result (λ tree. tree.zones ≡ zone ∷ []) }
-    ensures steps { IfOk result (λ tree. tree.steps ≤ 3) }
-{
-    let mut tree = ZoneTree::new(alloc);
-    tree.reserve(1)?;
-    tree.insert(zone);
-    Ok(tree)
-}
-
-/// Whether no read is unwritten and none is early: no stretch is forward.
-fn is_timely(stretches: &ZoneTree) -> bool
-    ensures { IsTrue result ↔ All (λ z. ¬ IsForward z) stretches.now.zones }
-{
-    stretches.first_reaching(Edge::Before).is_none()
+    /// Whether it has no fault.
+    fn is_faultless(&self) -> bool
+        ensures { IsTrue result ↔ IsFaultless (start_of self.now.claim self.now.ops) self.now.ops }
+    {
+        faultless_where_no_fault_is_first();
+        let unwritten = self.first_unwritten();
+        let split = self.first_split();
+        // Where there is neither, at most one stretch has no end, so an early read is found at once.
+        unwritten.is_none() && split.is_none() && self.first_early().is_none() && self.clean()
+    }
 }
 
 /// The operation, where it is a write or has an end.

@@ -6,18 +6,31 @@ ghost use Rattle.intervals.specs.Refusal.{reply_to, first_refusal, new_write_ref
 ghost use Rattle.intervals.specs.Terms.{Terms};
 ghost use Rattle.intervals.specs.declared.operation.Op.{Op};
 
+mod short;
+
 use super::*;
-use intervals::{Act, Claim, Edit, Kind, Memory, Moment, Op, OpId, Parts, Refusal, Value, Writers};
+use intervals::{
+    Act, Change, Claim, Edit, Initial, Kind, Lent, Memory, Moment, Op, OpId, Parts, Refusal, Value,
+    Writers,
+};
 use std::alloc::Global;
 use std::fmt::Write;
 use std::process::Abort;
 use std::test::Fail;
 use zone_tree::{Edge, Zone};
 
-const CLAIM: Claim = Claim {
+const NIL_AT_FIRST: Claim = Claim {
     kind: Kind::Atomic,
     writers: Writers::Any,
-    initial: Value::Nil,
+    initial: Initial::Known(Value::Nil),
+    domain: None,
+    fixed: false,
+};
+
+const UNKNOWN_AT_FIRST: Claim = Claim {
+    kind: Kind::Atomic,
+    writers: Writers::Any,
+    initial: Initial::Unknown,
     domain: None,
     fixed: false,
 };
@@ -52,10 +65,28 @@ fn end(word: &str) -> Option<Moment> {
     }
 }
 
-/// `w1:0-9` is a write of 1 from 0 to 9, `r1:0-` a read that has no end; `!0` takes out what began at 0.
+/// `2=7` lets what began at 2 have the value 7.
+fn amendment(word: &'static str) -> Edit<'static> {
+    let (begin, new) = word.split_once('=').unwrap_or((word, ""));
+    Edit::Amend(
+        id(number(begin)),
+        Change {
+            value: Some(value(new)),
+            begin: None,
+            end: None,
+            lent: Lent::Amendment(word.as_bytes()),
+        },
+    )
+}
+
+/// `w1:0-9` is a write of 1 from 0 to 9, `r1:0-` a read that has no end; `!0` takes out what began at 0,
+/// and `~0=7` lets it have the value 7.
 fn edit_of(word: &'static str) -> Edit<'static> {
     if let Some(word) = word.strip_prefix('!') {
         return Edit::Withdraw(id(number(word)));
+    }
+    if let Some(word) = word.strip_prefix('~') {
+        return amendment(word);
     }
     let (what, when) = word.split_once(':').unwrap_or((word, "0-"));
     let (begin, ended) = when.split_once('-').unwrap_or((when, ""));
@@ -273,9 +304,9 @@ fn tell_zone(told: &mut String, zone: &Zone) {
     let _ = write!(told, " ");
 }
 
-fn tell_zones(told: &mut String, clusters: &Clusters) {
-    for value in [Value::Nil, Value::Int(1), Value::Int(2)] {
-        match clusters.zone_of(value) {
+fn tell_zones(told: &mut String, clusters: &Clusters, values: &[Value]) {
+    for value in values {
+        match clusters.zone_of(*value) {
             Some(zone) => tell_zone(told, &zone),
             None => {
                 let _ = write!(told, ". ");
@@ -311,6 +342,12 @@ fn tell_firsts(told: &mut String, clusters: &Clusters) {
         }
         None => {}
     }
+    match clusters.first_split() {
+        Some((one, other)) => {
+            let _ = write!(told, "split {} {} ", one.event, other.event);
+        }
+        None => {}
+    }
     match clusters.first_early() {
         Some((read, write)) => {
             let _ = write!(told, "early {} {} ", read.event, write.event);
@@ -342,33 +379,74 @@ fn tell_order(told: &mut String, alloc: Global, clusters: &Clusters) -> Result<(
 /// An empty text with room for what is told of a row, so that telling it takes no memory.
 fn roomy(alloc: Global) -> Result<String, Memory> {
     let mut text = String::new(alloc);
-    if text.reserve(200).is_err() {
-        text.reserve(200)?;
+    if text.reserve(400).is_err() {
+        text.reserve(400)?;
     }
     Ok(text)
 }
 
-fn begun(alloc: Global) -> Result<Clusters<'static>, Memory> {
-    match Clusters::new(alloc, &CLAIM) {
+fn begun(alloc: Global, claim: &Claim) -> Result<Clusters<'static>, Memory>
+    requires { claim.now.kind ≡ Kind.Atomic }
+{
+    match Clusters::new(alloc, claim) {
         Ok(clusters) => Ok(clusters),
-        Err(Memory) => Clusters::new(alloc, &CLAIM),
+        Err(Memory) => Clusters::new(alloc, claim),
     }
 }
 
-/// What is refused, the zones of nil, 1 and 2, what is wrong, and the order where nothing is.
-fn told<R: AllocGlobal + Abort>(rt: &R, words: &'static str) -> Result<String, Memory> {
+/// The zones of the values, what is wrong, and the order where nothing is.
+fn tell(
+    told: &mut String,
+    alloc: Global,
+    clusters: &Clusters,
+    values: &[Value],
+) -> Result<(), Memory> {
+    tell_zones(told, clusters, values);
+    tell_firsts(told, clusters);
+    tell_crossing(told, clusters);
+    tell_order(told, alloc, clusters)
+}
+
+/// What is refused, and what is told at each `|` and at the end.
+fn told<R: AllocGlobal + Abort>(
+    rt: &R,
+    claim: &Claim,
+    values: &[Value],
+    words: &'static str,
+) -> Result<String, Memory>
+    requires { claim.now.kind ≡ Kind.Atomic }
+{
     let mut told = roomy(rt.alloc())?;
-    let mut clusters = begun(rt.alloc())?;
+    let mut clusters = begun(rt.alloc(), claim)?;
     for word in words.split(' ') {
-        step(rt, &mut told, &mut clusters, word)?;
+        if word == "|" {
+            tell(&mut told, rt.alloc(), &clusters, values)?;
+            let _ = write!(told, " | ");
+        } else {
+            step(rt, &mut told, &mut clusters, word)?;
+        }
     }
-    tell_zones(&mut told, &clusters);
-    tell_firsts(&mut told, &clusters);
-    tell_crossing(&mut told, &clusters);
-    tell_order(&mut told, rt.alloc(), &clusters)?;
+    tell(&mut told, rt.alloc(), &clusters, values)?;
     Ok(told)
 }
 
+fn each_is_told<R: AllocGlobal + Abort>(
+    rt: &R,
+    claim: &Claim,
+    values: &[Value],
+    rows: &'static str,
+) -> Result<(), Fail>
+    requires { claim.now.kind ≡ Kind.Atomic }
+{
+    for row in rows.lines() {
+        let (words, want) = row.split_once(" => ").ok_or("a row")?;
+        let found = told(rt, claim, values, words)?;
+        assert!(rt; found.as_str() == want, "{row}");
+    }
+    Ok(())
+}
+
+/// Nil at first; the zones of nil, 1 and 2 are told.
 const ROWS: &str = "w1:0-1 w2:2-9 r2:4-5 r1:6-7 => -<- 1>6 4<5 cross 0 4 4 6 fails
 w1:0-1 w2:2-9 r2:4-5 r1:6-7 !6 => -<- 0<1 4<5 holds 0 2 4
 w1:0-1 w2:2-9 r2:4-5 r1:6- => -<- 0<1 4<5 holds 0 2 4
@@ -389,13 +467,28 @@ w1:0-1 r1:6-7 w2:2-9 r2:4-5/6 => -<- 0<1 4<5 holds 0 2 4
 w1:0-1 w1:2-3 wnil:4-5 !0 w1:6-7 => X8 ValueTaken X8 ValueTaken -<- 6<7 . holds 6
 w1:0-5 w2:5-6 !9 r1:7-7 => X4 MomentTaken X1 UnknownOp X3 EndNotAfterBegin -<- 0<5 . holds 0";
 
+/// Nobody knows the initial value; the zones of 1, 7, 8 and 9 are told.
+const UNKNOWN_ROWS: &str = "r7:0-1 w1:2-3 r1:4-5 => 3>4 ->0 . . holds 0 2 4
+r7:0-1 w1:2-3 r1:4-5 r8:6-7 => 3>4 . . . split 0 6 fails
+r7:0-1 w1:2-3 r1:4-5 r7:6-7 => 3>4 ->6 . . cross - 4 2 6 fails
+r7:0-1 w1:2-3 r1:4-5 r7:6-7 w7:8-9 => 3>4 1>8 . . early 0 8 cross 0 4 2 8 fails
+w1:2-3 r1:4-5 => 3>4 . . . holds 2 4
+r7:0- r8:2-3 => . . ->2 . holds 2
+r7:0-9 r8:2-3 => . . . . split 2 0 fails
+r7:0-1 r7:2-3 r8:4-9 r9:6-7 => . . . . split 0 6 fails
+r7:0-1 w1:4-5 r8:2-3/0 => 4<5 . ->2 . holds 2 4
+wnil:0-1 rnil:2-3 w1:4-5 w1:6-7 => X8 ValueTaken 4<5 . . . holds 0 2 4
+w1:20-21 | r7:0-1 | r8:2-3 | r9:4-5 | !0 | !2 | !4 => 20<21 . . . holds 20 | 20<21 ->0 . . holds 0 20 | 20<21 . . . split 0 2 fails | 20<21 . . . split 0 2 fails | 20<21 . . . split 2 4 fails | 20<21 . . ->4 holds 4 20 | 20<21 . . . holds 20
+w1:0- r1:2-3 r1:4-5 r1:6-7 | ~2=7 | ~4=8 | ~6=9 | ~2=8 | ~6=8 | ~6=1 | ~4=1 | ~2=1 => 3>6 . . . holds 0 2 4 6 | 5>6 ->2 . . holds 2 0 4 6 | 6<7 . . . split 2 4 fails | 0<+ . . . split 2 4 fails | 0<+ . . . split 2 6 fails | 0<+ . ->6 . holds 2 4 6 0 | 6<7 . ->4 . holds 2 4 0 6 | 5>6 . ->2 . holds 2 0 4 6 | 3>6 . . . holds 0 2 4 6
+w7:0-1 r7:2-3 w8:4-5 r8:6-7 w9:8-9 r9:10-11 | !0 | !4 | !8 | w8:5-14 | w9:9-15 | w7:1-16 => . 1>2 5>6 9>10 holds 0 2 4 6 8 10 | . ->2 5>6 9>10 holds 2 4 6 8 10 | . . . 9>10 split 2 6 fails | . . . . split 2 6 fails | . . 6<7 . split 2 10 fails | . ->2 6<7 10<11 holds 2 5 6 9 10 | . 2<3 6<7 10<11 holds 1 2 5 6 9 10";
+
+const TOLD: [Value; 3] = [Value::Nil, Value::Int(1), Value::Int(2)];
+
+const UNKNOWN_TOLD: [Value; 4] = [Value::Int(1), Value::Int(7), Value::Int(8), Value::Int(9)];
+
 /// To be run with each allocation refused in turn too.
 #[test]
 fn rows_are_told(rt: HostRuntime) -> Result<(), Fail> {
-    for row in ROWS.lines() {
-        let (words, want) = row.split_once(" => ").ok_or("a row")?;
-        let found = told(&rt, words)?;
-        assert!(rt; found.as_str() == want, "{row}");
-    }
-    Ok(())
+    each_is_told(&rt, &NIL_AT_FIRST, &TOLD, ROWS)?;
+    each_is_told(&rt, &UNKNOWN_AT_FIRST, &UNKNOWN_TOLD, UNKNOWN_ROWS)
 }

@@ -10,7 +10,7 @@ ghost use Rattle.zones.specs.Refused.{refusal_beside};
 ghost use Rattle.zones.specs.Zoned.{AreManyWriters};
 
 use crate::index::Members;
-use intervals::{Claim, Holder, Op, OpTable, Refusal, Value, is_same_value};
+use intervals::{Claim, Holder, Op, OpTable, Refusal};
 
 pub fn check_write(
     claim: &Claim,
@@ -21,7 +21,7 @@ pub fn check_write(
     ensures { AreMembers table.now.ops members.now → HasDistinctIds table.now.ops → AreManyWriters (terms_of claim.now) table.now.ops
         → result ≡ ok_unless (write_refusal (terms_of claim.now) table.now.ops op.now) }
 {
-    check_beside(claim, op, holder_of(claim.initial, members, table, op))
+    check_beside(claim, op, holder_of(claim, members, table, op))
 }
 
 fn check_beside(claim: &Claim, op: &Op, holder: Option<Holder>) -> Result<(), Refusal>
@@ -43,11 +43,11 @@ fn check_beside(claim: &Claim, op: &Op, holder: Option<Holder>) -> Result<(), Re
 }
 
 /// Who has the value of the operation already.
-fn holder_of(initial: Value, members: &Members, table: &OpTable, op: &Op) -> Option<Holder>
-    ensures { (claim : Terms) → AreMembers table.now.ops members.now → HasDistinctIds table.now.ops → AreManyWriters claim table.now.ops → claim.initial ≡ initial
-        → result ≡ held_by claim table.now.ops op.now }
+fn holder_of(claim: &Claim, members: &Members, table: &OpTable, op: &Op) -> Option<Holder>
+    ensures { AreMembers table.now.ops members.now → HasDistinctIds table.now.ops → AreManyWriters (terms_of claim.now) table.now.ops
+        → result ≡ held_by (terms_of claim.now) table.now.ops op.now }
 {
-    if is_same_value(initial, op.value()) {
+    if claim.is_initial(op.value()) {
         return Some(Holder::Initial);
     }
     let write = other_write(members, table, op)?;

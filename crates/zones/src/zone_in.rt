@@ -1,64 +1,69 @@
 //! The zone of a value, from the edges of its cluster.
 
-ghost use Rattle.std.specs.Prelude.{◌≡◌, ◌↔◌, List, Option, Contains, IsTrue};
+ghost use Rattle.std.specs.Prelude.{◌≡◌, ◌↔◌, List, Option, IsTrue};
 ghost use Rattle.intervals.specs.declared.operation.Op.{Op};
 ghost use Rattle.intervals.specs.declared.operation.Value.{Value as AValue};
-ghost use Rattle.zones.specs.Cluster.{least_end_of, greatest_begin_of, written_values, zone_between as between, zone_of as zone_in_list};
+ghost use Rattle.intervals.specs.Kind.{HasNoWrite};
+ghost use Rattle.zones.specs.Cluster.{written_zone, zone_between as between, zone_of as zone_in_list};
 ghost use Rattle.zones.specs.Edges.{AreEdges, AreEdgesAt, AreEdgesAtSome};
+ghost use Rattle.zones.specs.Index.{AreMembers};
+ghost use Rattle.zones.specs.Members.{HasWrite};
 ghost use Rattle.zones.specs.Zoned.{IsZoneAt, IsZoneAtSome, AreZonesAt};
 
-use crate::edges::{Edges, earlier_of, later_of};
-use intervals::{Value, is_same_value};
+use crate::edges::{Edges, earlier_of, later_of, read_begin};
+use crate::index::Members;
+use intervals::Value;
 use zone_tree::{Edge, Zone};
 
-/// The zone of the value, where that is the initial one or has a write.
-pub fn zone_in(edges: &Edges, initial: Value) -> Option<Zone>
-    ensures { (ops : List Op) (value : AValue) → AreEdges ops value edges.now → IsZoneAt initial ops value result }
+/// The zone of the value, where that has a write.
+pub fn zone_in(edges: &Edges) -> Option<Zone>
+    ensures { (ops : List Op) (value : AValue) → AreEdges ops value edges.now → IsZoneAt ops value result }
 {
-    if is_written(edges, initial) {
-        Some(zone_of(edges, initial))
+    if is_written(edges) {
+        Some(zone_of(edges))
     } else {
         None
     }
 }
 
-fn zone_in_some(edges: &Option<Edges>, initial: Value) -> Option<Zone>
-    ensures { (ops : List Op) (value : Option AValue) → AreEdgesAtSome ops value edges.now → IsZoneAtSome initial ops value result }
+fn zone_in_some(edges: &Option<Edges>) -> Option<Zone>
+    ensures { (ops : List Op) (value : Option AValue) → AreEdgesAtSome ops value edges.now → IsZoneAtSome ops value result }
 {
     match edges {
-        Some(edges) => zone_in(edges, initial),
+        Some(edges) => zone_in(edges),
         None => None,
     }
 }
 
 /// The zones of two values.
-pub fn zones_in(
-    edges: &(Option<Edges>, Option<Edges>),
-    initial: Value,
-) -> (Option<Zone>, Option<Zone>)
-    ensures { (ops : List Op) (first second : Option AValue) → AreEdgesAt ops first second edges.now → AreZonesAt initial ops first second result }
+pub fn zones_in(edges: &(Option<Edges>, Option<Edges>)) -> (Option<Zone>, Option<Zone>)
+    ensures { (ops : List Op) (first second : Option AValue) → AreEdgesAt ops first second edges.now → AreZonesAt ops first second result }
 {
-    (
-        zone_in_some(&edges.0, initial),
-        zone_in_some(&edges.1, initial),
-    )
+    (zone_in_some(&edges.0), zone_in_some(&edges.1))
 }
 
-fn is_written(edges: &Edges, initial: Value) -> bool
-    ensures { (ops : List Op) (value : AValue) → AreEdges ops value edges.now → IsTrue result ↔ Contains (written_values initial ops) value }
+fn is_written(edges: &Edges) -> bool
+    ensures { (ops : List Op) (value : AValue) → AreEdges ops value edges.now → IsTrue result ↔ HasWrite ops value }
 {
-    is_same_value(initial, edges.value) || Edge::Before.comes_before(edges.write_begin)
+    Edge::Before.comes_before(edges.write_begin)
 }
 
-/// The zone of the value, whether that has a write or not.
-pub fn zone_of(edges: &Edges, initial: Value) -> Zone
-    ensures { (ops : List Op) (value : AValue) → AreEdges ops value edges.now → result ≡ zone_in_list initial ops value }
+/// From the least end to the greatest beginning of the write and the reads.
+fn zone_of(edges: &Edges) -> Zone
+    ensures { (ops : List Op) (value : AValue) → AreEdges ops value edges.now → result ≡ written_zone ops value }
 {
     zone_between(
-        least_end(edges, initial),
-        greatest_begin(edges),
+        earlier_of(edges.write_end, edges.read_end),
+        later_of(edges.write_begin, edges.read_begin),
         edges.value,
     )
+}
+
+/// The zone of the initial value: the initial write ends before every moment, and the last read begins last.
+pub fn initial_zone(members: &Members, initial: Value) -> Zone
+    ensures { (ops : List Op) → AreMembers ops members.now → HasNoWrite ops initial → result ≡ zone_in_list initial ops initial }
+{
+    zone_between(Edge::Before, read_begin(members, initial), initial)
 }
 
 pub fn zone_between(least: Edge, greatest: Edge, value: Value) -> Zone
@@ -79,20 +84,4 @@ pub fn zone_between(least: Edge, greatest: Edge, value: Value) -> Zone
             value,
         }
     }
-}
-
-/// The initial write ends before every moment.
-fn least_end(edges: &Edges, initial: Value) -> Edge
-    ensures { (ops : List Op) (value : AValue) → AreEdges ops value edges.now → result ≡ least_end_of initial ops value }
-{
-    if is_same_value(initial, edges.value) {
-        return Edge::Before;
-    }
-    earlier_of(edges.write_end, edges.read_end)
-}
-
-fn greatest_begin(edges: &Edges) -> Edge
-    ensures { (initial : AValue) (ops : List Op) (value : AValue) → AreEdges ops value edges.now → result ≡ greatest_begin_of initial ops value }
-{
-    later_of(edges.write_begin, edges.read_begin)
 }

@@ -1,7 +1,7 @@
 //! The fault of a register by the words of its kind's definition, over the plain list.
 
 use crate::Fault;
-use intervals::{Claim, Holder, Kind, Memory, Op, OpId, Value, overlaps, precedes};
+use intervals::{Claim, Holder, Initial, Kind, Memory, Op, OpId, Value, overlaps, precedes};
 use std::alloc::Global;
 
 /// The operations of one value: which of them ended first and which began last. An edge is a number,
@@ -41,7 +41,7 @@ pub fn wrong_read_of(claim: &Claim, ops: &[Op]) -> Option<Fault> {
 }
 
 fn is_right(claim: &Claim, ops: &[Op], read: &Op) -> bool {
-    let mut last = claim.initial;
+    let mut last = claim.at_first();
     let mut begin = 0;
     let mut is_within = false;
     let mut is_overlapped = false;
@@ -58,20 +58,46 @@ fn is_right(claim: &Claim, ops: &[Op], read: &Op) -> bool {
         }
     }
     if claim.kind == Kind::Safe && is_within {
-        return claim.has_in_domain(read.value()) || read.value() == claim.initial;
+        return claim.has_in_domain(read.value()) || read.value() == claim.at_first();
     }
     is_overlapped || read.value() == last
 }
 
-pub fn fault_of(alloc: Global, initial: Value, ops: &[Op]) -> Result<Option<Fault>, Memory> {
-    if let Some(read) = first_by_end(ops, initial, false) {
-        return Ok(Some(Fault::Unwritten(read.id)));
-    }
-    if let Some(read) = first_by_end(ops, initial, true) {
+pub fn fault_of(alloc: Global, claim: &Claim, ops: &[Op]) -> Result<Option<Fault>, Memory> {
+    let initial = match initial_of(claim, ops) {
+        Ok(initial) => initial,
+        Err(fault) => return Ok(Some(fault)),
+    };
+    if let Some(read) = first_early(ops) {
         return Ok(early_fault(ops, &read));
     }
     let clusters = clusters_of(alloc, initial, ops)?;
     Ok(crossing_fault(clusters.as_slice()))
+}
+
+/// The value before any write: the known one, else the one that every unwritten read returns, none where there
+/// is no such read. A fault where an unwritten read returns another.
+fn initial_of(claim: &Claim, ops: &[Op]) -> Result<Option<Value>, Fault> {
+    match claim.initial {
+        Initial::Known(value) => match first_unwritten(ops, Some(value)) {
+            Some(read) => Err(Fault::Unwritten(read.id)),
+            None => Ok(Some(value)),
+        },
+        Initial::Unknown => sole_value(ops),
+    }
+}
+
+fn sole_value(ops: &[Op]) -> Result<Option<Value>, Fault> {
+    let Some(first) = first_unwritten(ops, None) else {
+        return Ok(None);
+    };
+    match first_unwritten(ops, Some(first.value())) {
+        Some(second) => Err(Fault::Split {
+            first: first.id,
+            second: second.id,
+        }),
+        None => Ok(Some(first.value())),
+    }
 }
 
 fn early_fault(ops: &[Op], read: &Op) -> Option<Fault> {
@@ -91,27 +117,37 @@ fn write_of<'t>(ops: &[Op<'t>], value: Value) -> Option<Op<'t>> {
     None
 }
 
-/// Of the early or the unwritten reads the one that ended first.
-fn first_by_end<'t>(ops: &[Op<'t>], initial: Value, early: bool) -> Option<Op<'t>> {
+/// Of the reads of values that nothing wrote, but for this value, the one that ended first.
+fn first_unwritten<'t>(ops: &[Op<'t>], but: Option<Value>) -> Option<Op<'t>> {
     let mut found: Option<Op<'t>> = None;
     for op in ops {
-        let fails = if early {
-            is_early(ops, op)
-        } else {
-            is_unwritten(ops, initial, op)
-        };
-        if fails && found.is_none_or(|first| end_edge(op) < end_edge(&first)) {
-            found = Some(*op);
+        if is_unwritten(ops, op) && but != Some(op.value()) {
+            found = first_to_end(found, op);
         }
     }
     found
 }
 
-fn is_unwritten(ops: &[Op], initial: Value, op: &Op) -> bool {
-    !op.is_write()
-        && op.end.is_some()
-        && op.value() != initial
-        && write_of(ops, op.value()).is_none()
+/// Of the early reads the one that ended first.
+fn first_early<'t>(ops: &[Op<'t>]) -> Option<Op<'t>> {
+    let mut found: Option<Op<'t>> = None;
+    for op in ops {
+        if is_early(ops, op) {
+            found = first_to_end(found, op);
+        }
+    }
+    found
+}
+
+fn first_to_end<'t>(found: Option<Op<'t>>, op: &Op<'t>) -> Option<Op<'t>> {
+    match found {
+        Some(first) if end_edge(&first) <= end_edge(op) => Some(first),
+        _ => Some(*op),
+    }
+}
+
+fn is_unwritten(ops: &[Op], op: &Op) -> bool {
+    !op.is_write() && op.end.is_some() && write_of(ops, op.value()).is_none()
 }
 
 fn is_early(ops: &[Op], op: &Op) -> bool {
@@ -132,10 +168,12 @@ fn end_edge(op: &Op) -> u64 {
     }
 }
 
-/// The cluster of the initial value, and of each value that is written.
-fn clusters_of(alloc: Global, initial: Value, ops: &[Op]) -> Result<Vec<Cluster>, Memory> {
+/// The cluster of the initial value, where there is one, and of each value that is written.
+fn clusters_of(alloc: Global, initial: Option<Value>, ops: &[Op]) -> Result<Vec<Cluster>, Memory> {
     let mut clusters = Vec::new(alloc);
-    clusters.push(cluster_of(0, initial, ops))?;
+    if let Some(initial) = initial {
+        clusters.push(cluster_of(0, initial, ops))?;
+    }
     for op in ops {
         if op.is_write() {
             clusters.push(cluster_of(u64::MAX, op.value(), ops))?;

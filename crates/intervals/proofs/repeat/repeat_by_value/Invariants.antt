@@ -1,13 +1,12 @@
 -- none repeats before the place, and the shelf has the first writes of the values before it
-use Rattle.std.proofs.Common.{◌≡◌}
 use Rattle.intervals.specs.FirstWrites.{AreFirst}
-use Rattle.intervals.specs.Terms.{Terms}
+use Rattle.intervals.specs.Terms.{terms_of}
 use Rattle.intervals.proofs.Fronts.{front_of}
 use Rattle.intervals.proofs.Repeats.{Walked}
 use Rattle.intervals.proofs.repeat.repeat_by_value.Given as goal
 
 abbrev pub invariant-loop-slot : goal.invariant-loop-slot
 invariant-loop-slot l = record {
-  walked : (claim : Terms) → claim.initial ≡ l.fn.initial → Walked claim l.slots l.slot-index;
+  walked : Walked (terms_of l.claim) l.slots l.slot-index;
   first : AreFirst l.first (front_of l.slots l.slot-index);
 }

@@ -12,7 +12,8 @@ returns-then-ne c =
     let other : held.claim.kind ≢ Atomic = search rules in
     let one : is_one_writer held.claim.writers ≡ true = search rules in
     let none : first_overlap held.ops ≡ None = (c.first_overlap_began_first.ensures.none held.ops c.requires.ids).1 (c.requires.writes other) in
-    rw (one, none) refl
+    let known : held.claim.known ≡ true = search rules in
+    rw (one, known, none) refl
 
 pub first_overlap-requires-clause-moments : goal.first_overlap-requires-clause-moments
 first_overlap-requires-clause-moments c =

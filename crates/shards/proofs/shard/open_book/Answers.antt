@@ -9,7 +9,7 @@ use Rattle.shards.proofs.shard.open_book.Goals as goal
 pub returns-in_default-clause-books : goal.returns-in_default-clause-books
 returns-in_default-clause-books c =
     sym (ap (λ (claim : Option Terms). map claimed_of c.args.books.now.items ++ option_to_list (option_map unedited claim))
-    (slice_get-map (λ register. register.claim) c.args.tower.now.registers c.args.id.0 ∙ sym c.in_default.ensures)
+    (slice_get-map (λ register. register.claim) c.args.tower.now.registers c.args.id.0 ∙ sym c.in_default.ensures.claim)
     ∙ append-nil (map claimed_of c.args.books.now.items))
 
 pub returns-in_ok-push-clause-books : goal.returns-in_ok-push-clause-books
@@ -19,4 +19,4 @@ returns-in_ok-push-clause-books c =
     ∙ ap (λ (more : List Claimed). map claimed_of c.args.books.now.items ++ more)
     (ap (λ (held : Kept). claimed_of held ∷ []) c.in_ok-new.ensures.made
     ∙ sym (ap (λ (claim : Option Terms). option_to_list (option_map unedited claim))
-    (slice_get-map (λ register. register.claim) c.args.tower.now.registers c.args.id.0 ∙ sym c.in-Some.ensures)))
+    (slice_get-map (λ register. register.claim) c.args.tower.now.registers c.args.id.0 ∙ sym c.in-Some.ensures.claim)))

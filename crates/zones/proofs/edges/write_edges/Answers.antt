@@ -2,7 +2,7 @@ use Rattle.std.proofs.Common.{sym, subst}
 use Rattle.zone_tree.specs.declared.edge.Edge.TheVariants.{At}
 use Rattle.zones.specs.Edges.{AreWriteEdges}
 use Rattle.zones.proofs.EdgesOf.{edges_of_none, edges_of_write}
-use Rattle.zones.proofs.StretchFound.{one_write_at}
+use Rattle.zones.proofs.OneWrite.{one_write_at}
 use Rattle.zones.proofs.edges.write_edges.Goals as goal
 
 pub returns-in-Some : goal.returns-in-Some

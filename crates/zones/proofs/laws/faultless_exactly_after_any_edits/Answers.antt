@@ -1,4 +1,4 @@
-use Rattle.zones.proofs.Existence.{faultless_after_edits}
+use Rattle.zones.proofs.Start.{faultless_after_edits}
 use Rattle.zones.proofs.laws.faultless_exactly_after_any_edits.Goals as goal
 
 pub returns : goal.returns

@@ -1,7 +1,8 @@
 use Rattle.std.proofs.Common.{◌∙◌, Option, sym, subst}
 use Rattle.std.specs.Prelude.{MatchOption}
 use Rattle.intervals.specs.declared.operation.Op.{Op}
-use Rattle.zones.specs.Members.{HasNoWrite, IsTheWriteAt}
+use Rattle.intervals.specs.Kind.{HasNoWrite}
+use Rattle.zones.specs.Members.{IsTheWriteAt}
 use Rattle.zones.specs.declared.index.Row.TheVariants.{Writes}
 use Rattle.zones.proofs.Lookups.{no_write, write_found}
 use Rattle.zones.proofs.index.Members.write_of.Goals as goal

@@ -1,17 +1,17 @@
 use Rattle.std.proofs.Common.{◌≡◌, ◌+◌, ◌*◌, ◌≤◌, ℕ, length, None, Some, Option, ap, sym, subst, ◌∙◌, rules}
 use Rattle.std.specs.Prelude.{IfSome, IsSome}
 use Rattle.intervals.specs.declared.operation.Op.{Op}
+use Rattle.intervals.specs.Operation.{writes}
 use Rattle.intervals.specs.Edit.{new_op, edited, edit_id, found_by}
 use Rattle.intervals.specs.Refusal.{reply_to}
 use Rattle.intervals.specs.Table.{Tabled, prepared_after}
 use Rattle.intervals.specs.Terms.{terms_of}
 use Rattle.intervals.proofs.Accepted.{edit_accepted}
 use Rattle.zone_tree.specs.Digits.{digits}
-use Rattle.zones.specs.Cluster.{zones_of}
 use Rattle.zones.specs.Index.{AreMembers, HasPlacesOf, HoldsOnlyFor}
 use Rattle.zones.specs.Together.{Clustered, HasRoomFor}
 use Rattle.zones.specs.Zoned.{judged_part}
-use Rattle.zones.proofs.Admitted.{apart_after, as_many_zones, can_exchange_stretches, can_exchange_zones, change_is, enough_for, judged_prepared, room_after, stretched_after, stretches_need_no_room, zoned_after, zones_need_no_room}
+use Rattle.zones.proofs.Admitted.{apart_after, as_many_writes, can_exchange_stretches, can_exchange_zones, change_is, enough_for, judged_prepared, room_after, stretched_after, stretches_need_no_room, zoned_after, zones_need_no_room}
 use Rattle.zones.proofs.Held.{only_after}
 use Rattle.zones.proofs.register.Clusters.settle.Goals as goal
 
@@ -147,6 +147,6 @@ pub returns-clause-steps : goal.returns-clause-steps
 returns-clause-steps c =
     let claim = terms_of c.self.inside.claim in
     let zones = c.self.inside.zones in
-    let many = as_many_zones claim c.self.inside.table.ops zones.zones c.self.invariant.apart c.iter.ensures.order c.self.invariant.zoned in
-    subst (λ (x : Clustered). c.exchange.new.tree.steps ≤ x.steps + 4 * (2 * digits (length (zones_of x.claim.initial x.ops) + 1) + 1)) c.self.view_is
+    let many = as_many_writes claim c.self.inside.table.ops zones.zones c.self.invariant.apart c.iter.ensures.order c.self.invariant.zoned in
+    subst (λ (x : Clustered). c.exchange.new.tree.steps ≤ x.steps + 4 * (2 * digits (length (writes x.ops) + 1) + 1)) c.self.view_is
     (subst (λ (n : ℕ). c.exchange.new.tree.steps ≤ zones.steps + 4 * (2 * digits (n + 1) + 1)) many c.exchange.ensures.steps)

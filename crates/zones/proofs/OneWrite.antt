@@ -1,25 +1,17 @@
--- The stretch of a value by what the shelves give: the end of its first read, and its one write.
+-- Of each value there is one write, where one id stands at each value on the shelf of the writes.
 use Rattle.std.proofs.Common.{◌≡◌, Bool, List, Some, None, sym, ap, ◌∙◌, cond}
 use Rattle.std.specs.Prelude.{Contains}
 use Rattle.intervals.specs.declared.operation.Op.{Op}
-use Rattle.intervals.specs.declared.operation.Moment.{Moment}
-use Rattle.intervals.specs.declared.operation.OpId.{OpId}
 use Rattle.intervals.specs.declared.operation.Value.{Value}
 use Rattle.intervals.specs.Edit.{op_of}
 use Rattle.intervals.specs.Operation.{value_of}
 use Rattle.intervals.specs.Shelf.{id_at, spot_of}
 use Rattle.intervals.specs.Standing.{HasDistinctIds}
 use Rattle.intervals.proofs.Ids.{found_by_id}
-use Rattle.zone_tree.specs.declared.edge.Edge.{Edge}
-use Rattle.zone_tree.specs.declared.edge.Edge.TheVariants.{At}
-use Rattle.zone_tree.specs.declared.zone.Zone.{Zone}
 use Rattle.zones.specs.declared.index.Row.TheVariants.{Writes}
 use Rattle.zones.specs.declared.index.Members.{Members}
-use Rattle.zones.specs.Cluster.{zone_between}
-use Rattle.zones.specs.Faults.{IsStretchAt, begin_of, first_end_of}
 use Rattle.zones.specs.Index.{AreMembers, at_first, shelf_of}
-use Rattle.zones.specs.Members.{EndsFirstOf, IsTheWriteAt}
-use Rattle.zones.proofs.Stretches.{first_end_is}
+use Rattle.zones.specs.Members.{IsTheWriteAt}
 
 -- two operations of one id are one
 pub one_of_id : (ops : List Op) → HasDistinctIds ops → (a b : Op) → Contains ops a → Contains ops b → a.id ≡ b.id → a ≡ b
@@ -35,14 +27,3 @@ one_write_at ops members are ids value a b p q =
     stands_at w is =
         (are Writes).there w (spot_of value at_first) is.stands
         (ap (λ (b : Bool). cond b (Some (spot_of (value_of w.act) at_first)) None) is.write ∙ ap (λ (v : Value). Some (spot_of v at_first)) is.same)
-
--- the zone from the end of the first read to the beginning of the write is the stretch of the value
-pub stretch_found : (initial : Value) (ops : List Op) (v : Value) (end : Moment) (id : OpId) → EndsFirstOf ops v end id → (begin : Edge) → begin ≡ begin_of initial ops v → (zone : Zone) → zone ≡ zone_between (At end) begin v → IsStretchAt initial ops v (Some zone)
-stretch_found initial ops v end id is begin at zone e = record {
-  stretch =
-      e
-      ∙ (ap (λ (m : Edge). zone_between m begin v) (sym (first_end_is ops v end id is))
-      ∙ ap (λ (m : Edge). zone_between (first_end_of ops v) m v) at);
-  none = λ n. absurd (cc);
-  some = λ n. (is.read, is.stands, is.judged, is.same);
-}

@@ -1,6 +1,6 @@
 use Rattle.std.proofs.Common.{◌∙◌, sym}
 use Rattle.zones.proofs.FirstStretch.{first_read_unwritten, no_unwritten_shown}
-use Rattle.zones.proofs.stretch.first_unwritten.Goals as goal
+use Rattle.zones.proofs.stretch.first_writeless.Goals as goal
 
 pub returns-in_err-stretch : goal.returns-in_err-stretch
 returns-in_err-stretch c claim members apart stretched order =
