@@ -164,6 +164,10 @@ found_at (a ∷ ops) op (suc k) d lt e = found_later a ops op d.0 (found_at ops 
 pub found_by_id : (ops : List Op) (op : Op) → HasDistinctIds ops → Contains ops op → op_of ops op.id ≡ Some op
 found_by_id ops op d h = found_at ops op h.0 d h.1 h.2
 
+-- two operations of one id are one
+pub one_of_id : (ops : List Op) → HasDistinctIds ops → (a b : Op) → Contains ops a → Contains ops b → a.id ≡ b.id → a ≡ b
+one_of_id ops distinct a b sa sb e = let p = found_by_id ops a distinct sa in let q = found_by_id ops b distinct sb in let r = ap (op_of ops) e in cc
+
 -- what is found by an id that may be given stands and has it
 pub found_stands : (ops : List Op) (id : Option OpId) (x : Op) → found_by ops id ≡ Some x → Contains ops x × (has_id id x ≡ true)
 found_stands ops None x e = absurd (cc)

@@ -93,11 +93,11 @@ IsArranged claim ops = (order : List Op) × Arranges claim ops order
 abbrev pub HasNoWrite : List Op → Value → Type 0
 HasNoWrite ops value = All (λ w. IsWrite w → value_of w.act ≢ value) ops
 
--- there is a value at first, nil or a whole number of any size that no write carries, with which there is one
+-- there is a value, nil or a whole number of any size, that no write carries, and an arrangement from it
 abbrev pub IsArrangedFromSome : Terms → List Op → Type 0
 IsArrangedFromSome claim ops = (value : Value) × HasNoWrite ops value × IsArranged (record claim { initial = value }) ops
 
--- by whether the initial value is known
+-- from the initial value where that is known (true), else from some value
 abbrev pub IsAtomicWhere : Bool → Terms → List Op → Type 0
 IsAtomicWhere true claim ops = IsArranged claim ops
 IsAtomicWhere false claim ops = IsArrangedFromSome claim ops

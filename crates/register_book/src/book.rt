@@ -3,7 +3,7 @@ ghost use Rattle.intervals.specs.Terms.{terms_of, IsKnownUnlessAtomic};
 ghost use Rattle.intervals.specs.Edit.{op_of, is_claim};
 ghost use Rattle.intervals.specs.Refusal.{reply_to, to_kind_refusal, carried_out, after_edit};
 ghost use Rattle.intervals.specs.Kind.{Holds};
-ghost use Rattle.zones.specs.AtFirst.{start_of};
+ghost use Rattle.zones.specs.AtFirst.{with_start};
 ghost use Rattle.zones.specs.Turn.{IsOrder};
 ghost use Rattle.register_book.specs.Kept.{claimed_of, most_steps};
 ghost use Rattle.register_book.specs.Reply.{IsReply, TakesMemory};
@@ -170,7 +170,7 @@ impl<'t> RegisterBook<'t> {
     /// An order of the operations that shows that an atomic register holds, by their ids: the clusters
     /// by the left edges of their zones, in each the write and then its reads by their beginnings.
     pub fn order(&self, alloc: Global) -> Result<Option<Vec<OpId>>, Memory>
-        ensures order { IfOk result (λ found. IfSome found (λ ids. IsOrder (record self.now.claim { initial = start_of self.now.claim self.now.ops }) self.now.ops ids.items)) }
+        ensures order { IfOk result (λ found. IfSome found (λ ids. IsOrder (with_start self.now.claim self.now.ops) self.now.ops ids.items)) }
         ensures none { IfOk result (λ found. IsNone found ↔ ¬ ((self.now.claim.kind ≡ Kind.Atomic) × Holds self.now.claim self.now.ops)) }
         ensures memory { OnErr result ((self.now.claim.kind ≡ Kind.Atomic) × Holds self.now.claim self.now.ops) }
     {

@@ -6,7 +6,7 @@ ghost use Rattle.intervals.specs.Edit.{edited, new_op};
 ghost use Rattle.intervals.specs.Refusal.{reply_to, to_kind_refusal, write_refusal, ok_unless};
 ghost use Rattle.intervals.specs.Standing.{HasDistinctIds, StandApart};
 ghost use Rattle.intervals.specs.Kind.{Holds};
-ghost use Rattle.zones.specs.AtFirst.{start_of};
+ghost use Rattle.zones.specs.AtFirst.{with_start};
 ghost use Rattle.zones.specs.Turn.{IsOrder};
 ghost use Rattle.register_book.specs.Judge.{held_by, IsOfItsKind, HasNonePrepared};
 ghost use Rattle.register_book.specs.Kept.{claimed_of, most_steps};
@@ -143,7 +143,7 @@ impl<'t> Judge<'t> {
 
     pub fn order(&self, alloc: Global) -> Result<Option<Vec<OpId>>, Memory>
         requires { IsOfItsKind self.now }
-        ensures order { IfOk result (λ found. IfSome found (λ ids. IsOrder (record (held_by self.now).claim { initial = start_of (held_by self.now).claim (held_by self.now).ops }) (held_by self.now).ops ids.items)) }
+        ensures order { IfOk result (λ found. IfSome found (λ ids. IsOrder (with_start (held_by self.now).claim (held_by self.now).ops) (held_by self.now).ops ids.items)) }
         ensures none { IfOk result (λ found. IsNone found ↔ ¬ (((held_by self.now).claim.kind ≡ Kind.Atomic) × Holds (held_by self.now).claim (held_by self.now).ops)) }
         ensures memory { OnErr result (((held_by self.now).claim.kind ≡ Kind.Atomic) × Holds (held_by self.now).claim (held_by self.now).ops) }
     {

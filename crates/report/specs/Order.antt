@@ -5,7 +5,7 @@ use Rattle.intervals.specs.declared.operation.OpId.{OpId}
 use Rattle.intervals.specs.declared.operation.RegId.{RegId}
 use Rattle.intervals.specs.Terms.{Claimed}
 use Rattle.intervals.specs.Kind.{Holds}
-use Rattle.zones.specs.AtFirst.{start_of}
+use Rattle.zones.specs.AtFirst.{with_start}
 use Rattle.zones.specs.Turn.{IsOrder}
 use Rattle.tower_file.specs.Contents.{Register}
 use Rattle.shards.specs.Closing.{Ended, book_of}
@@ -15,7 +15,7 @@ use Rattle.report.specs.Names.{printed, id_text, name_of}
 abbrev pub IsOrderOf : Option Claimed → Option (List OpId) → Type 0
 IsOrderOf None found = ⊥
 IsOrderOf (Some held) found =
-    IfSome found (IsOrder (record held.claim { initial = start_of held.claim held.ops }) held.ops)
+    IfSome found (IsOrder (with_start held.claim held.ops) held.ops)
     × (IsNone found ↔ ¬ ((held.claim.kind ≡ Atomic) × Holds held.claim held.ops))
 
 -- what is asked for, with its answer

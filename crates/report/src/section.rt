@@ -136,8 +136,8 @@ fn push_fault(text: &mut String, fault: Fault) -> Result<(), AllocError>
     match fault {
         Fault::Wrong(read) => push_read(text, "  wrong ", read),
         Fault::Unwritten(read) => push_read(text, "  unwritten ", read),
-        Fault::Split { first, second } => push_split(text, first, second),
-        Fault::Early { read, write } => push_early(text, read, write),
+        Fault::Split { first, second } => push_two(text, "  unwritten ", first, " and ", second),
+        Fault::Early { read, write } => push_two(text, "  early ", read, " before ", write),
         Fault::Crossing { a, b, c, d } => push_conflict(text, a, b, c, d),
     }
 }
@@ -150,23 +150,19 @@ fn push_read(text: &mut String, word: &str, read: OpId) -> Result<(), AllocError
     text.push_str("\n")
 }
 
-fn push_split(text: &mut String, first: OpId, second: OpId) -> Result<(), AllocError>
-    ensures { OnOk result (string_bytes text.new ≡ string_bytes text.old ++ fault_line (Fault.Split first second)) }
+fn push_two(
+    text: &mut String,
+    word: &str,
+    one: OpId,
+    between: &str,
+    other: OpId,
+) -> Result<(), AllocError>
+    ensures { OnOk result (string_bytes text.new ≡ string_bytes text.old ++ word.now ++ id_text one ++ between.now ++ id_text other ++ 10 ∷ []) }
 {
-    text.push_str("  unwritten ")?;
-    push_id(text, first)?;
-    text.push_str(" and ")?;
-    push_id(text, second)?;
-    text.push_str("\n")
-}
-
-fn push_early(text: &mut String, read: OpId, write: OpId) -> Result<(), AllocError>
-    ensures { OnOk result (string_bytes text.new ≡ string_bytes text.old ++ fault_line (Fault.Early read write)) }
-{
-    text.push_str("  early ")?;
-    push_id(text, read)?;
-    text.push_str(" before ")?;
-    push_id(text, write)?;
+    text.push_str(word)?;
+    push_id(text, one)?;
+    text.push_str(between)?;
+    push_id(text, other)?;
     text.push_str("\n")
 }
 

@@ -3,9 +3,6 @@ use Rattle.std.proofs.Common.{◌≡◌, zero, suc, Bool, true, false, List, [],
 use Rattle.std.specs.Prelude.{All, Contains, slice_index_or}
 use Rattle.std.proofs.lemmas.List.Elements.{All-contains, All-contains_itself, All-filter, Contains-get_or}
 use Rattle.intervals.specs.declared.operation.Op.{Op}
-use Rattle.intervals.specs.Edit.{op_of}
-use Rattle.intervals.specs.Standing.{HasDistinctIds}
-use Rattle.intervals.proofs.Ids.{found_by_id}
 
 -- what a filter keeps
 pub kept : (test : Op → Bool) (ops : List Op) (op : Op) → Contains ops op → test op ≡ true → Contains (filter test ops) op
@@ -23,7 +20,3 @@ kept test (a ∷ ops) op (suc k, lt, same) e = by_cases (test a) (kept test ops 
 
 pub kept_stands : (test : Op → Bool) (ops : List Op) (op : Op) → Contains (filter test ops) op → Contains ops op
 kept_stands test ops op h = All-contains (Contains ops) (filter test ops) op (All-filter test (Contains ops) ops (All-contains_itself ops)) h
-
--- no two operations of a list with distinct ids have one id
-pub one_of_id : (ops : List Op) → HasDistinctIds ops → (a b : Op) → Contains ops a → Contains ops b → a.id ≡ b.id → a ≡ b
-one_of_id ops distinct a b sa sb e = let p = found_by_id ops a distinct sa in let q = found_by_id ops b distinct sb in let r = ap (op_of ops) e in cc

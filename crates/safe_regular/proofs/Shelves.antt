@@ -20,7 +20,7 @@ use Rattle.safe_regular.specs.Index.{IsIndex}
 use Rattle.safe_regular.specs.LookUp.{BeginsBefore, BeginsFrom, BeginsAfter, IsLastOf, IsFirstOf}
 use Rattle.safe_regular.specs.Writes.{AreWrites, HaveSameWrites, IsAdded, IsAddedOf, StandAlike, StandAlikeIn, HoldsOnlyFor, id_by_begin, spot_by_begin, spot_by_begin_in, op_at}
 use Rattle.safe_regular.proofs.Index.{none_indexed, last_indexed, first_indexed, index_with, index_without}
-use Rattle.safe_regular.proofs.Lists.{one_of_id}
+use Rattle.intervals.proofs.Ids.{one_of_id}
 
 -- what stands at a moment found, by its id
 module _ (Fits : Op → Type 0) (Q : Moment → Type 0) (says : (w : Op) → Fits w → Q w.begin) (met : (w : Op) → Q w.begin → Fits w)

@@ -3,19 +3,14 @@ use Rattle.std.proofs.Common.{◌≡◌, Bool, List, Some, None, sym, ap, ◌∙
 use Rattle.std.specs.Prelude.{Contains}
 use Rattle.intervals.specs.declared.operation.Op.{Op}
 use Rattle.intervals.specs.declared.operation.Value.{Value}
-use Rattle.intervals.specs.Edit.{op_of}
 use Rattle.intervals.specs.Operation.{value_of}
 use Rattle.intervals.specs.Shelf.{id_at, spot_of}
 use Rattle.intervals.specs.Standing.{HasDistinctIds}
-use Rattle.intervals.proofs.Ids.{found_by_id}
+use Rattle.intervals.proofs.Ids.{one_of_id}
 use Rattle.zones.specs.declared.index.Row.TheVariants.{Writes}
 use Rattle.zones.specs.declared.index.Members.{Members}
 use Rattle.zones.specs.Index.{AreMembers, at_first, shelf_of}
 use Rattle.zones.specs.Members.{IsTheWriteAt}
-
--- two operations of one id are one
-pub one_of_id : (ops : List Op) → HasDistinctIds ops → (a b : Op) → Contains ops a → Contains ops b → a.id ≡ b.id → a ≡ b
-one_of_id ops ids a b h k e = let same : Some a ≡ Some b = sym (found_by_id ops a ids h) ∙ (ap (op_of ops) e ∙ found_by_id ops b ids k) in cc
 
 -- on the shelf of the writes one id stands at each value, so of each value there is one write
 pub one_write_at : (ops : List Op) (members : Members) → AreMembers ops members → HasDistinctIds ops → (value : Value) (a b : Op) → IsTheWriteAt ops value a → IsTheWriteAt ops value b → a ≡ b

@@ -85,3 +85,7 @@ or_fresh ops (Some value) = value
 -- tell of none, or of several
 abbrev pub start_of : Terms → List Op → Value
 start_of claim ops = or_fresh ops (initial_of claim ops)
+
+-- the claim with that value as the initial one
+abbrev pub with_start : Terms → List Op → Terms
+with_start claim ops = record claim { initial = start_of claim ops }

@@ -59,7 +59,7 @@ fn first_to_end<'t>(
     ensures { (start : AValue) → MayStart initial start value → AreMembers table.now.ops members.now → HasDistinctIds table.now.ops → least_end_of start table.now.ops value ≢ Never
         → HasLeastEnd start table.now.ops value result }
 {
-    if is_the(initial, value) {
+    if is_initial(initial, value) {
         return None;
     }
     ended_first(
@@ -69,7 +69,7 @@ fn first_to_end<'t>(
 }
 
 /// Whether the value is the initial one, where there is one.
-pub fn is_the(initial: Option<Value>, value: Value) -> bool
+pub fn is_initial(initial: Option<Value>, value: Value) -> bool
     ensures { result ≡ is_that initial value }
 {
     match initial {

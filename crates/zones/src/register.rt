@@ -18,7 +18,7 @@ ghost use Rattle.zones.specs.Index.{AreMembers};
 ghost use Rattle.zones.specs.Members.{IsChange};
 ghost use Rattle.zones.specs.Zoned.{judged_part, value_in as value_of_some, other_value as other};
 
-use crate::crossing::{Crossing, extremes, is_the};
+use crate::crossing::{Crossing, extremes, is_initial};
 use crate::edges::{edges_after, edges_in, edges_of};
 use crate::index::Members;
 use crate::laws::{faultless_exactly_where_arranged, faultless_where_no_fault_is_first};
@@ -246,7 +246,7 @@ impl<'t> Clusters<'t> {
         ensures zone { IfSome result (λ zone. zone ≡ zone_in_list (start_of self.now.claim self.now.ops) self.now.ops value) }
         ensures written { IsSome result ↔ Contains (values_from (initial_of self.now.claim self.now.ops) self.now.ops) value }
     {
-        if is_the(self.initial(), value) {
+        if is_initial(self.initial(), value) {
             return Some(initial_zone(&self.members, value));
         }
         let edges = edges_of(&self.members, &self.table, None, value);

@@ -3,7 +3,7 @@
 
 ghost use Rattle.std.specs.Prelude.{◌≡◌};
 
-use super::{begun, carried_out, id, refusal_of, withdraw};
+use super::{UNKNOWN_AT_FIRST, begun, carried_out, id, refusal_of, withdraw};
 use crate::Clusters;
 use intervals::{Act, Claim, Edit, Initial, Kind, Memory, Moment, Op, Parts, Value, Writers};
 use std::alloc::Global;
@@ -35,14 +35,6 @@ const ZERO_AT_FIRST: Claim = Claim {
     kind: Kind::Atomic,
     writers: Writers::Any,
     initial: Initial::Known(ZERO),
-    domain: None,
-    fixed: false,
-};
-
-const UNKNOWN_AT_FIRST: Claim = Claim {
-    kind: Kind::Atomic,
-    writers: Writers::Any,
-    initial: Initial::Unknown,
     domain: None,
     fixed: false,
 };

@@ -1,5 +1,5 @@
 use Rattle.std.proofs.Common.{sym, ◌∙◌}
-use Rattle.safe_regular.proofs.Lists.{one_of_id}
+use Rattle.intervals.proofs.Ids.{one_of_id}
 use Rattle.safe_regular.proofs.Overlap.{overlapped_beside}
 use Rattle.safe_regular.proofs.writes.first_overlapped.Goals as goal
 

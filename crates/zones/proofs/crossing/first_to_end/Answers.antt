@@ -5,8 +5,8 @@ use Rattle.zones.proofs.Extremes.{may_not_start, may_start}
 use Rattle.zones.proofs.Ends.{least_found}
 use Rattle.zones.proofs.crossing.first_to_end.Goals as goal
 
-pub returns-then-is_the : goal.returns-then-is_the
-returns-then-is_the c start may is distinct ends =
+pub returns-then-is_initial : goal.returns-then-is_initial
+returns-then-is_initial c start may is distinct ends =
     let it : is_that c.args.initial c.args.value ≡ true = search rules in
     may_start c.args.initial start c.args.value may it
 

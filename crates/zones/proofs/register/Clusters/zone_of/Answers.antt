@@ -9,21 +9,21 @@ use Rattle.zones.specs.Zoned.{is_that}
 use Rattle.zones.proofs.Front.{found_from, initial_among, initial_free, zone_from_start, zone_written}
 use Rattle.zones.proofs.register.Clusters.zone_of.Goals as goal
 
-pub returns-then-is_the-clause-zone : goal.returns-then-is_the-clause-zone
-returns-then-is_the-clause-zone c =
+pub returns-then-is_initial-clause-zone : goal.returns-then-is_initial-clause-zone
+returns-then-is_initial-clause-zone c =
     let now_is : c.initial.result ≡ initial_of (terms_of c.self.inside.claim) c.self.inside.table.ops = subst (λ (x : Clustered). c.initial.result ≡ initial_of x.claim x.ops) (sym c.self.view_is) c.initial.ensures in
-    let it_is : c.is_the.result ≡ is_that (initial_of (terms_of c.self.inside.claim) c.self.inside.table.ops) c.args.value = c.is_the.ensures ∙ ap (λ (i : Option Value). is_that i c.args.value) now_is in
+    let it_is : c.is_initial.result ≡ is_that (initial_of (terms_of c.self.inside.claim) c.self.inside.table.ops) c.args.value = c.is_initial.ensures ∙ ap (λ (i : Option Value). is_that i c.args.value) now_is in
     let claim = terms_of c.self.inside.claim in
     let ops = c.self.inside.table.ops in
-    let it = sym it_is ∙ c.if-is_the.true in
+    let it = sym it_is ∙ c.if-is_initial.true in
     subst (λ (x : Clustered). c.initial_zone.result ≡ zone_of (start_of x.claim x.ops) x.ops c.args.value) c.self.view_is
     (c.initial_zone.ensures ops c.self.invariant.members_of (initial_free claim ops c.self.invariant.apart c.args.value it) ∙ zone_from_start claim ops c.self.invariant.apart c.args.value it)
 
-pub returns-then-is_the-clause-written : goal.returns-then-is_the-clause-written
-returns-then-is_the-clause-written c =
+pub returns-then-is_initial-clause-written : goal.returns-then-is_initial-clause-written
+returns-then-is_initial-clause-written c =
     let now_is : c.initial.result ≡ initial_of (terms_of c.self.inside.claim) c.self.inside.table.ops = subst (λ (x : Clustered). c.initial.result ≡ initial_of x.claim x.ops) (sym c.self.view_is) c.initial.ensures in
-    let it_is : c.is_the.result ≡ is_that (initial_of (terms_of c.self.inside.claim) c.self.inside.table.ops) c.args.value = c.is_the.ensures ∙ ap (λ (i : Option Value). is_that i c.args.value) now_is in
-    let it = sym it_is ∙ c.if-is_the.true in
+    let it_is : c.is_initial.result ≡ is_that (initial_of (terms_of c.self.inside.claim) c.self.inside.table.ops) c.args.value = c.is_initial.ensures ∙ ap (λ (i : Option Value). is_that i c.args.value) now_is in
+    let it = sym it_is ∙ c.if-is_initial.true in
     subst (λ (x : Clustered). IsSome (Some c.initial_zone.result) ↔ Contains (values_from (initial_of x.claim x.ops) x.ops) c.args.value) c.self.view_is
     ((λ some. initial_among (terms_of c.self.inside.claim) c.self.inside.table.ops c.self.invariant.apart c.args.value it), λ h. refl)
 
@@ -38,9 +38,9 @@ returns-clause-zone c =
 pub returns-clause-written : goal.returns-clause-written
 returns-clause-written c =
     let now_is : c.initial.result ≡ initial_of (terms_of c.self.inside.claim) c.self.inside.table.ops = subst (λ (x : Clustered). c.initial.result ≡ initial_of x.claim x.ops) (sym c.self.view_is) c.initial.ensures in
-    let it_is : c.is_the.result ≡ is_that (initial_of (terms_of c.self.inside.claim) c.self.inside.table.ops) c.args.value = c.is_the.ensures ∙ ap (λ (i : Option Value). is_that i c.args.value) now_is in
+    let it_is : c.is_initial.result ≡ is_that (initial_of (terms_of c.self.inside.claim) c.self.inside.table.ops) c.args.value = c.is_initial.ensures ∙ ap (λ (i : Option Value). is_that i c.args.value) now_is in
     let ops = c.self.inside.table.ops in
-    let other = sym it_is ∙ c.if-is_the.false in
+    let other = sym it_is ∙ c.if-is_initial.false in
     let are = c.edges_of-edges.ensures c.self.invariant.members_of c.self.invariant.apart.kept.ids tt in
     let is = c.zone_in.ensures ops c.args.value are in
     subst (λ (x : Clustered). IsSome c.zone_in.result ↔ Contains (values_from (initial_of x.claim x.ops) x.ops) c.args.value) c.self.view_is
