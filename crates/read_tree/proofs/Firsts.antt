@@ -4,11 +4,11 @@ use Rattle.std.proofs.lemmas.Bool.{le-ltb}
 use Rattle.std.proofs.lemmas.Bool.Decides.{nat_tests}
 use Rattle.read_tree.specs.declared.item.Item.{Item}
 use Rattle.read_tree.specs.declared.item.Cover.{Cover}
-use Rattle.read_tree.specs.declared.tree.Node.{Node}
+use Rattle.read_tree.specs.declared.summary.Summary.{Summary}
+use Rattle.summary_tree.specs.declared.node.Node.{Node}
+use Rattle.summary_tree.specs.Node.{IsTop}
 use Rattle.read_tree.specs.Items.{cover_of, is_short, is_some_short, earlier_of, first_short}
-use Rattle.read_tree.specs.Layers.{Layers}
-use Rattle.read_tree.specs.Summary.{cover_after, least_moment}
-use Rattle.read_tree.specs.Node.{IsTop}
+use Rattle.read_tree.specs.Summary.{cover_after, least_moment, IsSummary}
 
 pub earlier_of_none : (a : Option Item) → earlier_of a None ≡ a
 earlier_of_none None = refl
@@ -126,19 +126,19 @@ pub nothing_earlier : (c : Option Cover) (f : Item) (items : List Item) → f.mo
 nothing_earlier c f items h = stays f (least_moment items) (first_short c items) h (from_least c items)
 
 -- around the node at the top
-module _ {n : Node} {tree : Layers} (top : IsTop n tree) (c : Option Cover) (found : Option Item) where
-  on_left : earlier_of found (first_short c tree.items) ≡ earlier_of (earlier_of found (first_short c n.left.items)) (first_short (cover_after c n.left.items) (n.item ∷ n.right.items))
-  on_left = ap (λ xs. earlier_of found (first_short c xs)) top.items ∙ ap (earlier_of found) (first_append c n.left.items (n.item ∷ n.right.items))
+module _ {n : Node Item Summary} {items : List Item} (top : IsTop IsSummary n items) (c : Option Cover) (found : Option Item) where
+  on_left : earlier_of found (first_short c items) ≡ earlier_of (earlier_of found (first_short c n.left.items)) (first_short (cover_after c n.left.items) (n.item ∷ n.right.items))
+  on_left = ap (λ xs. earlier_of found (first_short c xs)) top.all ∙ ap (earlier_of found) (first_append c n.left.items (n.item ∷ n.right.items))
       ∙ sym (earlier_assoc found (first_short c n.left.items) (first_short (cover_after c n.left.items) (n.item ∷ n.right.items)))
 
   at_top : (t : Bool) → n.item.covers ≡ t → first_short (cover_after c n.left.items) (n.item ∷ n.right.items)
       ≡ cond t (first_short (Some (cover_of n.item)) n.right.items) (earlier_of (short_one (cover_after c n.left.items) n.item) (first_short (cover_after c n.left.items) n.right.items))
   at_top t is = ap (λ u. cond u (first_short (Some (cover_of n.item)) n.right.items) (earlier_of (short_one (cover_after c n.left.items) n.item) (first_short (cover_after c n.left.items) n.right.items))) is
 
-  pub around_cover : n.item.covers ≡ true → earlier_of found (first_short c tree.items) ≡ earlier_of (earlier_of found (first_short c n.left.items)) (first_short (Some (cover_of n.item)) n.right.items)
+  pub around_cover : n.item.covers ≡ true → earlier_of found (first_short c items) ≡ earlier_of (earlier_of found (first_short c n.left.items)) (first_short (Some (cover_of n.item)) n.right.items)
   around_cover is = on_left ∙ ap (earlier_of (earlier_of found (first_short c n.left.items))) (at_top true is)
 
-  pub around_read : n.item.covers ≡ false → earlier_of found (first_short c tree.items)
+  pub around_read : n.item.covers ≡ false → earlier_of found (first_short c items)
       ≡ earlier_of (earlier_of (earlier_of found (first_short c n.left.items)) (short_one (cover_after c n.left.items) n.item)) (first_short (cover_after c n.left.items) n.right.items)
   around_read is = on_left ∙ ap (earlier_of (earlier_of found (first_short c n.left.items))) (at_top false is)
       ∙ sym (earlier_assoc (earlier_of found (first_short c n.left.items)) (short_one (cover_after c n.left.items) n.item) (first_short (cover_after c n.left.items) n.right.items))

@@ -213,7 +213,7 @@ least_by : (t : Bool) (x : Item) → (summary_by t x).least ≡ least_moment (x 
 least_by true x = refl
 least_by false x = refl
 
-summary_of_one : (x : Item) → IsSummary (summary_of x) (x ∷ [])
+pub summary_of_one : (x : Item) → IsSummary (summary_of x) (x ∷ [])
 unfolding summary_of
 summary_of_one x = record {
   covers = covers_by x.covers x;
@@ -221,7 +221,3 @@ summary_of_one x = record {
   valid = valid_one x.covers x;
   least = least_by x.covers x;
 }
-
-pub summary_around : (s t : Summary) (left : List Item) (x : Item) (right : List Item) → IsSummary s left → IsSummary t right → IsSummary (joined s (joined (summary_of x) t)) (left ++ x ∷ right)
-summary_around s t left x right a b =
-    joined_summary s (joined (summary_of x) t) left (x ∷ right) a (joined_summary (summary_of x) t (x ∷ []) right (summary_of_one x) b)

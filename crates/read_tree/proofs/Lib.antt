@@ -1,9 +1,7 @@
 pub mod Order
+pub mod InOrder
 pub mod Joins
-pub mod Low
-pub mod Sides
-pub mod Tops
-pub mod Counts
+pub mod Same
 pub mod Firsts
 pub mod Members
 pub mod Told

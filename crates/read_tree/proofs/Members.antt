@@ -8,7 +8,12 @@ use Rattle.intervals.specs.Shelf.{same_spot}
 use Rattle.read_tree.specs.declared.item.Item.{Item}
 use Rattle.read_tree.specs.Items.{AreInOrder, StandsBefore, place_of, stands_before, stands_behind, with_item, item_at, in_place_of, renewed}
 use Rattle.read_tree.proofs.Order.{trichotomy, same_true, true_same, before_true, apart}
-use Rattle.read_tree.proofs.Sides.{below, above}
+
+abbrev below : Spot → List Item → List Item
+below spot items = filter (stands_before spot) items
+
+abbrev above : Spot → List Item → List Item
+above spot items = filter (stands_behind spot) items
 
 pub at_first : (m : Item) (items : List Item) → Contains (m ∷ items) m
 at_first m items = (0, omega arith, refl)

@@ -13,7 +13,7 @@ use Rattle.intervals.specs.declared.shelf.Spot.{Spot}
 use Rattle.intervals.specs.Shelf.{spot_cmp, spot_of, spot_total, same_spot}
 use Rattle.intervals.proofs.Agreement.{Decides-same_value}
 use Rattle.read_tree.specs.Items.{StandsBefore}
-use Rattle.read_tree.specs.Layers.{comes_before}
+use Rattle.read_tree.specs.Order.{comes_before}
 
 abbrev value_cmp : Value → Value → Ordering
 value_cmp = (value_ord.ghosts).cmp
@@ -94,11 +94,9 @@ pub before_false : (a b : Spot) → StandsBefore a b → is_lt (spot_cmp a b) �
 before_false a b h = false_unless (is_lt (spot_cmp a b)) (λ t. asymmetric a b h (true_before b a t))
 
 pub comes_true : (a b : Spot) → comes_before a b ≡ true → StandsBefore a b
-unfolding comes_before
 comes_true a b h = true_before a b h
 
 pub comes_none : (a b : Spot) → comes_before a b ≡ false → ¬ StandsBefore a b
-unfolding comes_before
 comes_none a b h k = let t = before_true a b k in cc
 
 pub comes_neither : (a b : Spot) → comes_before a b ≡ false → comes_before b a ≡ false → a ≡ b

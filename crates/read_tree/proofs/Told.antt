@@ -6,7 +6,7 @@ use Rattle.intervals.specs.declared.shelf.Spot.{Spot}
 use Rattle.read_tree.specs.declared.item.Item.{Item}
 use Rattle.read_tree.specs.declared.item.Cover.{Cover}
 use Rattle.read_tree.specs.Items.{AreInOrder, StandsBefore, place_of, cover_of, is_short, is_some_short, earlier_of, first_short, IsLastCover, IsCoverAt}
-use Rattle.read_tree.specs.Layers.{comes_before}
+use Rattle.read_tree.specs.Order.{comes_before}
 use Rattle.read_tree.proofs.Order.{irreflexive, transitive, asymmetric, trichotomy, comes_true, comes_none}
 use Rattle.read_tree.proofs.Members.{at_first, later, first_or_later, none_in, each_holds, one_of_a_spot}
 use Rattle.read_tree.proofs.Firsts.{short_one}

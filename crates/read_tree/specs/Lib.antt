@@ -1,7 +1,5 @@
 -- what the public clauses speak of
 pub mod Items
 -- words of private clauses
-pub mod Layers
+pub mod Order
 pub mod Summary
-pub mod Node
-pub mod Stock

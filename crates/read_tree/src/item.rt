@@ -1,9 +1,13 @@
 //! What stands in a tree: reads that have an end, and covers.
 
 ghost use Rattle.std.specs.Prelude.{◌≡◌};
+ghost use Rattle.intervals.specs.Shelf.{same_spot};
 ghost use Rattle.read_tree.specs.Items.{place_of, cover_of};
+ghost use Rattle.read_tree.specs.Order.{comes_before as spot_before};
 
 use intervals::{Moment, OpId, Spot, Value};
+use std::cmp::Ordering;
+use summary_tree::Keyed;
 
 /// A read, or a cover. It stands in the row of its value, or, where it is not by value, in the one row
 /// that there is.
@@ -53,4 +57,45 @@ impl Item {
             by_value: self.by_value,
         }
     }
+}
+
+impl Keyed for Item {
+    type Key = Spot;
+
+    ghost key = { place_of };
+
+    ghost comes_before = { spot_before };
+
+    ghost same = { same_spot };
+
+    fn placeholder() -> Self {
+        Item {
+            value: Value::Nil,
+            moment: Moment(0),
+            reach: 0,
+            id: OpId {
+                feeder: 0,
+                event: 0,
+            },
+            covers: false,
+            by_value: false,
+        }
+    }
+
+    #[inline(always)]
+    fn key(&self) -> Spot {
+        self.spot()
+    }
+
+    /// Spots are compared with the latest first.
+    #[inline(always)]
+    fn comes_before(a: Spot, b: Spot) -> bool {
+        match b.cmp(&a) {
+            Ordering::Less => true,
+            _ => false,
+        }
+    }
+
+    #[inline(always)]
+    fn keys_are_in_one_order() {}
 }

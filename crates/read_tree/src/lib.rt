@@ -19,22 +19,15 @@
 //! Read `specs/Items.antt` first, then the calls in `reads.rt`: their clauses are the whole promise, and
 //! `laws.rt` has what the definitions come to. The rows of `tests.rt` run these calls.
 //!
-//! Inside, the items stand in a tree of boxes whose sides differ in height by at most one: its parts are
-//! in `tree.rt`, what each keeps of its items in `summary.rt`, on which side of an item a spot is in
-//! `place.rt`, rotations in `balance.rt`, insertion and removal in `edit.rt`, look-ups in `look.rt`, and
-//! the reserved nodes in `stock.rt`.
+//! Inside, the items stand in a `summary_tree` by their spots, as `item.rt` says: what a node keeps of the
+//! items below it is in `summary.rt`, and the look-ups by it in `look.rt`.
 #![tactic(auto)]
 
-mod balance;
-mod edit;
 mod item;
 pub mod laws;
 mod look;
-mod place;
 mod reads;
-mod stock;
 mod summary;
-mod tree;
 
 pub use item::{Cover, Item};
 pub use reads::ReadTree;

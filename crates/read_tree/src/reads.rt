@@ -2,28 +2,25 @@ ghost use Rattle.std.specs.Prelude.{◌≡◌, ◌+◌, ◌<◌, ◌≤◌, [], 
 ghost use Rattle.read_tree.specs.Items.{AreInOrder, place_of, with_item, item_at, without_item, renewed, is_some_short, first_short as first_short_of};
 
 use crate::Item;
-use crate::stock::Stock;
-use crate::tree::Tree;
+use crate::look::{Part, earliest, has_short};
+use crate::summary::Summary;
 use intervals::{Memory, Spot};
 use std::alloc::Global;
 use std::marker::Model;
+use summary_tree::SummaryTree;
 
 /// Items at different spots, and reserved places for more.
 #[derive(Drop)]
 pub struct ReadTree {
-    tree: Tree,
-    places: Stock,
+    tree: SummaryTree<Item, Summary>,
 }
 
 impl Model for ReadTree {
-    ghost use Rattle.std.specs.Prelude.{◌≡◌, length};
-    ghost use Rattle.read_tree.specs.Items.{Contents, AreInOrder};
+    ghost use Rattle.read_tree.specs.Items.{Contents};
 
     ghost Value = { Contents };
 
-    ghost view = { λ t. record { items = t.tree.items; free = t.places.free } };
-
-    ghost invariant = { λ t. AreInOrder t.tree.items × (t.places.taken ≡ length t.tree.items) };
+    ghost view = { λ t. record { items = t.tree.items; free = t.tree.free } };
 }
 
 impl ReadTree {
@@ -33,8 +30,7 @@ impl ReadTree {
         ensures free { result.free ≡ 0 }
     {
         ReadTree {
-            tree: Tree::new(),
-            places: Stock::new(alloc),
+            tree: SummaryTree::new(alloc),
         }
     }
 
@@ -42,7 +38,7 @@ impl ReadTree {
     pub fn free(&self) -> usize
         ensures { result ≡ self.now.free }
     {
-        self.places.free()
+        self.tree.free()
     }
 
     /// Makes room for that many more items.
@@ -53,19 +49,18 @@ impl ReadTree {
         ensures err { OnErr result (self.new ≡ self.old) }
         ensures memory { OnErr result (self.old.free < places) }
     {
-        self.places.reserve(places)
+        self.tree.reserve(places)
     }
 
     /// Puts an item of a new spot into a reserved place.
+    #[tactic(auto, using(crate::proofs::InOrder::none_at))]
     pub fn insert(&mut self, item: Item)
         requires room { 0 < self.old.free }
         requires new_spot { item_at (place_of item) self.old.items ≡ None }
         ensures items { self.new.items ≡ with_item item self.old.items }
         ensures free { self.new.free + 1 ≡ self.old.free }
     {
-        stays_low(&self.tree, &self.places);
-        let place = self.places.take(item);
-        self.tree.insert(place);
+        self.tree.insert(item);
     }
 
     /// Takes the item at the spot out. Its place stays reserved.
@@ -74,11 +69,7 @@ impl ReadTree {
         ensures items { self.new.items ≡ without_item spot self.old.items }
         ensures free { self.new.free ≡ (if is_some result then self.old.free + 1 else self.old.free) }
     {
-        stays_low(&self.tree, &self.places);
-        let place = self.tree.remove(spot)?;
-        let item = place.item;
-        self.places.give(place);
-        Some(item)
+        self.tree.remove(spot)
     }
 
     /// Puts the item in the place of the one at its spot, where there is one.
@@ -86,8 +77,7 @@ impl ReadTree {
         ensures items { self.new.items ≡ renewed item self.old.items }
         ensures free { self.new.free ≡ self.old.free }
     {
-        stays_low(&self.tree, &self.places);
-        self.tree.renew(item);
+        self.tree.replace(item);
     }
 
     /// The item at the spot.
@@ -98,27 +88,26 @@ impl ReadTree {
     }
 
     /// Some read is not covered.
+    #[tactic(auto, using(crate::proofs::InOrder::from_tree))]
     pub fn has_short(&self) -> bool
         ensures short { result ≡ is_some_short None self.now.items }
         ensures order { AreInOrder self.now.items }
     {
-        self.tree.has_short(None)
+        has_short(self.tree.tree(), None)
     }
 
     /// Of the reads that are not covered the one that ended first.
+    #[tactic(auto, using(crate::proofs::InOrder::from_tree))]
     pub fn first_short(&self) -> Option<Item>
         ensures first { result ≡ first_short_of None self.now.items }
         ensures order { AreInOrder self.now.items }
     {
-        self.tree.earliest(None, None)
+        earliest(
+            Part {
+                tree: self.tree.tree(),
+            },
+            None,
+            None,
+        )
     }
-}
-
-/// There are no more items than places were taken, so the tree is low enough to be edited.
-#[tactic(auto, using(crate::proofs::Counts::height_of_kept))]
-fn stays_low(tree: &Tree, places: &Stock)
-    requires { places.now.taken ≡ length tree.now.items }
-    ensures { tree.now.height < 250 }
-{
-    let _ = (tree.height(), places.taken());
 }

@@ -1,11 +1,12 @@
 //! What a node keeps of its items: enough to say behind any cover whether some read of them is short.
 
-ghost use Rattle.std.specs.Prelude.{◌≡◌, ◌≤◌, ◌||◌, if◌then◌else◌};
+ghost use Rattle.std.specs.Prelude.{◌≡◌, ◌≤◌, ◌↔◌, ◌||◌, IsTrue, if◌then◌else◌};
 ghost use Rattle.std.specs.Option.{option_or};
-ghost use Rattle.read_tree.specs.Summary.{is_front_short, with_others, merged, front_of, meets_short, no_front, no_summary, summary_of, joined};
+ghost use Rattle.read_tree.specs.Summary.{is_front_short, with_others, merged, front_of, meets_short, no_front, no_summary, summary_of, joined, IsSummary};
 
 use crate::{Cover, Item};
 use intervals::{Value, is_same_value};
+use summary_tree::Summarizes;
 
 /// Of the reads in front of the first cover: the farthest, and how far those of other values reach.
 #[derive(Clone, Copy)]
@@ -71,6 +72,13 @@ impl Front {
         }
     }
 
+    #[tactic(auto, using(crate::proofs::Same::one_front, crate::proofs::Same::same_itself))]
+    fn is_same(&self, other: &Front) -> bool
+        ensures { IsTrue result ↔ (self.now ≡ other.now) }
+    {
+        self.far == other.far && self.other == other.other && is_same_value(self.value, other.value)
+    }
+
     fn merge(self, more: Front) -> Front
         ensures { result ≡ merged self more }
     {
@@ -95,7 +103,7 @@ impl Summary {
     }
 
     #[tactic(auto, unfolding(crate::specs::Summary::summary_of, crate::specs::Summary::least_moment))]
-    pub fn of_one(item: Item) -> Summary
+    fn of_item(item: Item) -> Summary
         ensures { result ≡ summary_of item }
     {
         if item.covers {
@@ -118,11 +126,27 @@ impl Summary {
         }
     }
 
-    /// Of a list and the one behind it.
-    #[tactic(auto, unfolding(crate::specs::Summary::joined))]
-    pub fn join(self, behind: Summary) -> Summary
-        ensures { result ≡ joined self behind }
+    /// Some read of the list is short behind that cover.
+    pub fn is_short(&self, before: Option<Cover>) -> bool
+        ensures { result ≡ (is_front_short before self.now.front || self.now.short) }
     {
+        self.front.is_short(before) | self.short
+    }
+}
+
+impl Summarizes<Item> for Summary {
+    ghost one = { summary_of };
+
+    ghost join = { joined };
+
+    ghost IsOf = { IsSummary };
+
+    fn of_one(item: &Item) -> Self {
+        Summary::of_item(*item)
+    }
+
+    #[tactic(auto, unfolding(crate::specs::Summary::joined))]
+    fn join(&self, behind: &Summary) -> Self {
         let front = join_fronts(self.last, self.front, behind.front);
         let meets = is_short_behind(self.last, behind.front);
         Summary {
@@ -133,11 +157,36 @@ impl Summary {
         }
     }
 
-    /// Some read of the list is short behind that cover.
-    pub fn is_short(&self, before: Option<Cover>) -> bool
-        ensures { result ≡ (is_front_short before self.now.front || self.now.short) }
-    {
-        self.front.is_short(before) | self.short
+    fn with_first(&self, item: &Item) -> Self {
+        Summary::of_one(item).join(self)
+    }
+
+    #[tactic(auto, using(crate::proofs::Same::one_summary))]
+    fn is_same(&self, other: &Summary) -> bool {
+        self.least == other.least
+            && self.short == other.short
+            && self.front.is_same(&other.front)
+            && is_same_last(&self.last, &other.last)
+    }
+
+    #[inline(always)]
+    fn summaries_add_up() {}
+}
+
+#[tactic(auto, using(crate::proofs::Same::one_cover, crate::proofs::Same::same_itself))]
+fn is_same_cover(a: &Cover, b: &Cover) -> bool
+    ensures { IsTrue result ↔ (a.now ≡ b.now) }
+{
+    a.reach == b.reach && a.by_value == b.by_value && is_same_value(a.value, b.value)
+}
+
+fn is_same_last(a: &Option<Cover>, b: &Option<Cover>) -> bool
+    ensures { IsTrue result ↔ (a.now ≡ b.now) }
+{
+    match (a, b) {
+        (Some(a), Some(b)) => is_same_cover(a, b),
+        (None, None) => true,
+        _ => false,
     }
 }
 

@@ -5,6 +5,8 @@ use Rattle.std.proofs.lemmas.Bool.Decides.{Decides-eqb}
 use Rattle.intervals.specs.declared.operation.Moment.{Moment}
 use Rattle.zone_tree.specs.declared.edge.Edge.{Edge}
 use Rattle.zone_tree.specs.declared.edge.Edge.TheVariants.{Before, At, Never}
+use Rattle.summary_tree.specs.Order.{IsOrder, IsExact}
+use Rattle.zone_tree.specs.declared.zone.Zone.{Zone}
 use Rattle.zone_tree.specs.Edge.{comes_before, ComesBefore, same_edge}
 
 pub before_irreflexive : (a : Edge) → ¬ ComesBefore a a
@@ -80,3 +82,13 @@ Decides-same_edge (At m) Never = (λ e. absurd (cc), λ e. absurd (cc))
 Decides-same_edge Never Before = (λ e. absurd (cc), λ e. absurd (cc))
 Decides-same_edge Never (At n) = (λ e. absurd (cc), λ e. absurd (cc))
 Decides-same_edge Never Never = (λ _. refl, λ _. refl)
+
+-- so zones are in order by them
+abbrev pub left_of : Zone → Edge
+left_of z = z.left
+
+pub edge_order : IsOrder comes_before
+edge_order = record { irreflexive = before_irreflexive; transitive = before_transitive; total = before_cases }
+
+pub edge_exact : IsExact same_edge
+edge_exact = record { one = λ a b. (Decides-same_edge a b).0; here = λ a b. (Decides-same_edge a b).1 }

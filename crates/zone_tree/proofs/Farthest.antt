@@ -11,7 +11,7 @@ use Rattle.zone_tree.specs.Zone.{IsForward, HasOrderedEdges, Conflicts}
 use Rattle.zone_tree.specs.Conflict.{IsClean, KeepsClearOfForward, IsFarthestForward, IsFirstConflict}
 use Rattle.zone_tree.specs.Order.{IsByLeft, StandInOrder}
 use Rattle.zone_tree.proofs.EdgeOrder.{before_irreflexive, before_transitive}
-use Rattle.zone_tree.proofs.Pairs.{pairs_front, pairs_across, All-front, All-back}
+use Rattle.summary_tree.proofs.Pairs.{pairs_front, pairs_across, All-front, All-back}
 use Rattle.zone_tree.proofs.TwoZones.{earlier_is_forward, conflict_farther}
 
 -- the zone is forward, and no forward zone was found yet or one of a lesser right edge

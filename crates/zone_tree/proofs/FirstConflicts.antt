@@ -14,7 +14,7 @@ use Rattle.zone_tree.specs.Order.{StandInOrder}
 use Rattle.zone_tree.specs.Summary.{no_zones, one_zone, join, summary_of}
 use Rattle.zone_tree.specs.Look.{begins_before, last_that, IsFirstMeeting, IsMetFirst}
 use Rattle.zone_tree.proofs.EdgeOrder.{before_irreflexive, not_both_ways}
-use Rattle.zone_tree.proofs.Pairs.{pairs_head, pairs_tail}
+use Rattle.summary_tree.proofs.Pairs.{pairs_head, pairs_tail}
 use Rattle.zone_tree.proofs.TwoZones.{clear_ends_before}
 use Rattle.zone_tree.proofs.Farthest.{IsFarthest, Meets, clear_push, order_front}
 use Rattle.zone_tree.proofs.FirstFound.{meets}

@@ -9,7 +9,7 @@ use Rattle.zone_tree.specs.Edge.{comes_before}
 use Rattle.zone_tree.specs.Zone.{IsForward, least_end, greatest_begin, Conflicts}
 use Rattle.zone_tree.specs.Conflict.{IsClean, KeepsClearOfForward, IsFirstConflict}
 use Rattle.zone_tree.specs.Order.{StandInOrder}
-use Rattle.zone_tree.proofs.Pairs.{pairs_nil}
+use Rattle.summary_tree.proofs.Pairs.{pairs_nil}
 use Rattle.zone_tree.proofs.Farthest.{farther_of, IsFarthest, Meets, farthest_push, clear_push, clean_where_clear, order_front}
 
 abbrev conflict : Zone → Zone → Bool

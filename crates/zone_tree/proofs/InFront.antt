@@ -12,7 +12,7 @@ use Rattle.zone_tree.specs.Conflict.{IsClean, IsFirstConflict}
 use Rattle.zone_tree.specs.Order.{StandInOrder}
 use Rattle.zone_tree.specs.Summary.{no_zones, one_zone, join, summary_of}
 use Rattle.zone_tree.specs.Look.{begins_before, last_that, IsFirstMeeting, IsMetFirst}
-use Rattle.zone_tree.proofs.Pairs.{pairs_cons}
+use Rattle.summary_tree.proofs.Pairs.{pairs_cons}
 use Rattle.zone_tree.proofs.Summaries.{join_none}
 use Rattle.zone_tree.proofs.Seams.{one_is_clear, bit_where_clean, clean_where}
 use Rattle.zone_tree.proofs.FirstConflicts.{first_from}

@@ -11,8 +11,8 @@ use Rattle.zone_tree.specs.Edge.{comes_before, ComesBefore}
 use Rattle.zone_tree.specs.Order.{IsByLeft, StandInOrder}
 use Rattle.zone_tree.specs.Look.{is_behind, behind}
 use Rattle.zone_tree.proofs.EdgeOrder.{before_irreflexive, before_transitive, before-false}
-use Rattle.zone_tree.proofs.Pairs.{pairs_head, pairs_tail}
-use Rattle.zone_tree.proofs.Places.{filter_all, filter_none, none_found}
+use Rattle.summary_tree.proofs.Pairs.{pairs_head, pairs_tail}
+use Rattle.summary_tree.proofs.Lists.{filter_all, filter_none, none_found}
 
 abbrev Left : Zone → Zone → Type 0
 Left a b = ComesBefore a.left b.left

@@ -1,12 +1,10 @@
 pub mod EdgeOrder
-mod Pairs
 mod TwoZones
 mod Farthest
 mod OneFirst
 mod FirstFound
 pub mod Places
 mod OneOrder
-mod Low
 mod Sides
 mod Summaries
 mod Looks
@@ -16,6 +14,5 @@ mod Items
 mod Seams
 mod FirstConflicts
 mod InFront
-mod Counts
-mod Replaced
+mod Digits
 pub mod Crosses

@@ -18,7 +18,7 @@ use Rattle.zone_tree.specs.Order.{IsByLeft, StandInOrder}
 use Rattle.zone_tree.specs.Summary.{latest, one_zone, join, summary_of}
 use Rattle.zone_tree.specs.Look.{is_behind, reaches, reaches_but, falls_short, begins_before, last_that, has_forward}
 use Rattle.zone_tree.proofs.EdgeOrder.{before_transitive, before-false, not_after_before}
-use Rattle.zone_tree.proofs.Places.{find_none}
+use Rattle.summary_tree.proofs.Lists.{find_none}
 use Rattle.zone_tree.proofs.Sides.{earlier_edges, later_edges}
 use Rattle.zone_tree.proofs.Summaries.{or_clear, one_forward, earliest_before}
 

@@ -6,7 +6,7 @@ use Rattle.zone_tree.specs.declared.zone.Zone.{Zone}
 use Rattle.zone_tree.specs.Edge.{ComesBefore}
 use Rattle.zone_tree.specs.Order.{IsByLeft}
 use Rattle.zone_tree.proofs.EdgeOrder.{before_irreflexive, not_both_ways}
-use Rattle.zone_tree.proofs.Pairs.{pairs_head, pairs_tail}
+use Rattle.summary_tree.proofs.Pairs.{pairs_head, pairs_tail}
 
 abbrev Left : Zone → Zone → Type 0
 Left a b = ComesBefore a.left b.left

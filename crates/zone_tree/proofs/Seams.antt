@@ -13,7 +13,7 @@ use Rattle.zone_tree.specs.Conflict.{IsClean, KeepsClearOfForward}
 use Rattle.zone_tree.specs.Order.{StandInOrder}
 use Rattle.zone_tree.specs.Summary.{meets, no_zones, one_zone, join, summary_of}
 use Rattle.zone_tree.proofs.EdgeOrder.{before_transitive, before-false}
-use Rattle.zone_tree.proofs.Pairs.{pairs_nil, pairs_head, pairs_tail, pairs_cons}
+use Rattle.summary_tree.proofs.Pairs.{pairs_nil, pairs_head, pairs_tail, pairs_cons}
 use Rattle.zone_tree.proofs.TwoZones.{forward_zones, backward_inside}
 use Rattle.zone_tree.proofs.Farthest.{clean_where_clear}
 use Rattle.zone_tree.proofs.Summaries.{or_clear, one_forward, one_backward, earliest_before, not_before_all}

@@ -239,6 +239,14 @@ summary_append [] ys = sym (join_none (summary_of ys))
 summary_append (x ∷ xs) ys =
     ap (join (one_zone x)) (summary_append xs ys) ∙ sym (join_assoc (one_zone x) (summary_of xs) (summary_of ys))
 
+-- a summary of one zone, and of two lists
+pub summary_of_one : (z : Zone) → one_zone z ≡ summary_of (z ∷ [])
+unfolding summary_of
+summary_of_one z = sym (none_join (one_zone z))
+
+pub summary_of_joined : (s t : Summary) (xs ys : List Zone) → s ≡ summary_of xs → t ≡ summary_of ys → join s t ≡ summary_of (xs ++ ys)
+summary_of_joined s t xs ys e f = ap (λ (r : Summary). join r t) e ∙ ap (λ (r : Summary). join (summary_of xs) r) f ∙ sym (summary_append xs ys)
+
 pub summary_around : (xs : List Zone) (z : Zone) (ys : List Zone) → summary_of (xs ++ z ∷ ys) ≡ join (summary_of xs) (join (one_zone z) (summary_of ys))
 unfolding summary_of
 summary_around xs z ys = summary_append xs (z ∷ ys)

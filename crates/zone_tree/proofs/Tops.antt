@@ -1,16 +1,18 @@
 -- What is known of a node at the top.
-use Rattle.std.proofs.Common.{◌≡◌, ◌∙◌, List, sym, ap, subst}
-use Rattle.zone_tree.specs.declared.node.Node.{Node}
+use Rattle.std.proofs.Common.{◌≡◌, List, subst}
+use Rattle.summary_tree.specs.declared.node.Node.{Node}
+use Rattle.summary_tree.specs.Node.{IsTop}
 use Rattle.zone_tree.specs.declared.zone.Zone.{Zone}
+use Rattle.zone_tree.specs.declared.summary.Summary.{Summary}
 use Rattle.zone_tree.specs.Order.{StandInOrder}
 use Rattle.zone_tree.specs.Summary.{summary_of}
-use Rattle.zone_tree.specs.Node.{zones_of, IsBalancedNode, IsTop}
+use Rattle.zone_tree.specs.Node.{IsTopZone}
 use Rattle.zone_tree.proofs.Sides.{sides_in_order}
 
-pub top_of : (n : Node) (zones : List Zone) → zones ≡ zones_of n → IsBalancedNode n → IsTop n zones
-top_of n zones e balanced = record {
-  all = e;
-  summary = balanced.summary ∙ ap summary_of (sym e);
-  left = λ order. (sides_in_order n.left.zones n.zone n.right.zones (subst StandInOrder e order)).0;
-  right = λ order. (sides_in_order n.left.zones n.zone n.right.zones (subst StandInOrder e order)).1;
+pub top_of : (n : Node Zone Summary) (zones : List Zone) → IsTop (λ s zs. s ≡ summary_of zs) n zones → IsTopZone n zones
+top_of n zones top = record {
+  all = top.all;
+  summary = top.summary;
+  left = λ order. (sides_in_order n.left.items n.item n.right.items (subst StandInOrder top.all order)).0;
+  right = λ order. (sides_in_order n.left.items n.item n.right.items (subst StandInOrder top.all order)).1;
 }

@@ -6,8 +6,5 @@ pub mod Order
 pub mod Digits
 -- words of private clauses
 pub mod Summary
-pub mod Layers
 pub mod Node
-pub mod Descent
-pub mod Stock
 pub mod Look

@@ -1,5 +1,5 @@
 -- Zones by their left edges.
-use Rattle.std.specs.Prelude.{ℕ, ◌≡◌, ◌≢◌, not, All, List, ◌∷◌, ◌++◌, Option, filter, length}
+use Rattle.std.specs.Prelude.{ℕ, ◌≢◌, not, All, List, ◌∷◌, ◌++◌, Option, filter}
 use Rattle.std.specs.List.{AllPairs, find}
 use Rattle.zone_tree.specs.declared.edge.Edge.{Edge}
 use Rattle.zone_tree.specs.declared.zone.Zone.{Zone}
@@ -45,8 +45,3 @@ zone_at left zones = find (λ z. same_edge z.left left) zones
 -- the zones of another left edge
 abbrev pub without_zone_at : Edge → List Zone → List Zone
 without_zone_at left zones = filter (λ z. not (same_edge z.left left)) zones
-
--- the zones of a tree stand in order, and as many places are taken
-pub record IsKept (zones : List Zone) (taken : ℕ) : Type 0 where
-  pub order : StandInOrder zones
-  pub count : taken ≡ length zones

@@ -15,26 +15,18 @@
 //! The rows of `tests.rt` run these calls: the zones above stand in the row `4<5 -<- 1>6 =1>5`.
 //!
 //! Read `specs/Zone.antt` and `specs/Conflict.antt` first: what a zone is and what a conflict;
-//! then the calls in `tree.rt`, and in `laws.rt` what the definitions come to. Inside stands a
-//! height-balanced tree of boxes (Adelson-Velsky and Landis 1962):
+//! then the calls in `tree.rt`, and in `laws.rt` what the definitions come to. The zones stand in a
+//! `summary_tree` by their left edges. Inside:
 //!
-//!     tree      the calls: a tree, its reserved places and its count of steps
+//!     tree      the calls
 //!     zones     the iterator
-//!     node      the tree of boxes: each node is as `specs/Node.antt` says, as `keep` asks
-//!     balance   rotations
-//!     edit      insertion, removal and replacement: one way down, counted
 //!     look      the look-ups, by the summaries
 //!     summary   what a node keeps of the zones below it, so that `clean` asks the top alone
-//!     stock     spare nodes for reserved places
 #![tactic(auto)]
 
-mod balance;
 mod edge;
-mod edit;
 pub mod laws;
 mod look;
-mod node;
-mod stock;
 mod summary;
 mod tree;
 mod zone;

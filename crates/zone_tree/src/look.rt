@@ -1,14 +1,58 @@
 //! Looks at the tree, each one way down where the summaries show the way.
 
-ghost use Rattle.std.specs.Prelude.{◌≡◌, false};
+ghost use Rattle.std.specs.Prelude.{◌≡◌, false, MatchOption};
 ghost use Rattle.std.specs.List.{find};
-ghost use Rattle.zone_tree.specs.Order.{StandInOrder, zone_at};
+ghost use Rattle.zone_tree.specs.Order.{StandInOrder};
+ghost use Rattle.summary_tree.specs.Layers.{no_layers};
+ghost use Rattle.zone_tree.specs.Summary.{join as joined, summary_of};
+ghost use Rattle.zone_tree.specs.Node.{IsTopZone};
 ghost use Rattle.zone_tree.specs.Look.{is_behind as behind_edge, reaches as reaches_edge, reaches_but as reaches_edge_but, falls_short as falls_short_of, begins_before as begins, last_that, has_forward as with_forward, IsMetFirst};
 
-use crate::node::Tree;
 use crate::summary::Summary;
 use crate::{Edge, Zone};
 use intervals::{Value, is_same_value};
+use summary_tree::Summarizes;
+
+/// Zones by left edge, with what decides on their conflicts.
+pub type Tree = summary_tree::Tree<Zone, Summary>;
+
+type Node = summary_tree::Node<Zone, Summary>;
+
+/// A tree, or a side of a node.
+#[derive(Clone, Copy)]
+pub struct Part<'z> {
+    pub tree: &'z Tree,
+}
+
+/// The top node, with what is known of its sides.
+#[tactic(auto, using(crate::proofs::Tops::top_of))]
+fn top(tree: &Tree) -> Option<&Node>
+    ensures { MatchOption result (tree.now ≡ no_layers) (λ node. IsTopZone node.now tree.now.items) }
+{
+    tree.top()
+}
+
+/// Whether two zones conflict.
+#[tactic(auto, using(crate::proofs::Seams::no_bit))]
+pub fn conflict(tree: &Tree) -> bool
+    ensures { result ≡ (summary_of tree.now.items).conflict }
+{
+    match top(tree) {
+        Some(top) => top.summary.conflict,
+        None => false,
+    }
+}
+
+/// The summary of zones and of those of a tree behind them.
+#[tactic(auto, using(crate::proofs::Summaries::none_behind))]
+pub fn behind(tree: &Tree, earlier: Summary) -> Summary
+    ensures { result ≡ joined earlier (summary_of tree.now.items) }
+{
+    match top(tree) {
+        Some(top) => earlier.join(&top.summary),
+        None => earlier,
+    }
+}
 
 impl Summary {
     /// Whether a zone is forward.
@@ -46,150 +90,130 @@ fn falls_short(edge: Edge, zone: &Zone) -> bool
     zone.forward && zone.right.comes_before(edge)
 }
 
-impl Tree {
-    /// The zone of that left edge.
-    #[tactic(auto, using(crate::proofs::Sides::at_left, crate::proofs::Sides::at_right, crate::proofs::Sides::at_here))]
-    pub fn get(&self, left: Edge) -> Option<Zone>
-        requires { StandInOrder self.now.zones }
-        ensures { result ≡ zone_at left self.now.zones }
-    {
-        let Some(node) = self.top() else {
-            return None;
-        };
-        if left.comes_before(node.zone.left) {
-            return node.left.get(left);
-        }
-        if node.zone.left.comes_before(left) {
-            return node.right.get(left);
-        }
-        Some(node.zone)
+/// The first zone behind an edge.
+#[tactic(auto, using(crate::proofs::Looks::first_here, crate::proofs::Looks::first_right))]
+pub fn first_after(part: Part, after: Option<Edge>) -> Option<Zone>
+    requires { StandInOrder part.tree.now.items }
+    ensures { result ≡ find (behind_edge after) part.entry.tree.now.items }
+{
+    let Some(node) = top(part.tree) else {
+        return None;
+    };
+    if !is_behind(after, &node.item) {
+        return first_after(Part { tree: &node.right }, after);
     }
+    first_after(Part { tree: &node.left }, after).or(Some(node.item))
+}
 
-    /// The first zone behind an edge.
-    #[tactic(auto, using(crate::proofs::Looks::first_here, crate::proofs::Looks::first_right))]
-    pub fn first_after(&self, after: Option<Edge>) -> Option<Zone>
-        requires { StandInOrder self.now.zones }
-        ensures { result ≡ find (behind_edge after) self.now.zones }
-    {
-        let Some(node) = self.top() else {
-            return None;
-        };
-        if !is_behind(after, &node.zone) {
-            return node.right.first_after(after);
-        }
-        node.left.first_after(after).or(Some(node.zone))
+/// The first forward zone whose right edge is not before that one.
+#[tactic(auto, using(crate::proofs::Looks::none_reaches, crate::proofs::Looks::none_reaches_far, crate::proofs::Looks::find_in_left, crate::proofs::Looks::find_here, crate::proofs::Looks::find_in_right))]
+pub fn first_reaching(part: Part, edge: Edge) -> Option<Zone>
+    requires { StandInOrder part.tree.now.items }
+    ensures { result ≡ find (reaches_edge edge) part.entry.tree.now.items }
+{
+    let Some(node) = top(part.tree) else {
+        return None;
+    };
+    if !node.summary.has_forward() {
+        return None;
     }
+    if node.summary.last_forward.comes_before(edge) {
+        return None;
+    }
+    if let Some(zone) = first_reaching(Part { tree: &node.left }, edge) {
+        return Some(zone);
+    }
+    if reaches(edge, &node.item) {
+        return Some(node.item);
+    }
+    first_reaching(Part { tree: &node.right }, edge)
+}
 
-    /// The first forward zone whose right edge is not before that one.
-    #[tactic(auto, using(crate::proofs::Looks::none_reaches, crate::proofs::Looks::none_reaches_far, crate::proofs::Looks::find_in_left, crate::proofs::Looks::find_here, crate::proofs::Looks::find_in_right))]
-    pub fn first_reaching(&self, edge: Edge) -> Option<Zone>
-        requires { StandInOrder self.now.zones }
-        ensures { result ≡ find (reaches_edge edge) self.now.zones }
-    {
-        let Some(node) = self.top() else {
-            return None;
-        };
-        if !node.summary.has_forward() {
-            return None;
-        }
-        if node.summary.last_forward.comes_before(edge) {
-            return None;
-        }
-        if let Some(zone) = node.left.first_reaching(edge) {
-            return Some(zone);
-        }
-        if reaches(edge, &node.zone) {
-            return Some(node.zone);
-        }
-        node.right.first_reaching(edge)
+/// The first forward zone whose right edge is not before that one and whose value is another than that.
+#[tactic(auto, using(crate::proofs::Looks::no_other_reaches, crate::proofs::Looks::no_other_reaches_far, crate::proofs::Looks::find_in_left, crate::proofs::Looks::find_here, crate::proofs::Looks::find_in_right))]
+pub fn first_reaching_but(part: Part, edge: Edge, value: Value) -> Option<Zone>
+    requires { StandInOrder part.tree.now.items }
+    ensures { result ≡ find (reaches_edge_but edge value) part.entry.tree.now.items }
+{
+    let Some(node) = top(part.tree) else {
+        return None;
+    };
+    if !node.summary.has_forward() || node.summary.last_forward.comes_before(edge) {
+        return None;
     }
+    if let Some(zone) = first_reaching_but(Part { tree: &node.left }, edge, value) {
+        return Some(zone);
+    }
+    if reaches_but(edge, value, &node.item) {
+        return Some(node.item);
+    }
+    first_reaching_but(Part { tree: &node.right }, edge, value)
+}
 
-    /// The first forward zone whose right edge is not before that one and whose value is another than that.
-    #[tactic(auto, using(crate::proofs::Looks::no_other_reaches, crate::proofs::Looks::no_other_reaches_far, crate::proofs::Looks::find_in_left, crate::proofs::Looks::find_here, crate::proofs::Looks::find_in_right))]
-    pub fn first_reaching_but(&self, edge: Edge, value: Value) -> Option<Zone>
-        requires { StandInOrder self.now.zones }
-        ensures { result ≡ find (reaches_edge_but edge value) self.now.zones }
-    {
-        let Some(node) = self.top() else {
-            return None;
-        };
-        if !node.summary.has_forward() || node.summary.last_forward.comes_before(edge) {
-            return None;
-        }
-        if let Some(zone) = node.left.first_reaching_but(edge, value) {
-            return Some(zone);
-        }
-        if reaches_but(edge, value, &node.zone) {
-            return Some(node.zone);
-        }
-        node.right.first_reaching_but(edge, value)
+/// The first forward zone whose right edge comes before that one.
+#[tactic(auto, using(crate::proofs::Looks::none_falls_short, crate::proofs::Looks::find_in_left, crate::proofs::Looks::find_here, crate::proofs::Looks::find_in_right))]
+pub fn first_short_of(part: Part, edge: Edge) -> Option<Zone>
+    requires { StandInOrder part.tree.now.items }
+    ensures { result ≡ find (falls_short_of edge) part.entry.tree.now.items }
+{
+    let Some(node) = top(part.tree) else {
+        return None;
+    };
+    if !node.summary.has_forward() {
+        return None;
     }
+    if let Some(zone) = first_short_of(Part { tree: &node.left }, edge) {
+        return Some(zone);
+    }
+    if falls_short(edge, &node.item) {
+        return Some(node.item);
+    }
+    first_short_of(Part { tree: &node.right }, edge)
+}
 
-    /// The first forward zone whose right edge comes before that one.
-    #[tactic(auto, using(crate::proofs::Looks::none_falls_short, crate::proofs::Looks::find_in_left, crate::proofs::Looks::find_here, crate::proofs::Looks::find_in_right))]
-    pub fn first_short_of(&self, edge: Edge) -> Option<Zone>
-        requires { StandInOrder self.now.zones }
-        ensures { result ≡ find (falls_short_of edge) self.now.zones }
-    {
-        let Some(node) = self.top() else {
-            return None;
-        };
-        if !node.summary.has_forward() {
-            return None;
-        }
-        if let Some(zone) = node.left.first_short_of(edge) {
-            return Some(zone);
-        }
-        if falls_short(edge, &node.zone) {
-            return Some(node.zone);
-        }
-        node.right.first_short_of(edge)
+/// The last forward zone that begins before an edge.
+#[tactic(auto, using(crate::proofs::Looks::last_empty, crate::proofs::Looks::none_begins, crate::proofs::Looks::last_in_right, crate::proofs::Looks::last_here, crate::proofs::Looks::last_in_left, crate::proofs::Looks::last_left))]
+pub fn last_forward_before(part: Part, edge: Edge) -> Option<Zone>
+    requires { StandInOrder part.tree.now.items }
+    ensures { result ≡ last_that (begins edge) part.entry.tree.now.items }
+{
+    let Some(node) = top(part.tree) else {
+        return None;
+    };
+    if !node.summary.has_forward() {
+        return None;
     }
+    if !node.item.left.comes_before(edge) {
+        return last_forward_before(Part { tree: &node.left }, edge);
+    }
+    if let Some(zone) = last_forward_before(Part { tree: &node.right }, edge) {
+        return Some(zone);
+    }
+    if node.item.forward {
+        return Some(node.item);
+    }
+    last_forward_before(Part { tree: &node.left }, edge)
+}
 
-    /// The last forward zone that begins before an edge.
-    #[tactic(auto, using(crate::proofs::Looks::last_empty, crate::proofs::Looks::none_begins, crate::proofs::Looks::last_in_right, crate::proofs::Looks::last_here, crate::proofs::Looks::last_in_left, crate::proofs::Looks::last_left))]
-    pub fn last_forward_before(&self, edge: Edge) -> Option<Zone>
-        requires { StandInOrder self.now.zones }
-        ensures { result ≡ last_that (begins edge) self.now.zones }
-    {
-        let Some(node) = self.top() else {
-            return None;
-        };
-        if !node.summary.has_forward() {
-            return None;
-        }
-        if !node.zone.left.comes_before(edge) {
-            return node.left.last_forward_before(edge);
-        }
-        if let Some(zone) = node.right.last_forward_before(edge) {
-            return Some(zone);
-        }
-        if node.zone.forward {
-            return Some(node.zone);
-        }
-        node.left.last_forward_before(edge)
+/// The first zone that conflicts with an earlier forward one, of this tree or of those seen before it.
+#[tactic(auto, using(crate::proofs::Meetings::met_empty, crate::proofs::Meetings::met_none, crate::proofs::Meetings::met_left, crate::proofs::Meetings::met_here, crate::proofs::Meetings::met_right))]
+pub fn first_meeting(part: Part, seen: Summary) -> Option<Zone>
+    requires { seen.conflict ≡ false }
+    ensures { IsMetFirst seen part.entry.tree.now.items result }
+{
+    let Some(node) = top(part.tree) else {
+        return None;
+    };
+    if !seen.join(&node.summary).conflict {
+        return None;
     }
-
-    /// The first zone that conflicts with an earlier forward one, of this tree or of those seen before it.
-    #[tactic(auto, using(crate::proofs::Meetings::met_empty, crate::proofs::Meetings::met_none, crate::proofs::Meetings::met_left, crate::proofs::Meetings::met_here, crate::proofs::Meetings::met_right))]
-    pub fn first_meeting(&self, seen: Summary) -> Option<Zone>
-        requires { seen.conflict ≡ false }
-        ensures { IsMetFirst seen self.now.zones result }
-    {
-        let Some(node) = self.top() else {
-            return None;
-        };
-        if !seen.join(&node.summary).conflict {
-            return None;
-        }
-        let earlier = node.left.behind(seen);
-        if earlier.conflict {
-            return node.left.first_meeting(seen);
-        }
-        let so_far = earlier.join(&Summary::of_one(&node.zone));
-        if so_far.conflict {
-            return Some(node.zone);
-        }
-        node.right.first_meeting(so_far)
+    let earlier = behind(&node.left, seen);
+    if earlier.conflict {
+        return first_meeting(Part { tree: &node.left }, seen);
     }
+    let so_far = earlier.join(&Summary::of_one(&node.item));
+    if so_far.conflict {
+        return Some(node.item);
+    }
+    first_meeting(Part { tree: &node.right }, so_far)
 }

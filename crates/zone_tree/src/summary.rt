@@ -1,10 +1,11 @@
 //! What each node keeps of the zones below it.
 
-ghost use Rattle.std.specs.Prelude.{◌≡◌, ◌↔◌, IsTrue};
-ghost use Rattle.zone_tree.specs.Summary.{no_zones, one_zone, join as joined, meets as meet, latest as later_of, earliest as earlier_of};
+ghost use Rattle.std.specs.Prelude.{◌≡◌};
+ghost use Rattle.zone_tree.specs.Summary.{no_zones, one_zone, join as joined, summary_of, meets as meet, latest as later_of, earliest as earlier_of};
 
 use crate::edge::is_same;
 use crate::{Edge, Zone};
+use summary_tree::Summarizes;
 
 /// The edges that decide whether zones conflict with others, and whether two of them do.
 #[derive(Clone, Copy)]
@@ -32,11 +33,26 @@ impl Summary {
         }
     }
 
+    /// Whether an earlier forward zone conflicts with a later zone.
+    #[inline(always)]
+    fn meets(&self, later: &Summary) -> bool
+        ensures { result ≡ meet self.now later.now }
+    {
+        later.first_forward.comes_before(self.last_forward)
+            || later.first_backward.comes_before(self.last_forward)
+    }
+}
+
+impl Summarizes<Zone> for Summary {
+    ghost one = { one_zone };
+
+    ghost join = { joined };
+
+    ghost IsOf = { λ s zones. s ≡ summary_of zones };
+
     #[inline(always)]
     #[tactic(auto, unfolding(crate::specs::Summary::one_zone))]
-    pub fn of_one(zone: &Zone) -> Self
-        ensures { result ≡ one_zone zone.now }
-    {
+    fn of_one(zone: &Zone) -> Self {
         if zone.forward {
             Summary {
                 last_forward: zone.right,
@@ -55,21 +71,16 @@ impl Summary {
     }
 
     #[inline(always)]
-    pub fn is_same(&self, other: &Summary) -> bool
-        ensures { IsTrue result ↔ (self.now ≡ other.now) }
-    {
+    fn is_same(&self, other: &Summary) -> bool {
         is_same(self.last_forward, other.last_forward)
             && is_same(self.first_forward, other.first_forward)
             && is_same(self.first_backward, other.first_backward)
             && self.conflict == other.conflict
     }
 
-    /// Of zones and of those behind them.
     #[inline(always)]
     #[tactic(auto, unfolding(crate::specs::Summary::join))]
-    pub fn join(&self, later: &Summary) -> Self
-        ensures { result ≡ joined self.now later.now }
-    {
+    fn join(&self, later: &Summary) -> Self {
         Summary {
             last_forward: latest(self.last_forward, later.last_forward),
             first_forward: earliest(self.first_forward, later.first_forward),
@@ -78,12 +89,10 @@ impl Summary {
         }
     }
 
-    /// Of a zone and of those behind it. A backward zone meets none of them, so only its end counts.
+    /// A backward zone meets none of those behind it, so only its end counts.
     #[inline(always)]
     #[tactic(auto, using(crate::proofs::Summaries::backward_first))]
-    pub fn with_first(&self, zone: &Zone) -> Self
-        ensures { result ≡ joined (one_zone zone.now) self.now }
-    {
+    fn with_first(&self, zone: &Zone) -> Self {
         if zone.forward {
             return Summary::of_one(zone).join(self);
         }
@@ -95,14 +104,8 @@ impl Summary {
         }
     }
 
-    /// Whether an earlier forward zone conflicts with a later zone.
     #[inline(always)]
-    fn meets(&self, later: &Summary) -> bool
-        ensures { result ≡ meet self.now later.now }
-    {
-        later.first_forward.comes_before(self.last_forward)
-            || later.first_backward.comes_before(self.last_forward)
-    }
+    fn summaries_add_up() {}
 }
 
 #[inline(always)]

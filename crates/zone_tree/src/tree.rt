@@ -7,30 +7,28 @@ ghost use Rattle.zone_tree.specs.Conflict.{IsClean, IsFirstConflict};
 ghost use Rattle.zone_tree.specs.Order.{StandInOrder, HasNoZoneAt, with_zone, without_zone_at, zone_at};
 ghost use Rattle.zone_tree.specs.Digits.{digits};
 
-use crate::node::Tree;
-use crate::stock::Stock;
+use crate::look::{self, Part};
 use crate::summary::Summary;
 use crate::{Edge, Zone, Zones};
 use intervals::{Memory, Value};
 use std::alloc::Global;
 use std::marker::Model;
+use summary_tree::{Summarizes, SummaryTree};
 
 /// Zones of different left edges, and reserved places for more.
 #[derive(Drop)]
 pub struct ZoneTree {
-    tree: Tree,
-    places: Stock,
-    steps: u64,
+    tree: SummaryTree<Zone, Summary>,
 }
 
 impl Model for ZoneTree {
-    ghost use Rattle.zone_tree.specs.Order.{Contents, IsKept};
+    ghost use Rattle.zone_tree.specs.Order.{Contents, StandInOrder};
 
     ghost Value = { Contents };
 
-    ghost view = { λ t. record { zones = t.tree.zones; free = t.places.free; steps = t.steps } };
+    ghost view = { λ t. record { zones = t.tree.items; free = t.tree.free; steps = t.tree.steps } };
 
-    ghost invariant = { λ t. IsKept t.tree.zones t.places.taken };
+    ghost invariant = { λ t. StandInOrder t.tree.items };
 }
 
 impl ZoneTree {
@@ -41,9 +39,7 @@ impl ZoneTree {
         ensures steps { result.steps ≡ 0 }
     {
         ZoneTree {
-            tree: Tree::new(),
-            places: Stock::new(alloc),
-            steps: 0,
+            tree: SummaryTree::new(alloc),
         }
     }
 
@@ -51,7 +47,7 @@ impl ZoneTree {
     pub fn free(&self) -> usize
         ensures { result ≡ self.now.free }
     {
-        self.places.free()
+        self.tree.free()
     }
 
     /// How many times insertions, removals and replacements went from a node to one of its sides, up to the
@@ -59,7 +55,7 @@ impl ZoneTree {
     pub fn steps(&self) -> u64
         ensures { result ≡ self.now.steps }
     {
-        self.steps
+        self.tree.steps()
     }
 
     /// Makes room for that many more zones.
@@ -71,7 +67,7 @@ impl ZoneTree {
         ensures err { OnErr result (self.new ≡ self.old) }
         ensures memory { OnErr result (self.old.free < places) }
     {
-        self.places.reserve(places)
+        self.tree.reserve(places)
     }
 
     /// The zones by left edge.
@@ -79,11 +75,19 @@ impl ZoneTree {
         ensures zones { result ≡ self.now.zones }
         ensures order { StandInOrder self.now.zones }
     {
-        Zones::over(&self.tree)
+        Zones::over(self.all().tree)
+    }
+
+    fn all(&self) -> Part<'_>
+        ensures zones { result.tree.now.items ≡ self.now.zones }
+        ensures order { StandInOrder self.now.zones }
+    {
+        Part {
+            tree: self.tree.tree(),
+        }
     }
 
     /// Puts a zone of a new left edge into a reserved place.
-    #[tactic(auto, using(crate::proofs::Counts::count_with, crate::proofs::Places::order_with, crate::proofs::Counts::low_by_digits, crate::proofs::Counts::low_within))]
     pub fn insert(&mut self, zone: Zone)
         requires room { 0 < self.old.free }
         requires new_edge { HasNoZoneAt zone.left self.old.zones }
@@ -93,14 +97,10 @@ impl ZoneTree {
         ensures steps { self.new.steps ≤ self.old.steps + (2 * digits (length self.old.zones) + 1) }
         ensures rises { self.old.steps ≤ self.new.steps }
     {
-        // The number of places bounds the zones, and so the height.
-        let _ = (self.tree.height(), self.places.taken());
-        let place = self.places.take(zone);
-        self.tree.insert(place, &mut self.steps);
+        self.tree.insert(zone);
     }
 
     /// Takes the zone of that left edge out. Its place stays reserved.
-    #[tactic(auto, using(crate::proofs::Counts::count_without, crate::proofs::Places::order_left, crate::proofs::Places::keep_without, crate::proofs::Counts::low_by_digits))]
     pub fn remove(&mut self, left: Edge) -> Option<Zone>
         ensures zone { result ≡ zone_at left self.old.zones }
         ensures zones { self.new.zones ≡ without_zone_at left self.old.zones }
@@ -108,17 +108,10 @@ impl ZoneTree {
         ensures steps { self.new.steps ≤ self.old.steps + (2 * digits (length self.old.zones) + 1) }
         ensures rises { self.old.steps ≤ self.new.steps }
     {
-        let _ = self.tree.height();
-        let Some(place) = self.tree.remove(left, &mut self.steps) else {
-            return None;
-        };
-        let zone = place.zone;
-        self.places.give(place);
-        Some(zone)
+        self.tree.remove(left)
     }
 
     /// Puts a zone in the place of the one of its left edge.
-    #[tactic(auto, using(crate::proofs::Counts::low_by_digits))]
     pub fn replace(&mut self, zone: Zone)
         requires there { IsSome (zone_at zone.left self.old.zones) }
         requires edges { HasOrderedEdges zone }
@@ -127,8 +120,7 @@ impl ZoneTree {
         ensures steps { self.new.steps ≤ self.old.steps + (2 * digits (length self.old.zones) + 1) }
         ensures rises { self.old.steps ≤ self.new.steps }
     {
-        let _ = self.tree.height();
-        let _ = self.tree.replace(&zone, &mut self.steps);
+        self.tree.replace(zone);
     }
 
     /// The zone of that left edge.
@@ -142,7 +134,7 @@ impl ZoneTree {
     pub fn first_reaching(&self, edge: Edge) -> Option<Zone>
         ensures { result ≡ find (λ z. z.forward && not (comes_before z.right edge)) self.now.zones }
     {
-        self.tree.first_reaching(edge)
+        look::first_reaching(self.all(), edge)
     }
 
     /// The first forward zone by left edge whose right edge is not before that one and whose value is
@@ -150,21 +142,21 @@ impl ZoneTree {
     pub fn first_reaching_but(&self, edge: Edge, value: Value) -> Option<Zone>
         ensures { result ≡ find (λ z. z.forward && not (comes_before z.right edge) && not (same_value z.value value)) self.now.zones }
     {
-        self.tree.first_reaching_but(edge, value)
+        look::first_reaching_but(self.all(), edge, value)
     }
 
     /// The first forward zone by left edge whose right edge comes before that one.
     pub fn first_short_of(&self, edge: Edge) -> Option<Zone>
         ensures { result ≡ find (λ z. z.forward && comes_before z.right edge) self.now.zones }
     {
-        self.tree.first_short_of(edge)
+        look::first_short_of(self.all(), edge)
     }
 
     /// Whether no two zones conflict.
     pub fn clean(&self) -> bool
         ensures { IsTrue result ↔ IsClean self.now.zones }
     {
-        !self.tree.conflict()
+        !look::conflict(self.all().tree)
     }
 
     /// Whether no two conflict of these zones and one in front of them.
@@ -173,7 +165,7 @@ impl ZoneTree {
         requires before { All (λ z. ComesBefore first.now.left z.left) self.now.zones }
         ensures { IsTrue result ↔ IsClean (first.now ∷ self.now.zones) }
     {
-        !self.tree.behind(Summary::of_one(first)).conflict
+        !look::behind(self.all().tree, Summary::of_one(first)).conflict
     }
 
     /// The earlier forward zone of greatest right edge, and the first zone by left edge that conflicts
@@ -182,10 +174,11 @@ impl ZoneTree {
         ensures first { IfSome result (λ pair. IsFirstConflict self.now.zones pair.0 pair.1) }
         ensures none { IsNone result ↔ IsClean self.now.zones }
     {
-        let Some(second) = self.tree.first_meeting(Summary::none()) else {
+        let all = self.all();
+        let Some(second) = look::first_meeting(all, Summary::none()) else {
             return None;
         };
-        let Some(first) = self.tree.last_forward_before(second.left) else {
+        let Some(first) = look::last_forward_before(all, second.left) else {
             unreachable!()
         };
         Some((first, second))
@@ -198,11 +191,12 @@ impl ZoneTree {
         ensures first { IfSome result (λ pair. IsFirstConflict (first.now ∷ self.now.zones) pair.0 pair.1) }
         ensures none { IsNone result ↔ IsClean (first.now ∷ self.now.zones) }
     {
-        let Some(second) = self.tree.first_meeting(Summary::of_one(first)) else {
+        let all = self.all();
+        let Some(second) = look::first_meeting(all, Summary::of_one(first)) else {
             return None;
         };
         // Where none conflicts before, forward zones end one after another.
-        match self.tree.last_forward_before(second.left) {
+        match look::last_forward_before(all, second.left) {
             Some(last) => Some((last, second)),
             None => Some((*first, second)),
         }

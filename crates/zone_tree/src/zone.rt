@@ -1,8 +1,10 @@
 ghost use Rattle.std.specs.Prelude.{◌≡◌, ◌↔◌, IsTrue};
+ghost use Rattle.zone_tree.specs.Edge.{comes_before as edge_before, same_edge};
 ghost use Rattle.zone_tree.specs.Zone.{HasOrderedEdges, least_end as least_end_of, greatest_begin as greatest_begin_of};
 
 use crate::Edge;
 use intervals::Value;
+use summary_tree::Keyed;
 
 /// The stretch of the clock between the least end and the greatest beginning in the cluster of a
 /// value: a forward zone runs from the least end to the greatest beginning, a backward zone back
@@ -38,4 +40,36 @@ impl Zone {
     {
         if self.forward { self.right } else { self.left }
     }
+}
+
+impl Keyed for Zone {
+    type Key = Edge;
+
+    ghost key = { λ z. z.left };
+
+    ghost comes_before = { edge_before };
+
+    ghost same = { same_edge };
+
+    fn placeholder() -> Self {
+        Zone {
+            left: Edge::Before,
+            right: Edge::Before,
+            forward: false,
+            value: Value::Nil,
+        }
+    }
+
+    #[inline(always)]
+    fn key(&self) -> Edge {
+        self.left
+    }
+
+    #[inline(always)]
+    fn comes_before(a: Edge, b: Edge) -> bool {
+        a.comes_before(b)
+    }
+
+    #[inline(always)]
+    fn keys_are_in_one_order() {}
 }

@@ -2,7 +2,7 @@ ghost use Rattle.std.specs.Prelude.{◌≡◌};
 ghost use Rattle.std.specs.Iterator.{YieldsFirst, item_count};
 ghost use Rattle.zone_tree.specs.Order.{StandInOrder};
 
-use crate::node::Tree;
+use crate::look::{Part, Tree, first_after};
 use crate::{Edge, Zone};
 use std::marker::Model;
 
@@ -22,16 +22,16 @@ impl<'z> Model for Zones<'z> {
     ghost use Rattle.zone_tree.specs.Order.{StandInOrder};
     ghost use Rattle.zone_tree.specs.Look.{behind};
 
-    ghost view = { λ z. behind z.after z.tree.now.zones };
+    ghost view = { λ z. behind z.after z.tree.now.items };
 
-    ghost invariant = { λ z. StandInOrder z.tree.now.zones };
+    ghost invariant = { λ z. StandInOrder z.tree.now.items };
 }
 
 impl<'z> Zones<'z> {
     #[tactic(auto, using(crate::proofs::Items::all_behind))]
     pub(crate) fn over(tree: &'z Tree) -> Self
-        requires { StandInOrder tree.now.zones }
-        ensures { result ≡ tree.now.zones }
+        requires { StandInOrder tree.now.items }
+        ensures { result ≡ tree.now.items }
     {
         Zones { tree, after: None }
     }
@@ -46,7 +46,7 @@ impl<'z> Iterator for Zones<'z> {
 
     #[tactic(auto, using(crate::proofs::Items::next_item, crate::proofs::Items::no_item))]
     fn next(&mut self) -> Option<Zone> {
-        let Some(first) = self.tree.first_after(self.after) else {
+        let Some(first) = first_after(Part { tree: self.tree }, self.after) else {
             return None;
         };
         self.after = Some(first.left);

@@ -2,7 +2,7 @@ use Rattle.std.proofs.Common.{inl, inr, sym, subst}
 use Rattle.std.specs.Prelude.{Contains}
 use Rattle.read_tree.specs.Items.{with_item}
 use Rattle.read_tree.proofs.Members.{new_or_old, new_stands, old_stands}
-use Rattle.read_tree.proofs.Sides.{order_with}
+use Rattle.read_tree.proofs.InOrder.{order_with}
 use Rattle.read_tree.proofs.laws.a_new_item_has_one_place.Goals as goal
 
 pub returns : goal.returns

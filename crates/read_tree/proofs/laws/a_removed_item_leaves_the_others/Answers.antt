@@ -2,7 +2,7 @@ use Rattle.std.proofs.Common.{◌≡◌, Bool, true, false, not, refl, ap}
 use Rattle.intervals.specs.Shelf.{same_spot}
 use Rattle.read_tree.specs.Items.{place_of}
 use Rattle.read_tree.proofs.Members.{kept_from, kept_in}
-use Rattle.read_tree.proofs.Sides.{order_kept}
+use Rattle.read_tree.proofs.InOrder.{order_kept}
 use Rattle.read_tree.proofs.laws.a_removed_item_leaves_the_others.Goals as goal
 
 not_true : (b : Bool) → not b ≡ true → b ≡ false

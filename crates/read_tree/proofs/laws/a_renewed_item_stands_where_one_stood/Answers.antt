@@ -2,7 +2,7 @@ use Rattle.std.proofs.Common.{inl, inr, sym, subst}
 use Rattle.std.specs.Prelude.{Contains}
 use Rattle.read_tree.specs.Items.{renewed}
 use Rattle.read_tree.proofs.Members.{renewed_from, renewed_in, stays_in}
-use Rattle.read_tree.proofs.Sides.{order_renewed}
+use Rattle.read_tree.proofs.InOrder.{order_renewed}
 use Rattle.read_tree.proofs.laws.a_renewed_item_stands_where_one_stood.Goals as goal
 
 pub returns : goal.returns

@@ -1,5 +1,5 @@
 use Rattle.std.proofs.Common.{refl}
-use Rattle.zone_tree.proofs.Counts.{digits_above, digits_least}
+use Rattle.zone_tree.proofs.Digits.{digits_above, digits_least}
 use Rattle.zone_tree.proofs.laws.digits_are_the_least_that_hold_a_number.Goals as goal
 
 pub returns : goal.returns

@@ -1,11 +1,6 @@
-use Rattle.std.proofs.Common.{sym, arith}
-use Rattle.read_tree.proofs.Sides.{order_with}
-use Rattle.read_tree.proofs.Counts.{one_more}
+use Rattle.std.proofs.Common.{◌∙◌, ap}
+use Rattle.read_tree.specs.Items.{Contents, with_item}
 use Rattle.read_tree.proofs.reads.ReadTree.insert.Goals as goal
 
-pub invariant_of-self : goal.invariant_of-self
-invariant_of-self c =
-    let items = c.self.inside.tree.items in
-    let none = rw (sym c.self.view_is) at c.requires.new_spot in
-    let long = one_more c.args.item items none in
-    rw (c.insert.ensures.items, c.take-place.ensures.item) (order_with c.args.item items c.self.invariant.0, omega (arith, c.take-place.ensures.taken, c.self.invariant.1, long))
+pub returns-clause-items : goal.returns-clause-items
+returns-clause-items c = c.insert.ensures.items ∙ ap (λ (t : Contents). with_item c.args.item t.items) c.self.view_is

@@ -4,17 +4,18 @@ use Rattle.zone_tree.specs.declared.zone.Zone.{Zone}
 use Rattle.zone_tree.specs.declared.summary.Summary.{Summary}
 use Rattle.zone_tree.specs.Edge.{ComesBefore}
 use Rattle.zone_tree.specs.Conflict.{IsClean}
-use Rattle.zone_tree.specs.Order.{Contents}
+use Rattle.zone_tree.specs.Order.{StandInOrder}
 use Rattle.zone_tree.specs.Summary.{join, one_zone, summary_of}
 use Rattle.zone_tree.proofs.InFront.{clean_in_front}
 use Rattle.zone_tree.proofs.tree.ZoneTree.clean_behind.Goals as goal
 
 pub returns : goal.returns
 returns c =
-    let zones = c.self.inside.tree.zones in
+    let zones = c.all.result.tree.now.items in
     let first = c.args.first.now in
-    let here = ap (λ (t : Contents). t.zones) c.self.view_is in
+    let here : zones ≡ c.args.self.now.zones = c.all.ensures.zones in
+    let order = subst StandInOrder (sym c.all.ensures.zones) c.all.ensures.order in
     let before = subst (All (λ z. ComesBefore first.left z.left)) (sym here) c.requires.before in
     let seen : c.behind.result ≡ join (one_zone first) (summary_of zones) = c.behind.ensures ∙ ap (λ (s : Summary). join s (summary_of zones)) c.of_one.ensures in
     subst (λ (zs : List Zone). IsTrue (not c.behind.result.conflict) ↔ IsClean (first ∷ zs)) here
-    (subst (λ (s : Summary). IsTrue (not s.conflict) ↔ IsClean (first ∷ zones)) (sym seen) (clean_in_front first zones c.requires.edges before c.self.invariant.order))
+    (subst (λ (s : Summary). IsTrue (not s.conflict) ↔ IsClean (first ∷ zones)) (sym seen) (clean_in_front first zones c.requires.edges before order))

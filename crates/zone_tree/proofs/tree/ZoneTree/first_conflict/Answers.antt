@@ -2,7 +2,7 @@ use Rattle.std.proofs.Common.{◌≡◌, ◌∙◌, List, Option, Some, None, re
 use Rattle.zone_tree.specs.declared.zone.Zone.{Zone}
 use Rattle.zone_tree.specs.declared.summary.Summary.{Summary}
 use Rattle.zone_tree.specs.Conflict.{IsClean, IsFirstConflict}
-use Rattle.zone_tree.specs.Order.{Contents}
+use Rattle.zone_tree.specs.Order.{StandInOrder}
 use Rattle.zone_tree.specs.Summary.{no_zones}
 use Rattle.zone_tree.specs.Look.{IsMetFirst}
 use Rattle.zone_tree.proofs.Summaries.{none_clear}
@@ -19,25 +19,28 @@ met seen zones result found e f is = subst (λ (s : Summary). IsMetFirst s zones
 
 pub returns-in_default-clause-none : goal.returns-in_default-clause-none
 returns-in_default-clause-none c =
-    let zones = c.self.inside.tree.zones in
-    let here = ap (λ (t : Contents). t.zones) c.self.view_is in
-    let clean = clean_met zones c.self.invariant.order (met c.none.result zones c.first_meeting.result None c.none.ensures c.in_default.is c.first_meeting.ensures) in
+    let zones = c.all-all.result.tree.now.items in
+    let order = subst StandInOrder (sym c.all-all.ensures.zones) c.all-all.ensures.order in
+    let here : zones ≡ c.args.self.now.zones = c.all-all.ensures.zones in
+    let clean = clean_met zones order (met c.none.result zones c.first_meeting.result None c.none.ensures c.in_default.is c.first_meeting.ensures) in
     ((λ _. subst IsClean here clean), (λ _. refl))
 
 pub unreachable-requires : goal.unreachable-requires
 unreachable-requires c =
-    let zones = c.self.inside.tree.zones in
+    let zones = c.all-all.result.tree.now.items in
+    let order = subst StandInOrder (sym c.all-all.ensures.zones) c.all-all.ensures.order in
     let first = met c.none.result zones c.first_meeting.result (Some c.in-Some.second) c.none.ensures c.in-Some.is c.first_meeting.ensures in
-    first_from zones c.in-Some.second c.self.invariant.order first None (sym c.in_default-last_forward_before.is ∙ c.last_forward_before.ensures)
+    first_from zones c.in-Some.second order first None (sym c.in_default-last_forward_before.is ∙ c.last_forward_before.ensures)
 
 pub returns-clause-first : goal.returns-clause-first
 returns-clause-first c =
-    let zones = c.self.inside.tree.zones in
-    let here = ap (λ (t : Contents). t.zones) c.self.view_is in
+    let zones = c.all-all.result.tree.now.items in
+    let order = subst StandInOrder (sym c.all-all.ensures.zones) c.all-all.ensures.order in
+    let here : zones ≡ c.args.self.now.zones = c.all-all.ensures.zones in
     let first = met c.none.result zones c.first_meeting.result (Some c.in-Some.second) c.none.ensures c.in-Some.is c.first_meeting.ensures in
     let earlier = c.in-Some-last_forward_before.first in
     subst (λ (zs : List Zone). IsFirstConflict zs earlier c.in-Some.second) here
-    (first_from zones c.in-Some.second c.self.invariant.order first (Some earlier) (sym c.in-Some-last_forward_before.is ∙ c.last_forward_before.ensures))
+    (first_from zones c.in-Some.second order first (Some earlier) (sym c.in-Some-last_forward_before.is ∙ c.last_forward_before.ensures))
 
 pub returns-clause-none : goal.returns-clause-none
 returns-clause-none c =

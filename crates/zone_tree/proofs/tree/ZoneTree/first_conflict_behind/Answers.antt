@@ -4,7 +4,7 @@ use Rattle.zone_tree.specs.declared.zone.Zone.{Zone}
 use Rattle.zone_tree.specs.declared.summary.Summary.{Summary}
 use Rattle.zone_tree.specs.Edge.{ComesBefore}
 use Rattle.zone_tree.specs.Conflict.{IsClean, IsFirstConflict}
-use Rattle.zone_tree.specs.Order.{Contents}
+use Rattle.zone_tree.specs.Order.{StandInOrder}
 use Rattle.zone_tree.specs.Summary.{one_zone}
 use Rattle.zone_tree.specs.Look.{IsMetFirst}
 use Rattle.zone_tree.proofs.Farthest.{first_is_conflict}
@@ -24,25 +24,27 @@ behind first zones others e h = subst (All (λ z. ComesBefore first.left z.left)
 
 pub returns-in_default-clause-none : goal.returns-in_default-clause-none
 returns-in_default-clause-none c =
-    let zones = c.self.inside.tree.zones in
+    let zones = c.all-all.result.tree.now.items in
+    let order = subst StandInOrder (sym c.all-all.ensures.zones) c.all-all.ensures.order in
     let first = c.args.first.now in
-    let here = ap (λ (t : Contents). t.zones) c.self.view_is in
+    let here : zones ≡ c.args.self.now.zones = c.all-all.ensures.zones in
     let before = behind first zones c.args.self.now.zones here c.requires.before in
     let none = met first c.of_one.result zones c.first_meeting.result None c.of_one.ensures c.in_default.is c.first_meeting.ensures in
-    let clean = clean_met_in_front first zones c.requires.edges before c.self.invariant.order none in
+    let clean = clean_met_in_front first zones c.requires.edges before order none in
     ((λ _. subst (λ (zs : List Zone). IsClean (first ∷ zs)) here clean), (λ _. refl))
 
 pub returns-in-Some-last_forward_before-clause-first : goal.returns-in-Some-last_forward_before-clause-first
 returns-in-Some-last_forward_before-clause-first c =
-    let zones = c.self.inside.tree.zones in
+    let zones = c.all-all.result.tree.now.items in
+    let order = subst StandInOrder (sym c.all-all.ensures.zones) c.all-all.ensures.order in
     let first = c.args.first.now in
     let second = c.in-Some.second in
-    let here = ap (λ (t : Contents). t.zones) c.self.view_is in
+    let here : zones ≡ c.args.self.now.zones = c.all-all.ensures.zones in
     let before = behind first zones c.args.self.now.zones here c.requires.before in
     let last = c.in-Some-last_forward_before.last in
     let found = met first c.of_one.result zones c.first_meeting.result (Some second) c.of_one.ensures c.in-Some.is c.first_meeting.ensures in
     subst (λ (zs : List Zone). IsFirstConflict (first ∷ zs) last second) here
-    (first_in_front first zones c.requires.edges before c.self.invariant.order second found (Some last) (sym c.in-Some-last_forward_before.is ∙ c.last_forward_before.ensures))
+    (first_in_front first zones c.requires.edges before order second found (Some last) (sym c.in-Some-last_forward_before.is ∙ c.last_forward_before.ensures))
 
 pub returns-in-Some-last_forward_before-clause-none : goal.returns-in-Some-last_forward_before-clause-none
 returns-in-Some-last_forward_before-clause-none c =
@@ -51,14 +53,15 @@ returns-in-Some-last_forward_before-clause-none c =
 
 pub returns-in-None-clause-first : goal.returns-in-None-clause-first
 returns-in-None-clause-first c =
-    let zones = c.self.inside.tree.zones in
+    let zones = c.all-all.result.tree.now.items in
+    let order = subst StandInOrder (sym c.all-all.ensures.zones) c.all-all.ensures.order in
     let first = c.args.first.now in
     let second = c.in-Some.second in
-    let here = ap (λ (t : Contents). t.zones) c.self.view_is in
+    let here : zones ≡ c.args.self.now.zones = c.all-all.ensures.zones in
     let before = behind first zones c.args.self.now.zones here c.requires.before in
     let found = met first c.of_one.result zones c.first_meeting.result (Some second) c.of_one.ensures c.in-Some.is c.first_meeting.ensures in
     subst (λ (zs : List Zone). IsFirstConflict (first ∷ zs) first second) here
-    (first_in_front first zones c.requires.edges before c.self.invariant.order second found None (sym c.in-None.is ∙ c.last_forward_before.ensures))
+    (first_in_front first zones c.requires.edges before order second found None (sym c.in-None.is ∙ c.last_forward_before.ensures))
 
 pub returns-in-None-clause-none : goal.returns-in-None-clause-none
 returns-in-None-clause-none c =

@@ -1,20 +1,15 @@
-use Rattle.std.proofs.Common.{length, sym, ap, subst, arith}
-use Rattle.zone_tree.specs.Order.{StandInOrder}
+use Rattle.std.proofs.Common.{◌+◌, ◌*◌, ◌≤◌, length, sym, subst, arith}
+use Rattle.zone_tree.specs.Order.{Contents, StandInOrder}
+use Rattle.zone_tree.specs.Digits.{digits}
+use Rattle.zone_tree.proofs.Digits.{digits_above}
 use Rattle.zone_tree.proofs.Places.{order_left}
-use Rattle.zone_tree.proofs.Counts.{count_without}
 use Rattle.zone_tree.proofs.tree.ZoneTree.remove.Goals as goal
 
-pub invariant_of-self-2 : goal.invariant_of-self-2
-invariant_of-self-2 c =
-    let zones = c.self.inside.tree.zones in
-    let order = c.self.invariant.order in
-    record {
-      order = subst StandInOrder (sym c.remove.ensures.zones) (order_left c.args.left zones order);
-      count = omega (
-        arith,
-        ap length c.remove.ensures.zones,
-        count_without c.args.left zones c.in-Some.place.value.zone order c.in-Some.ensures.zone.zone,
-        c.give.ensures.taken,
-        c.self.invariant.count,
-      );
-    }
+pub invariant_of-self : goal.invariant_of-self
+invariant_of-self c = subst StandInOrder (sym c.remove.ensures.items) (order_left c.args.left c.self.inside.tree.items c.self.invariant)
+
+pub returns-clause-steps : goal.returns-clause-steps
+returns-clause-steps c =
+    let count = length c.self.inside.tree.items in
+    let most = c.remove.ensures.steps (digits count) (digits_above count) in
+    subst (λ (t : Contents). c.remove.new.self.steps ≤ t.steps + (2 * digits (length t.zones) + 1)) c.self.view_is (omega (arith, most))

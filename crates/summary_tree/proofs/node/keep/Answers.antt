@@ -1,0 +1,16 @@
+use Rattle.summary_tree.proofs.Low.{low_node}
+use Rattle.summary_tree.proofs.Sums.{around_is}
+use Rattle.summary_tree.proofs.node.keep.Goals as goal
+
+pub invariant_of-result : goal.invariant_of-result
+invariant_of-result g c =
+    let n = c.args.node.value in
+    let m = g.S.Summarizes in
+    let laws = c.summaries_add_up.ensures in
+    let left = rw c.deref.ensures at c.height.ensures in
+    let right = rw c.deref-2.ensures at c.height-2.ensures in
+    record {
+      right = c.requires;
+      low = rw c.requires.height (low_node n.left.items n.item n.right.items n.left.height n.right.height left.low right.low c.requires.near);
+      summary = rw c.requires.made (around_is m.one m.join m.IsOf laws.one laws.join n.left.summary n.item n.right.summary n.left.items n.right.items left.summed right.summed);
+    }

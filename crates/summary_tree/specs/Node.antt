@@ -1,0 +1,73 @@
+-- What a node is seen as, and what holds of each.
+use Rattle.std.specs.Prelude.{◌≡◌, Bool, ◌+◌, ◌<◌, max, List, ◌∷◌, ◌++◌, Option, Some, None, Box}
+use Rattle.std.specs.declared.alloc.Global.{Global}
+use Rattle.summary_tree.specs.declared.node.Node.{Node}
+use Rattle.summary_tree.specs.Order.{AreInOrder, item_at}
+use Rattle.summary_tree.specs.Layers.{Layers, no_layers, DifferByAtMost, IsLow, with_first, joined}
+
+-- the items of a node and its sides
+abbrev pub items_of : {T S : Type 0} → Node T S → List T
+items_of n = n.left.items ++ n.item ∷ n.right.items
+
+-- the summary of a node, by those of its sides
+abbrev pub summary_around : {T S : Type 0} → (T → S) → (S → S → S) → Node T S → S
+summary_around one join n = joined join n.left.summary (with_first one join n.item n.right.summary)
+
+-- what a tree with this node at its top is seen as
+abbrev pub layers_of : {T S : Type 0} → Option (Box (Node T S) Global) → Layers T S
+layers_of None = no_layers
+layers_of (Some top) = record { items = items_of top.value; height = top.value.height; summary = Some top.value.summary }
+
+-- the height is one more than that of the higher side and fits a byte, the sides differ by at most one, and the
+-- summary is made of those of the sides
+pub record IsRight {T S : Type 0} (one : T → S) (join : S → S → S) (n : Node T S) : Type 0 where
+  pub height : n.height ≡ max n.left.height n.right.height + 1
+  pub fits : n.height < 256
+  pub near : DifferByAtMost 1 n.left.height n.right.height
+  pub made : n.summary ≡ summary_around one join n
+
+-- so is the node, and it is low, and its summary is one of its items
+pub record IsBalancedNode {T S : Type 0} (one : T → S) (join : S → S → S) (IsOf : S → List T → Type 0) (n : Node T S) : Type 0 where
+  pub right : IsRight one join n
+  pub low : IsLow (items_of n) n.height
+  pub summary : IsOf n.summary (items_of n)
+
+-- the top, where there is one, is balanced
+abbrev pub IsBalanced : {T S : Type 0} → (T → S) → (S → S → S) → (S → List T → Type 0) → Option (Box (Node T S) Global) → Type 0
+IsBalanced one join IsOf None = Unit {0}
+IsBalanced one join IsOf (Some top) = IsBalancedNode one join IsOf top.value
+
+-- a node with nothing on its sides
+pub record IsAlone {T S : Type 0} (n : Node T S) : Type 0 where
+  pub left : n.left ≡ no_layers
+  pub right : n.right ≡ no_layers
+
+-- a node by itself with the first of these items, and the others
+pub record IsFirst {T S : Type 0} (n : Node T S) (items others : List T) : Type 0 where
+  pub alone : IsAlone n
+  pub parts : items ≡ n.item ∷ others
+
+-- a node by itself with the item of this key
+pub record IsTaken {K T S : Type 0} (key : T → K) (same : K → K → Bool) (n : Node T S) (k : K) (items : List T) : Type 0 where
+  pub alone : IsAlone n
+  pub item : item_at key same k items ≡ Some n.item
+
+-- the items on each side are in order
+pub record HasSidesInOrder {K T S : Type 0} (key : T → K) (before : K → K → Bool) (n : Node T S) : Type 0 where
+  pub left : AreInOrder key before n.left.items
+  pub right : AreInOrder key before n.right.items
+
+-- the items on each side of the top, where there is one, are in order
+abbrev pub HasTopInOrder : {K T S : Type 0} → (T → K) → (K → K → Bool) → Option (Box (Node T S) Global) → Type 0
+HasTopInOrder key before None = Unit {0}
+HasTopInOrder key before (Some top) = HasSidesInOrder key before top.value
+
+-- the node at the top of these items
+pub record IsTop {T S : Type 0} (IsOf : S → List T → Type 0) (n : Node T S) (items : List T) : Type 0 where
+  pub all : items ≡ items_of n
+  pub summary : IsOf n.summary items
+
+-- the tree has the height and the summary of this node
+pub record KeepsTop {T S : Type 0} (n : Node T S) (tree : Layers T S) : Type 0 where
+  pub height : tree.height ≡ n.height
+  pub summary : tree.summary ≡ Some n.summary

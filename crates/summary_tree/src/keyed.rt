@@ -1,0 +1,29 @@
+//! What an item of a tree is: it has a key, and keys are in one strict order.
+
+ghost use Rattle.std.specs.Prelude.{◌≡◌, Bool};
+ghost use Rattle.summary_tree.specs.Order.{IsOrder, IsExact};
+
+/// What stands in a tree, each item by a key of its own.
+pub trait Keyed: Copy {
+    type Key: Copy;
+
+    ghost key: { Self → Self.Key };
+
+    ghost comes_before: { Self.Key → Self.Key → Bool };
+
+    ghost same: { Self.Key → Self.Key → Bool };
+
+    /// What a spare node holds.
+    fn placeholder() -> Self;
+
+    fn key(&self) -> Self::Key
+        ensures { result ≡ key self.now };
+
+    fn comes_before(a: Self::Key, b: Self::Key) -> bool
+        ensures { result ≡ comes_before a b };
+
+    /// The law of the order. It does nothing: a proof that needs the law has it by a call.
+    fn keys_are_in_one_order()
+        ensures order { IsOrder comes_before }
+        ensures exact { IsExact same };
+}
