@@ -70,7 +70,7 @@ impl<'t> OpBook<'t> {
     pub fn check(&self, edit: &Edit<'t>) -> Result<(), Refusal>
         ensures { result ≡ ok_unless (first_refusal self.now edit.now) }
     {
-        self.table.check(edit)
+        self.table.check(edit, &self.table.new_op(edit))
     }
 
     /// Carries out an edit that `check` accepts. A withdrawal takes no memory.
@@ -83,7 +83,7 @@ impl<'t> OpBook<'t> {
         if let Some(op) = self.table.new_op(&edit) {
             self.table.prepare(&op)?;
         }
-        self.table.admit(edit);
+        self.table.admit(&edit);
         Ok(())
     }
 }

@@ -211,10 +211,10 @@ fn enter(moments: &mut Moments, moment: Moment, old: &Op)
 }
 
 /// Takes the operation away from its moments, and keeps the places of the one that is to come.
-pub(crate) fn take_moments(moments: &mut Moments, op: &Op, next: Option<Op>)
-    ensures held { (m : AMoment) → IsHeld moments.new m → is_moment_of_next next.entry m ≡ false → IsHeld moments.old m }
+pub(crate) fn take_moments(moments: &mut Moments, op: &Op, next: &Option<Op>)
+    ensures held { (m : AMoment) → IsHeld moments.new m → is_moment_of_next next.now m ≡ false → IsHeld moments.old m }
     ensures holders { (m : AMoment) → holder_at moments.new m ≡ (if is_moment_of op.now m then None else holder_at moments.old m) }
-    ensures kept { IfSome next.entry (λ n. HasPlaces moments.old n → HasPlaces moments.new n) }
+    ensures kept { IfSome next.now (λ n. HasPlaces moments.old n → HasPlaces moments.new n) }
 {
     take_moment(moments, op.begin, next);
     if let Some(end) = op.end {
@@ -222,10 +222,10 @@ pub(crate) fn take_moments(moments: &mut Moments, op: &Op, next: Option<Op>)
     }
 }
 
-fn take_moment(moments: &mut Moments, moment: Moment, next: Option<Op>)
-    ensures held { (m : AMoment) → IsHeld moments.new m → is_moment_of_next next.entry m ≡ false → IsHeld moments.old m }
+fn take_moment(moments: &mut Moments, moment: Moment, next: &Option<Op>)
+    ensures held { (m : AMoment) → IsHeld moments.new m → is_moment_of_next next.now m ≡ false → IsHeld moments.old m }
     ensures holders { (m : AMoment) → holder_at moments.new m ≡ (if moment.0 == m.0 then None else holder_at moments.old m) }
-    ensures kept { IfSome next.entry (λ n. HasPlaces moments.old n → HasPlaces moments.new n) }
+    ensures kept { IfSome next.now (λ n. HasPlaces moments.old n → HasPlaces moments.new n) }
 {
     if !comes_at(next, moment) {
         moments.take(moment);
@@ -235,11 +235,11 @@ fn take_moment(moments: &mut Moments, moment: Moment, next: Option<Op>)
 }
 
 /// Whether the operation that is to come begins or ends then.
-fn comes_at(next: Option<Op>, moment: Moment) -> bool
-    ensures { result ≡ is_moment_of_next next.entry moment }
+fn comes_at(next: &Option<Op>, moment: Moment) -> bool
+    ensures { result ≡ is_moment_of_next next.now moment }
 {
     match next {
-        Some(op) => has_moment(&op, moment),
+        Some(op) => has_moment(op, moment),
         None => false,
     }
 }

@@ -108,9 +108,10 @@ impl<'t> OpTable<'t> {
         }
     }
 
-    /// The first refusal, from `UnknownOp` to `MomentTooLarge`, that holds of the edit. Whether a
-    /// write is one that the register's claim allows is its judge's to say.
-    pub fn check(&self, edit: &Edit<'t>) -> Result<(), Refusal>
+    /// The first refusal, from `UnknownOp` to `MomentTooLarge`, that holds of the edit, of which the new operation
+    /// is given. Whether a write is one that the register's claim allows is its judge's to say.
+    pub fn check(&self, edit: &Edit<'t>, new: &Option<Op<'t>>) -> Result<(), Refusal>
+        requires { new.now ≡ new_one self.now.ops edit.now }
         ensures { result ≡ ok_unless (first_refusal self.now.ops edit.now) }
     {
         match edit {
@@ -118,8 +119,8 @@ impl<'t> OpTable<'t> {
                 Some(_) => Err(Refusal::OpTaken),
                 None => self.check_moments(op),
             },
-            Edit::Amend(id, change) => match self.get(*id) {
-                Some(op) => self.check_moments(&changed(op, change)),
+            Edit::Amend(..) => match new {
+                Some(op) => self.check_moments(op),
                 None => Err(Refusal::UnknownOp),
             },
             Edit::Withdraw(id) => match self.get(*id) {
@@ -173,30 +174,30 @@ impl<'t> OpTable<'t> {
     }
 
     /// Carries out an edit that `check` accepts. An operation that it adds or changes was prepared.
-    pub fn admit(&mut self, edit: Edit<'t>)
-        requires accepted { first_refusal self.old.ops edit ≡ None }
-        requires room { IfSome (new_one self.old.ops edit) (λ op. self.old.prepared ≡ Some op) }
-        ensures { self.new ≡ record { ops = edited self.old.ops edit.entry; prepared = prepared_after (new_one self.old.ops edit.entry) self.old.prepared } }
+    pub fn admit(&mut self, edit: &Edit<'t>)
+        requires accepted { first_refusal self.old.ops edit.now ≡ None }
+        requires room { IfSome (new_one self.old.ops edit.now) (λ op. self.old.prepared ≡ Some op) }
+        ensures { self.new ≡ record { ops = edited self.old.ops edit.now; prepared = prepared_after (new_one self.old.ops edit.now) self.old.prepared } }
     {
         match edit {
             Edit::Append(op) => self.append(op),
-            Edit::Amend(id, change) => self.amend(id, &change),
-            Edit::Withdraw(id) => self.withdraw(id),
+            Edit::Amend(id, change) => self.amend(*id, change),
+            Edit::Withdraw(id) => self.withdraw(*id),
             Edit::Claim(_) => {}
         }
     }
 
-    fn append(&mut self, op: Op<'t>)
-        requires accepted { first_refusal self.old.ops (Edit.Append op) ≡ None }
-        requires room { self.old.prepared ≡ Some op }
-        ensures { self.new ≡ admitted self.old (Edit.Append op.entry) }
+    fn append(&mut self, op: &Op<'t>)
+        requires accepted { first_refusal self.old.ops (Edit.Append op.now) ≡ None }
+        requires room { self.old.prepared ≡ Some op.now }
+        ensures { self.new ≡ admitted self.old (Edit.Append op.now) }
     {
         let place = self.slots.len();
-        self.slots.push_reserved(Some(op));
+        self.slots.push_reserved(Some(*op));
         let Ok(_) = self.places.insert(op.id, place) else {
             unreachable!()
         };
-        put_moments(&mut self.moments, &op);
+        put_moments(&mut self.moments, op);
         self.count += 1;
         self.prepared = None;
     }
@@ -209,8 +210,8 @@ impl<'t> OpTable<'t> {
         let Some((place, op)) = find_slot(self.slots.as_slice(), &self.places, id) else {
             unreachable!()
         };
-        let (old, new) = (*op, changed(op, change));
-        move_moments(&mut self.moments, &old, &new);
+        let new = changed(op, change);
+        move_moments(&mut self.moments, op, &new);
         self.slots[place] = Some(new);
         self.prepared = None;
     }
@@ -222,8 +223,7 @@ impl<'t> OpTable<'t> {
         let Some((place, op)) = find_slot(self.slots.as_slice(), &self.places, id) else {
             unreachable!()
         };
-        let old = *op;
-        take_moments(&mut self.moments, &old, self.prepared);
+        take_moments(&mut self.moments, op, &self.prepared);
         self.places.remove(&id);
         self.slots[place] = None;
         self.count -= 1;

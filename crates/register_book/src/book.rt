@@ -1,6 +1,6 @@
 ghost use Rattle.std.specs.Prelude.{◌≡◌, ◌≢◌, ◌↔◌, ◌+◌, ◌≤◌, [], All, Some, None, false, length, IfOk, IfSome, OnOk, OnErr, IsNone, IsTrue, option_copied};
 ghost use Rattle.intervals.specs.Terms.{terms_of, IsKnownUnlessAtomic};
-ghost use Rattle.intervals.specs.Edit.{op_of, is_claim};
+ghost use Rattle.intervals.specs.Edit.{op_of, is_claim, new_op};
 ghost use Rattle.intervals.specs.Refusal.{reply_to, to_kind_refusal, carried_out, after_edit};
 ghost use Rattle.intervals.specs.Kind.{Holds};
 ghost use Rattle.zones.specs.AtFirst.{with_start};
@@ -89,28 +89,30 @@ impl<'t> RegisterBook<'t> {
         ensures none { is_claim edit.entry ≡ false → self.old.claim.kind ≢ Kind.Atomic → self.new.steps ≡ self.old.steps }
         ensures again { edit.entry ≡ Edit.Claim self.old.claim.kind → self.new.steps ≡ self.old.steps }
     {
-        if let Some(refusal) = refusal_of(self.alloc, &self.judge, &edit)? {
+        let new = self.judge.operations().new_op(&edit);
+        if let Some(refusal) = refusal_of(self.alloc, &self.judge, &edit, &new)? {
             return Ok(Reply::Refused(refusal));
         }
-        self.carry_out(edit)?;
+        self.carry_out(&edit, &new)?;
         Ok(Reply::Accepted {
             holds: self.holds(),
         })
     }
 
-    fn carry_out(&mut self, edit: Edit<'t>) -> Result<(), Memory>
-        requires { reply_to self.old.claim self.old.ops edit ≡ None }
-        ensures ok { OnOk result (claimed_of self.new ≡ carried_out (claimed_of self.old) edit.entry) }
+    fn carry_out(&mut self, edit: &Edit<'t>, new: &Option<Op<'t>>) -> Result<(), Memory>
+        requires accepted { reply_to self.old.claim self.old.ops edit.now ≡ None }
+        requires new { new.now ≡ new_op self.old.ops edit.now }
+        ensures ok { OnOk result (claimed_of self.new ≡ carried_out (claimed_of self.old) edit.now) }
         ensures err { OnErr result (self.new ≡ self.old) }
-        ensures memory { OnErr result (TakesMemory (claimed_of self.old) edit.entry) }
-        ensures steps { is_claim edit.entry ≡ false → self.new.steps ≤ self.old.steps + most_steps self.old.ops }
+        ensures memory { OnErr result (TakesMemory (claimed_of self.old) edit.now) }
+        ensures steps { is_claim edit.now ≡ false → self.new.steps ≤ self.old.steps + most_steps self.old.ops }
         ensures rises { self.old.steps ≤ self.new.steps }
-        ensures none { is_claim edit.entry ≡ false → self.old.claim.kind ≢ Kind.Atomic → self.new.steps ≡ self.old.steps }
-        ensures again { edit.entry ≡ Edit.Claim self.old.claim.kind → self.new.steps ≡ self.old.steps }
+        ensures none { is_claim edit.now ≡ false → self.old.claim.kind ≢ Kind.Atomic → self.new.steps ≡ self.old.steps }
+        ensures again { edit.now ≡ Edit.Claim self.old.claim.kind → self.new.steps ≡ self.old.steps }
     {
         match edit {
-            Edit::Claim(kind) => self.change_kind(kind),
-            _ => self.judge.admit(edit),
+            Edit::Claim(kind) => self.change_kind(*kind),
+            _ => self.judge.admit(edit, new),
         }
     }
 

@@ -55,7 +55,7 @@ impl<'t> Judge<'t> {
         let mut judge = Judge::new(alloc, &claim)?;
         for slot in self.operations().slots() {
             if let Some(op) = slot {
-                judge.admit(Edit::Append(*op))?;
+                judge.admit(&Edit::Append(*op), slot)?;
             }
         }
         Ok(judge)
@@ -89,22 +89,23 @@ impl<'t> Judge<'t> {
         }
     }
 
-    /// Carries out an edit that nothing refuses: what it needs is made room for first, and then nothing
+    /// Carries out an edit that nothing refuses, of which the new operation is given: what it needs is made room for first, and then nothing
     /// is refused.
-    pub fn admit(&mut self, edit: Edit<'t>) -> Result<(), Memory>
-        requires accepted { reply_to (held_by self.old).claim (held_by self.old).ops edit ≡ None }
+    pub fn admit(&mut self, edit: &Edit<'t>, new: &Option<Op<'t>>) -> Result<(), Memory>
+        requires accepted { reply_to (held_by self.old).claim (held_by self.old).ops edit.now ≡ None }
+        requires new { new.now ≡ new_op (held_by self.old).ops edit.now }
         requires none_prepared { HasNonePrepared self.old }
-        ensures ok { OnOk result (held_by self.new ≡ record (held_by self.old) { ops = edited (held_by self.old).ops edit.entry; steps = (held_by self.new).steps }) }
+        ensures ok { OnOk result (held_by self.new ≡ record (held_by self.old) { ops = edited (held_by self.old).ops edit.now; steps = (held_by self.new).steps }) }
         ensures err { OnErr result (self.new ≡ self.old) }
-        ensures memory { OnErr result (IsSome (new_op (held_by self.old).ops edit.entry)) }
+        ensures memory { OnErr result (IsSome new.now) }
         ensures kind { IsOfItsKind self.old → IsOfItsKind self.new }
         ensures left { HasNonePrepared self.new }
         ensures steps { (held_by self.new).steps ≤ (held_by self.old).steps + most_steps (held_by self.old).ops }
         ensures rises { (held_by self.old).steps ≤ (held_by self.new).steps }
     {
         match self {
-            Judge::One(judge) => judge.admit(edit),
-            Judge::Many(clusters) => clusters.admit(edit),
+            Judge::One(judge) => judge.admit(edit, new),
+            Judge::Many(clusters) => clusters.admit(edit, new),
         }
     }
 

@@ -12,23 +12,25 @@ use intervals::laws::{first_overlap_began_first, first_repeat_was_appended_first
 use intervals::{Edit, Kind, Memory, Op, OpTable, Refusal};
 use std::alloc::Global;
 
-/// The first refusal that holds of the edit. A claim of a register to be atomic that was not alone may want memory,
+/// The first refusal that holds of the edit, of which the new operation is given. A claim of a register to be atomic that was not alone may want memory,
 /// and then nothing refuses it.
 pub fn refusal_of<'t>(
     alloc: Global,
     judge: &Judge<'t>,
     edit: &Edit<'t>,
+    new: &Option<Op<'t>>,
 ) -> Result<Option<Refusal>, Memory>
-    requires { StandApart (held_by judge.now).claim (held_by judge.now).ops }
+    requires apart { StandApart (held_by judge.now).claim (held_by judge.now).ops }
+    requires new { new.now ≡ new_op (held_by judge.now).ops edit.now }
     ensures refusal { IfOk result (λ refusal. refusal ≡ reply_to (held_by judge.now).claim (held_by judge.now).ops edit.now) }
     ensures memory { OnErr result (reply_to (held_by judge.now).claim (held_by judge.now).ops edit.now ≡ None) }
     ensures turn { OnErr result (IsTurn (held_by judge.now).claim.kind edit.now) }
 {
-    let refusal = list_refusal(judge.operations(), edit);
+    let refusal = list_refusal(judge.operations(), edit, new);
     if refusal.is_some() {
         return Ok(refusal);
     }
-    let refusal = new_write_refusal_of(judge, edit);
+    let refusal = new_write_refusal_of(judge, new);
     if refusal.is_some() {
         return Ok(refusal);
     }
@@ -37,18 +39,19 @@ pub fn refusal_of<'t>(
 
 /// The first refusal that the list alone decides.
 #[tactic(auto, using(crate::proofs::Refusals::err_ok_unless))]
-fn list_refusal<'t>(ops: &OpTable<'t>, edit: &Edit<'t>) -> Option<Refusal>
+fn list_refusal<'t>(ops: &OpTable<'t>, edit: &Edit<'t>, new: &Option<Op<'t>>) -> Option<Refusal>
+    requires { new.now ≡ new_op ops.now.ops edit.now }
     ensures { result ≡ first_refusal ops.now.ops edit.now }
 {
-    ops.check(edit).err()
+    ops.check(edit, new).err()
 }
 
-/// The first refusal of the write that the edit leaves, where it leaves one.
-fn new_write_refusal_of<'t>(judge: &Judge<'t>, edit: &Edit<'t>) -> Option<Refusal>
-    ensures { result ≡ new_write_refusal (held_by judge.now).claim (held_by judge.now).ops (new_op (held_by judge.now).ops edit.now) }
+/// The first refusal of the new operation of an edit, where there is one and it is a write.
+fn new_write_refusal_of<'t>(judge: &Judge<'t>, new: &Option<Op<'t>>) -> Option<Refusal>
+    ensures { result ≡ new_write_refusal (held_by judge.now).claim (held_by judge.now).ops new.now }
 {
-    match judge.operations().new_op(edit) {
-        Some(op) => judged_refusal(judge, &op),
+    match new {
+        Some(op) => judged_refusal(judge, op),
         None => None,
     }
 }

@@ -111,19 +111,19 @@ impl<'t> SingleWriterJudge<'t> {
         self.table.release();
     }
 
-    /// Carries out an edit that nothing refuses. It takes no memory where its new operation is prepared
-    /// or it has none.
-    pub fn admit(&mut self, edit: Edit<'t>) -> Result<(), Memory>
-        requires accepted { reply_to self.old.claim self.old.ops edit ≡ None }
-        requires prepared { IfSome self.old.prepared (λ op. IfSome (new_op self.old.ops edit) (λ new. new ≡ op)) }
-        ensures ok { OnOk result (self.new ≡ record self.old { ops = edited self.old.ops edit.entry; prepared = prepared_after (new_op self.old.ops edit.entry) self.old.prepared }) }
+    /// Carries out an edit that nothing refuses, of which the new operation is given. It takes no memory where that
+    /// is prepared or there is none.
+    pub fn admit(&mut self, edit: &Edit<'t>, new: &Option<Op<'t>>) -> Result<(), Memory>
+        requires accepted { reply_to self.old.claim self.old.ops edit.now ≡ None }
+        requires new { new.now ≡ new_op self.old.ops edit.now }
+        requires prepared { IfSome self.old.prepared (λ op. IfSome new.now (λ new. new ≡ op)) }
+        ensures ok { OnOk result (self.new ≡ record self.old { ops = edited self.old.ops edit.now; prepared = prepared_after new.now self.old.prepared }) }
         ensures err { OnErr result (self.new ≡ self.old) }
-        ensures memory { OnErr result (IsSome (new_op self.old.ops edit.entry) × (self.old.prepared ≡ None)) }
+        ensures memory { OnErr result (IsSome new.now × (self.old.prepared ≡ None)) }
     {
-        let new = self.table.new_op(&edit);
         if let Some(op) = new {
             if self.table.prepared().is_none() {
-                self.prepare(&op)?;
+                self.prepare(op)?;
             }
         }
         self.settle(edit, new);
@@ -132,19 +132,19 @@ impl<'t> SingleWriterJudge<'t> {
 
     /// Carries out an edit whose new operation is prepared: the item of the old operation goes, that of the
     /// new one comes, and the covers in front of both are made anew.
-    fn settle(&mut self, edit: Edit<'t>, new: Option<Op<'t>>)
-        requires accepted { reply_to self.old.claim self.old.ops edit ≡ None }
-        requires new { new ≡ new_op self.old.ops edit }
-        requires prepared { IfSome new (λ op. self.old.prepared ≡ Some op) }
-        ensures { self.new ≡ record self.old { ops = edited self.old.ops edit.entry; prepared = prepared_after new.entry self.old.prepared } }
+    fn settle(&mut self, edit: &Edit<'t>, new: &Option<Op<'t>>)
+        requires accepted { reply_to self.old.claim self.old.ops edit.now ≡ None }
+        requires new { new.now ≡ new_op self.old.ops edit.now }
+        requires prepared { IfSome new.now (λ op. self.old.prepared ≡ Some op) }
+        ensures { self.new ≡ record self.old { ops = edited self.old.ops edit.now; prepared = prepared_after new.now self.old.prepared } }
     {
         let old = self.table.find(edit.id());
-        let spot = spot_of(&self.claim, old);
-        self.writes.change(old, new, self.table.prepared());
+        let spot = spot_of(&self.claim, &old);
+        self.writes.change(&old, new, &self.table.prepared());
         self.table.admit(edit);
         let item = item_of(&self.claim, &self.writes, &self.table, new);
-        let left = cover_before(&self.claim, &self.writes, &self.table, None, old);
-        let come = cover_before(&self.claim, &self.writes, &self.table, old, new);
+        let left = cover_before(&self.claim, &self.writes, &self.table, &None, &old);
+        let come = cover_before(&self.claim, &self.writes, &self.table, &old, new);
         exchange(&mut self.line, spot, item);
         renew(&mut self.line, left);
         renew(&mut self.line, come);
@@ -159,7 +159,7 @@ impl<'t> SingleWriterJudge<'t> {
         ensures ok { OnOk result (self.new ≡ record self.old { ops = self.old.ops ++ write.now ∷ []; prepared = None }) }
         ensures err { OnErr result (self.new ≡ self.old) }
     {
-        self.admit(Edit::Append(*write))
+        self.admit(&Edit::Append(*write), &Some(*write))
     }
 
     /// Admits a read that has an end.
@@ -171,7 +171,7 @@ impl<'t> SingleWriterJudge<'t> {
         ensures ok { OnOk result (self.new ≡ record self.old { ops = self.old.ops ++ read.now ∷ []; prepared = None }) }
         ensures err { OnErr result (self.new ≡ self.old) }
     {
-        self.admit(Edit::Append(*read))
+        self.admit(&Edit::Append(*read), &Some(*read))
     }
 
     /// Without the write of that id. What is not there, or no write, is left alone.
@@ -196,7 +196,7 @@ impl<'t> SingleWriterJudge<'t> {
         requires { IsSome (op_in self.old.ops id) }
         ensures { self.new ≡ record self.old { ops = edited self.old.ops (Edit.Withdraw id) } }
     {
-        self.settle(Edit::Withdraw(id), None);
+        self.settle(&Edit::Withdraw(id), &None);
     }
 
     /// Of the reads that break the sentence of the claimed kind the one that ended first.

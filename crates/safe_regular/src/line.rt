@@ -142,10 +142,12 @@ fn number_of(op: &Op) -> u64
 }
 
 /// Where the item of the operation stands, where it has one.
-pub fn spot_of(claim: &Claim, op: Option<Op>) -> Option<Spot>
-    ensures { result ≡ spot_in (terms_of claim.now) op.entry }
+pub fn spot_of(claim: &Claim, op: &Option<Op>) -> Option<Spot>
+    ensures { result ≡ spot_in (terms_of claim.now) op.now }
 {
-    let op = op?;
+    let Some(op) = op else {
+        return None;
+    };
     if op.is_write() || op.is_judged_read() {
         let value = if has_rows(claim.kind) {
             op.value()
@@ -154,7 +156,7 @@ pub fn spot_of(claim: &Claim, op: Option<Op>) -> Option<Spot>
         };
         Some(Spot {
             value,
-            moment: Moment(counted(Moment(number_of(&op)))),
+            moment: Moment(counted(Moment(number_of(op)))),
         })
     } else {
         None
@@ -162,17 +164,19 @@ pub fn spot_of(claim: &Claim, op: Option<Op>) -> Option<Spot>
 }
 
 /// The item of an operation that stands: a write is a cover, a read that has an end a read.
-pub fn item_of(claim: &Claim, writes: &Writes, table: &OpTable, op: Option<Op>) -> Option<Item>
-    ensures { AreWrites table.now.ops writes.now → HasDistinctIds table.now.ops → IfSome op.entry (Contains table.now.ops)
-        → IsItemOf (terms_of claim.now) table.now.ops op.entry result }
+pub fn item_of(claim: &Claim, writes: &Writes, table: &OpTable, op: &Option<Op>) -> Option<Item>
+    ensures { AreWrites table.now.ops writes.now → HasDistinctIds table.now.ops → IfSome op.now (Contains table.now.ops)
+        → IsItemOf (terms_of claim.now) table.now.ops op.now result }
 {
-    let op = op?;
+    let Some(op) = op else {
+        return None;
+    };
     if op.is_write() {
         let next = first_after(writes, table, op.begin);
-        return Some(cover_item(claim, &op, next));
+        return Some(cover_item(claim, op, next));
     }
     if op.is_judged_read() {
-        return Some(read_item(claim, &op));
+        return Some(read_item(claim, op));
     }
     None
 }
@@ -183,21 +187,23 @@ pub fn cover_before(
     claim: &Claim,
     writes: &Writes,
     table: &OpTable,
-    other: Option<Op>,
-    op: Option<Op>,
+    other: &Option<Op>,
+    op: &Option<Op>,
 ) -> Option<Item>
     ensures { AreWrites table.now.ops writes.now → HasDistinctIds table.now.ops
-        → IsCoverBefore (terms_of claim.now) table.now.ops other.entry op.entry result }
+        → IsCoverBefore (terms_of claim.now) table.now.ops other.now op.now result }
 {
-    let op = op?;
+    let Some(op) = op else {
+        return None;
+    };
     if !op.is_write() || !has_rows(claim.kind) || has_write_at(other, op.begin) {
         return None;
     }
     Some(cover_in_front(claim, writes, table, op.begin))
 }
 
-fn has_write_at(op: Option<Op>, moment: Moment) -> bool
-    ensures { IsTrue result ↔ HasWriteAt op.entry moment.0 }
+fn has_write_at(op: &Option<Op>, moment: Moment) -> bool
+    ensures { IsTrue result ↔ HasWriteAt op.now moment.0 }
 {
     match op {
         Some(op) => op.is_write() && op.begin.0 == moment.0,

@@ -101,7 +101,8 @@ fn edit_of(word: &'static str) -> Edit<'static> {
 fn list_refusal<'t>(judge: &SingleWriterJudge<'t>, edit: &Edit<'t>) -> Option<Refusal>
     ensures { result ≡ first_refusal judge.now.ops edit.now }
 {
-    judge.operations().check(edit).err()
+    let operations = judge.operations();
+    operations.check(edit, &operations.new_op(edit)).err()
 }
 
 #[tactic(auto, using(crate::proofs::Refusals::err_ok_unless))]
@@ -161,8 +162,11 @@ fn carried_out<'t>(judge: &mut SingleWriterJudge<'t>, edit: Edit<'t>) -> Result<
     match edit {
         Edit::Append(op) if op.is_write() => judge.admit_write(&op),
         Edit::Append(op) if op.is_judged_read() => judge.admit_read(&op),
-        Edit::Append(op) => judge.admit(Edit::Append(op)),
-        Edit::Amend(..) | Edit::Claim(_) => judge.admit(edit),
+        Edit::Append(op) => judge.admit(&edit, &Some(op)),
+        Edit::Amend(..) | Edit::Claim(_) => {
+            let new = judge.operations().new_op(&edit);
+            judge.admit(&edit, &new)
+        }
         Edit::Withdraw(id) => {
             judge.drop_write(id);
             judge.drop_read(id);
@@ -266,7 +270,7 @@ fn with_room<'t>(
         judge.release(&op);
         return Ok(());
     }
-    judge.admit(Edit::Append(op))
+    judge.admit(&Edit::Append(op), &Some(op))
 }
 
 /// Behind `+` room is made for the operation first.

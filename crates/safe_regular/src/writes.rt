@@ -55,38 +55,38 @@ impl Writes {
 
     /// Takes an operation out, and puts in one that is prepared. The place of the prepared one stays. A
     /// write that keeps its spot is not touched.
-    pub fn change(&mut self, old: Option<Op>, new: Option<Op>, prepared: Option<Op>)
-        requires new { IfSome new (λ op. prepared ≡ Some op) }
-        requires place { HasPlaceIn prepared self.old }
-        ensures writes { (before others after : List AnOp) → AreWrites before self.old → IsAddedOf others old.entry before → IsAddedOf others new.entry after → AreWrites after self.new }
-        ensures place { HasPlaceIn prepared.entry self.new }
-        ensures only { (before others : List AnOp) → AreWrites before self.old → IsAddedOf others old.entry before → HoldsOnlyFor prepared.entry self.old → HoldsOnlyFor (prepared_after new.entry prepared.entry) self.new }
+    pub fn change(&mut self, old: &Option<Op>, new: &Option<Op>, prepared: &Option<Op>)
+        requires new { IfSome new.now (λ op. prepared.now ≡ Some op) }
+        requires place { HasPlaceIn prepared.now self.old }
+        ensures writes { (before others after : List AnOp) → AreWrites before self.old → IsAddedOf others old.now before → IsAddedOf others new.now after → AreWrites after self.new }
+        ensures place { HasPlaceIn prepared.now self.new }
+        ensures only { (before others : List AnOp) → AreWrites before self.old → IsAddedOf others old.now before → HoldsOnlyFor prepared.now self.old → HoldsOnlyFor (prepared_after new.now prepared.now) self.new }
     {
         if !keeps_its_spot(old, new) {
             self.exchange(old, new, prepared);
         }
     }
 
-    fn exchange(&mut self, old: Option<Op>, new: Option<Op>, prepared: Option<Op>)
-        requires new { IfSome new (λ op. prepared ≡ Some op) }
-        requires place { HasPlaceIn prepared self.old }
-        ensures writes { (before others after : List AnOp) → AreWrites before self.old → IsAddedOf others old.entry before → IsAddedOf others new.entry after → AreWrites after self.new }
-        ensures place { HasPlaceIn prepared.entry self.new }
-        ensures only { HoldsOnlyFor prepared.entry self.old → HoldsOnlyFor (prepared_after new.entry prepared.entry) self.new }
+    fn exchange(&mut self, old: &Option<Op>, new: &Option<Op>, prepared: &Option<Op>)
+        requires new { IfSome new.now (λ op. prepared.now ≡ Some op) }
+        requires place { HasPlaceIn prepared.now self.old }
+        ensures writes { (before others after : List AnOp) → AreWrites before self.old → IsAddedOf others old.now before → IsAddedOf others new.now after → AreWrites after self.new }
+        ensures place { HasPlaceIn prepared.now self.new }
+        ensures only { HoldsOnlyFor prepared.now self.old → HoldsOnlyFor (prepared_after new.now prepared.now) self.new }
     {
         if let Some(op) = old {
-            self.take_out(&op, prepared);
+            self.take_out(op, prepared);
         }
         if let Some(op) = new {
-            self.put_in(&op);
+            self.put_in(op);
         }
     }
 
-    fn take_out(&mut self, op: &Op, prepared: Option<Op>)
-        requires { HasPlaceIn prepared self.old }
+    fn take_out(&mut self, op: &Op, prepared: &Option<Op>)
+        requires { HasPlaceIn prepared.now self.old }
         ensures writes { (others ops : List AnOp) → AreWrites ops self.old → IsAdded others op.now ops → AreWrites others self.new }
-        ensures place { HasPlaceIn prepared.entry self.new }
-        ensures only { HoldsOnlyFor prepared.entry self.old → HoldsOnlyFor prepared.entry self.new }
+        ensures place { HasPlaceIn prepared.now self.new }
+        ensures only { HoldsOnlyFor prepared.now self.old → HoldsOnlyFor prepared.now self.new }
     {
         take_out(&mut self.begins, spot_of_write(op), held_by(prepared));
     }
@@ -102,11 +102,11 @@ impl Writes {
 }
 
 /// Whether both are writes of one id and beginning.
-fn keeps_its_spot(old: Option<Op>, new: Option<Op>) -> bool
-    ensures { result ≡ true → StandAlikeIn old.entry new.entry }
+fn keeps_its_spot(old: &Option<Op>, new: &Option<Op>) -> bool
+    ensures { result ≡ true → StandAlikeIn old.now new.now }
 {
     match (old, new) {
-        (Some(old), Some(new)) => stand_alike(&old, &new),
+        (Some(old), Some(new)) => stand_alike(old, new),
         _ => false,
     }
 }
@@ -252,12 +252,14 @@ fn spot_of_write(op: &Op) -> Option<Spot>
     }
 }
 
-fn held_by(op: Option<Op>) -> Option<Spot>
-    ensures none { op.entry ≡ None → result ≡ None }
-    ensures some { IfSome op.entry (λ o. result ≡ begin_spot o) }
+fn held_by(op: &Option<Op>) -> Option<Spot>
+    ensures none { op.now ≡ None → result ≡ None }
+    ensures some { IfSome op.now (λ o. result ≡ begin_spot o) }
 {
-    let op = op?;
-    spot_of_write(&op)
+    match op {
+        Some(op) => spot_of_write(op),
+        None => None,
+    }
 }
 
 fn hold(shelf: &mut Shelf, spot: Option<Spot>) -> Result<(), Memory>

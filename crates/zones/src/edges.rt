@@ -1,7 +1,7 @@
 //! Where the write of a value begins and ends, where the last of its judged reads begins and where the
 //! first of them ends.
 
-ghost use Rattle.std.specs.Prelude.{◌≡◌, List, Option, Contains, IfSome, None, MatchOption};
+ghost use Rattle.std.specs.Prelude.{◌≡◌, List, Option, Contains, IfSome, None, MatchOption, option_copied};
 ghost use Rattle.intervals.specs.declared.operation.Op.{Op as AnOp};
 ghost use Rattle.intervals.specs.declared.operation.Value.{Value as AValue};
 ghost use Rattle.intervals.specs.Operation.{IsJudgedRead, IsWrite, judged};
@@ -28,8 +28,8 @@ pub struct Edges {
 }
 
 /// The edges of the value. One operation is known to stand, so that its write may be no look-up.
-pub fn edges_of(members: &Members, table: &OpTable, known: Option<Op>, value: Value) -> Edges
-    ensures { AreMembers table.now.ops members.now → HasDistinctIds table.now.ops → IfSome known.entry (λ op. Contains (judged table.now.ops) op) → AreEdges table.now.ops value result }
+pub fn edges_of(members: &Members, table: &OpTable, known: &Option<Op>, value: Value) -> Edges
+    ensures { AreMembers table.now.ops members.now → HasDistinctIds table.now.ops → IfSome known.now (λ op. Contains (judged table.now.ops) op) → AreEdges table.now.ops value result }
 {
     let (write_begin, write_end) = write_edges(members, table, known, value);
     Edges {
@@ -45,42 +45,42 @@ pub fn edges_of(members: &Members, table: &OpTable, known: Option<Op>, value: Va
 pub fn edges_in(
     members: &Members,
     table: &OpTable,
-    known: Option<Op>,
+    known: &Option<Op>,
     first: Option<Value>,
     second: Option<Value>,
 ) -> (Option<Edges>, Option<Edges>)
-    ensures { AreMembers table.now.ops members.now → HasDistinctIds table.now.ops → IfSome known.entry (λ op. Contains (judged table.now.ops) op) → AreEdgesAt table.now.ops first second result }
+    ensures { AreMembers table.now.ops members.now → HasDistinctIds table.now.ops → IfSome known.now (λ op. Contains (judged table.now.ops) op) → AreEdgesAt table.now.ops first second result }
 {
     (
         edges_in_some(members, table, known, first),
-        edges_in_some(members, table, None, second),
+        edges_in_some(members, table, &None, second),
     )
 }
 
 /// What these edges come to once an operation went and one came.
 pub fn edges_after(
-    before: (Option<Edges>, Option<Edges>),
+    before: &(Option<Edges>, Option<Edges>),
     members: &Members,
     table: &OpTable,
-    old: Option<Op>,
-    new: Option<Op>,
+    old: &Option<Op>,
+    new: &Option<Op>,
 ) -> (Option<Edges>, Option<Edges>)
-    ensures { (ops : List AnOp) (first second : Option AValue) → AreEdgesAt ops first second before → IsChange ops old.entry new.entry table.now.ops → AreMembers table.now.ops members.now → HasDistinctIds table.now.ops
+    ensures { (ops : List AnOp) (first second : Option AValue) → AreEdgesAt ops first second before.now → IsChange ops old.now new.now table.now.ops → AreMembers table.now.ops members.now → HasDistinctIds table.now.ops
         → AreEdgesAt table.now.ops first second result }
 {
     (
-        after_in_some(before.0, members, table, old, new),
-        after_in_some(before.1, members, table, old, new),
+        after_in_some(&before.0, members, table, old, new),
+        after_in_some(&before.1, members, table, old, new),
     )
 }
 
 fn edges_in_some(
     members: &Members,
     table: &OpTable,
-    known: Option<Op>,
+    known: &Option<Op>,
     value: Option<Value>,
 ) -> Option<Edges>
-    ensures { AreMembers table.now.ops members.now → HasDistinctIds table.now.ops → IfSome known.entry (λ op. Contains (judged table.now.ops) op) → AreEdgesAtSome table.now.ops value result }
+    ensures { AreMembers table.now.ops members.now → HasDistinctIds table.now.ops → IfSome known.now (λ op. Contains (judged table.now.ops) op) → AreEdgesAtSome table.now.ops value result }
 {
     match value {
         Some(value) => Some(edges_of(members, table, known, value)),
@@ -89,13 +89,13 @@ fn edges_in_some(
 }
 
 fn after_in_some(
-    before: Option<Edges>,
+    before: &Option<Edges>,
     members: &Members,
     table: &OpTable,
-    old: Option<Op>,
-    new: Option<Op>,
+    old: &Option<Op>,
+    new: &Option<Op>,
 ) -> Option<Edges>
-    ensures { (ops : List AnOp) (value : Option AValue) → AreEdgesAtSome ops value before → IsChange ops old.entry new.entry table.now.ops → AreMembers table.now.ops members.now → HasDistinctIds table.now.ops
+    ensures { (ops : List AnOp) (value : Option AValue) → AreEdgesAtSome ops value before.now → IsChange ops old.now new.now table.now.ops → AreMembers table.now.ops members.now → HasDistinctIds table.now.ops
         → AreEdgesAtSome table.now.ops value result }
 {
     match before {
@@ -106,14 +106,14 @@ fn after_in_some(
 
 /// Where a read went, others may end first or begin last.
 fn after(
-    before: Edges,
+    before: &Edges,
     members: &Members,
     table: &OpTable,
-    old: Option<Op>,
-    new: Option<Op>,
+    old: &Option<Op>,
+    new: &Option<Op>,
 ) -> Edges
-    ensures { (ops : List AnOp) → AreEdges ops before.value before → IsChange ops old.entry new.entry table.now.ops → AreMembers table.now.ops members.now → HasDistinctIds table.now.ops
-        → AreEdges table.now.ops before.value result }
+    ensures { (ops : List AnOp) → AreEdges ops before.now.value before.now → IsChange ops old.now new.now table.now.ops → AreMembers table.now.ops members.now → HasDistinctIds table.now.ops
+        → AreEdges table.now.ops before.now.value result }
 {
     match read_in(old, before.value) {
         Some(_) => edges_of(members, table, new, before.value),
@@ -122,8 +122,8 @@ fn after(
 }
 
 /// What the edges come to where no read of the value went.
-fn changed(before: Edges, old: Option<Op>, new: Option<Op>) -> Edges
-    ensures { (ops later : List AnOp) → AreEdges ops before.value before → IsChange ops old.entry new.entry later → read_part before.value old.entry ≡ None → AreEdges later before.value result }
+fn changed(before: &Edges, old: &Option<Op>, new: &Option<Op>) -> Edges
+    ensures { (ops later : List AnOp) → AreEdges ops before.now.value before.now → IsChange ops old.now new.now later → read_part before.now.value old.now ≡ None → AreEdges later before.now.value result }
 {
     let (write_begin, write_end) = write_after(before, old, new);
     let (read_begin, read_end) = read_after(before, new);
@@ -136,8 +136,8 @@ fn changed(before: Edges, old: Option<Op>, new: Option<Op>) -> Edges
     }
 }
 
-fn write_after(before: Edges, old: Option<Op>, new: Option<Op>) -> (Edge, Edge)
-    ensures { (ops later : List AnOp) → AreEdges ops before.value before → IsChange ops old.entry new.entry later → AreWriteEdges later before.value result.0 result.1 }
+fn write_after(before: &Edges, old: &Option<Op>, new: &Option<Op>) -> (Edge, Edge)
+    ensures { (ops later : List AnOp) → AreEdges ops before.now.value before.now → IsChange ops old.now new.now later → AreWriteEdges later before.now.value result.0 result.1 }
 {
     match write_in(new, before.value) {
         Some(write) => (Edge::At(write.begin), edge_of_end(write.end)),
@@ -148,8 +148,8 @@ fn write_after(before: Edges, old: Option<Op>, new: Option<Op>) -> (Edge, Edge)
     }
 }
 
-fn read_after(before: Edges, new: Option<Op>) -> (Edge, Edge)
-    ensures { (ops later : List AnOp) (old : Option AnOp) → AreEdges ops before.value before → IsChange ops old new.entry later → read_part before.value old ≡ None → AreReadEdges later before.value result.0 result.1 }
+fn read_after(before: &Edges, new: &Option<Op>) -> (Edge, Edge)
+    ensures { (ops later : List AnOp) (old : Option AnOp) → AreEdges ops before.now.value before.now → IsChange ops old new.now later → read_part before.now.value old ≡ None → AreReadEdges later before.now.value result.0 result.1 }
 {
     match read_in(new, before.value) {
         Some(read) => (
@@ -160,8 +160,8 @@ fn read_after(before: Edges, new: Option<Op>) -> (Edge, Edge)
     }
 }
 
-fn write_edges(members: &Members, table: &OpTable, known: Option<Op>, value: Value) -> (Edge, Edge)
-    ensures { AreMembers table.now.ops members.now → HasDistinctIds table.now.ops → IfSome known.entry (λ op. Contains (judged table.now.ops) op) → AreWriteEdges table.now.ops value result.0 result.1 }
+fn write_edges(members: &Members, table: &OpTable, known: &Option<Op>, value: Value) -> (Edge, Edge)
+    ensures { AreMembers table.now.ops members.now → HasDistinctIds table.now.ops → IfSome known.now (λ op. Contains (judged table.now.ops) op) → AreWriteEdges table.now.ops value result.0 result.1 }
 {
     match write_at(members, table, known, value) {
         Some(write) => (Edge::At(write.begin), edge_of_end(write.end)),
@@ -173,14 +173,14 @@ fn write_edges(members: &Members, table: &OpTable, known: Option<Op>, value: Val
 fn write_at<'t>(
     members: &Members,
     table: &OpTable<'t>,
-    known: Option<Op<'t>>,
+    known: &Option<Op<'t>>,
     value: Value,
 ) -> Option<Op<'t>>
-    ensures { AreMembers table.now.ops members.now → HasDistinctIds table.now.ops → IfSome known.entry (λ op. Contains (judged table.now.ops) op)
+    ensures { AreMembers table.now.ops members.now → HasDistinctIds table.now.ops → IfSome known.now (λ op. Contains (judged table.now.ops) op)
         → MatchOption result (HasNoWrite table.now.ops value) (IsTheWriteAt table.now.ops value) }
 {
     match write_in(known, value) {
-        Some(write) => Some(write),
+        Some(write) => Some(*write),
         None => members.write_of(table, value),
     }
 }
@@ -205,26 +205,22 @@ pub fn read_begin(members: &Members, value: Value) -> Edge
 }
 
 /// The operation, where it is a write of the value.
-fn write_in<'t>(op: Option<Op<'t>>, value: Value) -> Option<Op<'t>>
-    ensures { result ≡ write_part value op.entry }
+fn write_in<'b, 't>(op: &'b Option<Op<'t>>, value: Value) -> Option<&'b Op<'t>>
+    ensures { option_copied result ≡ write_part value op.now }
 {
-    let op = op?;
-    if op.is_write() && is_same_value(op.value(), value) {
-        Some(op)
-    } else {
-        None
+    match op {
+        Some(op) if op.is_write() && is_same_value(op.value(), value) => Some(op),
+        _ => None,
     }
 }
 
 /// The operation, where it is a judged read of the value.
-fn read_in<'t>(op: Option<Op<'t>>, value: Value) -> Option<Op<'t>>
-    ensures { result ≡ read_part value op.entry }
+fn read_in<'b, 't>(op: &'b Option<Op<'t>>, value: Value) -> Option<&'b Op<'t>>
+    ensures { option_copied result ≡ read_part value op.now }
 {
-    let op = op?;
-    if op.is_judged_read() && is_same_value(op.value(), value) {
-        Some(op)
-    } else {
-        None
+    match op {
+        Some(op) if op.is_judged_read() && is_same_value(op.value(), value) => Some(op),
+        _ => None,
     }
 }
 

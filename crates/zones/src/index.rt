@@ -76,12 +76,12 @@ impl Members {
     }
 
     /// Takes an operation out, and puts one in whose places are held. The places of a prepared one stay.
-    pub fn change(&mut self, old: Option<Op>, new: Option<Op>, prepared: Option<Op>)
-        requires prepared { IfSome new (λ op. prepared ≡ Some op) }
-        requires places { HasPlacesOf prepared self.old }
-        ensures members { (before after : List AnOp) → AreMembers before self.old → IsChange before old.entry new.entry after → AreMembers after self.new }
-        ensures places { HasPlacesOf prepared.entry self.new }
-        ensures only { HoldsOnlyFor prepared.entry self.old → HoldsOnlyFor (prepared_after new.entry prepared.entry) self.new }
+    pub fn change(&mut self, old: &Option<Op>, new: &Option<Op>, prepared: &Option<Op>)
+        requires prepared { IfSome new.now (λ op. prepared.now ≡ Some op) }
+        requires places { HasPlacesOf prepared.now self.old }
+        ensures members { (before after : List AnOp) → AreMembers before self.old → IsChange before old.now new.now after → AreMembers after self.new }
+        ensures places { HasPlacesOf prepared.now self.new }
+        ensures only { HoldsOnlyFor prepared.now self.old → HoldsOnlyFor (prepared_after new.now prepared.now) self.new }
     {
         change_row(&mut self.writes, Row::Writes, old, new, prepared);
         change_row(&mut self.ends, Row::Ends, old, new, prepared);
@@ -173,18 +173,24 @@ fn release(shelf: &mut Shelf, spot: Option<Spot>)
 
 /// Takes the old operation out and puts the new one in, whose place is held. The place of the prepared
 /// one stays. An operation that keeps its spot is not touched.
-fn change_row(shelf: &mut Shelf, row: Row, old: Option<Op>, new: Option<Op>, prepared: Option<Op>)
-    requires prepared { IfSome new (λ op. prepared ≡ Some op) }
-    requires place { HasPlaceAt shelf.old (in_row row prepared) }
-    ensures in_time { IsInTime (in_row row new.entry) }
-    ensures places { (other : ASpot) → place_at shelf.new other ≡ come_at row new.entry other (taken_at (in_row row old.entry) (in_row row prepared.entry) other (place_at shelf.old other)) }
+fn change_row(
+    shelf: &mut Shelf,
+    row: Row,
+    old: &Option<Op>,
+    new: &Option<Op>,
+    prepared: &Option<Op>,
+)
+    requires prepared { IfSome new.now (λ op. prepared.now ≡ Some op) }
+    requires place { HasPlaceAt shelf.old (in_row row prepared.now) }
+    ensures in_time { IsInTime (in_row row new.now) }
+    ensures places { (other : ASpot) → place_at shelf.new other ≡ come_at row new.now other (taken_at (in_row row old.now) (in_row row prepared.now) other (place_at shelf.old other)) }
 {
     let spot = spot_in(row, old);
     let Some(op) = new else {
         take_out(shelf, spot, spot_in(row, prepared));
         return;
     };
-    let place = spot_on(row, &op);
+    let place = spot_on(row, op);
     if !has_at(shelf, spot, place, op.id) {
         take_out(shelf, spot, place);
         put_in(shelf, place, op.id);
@@ -202,11 +208,13 @@ fn has_at(shelf: &Shelf, spot: Option<Spot>, place: Option<Spot>, id: OpId) -> b
 }
 
 /// Where the operation stands on a shelf, if there is one.
-fn spot_in(row: Row, op: Option<Op>) -> Option<Spot>
-    ensures { result ≡ in_row row op.entry }
+fn spot_in(row: Row, op: &Option<Op>) -> Option<Spot>
+    ensures { result ≡ in_row row op.now }
 {
-    let op = op?;
-    spot_on(row, &op)
+    match op {
+        Some(op) => spot_on(row, op),
+        None => None,
+    }
 }
 
 /// Takes what stands at the spot out. The place goes too, unless it is the one that is held.

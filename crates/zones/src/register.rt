@@ -134,21 +134,21 @@ impl<'t> Clusters<'t> {
         self.table.release();
     }
 
-    /// Carries out an edit that nothing refuses. It takes no memory where its new operation is prepared
-    /// or it has none.
-    pub fn admit(&mut self, edit: Edit<'t>) -> Result<(), Memory>
-        requires accepted { reply_to self.old.claim self.old.ops edit ≡ None }
-        requires prepared { IfSome self.old.prepared (λ op. IfSome (new_op self.old.ops edit) (λ new. new ≡ op)) }
-        ensures ok { OnOk result (self.new ≡ record self.old { ops = edited self.old.ops edit.entry; prepared = prepared_after (new_op self.old.ops edit.entry) self.old.prepared; steps = self.new.steps }) }
+    /// Carries out an edit that nothing refuses, of which the new operation is given. It takes no memory where that
+    /// is prepared or there is none.
+    pub fn admit(&mut self, edit: &Edit<'t>, new: &Option<Op<'t>>) -> Result<(), Memory>
+        requires accepted { reply_to self.old.claim self.old.ops edit.now ≡ None }
+        requires new { new.now ≡ new_op self.old.ops edit.now }
+        requires prepared { IfSome self.old.prepared (λ op. IfSome new.now (λ new. new ≡ op)) }
+        ensures ok { OnOk result (self.new ≡ record self.old { ops = edited self.old.ops edit.now; prepared = prepared_after new.now self.old.prepared; steps = self.new.steps }) }
         ensures err { OnErr result (self.new ≡ self.old) }
-        ensures memory { OnErr result (IsSome (new_op self.old.ops edit.entry) × (self.old.prepared ≡ None)) }
+        ensures memory { OnErr result (IsSome new.now × (self.old.prepared ≡ None)) }
         ensures steps { self.new.steps ≤ self.old.steps + 4 * (2 * digits (length (writes self.old.ops) + 1) + 1) }
         ensures rises { self.old.steps ≤ self.new.steps }
     {
-        let new = self.table.new_op(&edit);
         if let Some(op) = new {
             if self.table.prepared().is_none() {
-                self.prepare(&op)?;
+                self.prepare(op)?;
             }
         }
         self.settle(edit, new);
@@ -156,24 +156,24 @@ impl<'t> Clusters<'t> {
     }
 
     /// Carries out an edit whose new operation is prepared.
-    fn settle(&mut self, edit: Edit<'t>, new: Option<Op<'t>>)
-        requires accepted { reply_to self.old.claim self.old.ops edit ≡ None }
-        requires new { new ≡ new_op self.old.ops edit }
-        requires prepared { IfSome new (λ op. self.old.prepared ≡ Some op) }
-        ensures edited { self.new ≡ record self.old { ops = edited self.old.ops edit.entry; prepared = prepared_after new.entry self.old.prepared; steps = self.new.steps } }
+    fn settle(&mut self, edit: &Edit<'t>, new: &Option<Op<'t>>)
+        requires accepted { reply_to self.old.claim self.old.ops edit.now ≡ None }
+        requires new { new.now ≡ new_op self.old.ops edit.now }
+        requires prepared { IfSome new.now (λ op. self.old.prepared ≡ Some op) }
+        ensures edited { self.new ≡ record self.old { ops = edited self.old.ops edit.now; prepared = prepared_after new.now self.old.prepared; steps = self.new.steps } }
         ensures steps { self.new.steps ≤ self.old.steps + 4 * (2 * digits (length (writes self.old.ops) + 1) + 1) }
         ensures rises { self.old.steps ≤ self.new.steps }
     {
         // That the zones stand in order is known of what is gone over.
         let _ = self.zones.iter();
-        let old = judged(self.table.find(edit.id()));
+        let old = judged(&self.table.find(edit.id()));
         let new = judged(new);
-        let first = value_in(old);
-        let second = other_value(first, value_in(new));
-        let edges = edges_in(&self.members, &self.table, old, first, second);
-        self.members.change(old, new, self.table.prepared());
+        let first = value_in(&old);
+        let second = other_value(first, value_in(&new));
+        let edges = edges_in(&self.members, &self.table, &old, first, second);
+        self.members.change(&old, &new, &self.table.prepared());
         self.table.admit(edit);
-        let after = edges_after(edges, &self.members, &self.table, old, new);
+        let after = edges_after(&edges, &self.members, &self.table, &old, &new);
         let zones = zones_in(&edges);
         let zones_after = zones_in(&after);
         let stretches = stretches_in(&edges, &self.claim);
@@ -192,7 +192,7 @@ impl<'t> Clusters<'t> {
         ensures steps { self.new.steps ≤ self.old.steps + 4 * (2 * digits (length (writes self.old.ops) + 1) + 1) }
         ensures rises { self.old.steps ≤ self.new.steps }
     {
-        self.admit(Edit::Append(*write))
+        self.admit(&Edit::Append(*write), &Some(*write))
     }
 
     /// A read that has no end is kept, and judged when it has one.
@@ -206,7 +206,7 @@ impl<'t> Clusters<'t> {
         ensures steps { self.new.steps ≤ self.old.steps + 4 * (2 * digits (length (writes self.old.ops) + 1) + 1) }
         ensures rises { self.old.steps ≤ self.new.steps }
     {
-        self.admit(Edit::Append(*read))
+        self.admit(&Edit::Append(*read), &Some(*read))
     }
 
     pub fn drop_write(&mut self, id: OpId)
@@ -216,7 +216,7 @@ impl<'t> Clusters<'t> {
         ensures rises { self.old.steps ≤ self.new.steps }
     {
         // A withdrawal takes no memory.
-        let _ = self.admit(Edit::Withdraw(id));
+        let _ = self.admit(&Edit::Withdraw(id), &None);
     }
 
     pub fn drop_read(&mut self, id: OpId)
@@ -226,7 +226,7 @@ impl<'t> Clusters<'t> {
         ensures rises { self.old.steps ≤ self.new.steps }
     {
         // A withdrawal takes no memory.
-        let _ = self.admit(Edit::Withdraw(id));
+        let _ = self.admit(&Edit::Withdraw(id), &None);
     }
 
     /// The initial value: the known one, or the one that all reads of values without a write return.
@@ -249,7 +249,7 @@ impl<'t> Clusters<'t> {
         if is_initial(self.initial(), value) {
             return Some(initial_zone(&self.members, value));
         }
-        let edges = edges_of(&self.members, &self.table, None, value);
+        let edges = edges_of(&self.members, &self.table, &None, value);
         zone_in(&edges)
     }
 
@@ -360,22 +360,22 @@ impl<'t> Clusters<'t> {
 }
 
 /// The operation, where it is a write or has an end.
-fn judged<'t>(op: Option<Op<'t>>) -> Option<Op<'t>>
-    ensures { result ≡ judged_part op.entry }
+fn judged<'t>(op: &Option<Op<'t>>) -> Option<Op<'t>>
+    ensures { result ≡ judged_part op.now }
 {
-    let op = op?;
-    if op.is_write() || op.end.is_some() {
-        Some(op)
-    } else {
-        None
+    match op {
+        Some(op) if op.is_write() || op.end.is_some() => Some(*op),
+        _ => None,
     }
 }
 
-fn value_in(op: Option<Op>) -> Option<Value>
-    ensures { result ≡ value_of_some op.entry }
+fn value_in(op: &Option<Op>) -> Option<Value>
+    ensures { result ≡ value_of_some op.now }
 {
-    let op = op?;
-    Some(op.value())
+    match op {
+        Some(op) => Some(op.value()),
+        None => None,
+    }
 }
 
 /// The second value, where it is not the first.

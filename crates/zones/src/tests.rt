@@ -108,7 +108,8 @@ fn edit_of(word: &'static str) -> Edit<'static> {
 fn list_refusal<'t>(clusters: &Clusters<'t>, edit: &Edit<'t>) -> Option<Refusal>
     ensures { result ≡ first_refusal clusters.now.ops edit.now }
 {
-    clusters.operations().check(edit).err()
+    let operations = clusters.operations();
+    operations.check(edit, &operations.new_op(edit)).err()
 }
 
 #[tactic(auto, using(crate::proofs::Refusals::err_ok_unless))]
@@ -168,7 +169,10 @@ fn carried_out<'t>(clusters: &mut Clusters<'t>, edit: Edit<'t>) -> Result<(), Me
     match edit {
         Edit::Append(op) if op.is_write() => clusters.admit_write(&op),
         Edit::Append(op) => clusters.admit_read(&op),
-        Edit::Amend(..) | Edit::Claim(_) => clusters.admit(edit),
+        Edit::Amend(..) | Edit::Claim(_) => {
+            let new = clusters.operations().new_op(&edit);
+            clusters.admit(&edit, &new)
+        }
         Edit::Withdraw(id) => {
             withdraw(clusters, id);
             Ok(())
@@ -237,7 +241,7 @@ fn instead<'t>(
         clusters.release(&op);
         return Ok(());
     }
-    clusters.admit(Edit::Append(op))
+    clusters.admit(&Edit::Append(op), &Some(op))
 }
 
 /// Tells a refusal, or carries the edit out.

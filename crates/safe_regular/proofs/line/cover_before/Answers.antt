@@ -15,9 +15,9 @@ returns c are ids =
     let claim = terms_of c.args.claim.now in
     let ops = c.args.table.now.ops in
     let found = c.cover_in_front.result in
-    let own_op : c.args.op ≡ Some c.in_ok-op.op = search rules in
+    let own_op : c.args.op.now ≡ Some c.in-Some.op = search rules in
     let (found_is, front) = c.cover_in_front.ensures are ids in
     record {
       is = λ x e. subst (IsItem claim ops) (same_in found x e) found_is;
-      there = λ o e writes rows. inl (found, refl, subst (λ (p : Op). IsInFront claim ops p.begin.0 found) (own c.args.op c.in_ok-op.op o own_op e) front);
+      there = λ o e writes rows. inl (found, refl, subst (λ (p : Op). IsInFront claim ops p.begin.0 found) (own c.args.op.now c.in-Some.op o own_op e) front);
     }

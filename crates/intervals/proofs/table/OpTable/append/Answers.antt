@@ -17,10 +17,10 @@ invariant_of-self c =
     let inside = c.self.inside in
     let at_end = c.len-place.ensures ∙ inside.slots.ok.0 in (
       rw c.push_reserved.ensures.items
-          (indexed_appended inside.slots.items (place_of same_id inside.places) (holder_at inside.moments) c.self.invariant.0 c.args.op c.len-place.result _ _
-          (subst (λ (t : Tabled). first_refusal t.ops (Append c.args.op) ≡ None) (sym c.self.view_is) c.requires.accepted) at_end c.in-Ok.ensures.updates.0 c.put_moments.ensures.holders),
-      rw (c.push_reserved.ensures.items, standing_more) (omega (arith, length-append (standing inside.slots.items) (c.args.op ∷ []), c.self.invariant.1)),
-      none_held inside.moments c.put_moments.new.moments inside.prepared c.self.invariant.2 c.args.op
+          (indexed_appended inside.slots.items (place_of same_id inside.places) (holder_at inside.moments) c.self.invariant.0 c.args.op.now c.len-place.result _ _
+          (subst (λ (t : Tabled). first_refusal t.ops (Append c.args.op.now) ≡ None) (sym c.self.view_is) c.requires.accepted) at_end c.in-Ok.ensures.updates.0 c.put_moments.ensures.holders),
+      rw (c.push_reserved.ensures.items, standing_more) (omega (arith, length-append (standing inside.slots.items) (c.args.op.now ∷ []), c.self.invariant.1)),
+      none_held inside.moments c.put_moments.new.moments inside.prepared c.self.invariant.2 c.args.op.now
           (ap (λ (t : Tabled). t.prepared) c.self.view_is ∙ c.requires.room) c.put_moments.ensures.held,
       tt,
     )

@@ -23,7 +23,7 @@ apart_after before after edit (Err memory) is same accepted apart = subst (λ (j
 pub invariant_of-self : goal.invariant_of-self
 invariant_of-self c =
     let before = c.self.inside.judge in
-    let accepted : reply_to (held_by before).claim (held_by before).ops c.args.edit ≡ None = search rules in
+    let accepted : reply_to (held_by before).claim (held_by before).ops c.args.edit.now ≡ None = search rules in
     let kind : IsOfItsKind c.admit.new.self = search rules in
     let left : HasNonePrepared c.admit.new.self = search rules in
-    (kind, left, apart_after before c.admit.new.self c.args.edit c.admit.result c.admit.ensures.ok c.admit.ensures.err accepted c.self.invariant.2)
+    (kind, left, apart_after before c.admit.new.self c.args.edit.now c.admit.result c.admit.ensures.ok c.admit.ensures.err accepted c.self.invariant.2)

@@ -18,20 +18,20 @@ use Rattle.zones.proofs.register.Clusters.settle.Goals as goal
 pub change-requires-clause-prepared : goal.change-requires-clause-prepared
 change-requires-clause-prepared c =
     let same : c.prepared.result ≡ c.args.self.now.prepared = c.prepared.ensures ∙ ap (λ (x : Clustered). x.prepared) c.self.view_is in
-    let is : IfSome c.args.new (λ op. c.prepared.result ≡ Some op) = subst (λ (p : Option Op). IfSome c.args.new (λ op. p ≡ Some op)) (sym same) c.requires.prepared in
-    subst (λ (n : Option Op). IfSome n (λ op. c.prepared.result ≡ Some op)) (sym c.judged-new.ensures) (judged_prepared c.args.new c.prepared.result is)
+    let is : IfSome c.args.new.now (λ op. c.prepared.result ≡ Some op) = subst (λ (p : Option Op). IfSome c.args.new.now (λ op. p ≡ Some op)) (sym same) c.requires.prepared in
+    subst (λ (n : Option Op). IfSome n (λ op. c.prepared.result ≡ Some op)) (sym c.judged-new.ensures) (judged_prepared c.args.new.now c.prepared.result is)
 
 pub admit-requires-clause-accepted : goal.admit-requires-clause-accepted
 admit-requires-clause-accepted c =
     let claim = terms_of c.self.inside.claim in
     let ops = c.self.inside.table.ops in
-    edit_accepted claim ops c.args.edit (subst (λ (x : Clustered). reply_to x.claim x.ops c.args.edit ≡ None) (sym c.self.view_is) c.requires.accepted)
+    edit_accepted claim ops c.args.edit.now (subst (λ (x : Clustered). reply_to x.claim x.ops c.args.edit.now ≡ None) (sym c.self.view_is) c.requires.accepted)
 
 pub admit-requires-clause-room : goal.admit-requires-clause-room
 admit-requires-clause-room c =
     let prepared = c.self.inside.table.prepared in
-    let asked : c.args.new ≡ new_op c.self.inside.table.ops c.args.edit = subst (λ (x : Clustered). c.args.new ≡ new_op x.ops c.args.edit) (sym c.self.view_is) c.requires.new in
-    let held : IfSome c.args.new (λ op. prepared ≡ Some op) = subst (λ (x : Clustered). IfSome c.args.new (λ op. x.prepared ≡ Some op)) (sym c.self.view_is) c.requires.prepared in
+    let asked : c.args.new.now ≡ new_op c.self.inside.table.ops c.args.edit.now = subst (λ (x : Clustered). c.args.new.now ≡ new_op x.ops c.args.edit.now) (sym c.self.view_is) c.requires.new in
+    let held : IfSome c.args.new.now (λ op. prepared ≡ Some op) = subst (λ (x : Clustered). IfSome c.args.new.now (λ op. x.prepared ≡ Some op)) (sym c.self.view_is) c.requires.prepared in
     subst (λ (n : Option Op). IfSome n (λ op. prepared ≡ Some op)) asked held
 
 pub exchange-requires : goal.exchange-requires
@@ -39,50 +39,50 @@ exchange-requires c =
     let claim = terms_of c.self.inside.claim in
     let ops = c.self.inside.table.ops in
     let prepared = c.self.inside.table.prepared in
-    let accepted : reply_to claim ops c.args.edit ≡ None = subst (λ (x : Clustered). reply_to x.claim x.ops c.args.edit ≡ None) (sym c.self.view_is) c.requires.accepted in
-    let old_is : c.judged-old.result ≡ judged_part (found_by ops (edit_id c.args.edit)) = search rules in
-    let asked : c.args.new ≡ new_op ops c.args.edit = subst (λ (x : Clustered). c.args.new ≡ new_op x.ops c.args.edit) (sym c.self.view_is) c.requires.new in
-    let new_is : c.judged-new.result ≡ judged_part (new_op ops c.args.edit) = c.judged-new.ensures ∙ ap judged_part asked in
-    let held : IfSome c.args.new (λ op. prepared ≡ Some op) = subst (λ (x : Clustered). IfSome c.args.new (λ op. x.prepared ≡ Some op)) (sym c.self.view_is) c.requires.prepared in
+    let accepted : reply_to claim ops c.args.edit.now ≡ None = subst (λ (x : Clustered). reply_to x.claim x.ops c.args.edit.now ≡ None) (sym c.self.view_is) c.requires.accepted in
+    let old_is : c.judged-old.result ≡ judged_part (found_by ops (edit_id c.args.edit.now)) = search rules in
+    let asked : c.args.new.now ≡ new_op ops c.args.edit.now = subst (λ (x : Clustered). c.args.new.now ≡ new_op x.ops c.args.edit.now) (sym c.self.view_is) c.requires.new in
+    let new_is : c.judged-new.result ≡ judged_part (new_op ops c.args.edit.now) = c.judged-new.ensures ∙ ap judged_part asked in
+    let held : IfSome c.args.new.now (λ op. prepared ≡ Some op) = subst (λ (x : Clustered). IfSome c.args.new.now (λ op. x.prepared ≡ Some op)) (sym c.self.view_is) c.requires.prepared in
     let after = c.admit.new.self.ops in
-    let after_is : after ≡ edited ops c.args.edit = ap (λ (t : Tabled). t.ops) c.admit.ensures in
+    let after_is : after ≡ edited ops c.args.edit.now = ap (λ (t : Tabled). t.ops) c.admit.ensures in
     let apart = c.self.invariant.apart in
-    let later = apart_after claim ops c.args.edit apart accepted c.judged-old.result c.judged-new.result old_is new_is after after_is in
-    let change = change_is claim ops c.args.edit apart accepted c.judged-old.result c.judged-new.result old_is new_is after after_is in
+    let later = apart_after claim ops c.args.edit.now apart accepted c.judged-old.result c.judged-new.result old_is new_is after after_is in
+    let change = change_is claim ops c.args.edit.now apart accepted c.judged-old.result c.judged-new.result old_is new_is after after_is in
     let members : AreMembers after c.change.new.self = c.change.ensures.members ops after c.self.invariant.members_of change in
     let first = c.value_in-first.result in
     let second = c.other_value-second.result in
     let before_is = c.edges_in-edges.ensures c.self.invariant.members_of apart.kept.ids change.goes in
     let later_is = c.edges_after-after.ensures ops first second before_is change members later.kept.ids in
-    can_exchange_zones claim ops c.args.edit apart accepted c.judged-old.result c.judged-new.result old_is new_is after after_is
+    can_exchange_zones claim ops c.args.edit.now apart accepted c.judged-old.result c.judged-new.result old_is new_is after after_is
     c.value_in-first.result c.other_value-second.result (search rules) (search rules) c.zones_in-zones.result c.zones_in-zones_after.result c.self.inside.zones c.self.invariant.zoned
     (c.zones_in-zones.ensures ops first second before_is) (c.zones_in-zones_after.ensures after first second later_is)
-    (λ some. (enough_for c.self.inside.members c.self.inside.zones c.self.inside.stretches prepared c.self.invariant.room c.args.new held (subst (λ (n : Option Op). IsSome n) c.judged-new.ensures some)).0)
+    (λ some. (enough_for c.self.inside.members c.self.inside.zones c.self.inside.stretches prepared c.self.invariant.room c.args.new.now held (subst (λ (n : Option Op). IsSome n) c.judged-new.ensures some)).0)
 
 pub exchange-requires-2 : goal.exchange-requires-2
 exchange-requires-2 c =
     let claim = terms_of c.self.inside.claim in
     let ops = c.self.inside.table.ops in
     let prepared = c.self.inside.table.prepared in
-    let accepted : reply_to claim ops c.args.edit ≡ None = subst (λ (x : Clustered). reply_to x.claim x.ops c.args.edit ≡ None) (sym c.self.view_is) c.requires.accepted in
-    let old_is : c.judged-old.result ≡ judged_part (found_by ops (edit_id c.args.edit)) = search rules in
-    let asked : c.args.new ≡ new_op ops c.args.edit = subst (λ (x : Clustered). c.args.new ≡ new_op x.ops c.args.edit) (sym c.self.view_is) c.requires.new in
-    let new_is : c.judged-new.result ≡ judged_part (new_op ops c.args.edit) = c.judged-new.ensures ∙ ap judged_part asked in
-    let held : IfSome c.args.new (λ op. prepared ≡ Some op) = subst (λ (x : Clustered). IfSome c.args.new (λ op. x.prepared ≡ Some op)) (sym c.self.view_is) c.requires.prepared in
+    let accepted : reply_to claim ops c.args.edit.now ≡ None = subst (λ (x : Clustered). reply_to x.claim x.ops c.args.edit.now ≡ None) (sym c.self.view_is) c.requires.accepted in
+    let old_is : c.judged-old.result ≡ judged_part (found_by ops (edit_id c.args.edit.now)) = search rules in
+    let asked : c.args.new.now ≡ new_op ops c.args.edit.now = subst (λ (x : Clustered). c.args.new.now ≡ new_op x.ops c.args.edit.now) (sym c.self.view_is) c.requires.new in
+    let new_is : c.judged-new.result ≡ judged_part (new_op ops c.args.edit.now) = c.judged-new.ensures ∙ ap judged_part asked in
+    let held : IfSome c.args.new.now (λ op. prepared ≡ Some op) = subst (λ (x : Clustered). IfSome c.args.new.now (λ op. x.prepared ≡ Some op)) (sym c.self.view_is) c.requires.prepared in
     let after = c.admit.new.self.ops in
-    let after_is : after ≡ edited ops c.args.edit = ap (λ (t : Tabled). t.ops) c.admit.ensures in
+    let after_is : after ≡ edited ops c.args.edit.now = ap (λ (t : Tabled). t.ops) c.admit.ensures in
     let apart = c.self.invariant.apart in
-    let later = apart_after claim ops c.args.edit apart accepted c.judged-old.result c.judged-new.result old_is new_is after after_is in
-    let change = change_is claim ops c.args.edit apart accepted c.judged-old.result c.judged-new.result old_is new_is after after_is in
+    let later = apart_after claim ops c.args.edit.now apart accepted c.judged-old.result c.judged-new.result old_is new_is after after_is in
+    let change = change_is claim ops c.args.edit.now apart accepted c.judged-old.result c.judged-new.result old_is new_is after after_is in
     let members : AreMembers after c.change.new.self = c.change.ensures.members ops after c.self.invariant.members_of change in
     let first = c.value_in-first.result in
     let second = c.other_value-second.result in
     let before_is = c.edges_in-edges.ensures c.self.invariant.members_of apart.kept.ids change.goes in
     let later_is = c.edges_after-after.ensures ops first second before_is change members later.kept.ids in
-    can_exchange_stretches claim ops c.args.edit apart accepted c.judged-old.result c.judged-new.result old_is new_is after after_is
+    can_exchange_stretches claim ops c.args.edit.now apart accepted c.judged-old.result c.judged-new.result old_is new_is after after_is
     c.value_in-first.result c.other_value-second.result (search rules) (search rules) c.stretches_in-stretches.result c.stretches_in-stretches_after.result c.self.inside.stretches c.self.invariant.stretched
     (c.stretches_in-stretches.ensures ops first second before_is) (c.stretches_in-stretches_after.ensures after first second later_is)
-    (λ some. (enough_for c.self.inside.members c.self.inside.zones c.self.inside.stretches prepared c.self.invariant.room c.args.new held (subst (λ (n : Option Op). IsSome n) c.judged-new.ensures some)).1)
+    (λ some. (enough_for c.self.inside.members c.self.inside.zones c.self.inside.stretches prepared c.self.invariant.room c.args.new.now held (subst (λ (n : Option Op). IsSome n) c.judged-new.ensures some)).1)
 
 pub invariant_of-self : goal.invariant_of-self
 invariant_of-self c =
@@ -91,15 +91,15 @@ invariant_of-self c =
     let prepared = c.self.inside.table.prepared in
     let zones = c.self.inside.zones in
     let stretches = c.self.inside.stretches in
-    let accepted : reply_to claim ops c.args.edit ≡ None = subst (λ (x : Clustered). reply_to x.claim x.ops c.args.edit ≡ None) (sym c.self.view_is) c.requires.accepted in
-    let old_is : c.judged-old.result ≡ judged_part (found_by ops (edit_id c.args.edit)) = search rules in
-    let asked : c.args.new ≡ new_op ops c.args.edit = subst (λ (x : Clustered). c.args.new ≡ new_op x.ops c.args.edit) (sym c.self.view_is) c.requires.new in
-    let new_is : c.judged-new.result ≡ judged_part (new_op ops c.args.edit) = c.judged-new.ensures ∙ ap judged_part asked in
+    let accepted : reply_to claim ops c.args.edit.now ≡ None = subst (λ (x : Clustered). reply_to x.claim x.ops c.args.edit.now ≡ None) (sym c.self.view_is) c.requires.accepted in
+    let old_is : c.judged-old.result ≡ judged_part (found_by ops (edit_id c.args.edit.now)) = search rules in
+    let asked : c.args.new.now ≡ new_op ops c.args.edit.now = subst (λ (x : Clustered). c.args.new.now ≡ new_op x.ops c.args.edit.now) (sym c.self.view_is) c.requires.new in
+    let new_is : c.judged-new.result ≡ judged_part (new_op ops c.args.edit.now) = c.judged-new.ensures ∙ ap judged_part asked in
     let after = c.admit.new.self.ops in
-    let after_is : after ≡ edited ops c.args.edit = ap (λ (t : Tabled). t.ops) c.admit.ensures in
+    let after_is : after ≡ edited ops c.args.edit.now = ap (λ (t : Tabled). t.ops) c.admit.ensures in
     let apart = c.self.invariant.apart in
-    let later = apart_after claim ops c.args.edit apart accepted c.judged-old.result c.judged-new.result old_is new_is after after_is in
-    let change = change_is claim ops c.args.edit apart accepted c.judged-old.result c.judged-new.result old_is new_is after after_is in
+    let later = apart_after claim ops c.args.edit.now apart accepted c.judged-old.result c.judged-new.result old_is new_is after after_is in
+    let change = change_is claim ops c.args.edit.now apart accepted c.judged-old.result c.judged-new.result old_is new_is after after_is in
     let members : AreMembers after c.change.new.self = c.change.ensures.members ops after c.self.invariant.members_of change in
     let first = c.value_in-first.result in
     let second = c.other_value-second.result in
@@ -112,23 +112,23 @@ invariant_of-self c =
     record {
       apart = later;
       members_of = members;
-      zoned = zoned_after claim ops c.args.edit apart accepted c.judged-old.result c.judged-new.result old_is new_is after after_is
+      zoned = zoned_after claim ops c.args.edit.now apart accepted c.judged-old.result c.judged-new.result old_is new_is after after_is
           c.value_in-first.result c.other_value-second.result (search rules) (search rules) c.zones_in-zones.result c.zones_in-zones_after.result zones c.self.invariant.zoned
           zones_before zones_later c.exchange.new.tree.zones c.exchange.ensures.zones;
-      stretched = stretched_after claim ops c.args.edit apart accepted c.judged-old.result c.judged-new.result old_is new_is after after_is
+      stretched = stretched_after claim ops c.args.edit.now apart accepted c.judged-old.result c.judged-new.result old_is new_is after after_is
           c.value_in-first.result c.other_value-second.result (search rules) (search rules) c.stretches_in-stretches.result c.stretches_in-stretches_after.result stretches c.self.invariant.stretched
           stretches_before stretches_later c.exchange-2.new.tree.zones c.exchange-2.ensures.zones;
       room = subst (λ (p : Option Op). IfSome p (HasRoomFor c.change.new.self c.exchange.new.tree c.exchange-2.new.tree)) (sym (ap (λ (t : Tabled). t.prepared) c.admit.ensures))
-          (room_after c.self.inside.members zones stretches prepared c.self.invariant.room c.change.new.self c.exchange.new.tree c.exchange-2.new.tree (new_op ops c.args.edit)
+          (room_after c.self.inside.members zones stretches prepared c.self.invariant.room c.change.new.self c.exchange.new.tree c.exchange-2.new.tree (new_op ops c.args.edit.now)
           (subst (λ (p : Option Op). HasPlacesOf p c.change.new.self) c.prepared.ensures c.change.ensures.places)
-          (λ none. c.exchange.ensures.room (zones_need_no_room claim ops c.args.edit apart accepted c.judged-old.result c.judged-new.result old_is new_is after after_is
+          (λ none. c.exchange.ensures.room (zones_need_no_room claim ops c.args.edit.now apart accepted c.judged-old.result c.judged-new.result old_is new_is after after_is
           c.value_in-first.result c.other_value-second.result (search rules) (search rules) c.zones_in-zones.result c.zones_in-zones_after.result zones c.self.invariant.zoned
           zones_before zones_later (new_is ∙ none)))
-          (λ none. c.exchange-2.ensures.room (stretches_need_no_room claim ops c.args.edit apart accepted c.judged-old.result c.judged-new.result old_is new_is after after_is
+          (λ none. c.exchange-2.ensures.room (stretches_need_no_room claim ops c.args.edit.now apart accepted c.judged-old.result c.judged-new.result old_is new_is after after_is
           c.value_in-first.result c.other_value-second.result (search rules) (search rules) c.stretches_in-stretches.result c.stretches_in-stretches_after.result stretches c.self.invariant.stretched
           stretches_before stretches_later (new_is ∙ none))));
       only = subst (λ (p : Option Op). HoldsOnlyFor p c.change.new.self) (sym (ap (λ (t : Tabled). t.prepared) c.admit.ensures ∙ ap (λ (n : Option Op). prepared_after n prepared) (sym asked)))
-          (only_after c.args.new prepared c.change.new.self (subst (λ (x : Clustered). IfSome c.args.new (λ op. x.prepared ≡ Some op)) (sym c.self.view_is) c.requires.prepared)
+          (only_after c.args.new.now prepared c.change.new.self (subst (λ (x : Clustered). IfSome c.args.new.now (λ op. x.prepared ≡ Some op)) (sym c.self.view_is) c.requires.prepared)
           (subst (λ (n : Option Op). HoldsOnlyFor (prepared_after n prepared) c.change.new.self) c.judged-new.ensures
           (subst (λ (p : Option Op). HoldsOnlyFor p c.self.inside.members → HoldsOnlyFor (prepared_after c.judged-new.result p) c.change.new.self) c.prepared.ensures c.change.ensures.only c.self.invariant.only)));
     }
@@ -138,10 +138,10 @@ returns-clause-edited c =
     let claim = terms_of c.self.inside.claim in
     let table = c.self.inside.table in
     let steps = c.exchange.new.tree.steps in
-    let asked : c.args.new ≡ new_op table.ops c.args.edit = subst (λ (x : Clustered). c.args.new ≡ new_op x.ops c.args.edit) (sym c.self.view_is) c.requires.new in
+    let asked : c.args.new.now ≡ new_op table.ops c.args.edit.now = subst (λ (x : Clustered). c.args.new.now ≡ new_op x.ops c.args.edit.now) (sym c.self.view_is) c.requires.new in
     ap {B = Clustered} (λ (t : Tabled). record { claim = claim; ops = t.ops; prepared = t.prepared; steps = steps }) c.admit.ensures
-    ∙ (ap {B = Clustered} (λ (n : Option Op). record { claim = claim; ops = edited table.ops c.args.edit; prepared = prepared_after n table.prepared; steps = steps }) (sym asked)
-    ∙ ap {B = Clustered} (λ (x : Clustered). record { claim = x.claim; ops = edited x.ops c.args.edit; prepared = prepared_after c.args.new x.prepared; steps = steps }) c.self.view_is)
+    ∙ (ap {B = Clustered} (λ (n : Option Op). record { claim = claim; ops = edited table.ops c.args.edit.now; prepared = prepared_after n table.prepared; steps = steps }) (sym asked)
+    ∙ ap {B = Clustered} (λ (x : Clustered). record { claim = x.claim; ops = edited x.ops c.args.edit.now; prepared = prepared_after c.args.new.now x.prepared; steps = steps }) c.self.view_is)
 
 pub returns-clause-steps : goal.returns-clause-steps
 returns-clause-steps c =
