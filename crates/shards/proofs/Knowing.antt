@@ -27,7 +27,7 @@ behind_once at pass journal a b (inr (farthest, inr (last, differs, number))) (i
 behind_once at pass journal a b (inr (farthest, inr (last, differs, number))) (inr (farthest', inr (last', differs', number'))) = cc
 
 -- the farther entry in a shard is that of the two
-farthest-farther_each : (mine others : List (Option Numbered)) (at : ℕ) → length mine ≡ length others →
+pub farthest-farther_each : (mine others : List (Option Numbered)) (at : ℕ) → length mine ≡ length others →
     farthest_in (farther_each mine others) at ≡ farther (farthest_in mine at) (farthest_in others at)
 farthest-farther_each [] [] at many = refl
 farthest-farther_each [] (b ∷ others) at many = absurd (omega arith)

@@ -5,11 +5,13 @@ mod Kept
 mod Legal
 mod Lone
 mod Rising
-mod Places
 mod Farther
 mod Fresh
 mod Knowing
 mod Told
+mod Rows
+mod InStep
+mod Starts
 mod Passes
 mod Unfit
 mod OneFault

@@ -8,4 +8,5 @@ pub mod Merge
 pub mod Closing
 pub mod Code
 -- words of private clauses
+pub mod Rows
 pub mod Shard

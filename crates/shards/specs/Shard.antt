@@ -1,6 +1,6 @@
 -- For private clauses alone: what the fields of a shard are beside its journal.
-use Rattle.std.specs.Prelude.{◌≡◌, ◌<◌, ◌+◌, ◌*◌, ℕ, List, [], ◌∷◌, length, Some, option_map, map, All}
-use Rattle.std.specs.List.{AllByRecursion, slice_get}
+use Rattle.std.specs.Prelude.{◌≡◌, ◌⊎◌, ◌<◌, ◌+◌, ◌*◌, ℕ, List, [], ◌∷◌, length, Option, Some, option_map, map, unwrap_or, slice_index_or, All, IfSome, IsSomeAnd}
+use Rattle.std.specs.List.{AllByRecursion, AllWithin, slice_get}
 use Rattle.intervals.specs.Terms.{Claimed}
 use Rattle.register_book.specs.Kept.{claimed_of}
 use Rattle.shards.specs.declared.entry.Entry.{Entry}
@@ -9,7 +9,7 @@ use Rattle.shards.specs.declared.shard.Shard.{Shard}
 use Rattle.shards.specs.Plan.{Plan}
 use Rattle.shards.specs.Journal.{left_by, IsJournalOf, count_by}
 use Rattle.shards.specs.Plain.{plain_numbered}
-use Rattle.shards.specs.Pass.{HasFarthest, Passed, told}
+use Rattle.shards.specs.Pass.{HasFarthest, Passed, farthest_in, last_in, told}
 use Rattle.shards.specs.Merge.{IsTold, entries_of, numbered}
 use Rattle.shards.specs.Closing.{Held, Ended}
 
@@ -41,6 +41,29 @@ ended_of shard = record { journal = shard.journal.items; books = map claimed_of 
 abbrev pub Rises : List Numbered → Type 0
 Rises [] = Unit {0}
 Rises (a ∷ rest) = AllByRecursion (λ b. a.number < b.number) rest × Rises rest
+
+-- the entry known is farther than the pass's own one, or reads the same
+abbrev pub IsReached : Option Numbered → Numbered → Type 0
+IsReached farthest own = IsSomeAnd farthest (λ known. (own.number < known.number) ⊎ (plain_numbered own ≡ plain_numbered known))
+
+-- what a pass has of a shard: its own entries have rising numbers, and the farthest one that it knows reaches the
+-- last of them
+pub record IsInStep (farthest : Option Numbered) (own : List Numbered) : Type 0 where
+  pub rises : Rises own
+  pub reached : IfSome (last_in own) (IsReached farthest)
+
+-- so it is for each shard
+pub record AreInStep (own : List (List Numbered)) (farthest : List (Option Numbered)) : Type 0 where
+  pub many : length own ≡ length farthest
+  pub each : (at : ℕ) → IsInStep (farthest_in farthest at) (unwrap_or (slice_get own at) [])
+
+-- the entries before this place have numbers below this one
+abbrev pub IsStart : List Numbered → ℕ → ℕ → Type 0
+IsStart own number place = AllWithin (λ known. known.number < number) own 0 place
+
+-- the starts, by feeder, are so for the entries of each pass
+abbrev pub AreStarts : List Passed → ℕ → ℕ → List ℕ → Type 0
+AreStarts passes at number starts = All (λ pass. IsStart (told pass at) number (slice_index_or starts pass.feeder 0)) passes
 
 -- each pass of its feeder submitted the entry at its number
 abbrev pub IsOwned : List Passed → ℕ → Numbered → Type 0

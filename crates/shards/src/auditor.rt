@@ -35,6 +35,7 @@ pub struct Auditor<'t, O: Opening> {
     ghost locks_is: { vec_len locks ≡ O.plan.shards },
     ghost some: { 0 < O.plan.shards },
     ghost bound: { O.plan.shards < 2 ^ 32 },
+    ghost few: { O.plan.feeders ≤ 256 },
     ghost empty: { vec_len room ≡ 0 },
     ghost enough: { O.plan.shards ≤ vec_capacity room },
 }
@@ -90,7 +91,7 @@ impl<'t, O: Opening> Auditor<'t, O> {
         ensures err { OnErr result (pass.new ≡ pass.old) }
     {
         let shard = self.shard_of(pass, register)?;
-        let answered = self.submit_inside(rt, gate, shard, pass, register, edit);
+        let answered = self.submit_inside(rt, gate, shard, pass, register, &edit);
         gate.outside(pass.feeder());
         answered
     }
@@ -193,13 +194,13 @@ impl<'t, O: Opening> Auditor<'t, O> {
         shard: u32,
         pass: &mut Pass<'t>,
         register: RegId,
-        edit: Edit<'t>,
+        edit: &Edit<'t>,
     ) -> Result<Receipt, ShardFault>
         requires here { shard ≡ register.0 % O.plan.shards }
         requires known { register.0 < length O.plan.claims }
         requires pass { IsPassOf O.plan pass.old }
-        ensures submitted { IfOk result (IsSubmitted O.plan pass.old register edit.entry) }
-        ensures told { IfOk result (λ receipt. pass.new ≡ entered pass.old register edit.entry receipt) }
+        ensures submitted { IfOk result (IsSubmitted O.plan pass.old register edit.now) }
+        ensures told { IfOk result (λ receipt. pass.new ≡ entered pass.old register edit.now receipt) }
         ensures refused { IfErr result (IsRefusal O.plan pass.old register.0) }
         ensures err { OnErr result (pass.new ≡ pass.old) }
     {
@@ -208,7 +209,7 @@ impl<'t, O: Opening> Auditor<'t, O> {
         if state.at() != shard {
             return Err(misplaced(shard));
         }
-        state.submit(pass, register, edit)
+        state.submit(pass, register, *edit)
     }
 
     /// Holds the lock of a shard for one question.

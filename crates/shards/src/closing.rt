@@ -1,11 +1,13 @@
 //! Why an auditor cannot be closed with the passes that are given.
 
-ghost use Rattle.std.specs.Prelude.{◌≡◌, ◌≢◌, ◌↔◌, ◌<◌, ◌^◌, ℕ, All, Contains, IfSome, IsNone, IsTrue, MatchBool, Some, length, map, option_copied};
+ghost use Rattle.std.specs.Prelude.{◌≡◌, ◌≢◌, ◌↔◌, ◌<◌, ◌≤◌, ◌^◌, ℕ, All, IfSome, IsNone, IsTrue, MatchBool, Some, length, map};
 ghost use Rattle.std.specs.List.{AllPairs, slice_get};
-ghost use Rattle.shards.specs.declared.entry.Numbered.{Numbered};
+ghost use Rattle.std.specs.List.Sorted.{IsPartitionPoint};
 ghost use Rattle.shards.specs.Closing.{AreComplete, AreItsPasses, Held, IsClosingFault, IsFirstStranger, IsFirstWithStranger};
 ghost use Rattle.shards.specs.Merge.{IsStranger, IsTold};
-ghost use Rattle.shards.specs.Shard.{AreOwned, IsKept, IsOwned, IsSettledFor, Rises, held_of};
+ghost use Rattle.shards.specs.Pass.{told};
+ghost use Rattle.shards.specs.Shard.{AreOwned, AreStarts, IsKept, IsOwned, IsSettledFor, IsStart, held_of};
+ghost use Rattle.shards.specs.Steps.{numbered_entry};
 
 use crate::fitting::{are_its_passes, first_missing, first_unfit, pass_of};
 use crate::same::is_same;
@@ -26,6 +28,7 @@ pub fn closing_fault<'t, O: Opening>(
     requires many { length shards.now ≡ O.plan.shards }
     requires kept { All (IsKept O.plan) shards.now }
     requires bound { O.plan.shards < 2 ^ 32 }
+    requires few { O.plan.feeders ≤ 256 }
     ensures fault { IfSome result (IsClosingFault O.plan wanted passes.now (map held_of shards.now)) }
     ensures passes { IsNone result → AreItsPasses O.plan passes.now × AreComplete wanted passes.now }
     ensures none { IsNone result → (place : ℕ) (shard : Held) → slice_get (map held_of shards.now) place ≡ Some shard → (shard.at ≡ place) × IsSettledFor O.plan passes.now place shard.journal }
@@ -50,6 +53,7 @@ pub fn closing_fault<'t, O: Opening>(
 /// The least shard with a stranger, and the first one there.
 fn first_stranger<'t>(shards: &[Shard<'t>], passes: &[Pass<'t>]) -> Option<(u32, Numbered<'t>)>
     requires apart { AllPairs (λ a b. a.feeder ≢ b.feeder) passes.now }
+    requires few { All (λ pass. pass.feeder < 256) passes.now }
     requires bound { length shards.now < 2 ^ 32 }
     ensures stranger { IfSome result (λ found. IsFirstWithStranger passes.now (map held_of shards.now) found.0 found.1) }
     ensures none { IsNone result → (place : ℕ) (shard : Held) → slice_get (map held_of shards.now) place ≡ Some shard → AreOwned passes.now place shard.journal }
@@ -63,53 +67,77 @@ fn first_stranger<'t>(shards: &[Shard<'t>], passes: &[Pass<'t>]) -> Option<(u32,
     None
 }
 
-/// The first stranger of a journal.
+/// The first stranger of a journal. The entries of each pass are gone over once, beside the journal: from the start
+/// of its feeder on they have no lesser numbers.
 fn stranger_in<'t>(journal: &[Entry<'t>], place: u32, passes: &[Pass<'t>]) -> Option<Numbered<'t>>
     requires apart { AllPairs (λ a b. a.feeder ≢ b.feeder) passes.now }
+    requires few { All (λ pass. pass.feeder < 256) passes.now }
     ensures stranger { IfSome result (IsFirstStranger passes.now place journal.now) }
     ensures none { IsNone result → AreOwned passes.now place journal.now }
 {
+    let mut starts = [0; 256];
     for number in 0..journal.len() {
-        let known = Numbered {
-            number: number as u64,
-            entry: journal[number],
-        };
-        if !is_owned(passes, place, &known) {
-            return Some(known);
+        let entry = &journal[number];
+        if !is_owned(passes, place, number as u64, entry, &mut starts) {
+            return Some(Numbered {
+                number: number as u64,
+                entry: *entry,
+            });
         }
     }
     None
 }
 
-/// Whether the pass of its feeder, where there is one, submitted the entry at its number.
-fn is_owned(passes: &[Pass], place: u32, known: &Numbered) -> bool
+/// Whether the pass of its feeder, where there is one, submitted the entry at its number. The feeder's start goes
+/// on to that number.
+fn is_owned(
+    passes: &[Pass],
+    place: u32,
+    number: u64,
+    entry: &Entry,
+    starts: &mut [usize; 256],
+) -> bool
     requires apart { AllPairs (λ a b. a.feeder ≢ b.feeder) passes.now }
-    ensures { MatchBool result (IsOwned passes.now place known.now) (IsStranger passes.now place known.now) }
+    requires few { All (λ pass. pass.feeder < 256) passes.now }
+    requires starts { AreStarts passes.now place number starts.old }
+    ensures owned { MatchBool result (IsOwned passes.now place (numbered_entry number entry.now)) (IsStranger passes.now place (numbered_entry number entry.now)) }
+    ensures starts { AreStarts passes.now place number starts.new }
 {
-    match pass_of(passes, known.entry.feeder) {
-        Some(pass) => is_told(pass, place, known),
+    let feeder = entry.feeder;
+    match pass_of(passes, feeder) {
+        Some(pass) => {
+            let start = start_from(pass, place, starts[feeder as usize], number);
+            starts[feeder as usize] = start;
+            is_told(pass, place, start, number, entry)
+        }
         None => true,
     }
 }
 
-/// Whether the pass submitted the entry at its number.
-fn is_told(pass: &Pass, shard: u32, known: &Numbered) -> bool
-    ensures { IsTrue result ↔ IsTold pass.now shard known.now }
+/// The first place, from this one on, of an entry that the pass submitted with no lesser number.
+fn start_from(pass: &Pass, shard: u32, place: usize, number: u64) -> usize
+    requires { IsStart (told pass.now shard) number place }
+    ensures { IsPartitionPoint (λ own. own.number < number) (λ own. number ≤ own.number) (told pass.now shard) result }
 {
-    match at_number(pass.told(shard), known.number) {
-        Some(own) => is_same(&own.entry, &known.entry),
-        None => false,
+    let many = pass.submitted(shard) as usize;
+    let mut start = place;
+    while start < many {
+        match pass.number_at(shard, start) {
+            Some(own) if own < number => start += 1,
+            _ => return start,
+        }
     }
+    start
 }
 
-/// The entry of a number.
-fn at_number<'a, 't>(told: &'a [Numbered<'t>], number: u64) -> Option<&'a Numbered<'t>>
-    requires { Rises told.now }
-    ensures found { IfSome result (λ own. (own.now.number ≡ number) × Contains told.now own.now) }
-    ensures only { (own : Numbered) → Contains told.now own → own.number ≡ number → option_copied result ≡ Some own }
+/// Whether the pass submitted the entry at its number, which is greater than those before a place and not greater
+/// than the others.
+fn is_told(pass: &Pass, shard: u32, start: usize, number: u64, entry: &Entry) -> bool
+    requires { IsPartitionPoint (λ own. own.number < number) (λ own. number ≤ own.number) (told pass.now shard) start }
+    ensures { IsTrue result ↔ IsTold pass.now shard (numbered_entry number entry.now) }
 {
-    match told.get(told.partition_point(|own| own.number < number)) {
-        Some(own) if own.number == number => Some(own),
-        _ => None,
+    match pass.entry_at(shard, start) {
+        Some(own) => own.number == number && is_same(&own.entry, entry),
+        None => false,
     }
 }

@@ -1,8 +1,8 @@
 //! Whether a journal is in keeping with a pass.
 
-ghost use Rattle.std.specs.Prelude.{◌≡◌, ◌↔◌, IsTrue, IfSome, IsNone};
+ghost use Rattle.std.specs.Prelude.{◌≡◌, ◌↔◌, ◌-◌, IsTrue, IfSome, IsNone, length};
 ghost use Rattle.shards.specs.Journal.{count_by};
-ghost use Rattle.shards.specs.Pass.{HasEntry, IsBehind, IsInKeeping, told};
+ghost use Rattle.shards.specs.Pass.{HasEntry, HasFarthest, HasLastOwn, IsBehind, IsInKeeping, told};
 ghost use Rattle.shards.specs.Shard.{Rises};
 
 use crate::same::is_same;
@@ -21,17 +21,37 @@ pub fn first_lack(pass: &Pass, shard: u32, journal: &[Entry], count: u64) -> Opt
             return Some(known.number);
         }
     }
-    let told = pass.told(shard);
-    if let Some(known) = told.last() {
-        if !has_entry(journal, known) {
-            return Some(known.number);
-        }
+    let submitted = pass.submitted(shard);
+    let last = submitted.saturating_sub(1) as usize;
+    if !has_last(pass, shard, last, journal) {
+        return pass.number_at(shard, last);
     }
-    let submitted = told.len() as u64;
     if count == submitted {
         None
     } else {
         Some(submitted)
+    }
+}
+
+/// Whether the journal, which has the farthest entry that the pass knows, has the last one that it submitted, at
+/// that place of its own. The two read the same where their numbers are equal, and mostly they are one.
+fn has_last(pass: &Pass, shard: u32, last: usize, journal: &[Entry]) -> bool
+    requires last { last ≡ length (told pass.now shard) - 1 }
+    requires farthest { HasFarthest shard pass.now journal.now }
+    ensures last { IsTrue result ↔ HasLastOwn shard pass.now journal.now }
+    ensures rises { Rises (told pass.now shard) }
+{
+    let Some(number) = pass.number_at(shard, last) else {
+        return true;
+    };
+    if let Some(known) = pass.seen().farthest(shard) {
+        if known.number == number {
+            return true;
+        }
+    }
+    match pass.entry_at(shard, last) {
+        Some(own) => has_entry(journal, &own),
+        None => true,
     }
 }
 

@@ -33,6 +33,7 @@ pub mod laws;
 mod opening;
 mod parts;
 mod pass;
+mod row;
 mod same;
 mod seen;
 mod shard;

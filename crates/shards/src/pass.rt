@@ -1,15 +1,16 @@
 //! What a feeder submitted, and what it has seen.
 
-ghost use Rattle.std.specs.Prelude.{◌≡◌, ◌<◌, ◌%◌, ◌↔◌, ◌++◌, ◌∷◌, [], replicate, IfOk, IfErr, OnOk, OnErr, IsTrue, length};
+ghost use Rattle.std.specs.Prelude.{◌≡◌, ◌<◌, ◌%◌, ◌↔◌, ◌++◌, ◌∷◌, [], replicate, IfOk, IfErr, IfSome, OnOk, OnErr, IsTrue, length, option_map};
+ghost use Rattle.std.specs.List.{slice_get};
 ghost use Rattle.shards.specs.declared.fault.ShardFault.TheVariants.{ForeignPass, Memory};
 ghost use Rattle.shards.specs.Journal.{IsAnswered};
-ghost use Rattle.shards.specs.Pass.{AreOfOneAuditor, IsInKeeping, IsPassOf, learnt, told, unseen, with_own, with_seen};
-ghost use Rattle.shards.specs.Shard.{IsKept, Rises, held_of};
-ghost use Rattle.shards.specs.Steps.{entered, entry_of, numbered_entry};
+ghost use Rattle.shards.specs.Pass.{AreOfOneAuditor, IsInKeeping, IsPassOf, farthest_of, last_in, learnt, told, unseen, with_own, with_seen};
+ghost use Rattle.shards.specs.Shard.{IsKept, IsReached, Rises, held_of};
+ghost use Rattle.shards.specs.Steps.{entered, entry_of, last_entry, numbered_entry};
 
 use crate::shard::Shard;
 use crate::submitted::Submitted;
-use crate::{Numbered, Opening, Receipt, Seen, ShardFault};
+use crate::{Entry, Numbered, Opening, Receipt, Seen, ShardFault};
 use intervals::{Edit, RegId};
 use std::alloc::Global;
 use std::marker::Model;
@@ -24,14 +25,16 @@ pub struct Pass<'t> {
 }
 
 impl<'t> Model for Pass<'t> {
-    ghost use Rattle.std.specs.Prelude.{◌≡◌, length};
+    ghost use Rattle.std.specs.Prelude.{map};
     ghost use Rattle.shards.specs.Pass.{Passed};
+    ghost use Rattle.shards.specs.Rows.{entries_by};
+    ghost use Rattle.shards.specs.Shard.{AreInStep};
 
     ghost Value = { Passed };
 
-    ghost view = { λ p. record { feeder = p.feeder; own = p.own.items; seen = p.seen } };
+    ghost view = { λ p. record { feeder = p.feeder; own = map (λ own. entries_by p.feeder own.whole.items own.rows.items) p.own.items; seen = p.seen } };
 
-    ghost invariant = { λ p. length p.own.items ≡ length p.seen.farthest };
+    ghost invariant = { λ p. AreInStep (map (λ own. entries_by p.feeder own.whole.items own.rows.items) p.own.items) p.seen.farthest };
 }
 
 impl<'t> Pass<'t> {
@@ -67,7 +70,10 @@ impl<'t> Pass<'t> {
     pub fn submitted(&self, shard: u32) -> u64
         ensures { result ≡ length (told self.now shard) }
     {
-        self.told(shard).len() as u64
+        match self.own.get(shard as usize) {
+            Some(own) => own.len() as u64,
+            None => 0,
+        }
     }
 
     /// What the feeder has seen of the journals, to be handed on.
@@ -103,23 +109,36 @@ impl<'t> Pass<'t> {
         self.seen.auditor() == name && self.seen.shards() == shards && self.feeder < feeders
     }
 
-    /// The entries that the feeder submitted in a shard, with their numbers.
-    pub(crate) fn told(&self, shard: u32) -> &[Numbered<'t>]
-        ensures told { result.now ≡ told self.now shard }
-        ensures rises { Rises result.now }
+    /// The number of the entry at a place among those that the feeder submitted in a shard.
+    pub(crate) fn number_at(&self, shard: u32, place: usize) -> Option<u64>
+        ensures number { result ≡ option_map (λ own. own.number) (slice_get (told self.now shard) place) }
+        ensures rises { Rises (told self.now shard) }
+        ensures reached { IfSome (last_in (told self.now shard)) (IsReached (farthest_of self.now shard)) }
     {
         match self.own.get(shard as usize) {
-            Some(own) => own.entries(),
-            None => nothing(self),
+            Some(own) => own.number(place),
+            None => None,
         }
     }
 
-    /// Submits an edit to a shard whose journal is in keeping with the pass.
+    /// The entry at a place among those that the feeder submitted in a shard.
+    pub(crate) fn entry_at(&self, shard: u32, place: usize) -> Option<Numbered<'t>>
+        ensures entry { result ≡ slice_get (told self.now shard) place }
+        ensures rises { Rises (told self.now shard) }
+    {
+        match self.own.get(shard as usize) {
+            Some(own) => own.entry(self.feeder, place),
+            None => None,
+        }
+    }
+
+    /// Has an edit entered by a shard whose journal is in keeping with the pass, and notes the entry. All growths
+    /// come first.
     pub(crate) fn submit_to<O: Opening>(
         &mut self,
         shard: &mut Shard<'t>,
         register: RegId,
-        edit: Edit<'t>,
+        edit: &Edit<'t>,
     ) -> Result<Receipt, ShardFault>
         requires kept { IsKept O.plan shard.old }
         requires here { register.0 % O.plan.shards ≡ shard.old.at }
@@ -127,36 +146,42 @@ impl<'t> Pass<'t> {
         requires pass { IsPassOf O.plan self.old }
         requires keeping { IsInKeeping shard.old.at self.old shard.old.journal.items }
         ensures kept { IsKept O.plan shard.new }
-        ensures journal { IfOk result (λ receipt. held_of shard.new ≡ record { at = shard.old.at; journal = shard.old.journal.items ++ entry_of self.old.feeder register edit.entry receipt.reply ∷ [] }) }
-        ensures answered { IfOk result (λ receipt. IsAnswered O.plan shard.old.at shard.old.journal.items (entry_of self.old.feeder register edit.entry receipt.reply)) }
+        ensures journal { IfOk result (λ receipt. held_of shard.new ≡ record { at = shard.old.at; journal = shard.old.journal.items ++ entry_of self.old.feeder register edit.now receipt.reply ∷ [] }) }
+        ensures answered { IfOk result (λ receipt. IsAnswered O.plan shard.old.at shard.old.journal.items (entry_of self.old.feeder register edit.now receipt.reply)) }
         ensures receipt { IfOk result (λ receipt. (receipt.shard ≡ shard.old.at) × (receipt.number ≡ length shard.old.journal.items)) }
-        ensures told { IfOk result (λ receipt. self.new ≡ entered self.old register edit.entry receipt) }
+        ensures told { IfOk result (λ receipt. self.new ≡ entered self.old register edit.now receipt) }
         ensures memory { IfErr result (λ fault. fault ≡ Memory) }
         ensures err { OnErr result ((held_of shard.new ≡ held_of shard.old) × (self.new ≡ self.old)) }
     {
         let at = shard.at;
-        let known = self.own[at as usize].enter::<O>(shard, self.feeder, register, edit)?;
+        self.own[at as usize].reserve()?;
+        let receipt = shard.enter::<O>(self.feeder, register, edit)?;
+        let known = Numbered {
+            number: receipt.number,
+            entry: Entry {
+                feeder: self.feeder,
+                register,
+                edit: *edit,
+                reply: receipt.reply,
+            },
+        };
+        self.own[at as usize].add(&known);
         self.seen.see(at, known);
-        Ok(Receipt {
-            shard: at,
-            number: known.number,
-            reply: known.entry.reply,
-        })
+        Ok(receipt)
     }
 
-    /// Sees a journal to its last entry.
-    pub(crate) fn see(&mut self, shard: u32, last: Option<Numbered<'t>>)
-        requires { shard < length self.old.seen.farthest }
-        ensures { self.new ≡ with_seen self.old shard last.entry }
+    /// Sees a journal that is in keeping with the pass, to its last entry.
+    pub(crate) fn see(&mut self, shard: u32, journal: &[Entry<'t>])
+        requires there { shard < length self.old.seen.farthest }
+        requires keeping { IsInKeeping shard self.old journal.now }
+        ensures { self.new ≡ with_seen self.old shard (last_entry journal.now) }
     {
-        if let Some(known) = last {
-            self.seen.see(shard, known);
+        if let Some(entry) = journal.last() {
+            let last = Numbered {
+                number: (journal.len() - 1) as u64,
+                entry: *entry,
+            };
+            self.seen.see(shard, last);
         }
     }
-}
-
-fn nothing<'a, 't>(_pass: &'a Pass<'t>) -> &'a [Numbered<'t>]
-    ensures { result.now ≡ [] }
-{
-    &[]
 }

@@ -9,9 +9,9 @@ ghost use Rattle.register_book.specs.Kept.{claimed_of};
 ghost use Rattle.shards.specs.Plan.{plan_of, claims_of};
 ghost use Rattle.shards.specs.Journal.{IsAnswered, count_by};
 ghost use Rattle.shards.specs.Shard.{AreBooks, IsKept, held_of};
-ghost use Rattle.shards.specs.Steps.{IsStanding, entry_of, last_entry, numbered_entry};
+ghost use Rattle.shards.specs.Steps.{IsStanding, entry_of};
 
-use crate::{Answer, Entry, Numbered, Opening, ShardFault};
+use crate::{Answer, Entry, Opening, Receipt, ShardFault};
 use intervals::{Edit, RegId};
 use register_book::{Fault, RegisterBook, Witness};
 use std::alloc::Global;
@@ -56,32 +56,35 @@ impl<'t> Shard<'t> {
         &mut self,
         feeder: u32,
         register: RegId,
-        edit: Edit<'t>,
-    ) -> Result<Numbered<'t>, ShardFault>
+        edit: &Edit<'t>,
+    ) -> Result<Receipt, ShardFault>
         requires kept { IsKept O.plan self.old }
         requires here { register.0 % O.plan.shards ≡ self.old.at }
         requires known { register.0 < length O.plan.claims }
         requires feeder { feeder < O.plan.feeders }
         ensures kept { IsKept O.plan self.new }
-        ensures journal { IfOk result (λ known. held_of self.new ≡ record { at = self.old.at; journal = self.old.journal.items ++ known.entry ∷ [] }) }
-        ensures answered { IfOk result (λ known. IsAnswered O.plan self.old.at self.old.journal.items known.entry) }
-        ensures entry { IfOk result (λ known. known ≡ numbered_entry (length self.old.journal.items) (entry_of feeder register edit.entry known.entry.reply)) }
+        ensures journal { IfOk result (λ receipt. held_of self.new ≡ record { at = self.old.at; journal = self.old.journal.items ++ entry_of feeder register edit.now receipt.reply ∷ [] }) }
+        ensures answered { IfOk result (λ receipt. IsAnswered O.plan self.old.at self.old.journal.items (entry_of feeder register edit.now receipt.reply)) }
+        ensures receipt { IfOk result (λ receipt. (receipt.shard ≡ self.old.at) × (receipt.number ≡ length self.old.journal.items)) }
         ensures memory { IfErr result (λ fault. fault ≡ Memory) }
         ensures err { OnErr result (held_of self.new ≡ held_of self.old) }
     {
         let number = self.journal.len() as u64;
         self.journal.reserve(1)?;
         let slot = (register.0 / self.shards) as usize;
-        let reply = self.books[slot].apply(edit)?;
-        let entry = Entry {
+        let reply = self.books[slot].apply(*edit)?;
+        self.journal.push_reserved(Entry {
             feeder,
             register,
-            edit,
+            edit: *edit,
             reply,
-        };
-        self.journal.push_reserved(entry);
+        });
         self.counts[feeder as usize] += 1;
-        Ok(Numbered { number, entry })
+        Ok(Receipt {
+            shard: self.at,
+            number,
+            reply,
+        })
     }
 
     /// What stands of a register.
@@ -110,19 +113,6 @@ impl<'t> Shard<'t> {
         ensures { result ≡ count_by feeder self.now.journal.items }
     {
         self.counts[feeder as usize] as u64
-    }
-
-    /// The last entry.
-    pub fn last(&self) -> Option<Numbered<'t>>
-        ensures { result ≡ last_entry self.now.journal.items }
-    {
-        match self.journal.last() {
-            Some(entry) => Some(Numbered {
-                number: (self.journal.len() - 1) as u64,
-                entry: *entry,
-            }),
-            None => None,
-        }
     }
 }
 

@@ -88,7 +88,7 @@ impl<'t, O: Opening> ShardState<'t, O> {
         ensures err { OnErr result ((self.new ≡ self.old) × (pass.new ≡ pass.old)) }
     {
         self.check(pass)?;
-        pass.submit_to::<O>(&mut self.shard, register, edit)
+        pass.submit_to::<O>(&mut self.shard, register, &edit)
     }
 
     /// What stands of a register, where the journal is in keeping with the pass. The pass has then seen the
@@ -105,7 +105,7 @@ impl<'t, O: Opening> ShardState<'t, O> {
         ensures err { OnErr result (pass.new ≡ pass.old) }
     {
         self.check(pass)?;
-        pass.see(self.shard.at, self.shard.last());
+        pass.see(self.shard.at, self.shard.journal.as_slice());
         Ok(self.shard.answer::<O>(register))
     }
 

@@ -1,76 +1,82 @@
 //! What a feeder submitted in one shard.
 
-ghost use Rattle.std.specs.Prelude.{◌≡◌, ◌<◌, ◌%◌, ◌++◌, ◌∷◌, [], IfOk, IfErr, IfSome, OnErr, length};
+ghost use Rattle.std.specs.Prelude.{◌≡◌, ◌<◌, ◌++◌, ◌∷◌, [], ℕ, IfErr, OnOk, length, vec_capacity, vec_len, option_map};
+ghost use Rattle.std.specs.List.{slice_get};
 ghost use Rattle.shards.specs.declared.fault.ShardFault.TheVariants.{Memory};
-ghost use Rattle.shards.specs.Journal.{IsAnswered};
-ghost use Rattle.shards.specs.Pass.{HasEntry, last_in};
-ghost use Rattle.shards.specs.Shard.{IsKept, Rises, held_of};
-ghost use Rattle.shards.specs.Steps.{entry_of, numbered_entry};
+ghost use Rattle.shards.specs.Rows.{AreWithin, entries_by};
 
-use crate::shard::Shard;
-use crate::{Numbered, Opening, ShardFault};
-use intervals::{Edit, RegId};
+use crate::row::Row;
+use crate::{Numbered, ShardFault};
 use std::alloc::Global;
-use std::marker::Model;
 
-/// The entries that a feeder submitted in one shard, with the numbers that it was told, in order.
+/// The entries that a feeder submitted in one shard, in order. Those that no row has by its parts are kept whole.
 #[derive(Drop)]
 pub struct Submitted<'t> {
-    entries: Vec<Numbered<'t>>,
-}
-
-impl<'t> Model for Submitted<'t> {
-    ghost use Rattle.std.specs.Prelude.{List};
-    ghost use Rattle.shards.specs.declared.entry.Numbered.{Numbered};
-    ghost use Rattle.shards.specs.Shard.{Rises};
-
-    ghost Value = { List Numbered };
-
-    ghost view = { λ s. s.entries.items };
-
-    ghost invariant = { λ s. Rises s.entries.items };
+    rows: Vec<Row<'t>>,
+    whole: Vec<Numbered<'t>>,
+    ghost within: { AreWithin (length whole.items) rows.items },
 }
 
 impl<'t> Submitted<'t> {
     pub fn new(alloc: Global) -> Self
-        ensures { result ≡ [] }
+        ensures { result.rows.items ≡ [] }
     {
         Submitted {
-            entries: Vec::new(alloc),
+            rows: Vec::new(alloc),
+            whole: Vec::new(alloc),
         }
     }
 
-    pub fn entries(&self) -> &[Numbered<'t>]
-        ensures entries { result.now ≡ self.now }
-        ensures rises { Rises result.now }
+    pub fn len(&self) -> usize
+        ensures { result ≡ length self.now.rows.items }
     {
-        self.entries.as_slice()
+        self.rows.len()
     }
 
-    /// Enters an edit in the journal of a shard, and keeps the entry. All growths come first.
-    pub fn enter<O: Opening>(
-        &mut self,
-        shard: &mut Shard<'t>,
-        feeder: u32,
-        register: RegId,
-        edit: Edit<'t>,
-    ) -> Result<Numbered<'t>, ShardFault>
-        requires kept { IsKept O.plan shard.old }
-        requires here { register.0 % O.plan.shards ≡ shard.old.at }
-        requires known { register.0 < length O.plan.claims }
-        requires feeder { feeder < O.plan.feeders }
-        requires last { IfSome (last_in self.old) (HasEntry shard.old.journal.items) }
-        ensures kept { IsKept O.plan shard.new }
-        ensures journal { IfOk result (λ known. held_of shard.new ≡ record { at = shard.old.at; journal = shard.old.journal.items ++ known.entry ∷ [] }) }
-        ensures answered { IfOk result (λ known. IsAnswered O.plan shard.old.at shard.old.journal.items known.entry) }
-        ensures entry { IfOk result (λ known. known ≡ numbered_entry (length shard.old.journal.items) (entry_of feeder register edit.entry known.entry.reply)) }
-        ensures own { IfOk result (λ known. self.new ≡ self.old ++ known ∷ []) }
+    /// Makes room for one entry more.
+    pub fn reserve(&mut self) -> Result<(), ShardFault>
+        ensures room { OnOk result ((vec_len self.new.rows < vec_capacity self.new.rows) × (vec_len self.new.whole < vec_capacity self.new.whole)) }
+        ensures rows { self.new.rows.items ≡ self.old.rows.items }
+        ensures whole { self.new.whole.items ≡ self.old.whole.items }
         ensures memory { IfErr result (λ fault. fault ≡ Memory) }
-        ensures err { OnErr result ((held_of shard.new ≡ held_of shard.old) × (self.new ≡ self.old)) }
     {
-        self.entries.reserve(1)?;
-        let known = shard.enter::<O>(feeder, register, edit)?;
-        self.entries.push_reserved(known);
-        Ok(known)
+        self.rows.reserve(1)?;
+        self.whole.reserve(1)?;
+        Ok(())
+    }
+
+    /// Adds an entry, into room that is there.
+    pub fn add(&mut self, known: &Numbered<'t>)
+        requires room { (vec_len self.old.rows < vec_capacity self.old.rows) × (vec_len self.old.whole < vec_capacity self.old.whole) }
+        ensures { entries_by known.now.entry.feeder self.new.whole.items self.new.rows.items ≡ entries_by known.now.entry.feeder self.old.whole.items self.old.rows.items ++ known.now ∷ [] }
+    {
+        match Row::by_parts(known) {
+            Some(row) => self.rows.push_reserved(row),
+            None => {
+                let place = self.whole.len();
+                self.whole.push_reserved(*known);
+                self.rows.push_reserved(Row::Whole(place));
+            }
+        }
+    }
+
+    /// The number of the entry at a place.
+    pub fn number(&self, place: usize) -> Option<u64>
+        ensures { (feeder : ℕ) → result ≡ option_map (λ own. own.number) (slice_get (entries_by feeder self.now.whole.items self.now.rows.items) place) }
+    {
+        match self.rows.get(place) {
+            Some(row) => Some(row.number(self.whole.as_slice())),
+            None => None,
+        }
+    }
+
+    /// The entry at a place, of this feeder.
+    pub fn entry(&self, feeder: u32, place: usize) -> Option<Numbered<'t>>
+        ensures { result ≡ slice_get (entries_by feeder self.now.whole.items self.now.rows.items) place }
+    {
+        match self.rows.get(place) {
+            Some(row) => Some(row.entry(feeder, self.whole.as_slice())),
+            None => None,
+        }
     }
 }

@@ -1,4 +1,4 @@
-use Rattle.std.proofs.Common.{refl}
+use Rattle.std.proofs.Common.{refl, arith}
 use Rattle.shards.proofs.Merged.{settled}
 use Rattle.shards.proofs.closing.closing_fault.Goals as goal
 
@@ -9,3 +9,9 @@ returns-in_err-shard-clause-none g c = λ none.
 pub returns-clause-fault : goal.returns-clause-fault
 returns-clause-fault g c =
     (c.if-not-are_its_passes.ensures.0 refl, c.in_default.ensures.none refl, c.in_default-first_unfit.ensures.none refl, (c.in_ok-shard.known, c.in_ok-shard.ensures.stranger, refl, refl))
+
+pub first_stranger-requires-clause-few : goal.first_stranger-requires-clause-few
+first_stranger-requires-clause-few g c = λ k d within.
+    let below = ((c.if-not-are_its_passes.ensures.0 refl).each k d within).2 in
+    let few = c.requires.few in
+    omega (arith, below, few)

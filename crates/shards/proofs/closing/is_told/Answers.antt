@@ -1,30 +1,27 @@
-use Rattle.std.proofs.Common.{◌≡◌, List, Some, None, sym, ap, ◌∙◌, subst}
-use Rattle.std.proofs.lemmas.Option.{same_Some}
-use Rattle.std.specs.Prelude.{Contains}
-use Rattle.shards.specs.declared.entry.Numbered.{Numbered}
-use Rattle.shards.specs.Plain.{plain_entry}
+use Rattle.std.proofs.Common.{eqb-true, sym}
+use Rattle.std.proofs.lemmas.Bool.{false≢true}
+use Rattle.std.proofs.lemmas.Option.{get_or_from_slice_get, slice_get_within}
 use Rattle.shards.specs.Pass.{told}
-use Rattle.shards.proofs.Strangers.{among_from, reads_same}
+use Rattle.shards.specs.Steps.{numbered_entry}
+use Rattle.shards.proofs.Starts.{among_there, none_past, past_of}
 use Rattle.shards.proofs.closing.is_told.Goals as goal
 
-pub returns-in-Some : goal.returns-in-Some
-returns-in-Some c =
+pub returns-then-own-number : goal.returns-then-own-number
+returns-then-own-number c =
     let own = told c.args.pass.now c.args.shard in
-    let known = c.args.known.now in
-    let same : c.told.result.now ≡ own = c.told.ensures.told in
-    let found = c.in-Some.ensures.found in (
-      λ t. among_from own known c.in-Some.own.now found.0 (subst (λ (xs : List Numbered). Contains xs c.in-Some.own.now) same found.1) (c.is_same.ensures.0 t),
-      λ h.
-          let (x, is, reads) = reads_same own known (Some c.in-Some.own.now) (λ x g n. c.in-Some.ensures.only x (subst (λ (xs : List Numbered). Contains xs x) (sym same) g) n) h in
-          c.is_same.ensures.1 (let e = same_Some c.in-Some.own.now x is in ap (λ (y : Numbered). plain_entry y.entry) e ∙ reads),
-    )
+    let at = sym c.in-Some.ensures.entry in
+    let there = among_there own c.args.start c.in-Some.own (numbered_entry c.args.number c.args.entry.now) c.in-Some.ensures.rises c.requires (slice_get_within own c.args.start c.in-Some.own at) (sym (get_or_from_slice_get own c.args.start c.in-Some.own c.in-Some.own at)) in
+    (λ same. there.0 (c.if-own-number.true, c.is_same.ensures.0 same), λ among. c.is_same.ensures.1 (there.1 among).1)
+
+pub returns-else-own-number : goal.returns-else-own-number
+returns-else-own-number c =
+    let own = told c.args.pass.now c.args.shard in
+    let at = sym c.in-Some.ensures.entry in
+    let there = among_there own c.args.start c.in-Some.own (numbered_entry c.args.number c.args.entry.now) c.in-Some.ensures.rises c.requires (slice_get_within own c.args.start c.in-Some.own at) (sym (get_or_from_slice_get own c.args.start c.in-Some.own c.in-Some.own at)) in
+    (λ same. absurd (c.if-own-number.false (eqb-true _ _ same)), λ among. absurd (c.if-own-number.false (there.1 among).0))
 
 pub returns-in-None : goal.returns-in-None
-returns-in-None c =
-    let own = told c.args.pass.now c.args.shard in
-    let same : c.told.result.now ≡ own = c.told.ensures.told in (
-      λ t. absurd (cc),
-      λ h.
-          let (x, is, reads) = reads_same own c.args.known.now None (λ x g n. c.in-None.ensures.only x (subst (λ (xs : List Numbered). Contains xs x) (sym same) g) n) h in
-          absurd (cc),
-    )
+returns-in-None c = (
+  λ never. absurd (false≢true never),
+  λ among. absurd (none_past (told c.args.pass.now c.args.shard) c.args.start (numbered_entry c.args.number c.args.entry.now) c.in-None.ensures.rises c.requires (past_of (told c.args.pass.now c.args.shard) c.args.start c.in-None.ensures.entry) among),
+)

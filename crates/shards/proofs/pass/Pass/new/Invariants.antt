@@ -1,7 +1,8 @@
 -- nothing was submitted in the shards so far, and there is room for the others
-use Rattle.std.proofs.Common.{◌≡◌, ◌≤◌, [], vec_capacity}
-use Rattle.std.specs.Prelude.{replicate}
+use Rattle.std.proofs.Common.{◌≡◌, ◌≤◌, [], map, replicate, vec_capacity}
+use Rattle.shards.specs.declared.submitted.Submitted.{Submitted}
+use Rattle.shards.specs.Rows.{entries_by}
 use Rattle.shards.proofs.pass.Pass.new.Given as goal
 
 abbrev pub invariant-loop : goal.invariant-loop
-invariant-loop l = (l.own.items ≡ replicate l.counter []) × (l.shards ≤ vec_capacity l.own)
+invariant-loop l = (map (λ (own : Submitted). entries_by l.feeder own.whole.items own.rows.items) l.own.items ≡ replicate l.counter []) × (l.shards ≤ vec_capacity l.own)

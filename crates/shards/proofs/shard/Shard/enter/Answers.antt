@@ -19,11 +19,11 @@ overflow_add-index_mut g c =
 
 pub returns-clause-kept : goal.returns-clause-kept
 returns-clause-kept g c =
-    kept_push g.O.Opening.plan c.args.self.now _ (entry_of c.args.feeder c.args.register c.args.edit c.in_ok-reply.reply) c.index_mut.result.now c.apply.new.self c.index_mut-2.result.now
+    kept_push g.O.Opening.plan c.args.self.now _ (entry_of c.args.feeder c.args.register c.args.edit.now c.in_ok-reply.reply) c.index_mut.result.now c.apply.new.self c.index_mut-2.result.now
     c.requires.kept c.requires.here c.requires.known c.requires.feeder c.index_mut.ensures.value c.in_ok-reply.ensures.reply c.index_mut-2.ensures.value
-    refl refl (c.push_reserved.ensures.items ∙ ap (λ (journal : List Entry). journal ++ entry_of c.args.feeder c.args.register c.args.edit c.in_ok-reply.reply ∷ []) c.reserve.ensures.items)
+    refl refl (c.push_reserved.ensures.items ∙ ap (λ (journal : List Entry). journal ++ entry_of c.args.feeder c.args.register c.args.edit.now c.in_ok-reply.reply ∷ []) c.reserve.ensures.items)
     c.in_ok-reply.ensures.after refl refl
 
 pub returns-clause-answered : goal.returns-clause-answered
 returns-clause-answered g c =
-    answered_by g.O.Opening.plan c.args.self.now (entry_of c.args.feeder c.args.register c.args.edit c.in_ok-reply.reply) c.index_mut.result.now c.requires.kept c.requires.here c.requires.known c.index_mut.ensures.value c.in_ok-reply.ensures.reply
+    answered_by g.O.Opening.plan c.args.self.now (entry_of c.args.feeder c.args.register c.args.edit.now c.in_ok-reply.reply) c.index_mut.result.now c.requires.kept c.requires.here c.requires.known c.index_mut.ensures.value c.in_ok-reply.ensures.reply
