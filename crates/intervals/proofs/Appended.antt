@@ -1,28 +1,26 @@
 -- An operation that stands apart behind those in front of it is accepted as an append to them.
-use Rattle.std.proofs.Common.{◌≡◌, ◌≢◌, ◌<◌, ◌⊎◌, inl, inr, Bool, true, false, not, ◌&&◌, List, [], ◌∷◌, ◌++◌, Option, Some, None, refl, sym, ap, subst, cond, arith}
-use Rattle.std.specs.Prelude.{All, Contains, IsTrue, IfSome, option_map}
+use Rattle.std.proofs.Common.{◌≡◌, ◌≢◌, ◌<◌, ◌⊎◌, inl, inr, Bool, true, false, not, ◌&&◌, List, [], ◌∷◌, ◌++◌, Option, Some, None, refl, sym, ap, arith}
+use Rattle.std.specs.Prelude.{Contains, IsTrue, IfSome, option_map}
 use Rattle.std.specs.List.{AllPairs}
 use Rattle.std.proofs.lemmas.Bool.{and_parts}
 use Rattle.std.proofs.lemmas.Bool.Decides.{nat_tests}
 use Rattle.std.proofs.lemmas.List.Elements.{All-contains, Contains-append_left, Contains-append_right}
 use Rattle.intervals.specs.declared.operation.Op.{Op}
-use Rattle.intervals.specs.declared.operation.OpId.{OpId}
 use Rattle.intervals.specs.declared.operation.Moment.{Moment}
 use Rattle.intervals.specs.declared.claim.Kind.{Kind}
 use Rattle.intervals.specs.declared.claim.Kind.TheVariants.{Safe, Regular, Atomic}
 use Rattle.intervals.specs.declared.edit.Edit.TheVariants.{Append}
-use Rattle.intervals.specs.declared.refusal.Refusal.{Refusal}
 use Rattle.intervals.specs.Operation.{IsWrite, Overlaps, is_write, overlaps, same_id, value_of}
 use Rattle.intervals.specs.Edit.{op_of}
 use Rattle.intervals.specs.Refusal.{ends_by, has_large_moment, is_overlapped, kind_refusal, moment_taken, moments_refusal, overlap_refusal, reply_to, value_refusal, write_refusal}
-use Rattle.intervals.specs.Standing.{HasDistinctIds, HasNoOverlappingWrites, IsHolder, IsInitial, IsMomentHolder, IsMomentOf, IsPermitted, ShareNoMoment, StandApart}
+use Rattle.intervals.specs.Standing.{HasDistinctIds, IsHolder, IsInitial, IsMomentHolder, IsMomentOf, IsPermitted, ShareNoMoment, StandApart}
 use Rattle.intervals.specs.Terms.{Terms}
-use Rattle.intervals.proofs.Agreement.{Decides-overlaps, false_unless}
+use Rattle.intervals.proofs.Agreement.{Decides-overlaps}
 use Rattle.intervals.proofs.Claimed.{HaveOtherValues}
 use Rattle.intervals.proofs.Holders.{nobody_back}
 use Rattle.intervals.proofs.Ids.{Decides-same_id_is, none_of, not_found, other_way}
 use Rattle.intervals.proofs.LeastOf.{least_from-none}
-use Rattle.intervals.proofs.Members.{all_from, here, one_or_so, share_none}
+use Rattle.intervals.proofs.Members.{all_from, here, one_or_so}
 use Rattle.intervals.proofs.MomentHolders.{none_exactly}
 
 -- no operation in front has the id of a later one

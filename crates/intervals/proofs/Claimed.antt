@@ -13,7 +13,6 @@ use Rattle.intervals.specs.declared.claim.Holder.{Holder}
 use Rattle.intervals.specs.declared.claim.Kind.{Kind}
 use Rattle.intervals.specs.declared.claim.Kind.TheVariants.{Safe, Regular, Atomic}
 use Rattle.intervals.specs.Operation.{IsWrite, Overlaps, is_write, overlaps, same_id, value_of}
-use Rattle.intervals.specs.Edit.{op_of}
 use Rattle.intervals.specs.declared.refusal.Refusal.TheVariants.{ValueTaken}
 use Rattle.intervals.specs.Least.{IsLeast, least_by}
 use Rattle.intervals.specs.Refusal.{begin_number, first_overlap, first_repeat, first_there, holder_of, id_with, ids_with, is_overlapped, overlap_claimed, overlap_of, overlaps_another, repeat_claimed, repeat_of, to_kind_refusal}

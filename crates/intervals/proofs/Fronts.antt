@@ -1,5 +1,5 @@
 -- The operations before a place of a list of slots, and those from there on.
-use Rattle.std.proofs.Common.{◌≡◌, ◌≤◌, ℕ, zero, suc, List, [], ◌∷◌, ◌++◌, length, Option, Some, None, refl, ap, arith}
+use Rattle.std.proofs.Common.{◌≡◌, ◌≤◌, ◌+◌, ℕ, zero, suc, List, [], ◌∷◌, ◌++◌, length, Option, Some, None, refl, sym, ap, subst, arith}
 use Rattle.std.specs.Prelude.{take, drop}
 use Rattle.intervals.specs.declared.operation.Op.{Op}
 use Rattle.intervals.specs.Table.{standing, slot_at}
@@ -41,6 +41,16 @@ rest_past [] zero le = refl
 rest_past [] (suc k) le = refl
 rest_past (slot ∷ slots) zero le = absurd (omega arith)
 rest_past (slot ∷ slots) (suc k) le = rest_past slots k (omega arith)
+
+more : (k : ℕ) → suc k ≡ k + 1
+more k = omega arith
+
+-- what is so of the operations before a place, with the one there, is so of those before the next place
+pub front_on : (P : List Op → Type 0) (slots : List (Option Op)) (k : ℕ) (op : Op) → slot_at slots k ≡ Some op → P (front_of slots k ++ op ∷ []) → P (front_of slots (k + 1))
+front_on P slots k op at so = subst (λ (n : ℕ). P (front_of slots n)) (more k) (subst P (sym (front_some slots k op at)) so)
+
+pub front_over : (P : List Op → Type 0) (slots : List (Option Op)) (k : ℕ) → slot_at slots k ≡ None → P (front_of slots k) → P (front_of slots (k + 1))
+front_over P slots k at so = subst (λ (n : ℕ). P (front_of slots n)) (more k) (subst P (sym (front_none slots k at)) so)
 
 -- the operations before a place and those from there on are all that stand
 pub all_of : (slots : List (Option Op)) (k : ℕ) → standing slots ≡ front_of slots k ++ rest_of slots k

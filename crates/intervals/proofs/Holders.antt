@@ -1,5 +1,5 @@
 -- Who has the value of a write already.
-use Rattle.std.proofs.Common.{Decides, ◌≡◌, ◌≢◌, ◌↔◌, Bool, true, false, not, ◌&&◌, List, Option, Some, None, refl, sym, ap, cond}
+use Rattle.std.proofs.Common.{Decides, ◌≡◌, ◌↔◌, Bool, true, false, not, ◌&&◌, List, Option, Some, None, refl, sym, ap, cond}
 use Rattle.std.specs.Prelude.{All, Contains, find, option_map, slice_index_or}
 use Rattle.std.proofs.lemmas.Bool.Decides.{Decides-and, Decides-not, Decides-like, not_from_Decides}
 use Rattle.intervals.specs.declared.operation.Op.{Op}

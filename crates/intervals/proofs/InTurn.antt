@@ -1,116 +1,147 @@
--- The moments in turn: the place that comes first behind a moment, in the map that has the latest first.
-use Rattle.std.proofs.Common.{◌≡◌, ◌<◌, ◌≤◌, ◌+◌, ◌-◌, ◌^◌, ◌⊎◌, inl, inr, ℕ, true, sym, ap, ◌∙◌, arith, List, [], ◌∷◌, ◌++◌, Option, Some, None, refl, subst}
-use Rattle.std.specs.Prelude.{Contains}
-use Rattle.std.proofs.lemmas.Bool.{cases_order}
-use Rattle.std.specs.BTreeMap.Range.{IsRangeOf, IsUpToEnd}
-use Rattle.std.specs.declared.cmp.Reverse.{Reverse}
-use Rattle.std.specs.declared.ops.Bound.{Bound}
-use Rattle.std.specs.declared.ops.Bound.TheVariants.{Unbounded}
+-- Writes in turn of their beginnings: on a shelf, and looked for among all that stand.
+use Rattle.std.proofs.Common.{◌≡◌, ◌==◌, ◌<◌, ◌≤◌, ◌⊎◌, inl, inr, Bool, true, false, not, ◌&&◌, List, [], ◌∷◌, ◌++◌, Option, Some, None, refl, sym, ap, subst, ◌∙◌, cond, arith}
+use Rattle.std.specs.Prelude.{Contains, IfSome, IsSomeAnd, find, is_some, option_map}
+use Rattle.std.proofs.lemmas.Bool.{and_parts, cases_order}
+use Rattle.std.proofs.lemmas.Bool.Decides.{Decides-eqb}
+use Rattle.std.proofs.lemmas.List.Elements.{All-contains, All-push, Contains-append_left, Contains-push}
 use Rattle.intervals.specs.declared.operation.Op.{Op}
 use Rattle.intervals.specs.declared.operation.OpId.{OpId}
 use Rattle.intervals.specs.declared.operation.Moment.{Moment}
-use Rattle.intervals.specs.declared.moments.Moments.{Moments}
-use Rattle.intervals.specs.Moments.{kept_at, later_first, IsBehind, end_before}
+use Rattle.intervals.specs.declared.shelf.Shelf.{Shelf}
+use Rattle.intervals.specs.declared.shelf.Spot.{Spot}
 use Rattle.intervals.specs.Edit.{op_of}
-use Rattle.intervals.specs.InTurn.{IsNextHolder}
-use Rattle.intervals.specs.Refusal.{is_moment_of}
-use Rattle.intervals.specs.Table.{standing, slot_at, IsIndexed}
-use Rattle.intervals.proofs.Indexed.{found_in_slot}
-use Rattle.intervals.proofs.Members.{all_from}
-use Rattle.intervals.proofs.Slots.{slot_stands, stands_in_slot}
-use Rattle.intervals.proofs.Spots.{nat_before, nat_less, none_unless}
+use Rattle.intervals.specs.InTurn.{AreInTurn, IsNextWrite, begins_then, spot_then}
+use Rattle.intervals.specs.Moments.{IsBehind}
+use Rattle.intervals.specs.Operation.{IsWrite, is_write}
+use Rattle.intervals.specs.Shelf.{id_at, joined, place_at, same_spot}
+use Rattle.intervals.specs.Standing.{HasDistinctIds}
+use Rattle.intervals.proofs.Found.{find-None, find-Some, not_mapped}
+use Rattle.intervals.proofs.Ids.{found_by_id}
+use Rattle.intervals.proofs.Members.{all_from, same_moment}
+use Rattle.intervals.proofs.Repeats.{find_at, find_past}
 
-up_to : (after : Option Moment) (m : Moment) → IsBehind after m → IsUpToEnd later_first (end_before after) (record { 0 = m })
-up_to None m h = tt
-up_to (Some a) m h = nat_before a.0 m.0 h
+pub none_there : (o : Option OpId) (r : Bool) → is_some o ≡ not r → r ≡ true → o ≡ None
+none_there None r e f = refl
+none_there (Some id) r e f = absurd (cc)
 
-behind : (after : Option Moment) (m : Moment) → IsUpToEnd later_first (end_before after) (record { 0 = m }) → IsBehind after m
-behind None m h = tt
-behind (Some a) m h = nat_less a.0 m.0 h
+pub some_there : (o : Option OpId) (r : Bool) → is_some o ≡ not r → r ≡ false → (id : OpId) × (o ≡ Some id)
+some_there None r e f = absurd (cc)
+some_there (Some id) r e f = (id, refl)
 
--- how much is left behind the moment
-abbrev pub left_behind : Option Moment → ℕ
-left_behind None = 2 ^ 64 + 1
-left_behind (Some moment) = 2 ^ 64 - moment.0
+begins_itself : (w : Op) → IsWrite w → begins_then w.begin w ≡ true
+begins_itself w write = rw (write, (Decides-eqb w.begin.0 w.begin.0).1 refl) refl
 
--- what is behind the second moment is behind the first
-abbrev pub IsFrom : Option Moment → Option Moment → Type 0
-IsFrom after reached = (m : Moment) → IsBehind reached m → IsBehind after m
+find_still : (p : Op → Bool) (ops : List Op) (op w : Op) → find p ops ≡ Some w → find p (ops ++ op ∷ []) ≡ Some w
+find_still p [] op w e = absurd (cc)
+find_still p (a ∷ ops) op w e = by_cases (p a) e (find_still p ops op w)
+  where
+    by_cases : (t : Bool) → cond t (Some a) (find p ops) ≡ Some w → (find p ops ≡ Some w → find p (ops ++ op ∷ []) ≡ Some w) → cond t (Some a) (find p (ops ++ op ∷ [])) ≡ Some w
+    by_cases true e rest = e
+    by_cases false e rest = rest e
 
-module _ (moments : Moments) (after : Option Moment) where
-  -- these are the places in front of the end, the latest first
-  abbrev pub AreBehind : List (Reverse Moment × Option OpId) → Type 0
-  AreBehind places = IsRangeOf later_first Unbounded (end_before after) moments.holders places
+-- the shelf with one operation more in the list
+module _ (before : List Op) (op : Op) where
+  -- a read changes nothing
+  pub turn_with_read : (shelf : Shelf) → AreInTurn shelf before → is_write op ≡ false → AreInTurn shelf (before ++ op ∷ [])
+  turn_with_read shelf are read m = are m ∙ ap (option_map (λ (w : Op). w.id)) (sym (find_past (begins_then m) before op (rw read refl)))
 
-  -- a range by its equals
-  pub as_range : (end : Bound (Reverse Moment)) (found places : List (Reverse Moment × Option OpId)) → end ≡ end_before after → found ≡ places → IsRangeOf later_first Unbounded end moments.holders found → AreBehind places
-  as_range end found places e f range = subst AreBehind f (subst (λ (b : Bound (Reverse Moment)). IsRangeOf later_first Unbounded b moments.holders found) e range)
-
-  pub none_behind : AreBehind [] → (m : Moment) → IsBehind after m → kept_at moments m ≡ None
-  none_behind are m h = are.5 refl (record { 0 = m }) (tt, up_to after m h)
-
-  -- the last of them is the first behind the moment
-  pub first_behind : (place : Reverse Moment) (id : Option OpId) (later : List (Reverse Moment × Option OpId)) → AreBehind (later ++ (place, id) ∷ [])
-      → IsBehind after place.0 × (kept_at moments place.0 ≡ Some id) × ((m : Moment) → IsBehind after m → m.0 < place.0.0 → kept_at moments m ≡ None)
-  first_behind place id later are =
-      let entry = are.3 (place, id) later refl in (
-        behind after place.0 entry.0.1,
-        entry.1,
-        λ m h lt. none_unless (kept_at moments m) (λ is.
-            let not_before = are.4 (place, id) later refl (record { 0 = m }) (tt, up_to after m h) is in
-            let before = nat_before m.0 place.0.0 lt in
-            cc),
-      )
-
--- the operations in slots that an index finds, in turn of their moments
-module _ (slots : List (Option Op)) (place : OpId → Option ℕ) (holder : Moment → Option OpId) (indexed : IsIndexed (slot_at slots) place holder) where
-  -- who has a moment, of the operations that stand
-  owner : (m : Moment) (id : OpId) → holder m ≡ Some id → (op : Op) → op_of (standing slots) id ≡ Some op → Contains (standing slots) op × (is_moment_of op m ≡ true)
-  owner m id h op found =
-      let (i, a, e, t, same) = indexed.holds m id h in
-      let own = found_in_slot slots place holder indexed id i a (ap place (sym same) ∙ indexed.placed i a e) e in
-      let is : a ≡ op = cc in
-      (subst (λ (o : Op). Contains (standing slots) o) is (slot_stands slots i a e), subst (λ (o : Op). is_moment_of o m ≡ true) is t)
-
-  pub no_next : (after : Option Moment) → ((m : Moment) → IsBehind after m → holder m ≡ None) → IsNextHolder (standing slots) after None
-  no_next after none =
-      all_from (λ op. (m : Moment) → is_moment_of op m ≡ true → ¬ IsBehind after m) (standing slots) (λ op stands m t behind.
-      let (i, e) = stands_in_slot slots op stands in
-      let held = indexed.held i op m e t in
-      let empty = none m behind in
-      cc)
-
-  pub next_there : (after : Option Moment) (m : Moment) (id : OpId) (op : Op) → IsBehind after m → holder m ≡ Some id → ((n : Moment) → IsBehind after n → n.0 < m.0 → holder n ≡ None) → op_of (standing slots) id ≡ Some op
-      → IsNextHolder (standing slots) after (Some (m, op))
-  next_there after m id op behind h none found =
-      let own = owner m id h op found in (
-        own.0,
-        own.1,
-        behind,
-        all_from (λ other. (n : Moment) → is_moment_of other n ≡ true → IsBehind after n → m.0 ≤ n.0) (standing slots) (λ other stands n t b. by_order other stands n t b (cases_order n.0 m.0)),
-        all_from (λ other. is_moment_of other m ≡ true → other ≡ op) (standing slots) only,
-      )
+  other_begin : (m : Moment) → (op.begin.0 == m.0) ≡ false → begins_then m op ≡ false
+  other_begin m f = by_cases (is_write op)
     where
-      by_order : (other : Op) → Contains (standing slots) other → (n : Moment) → is_moment_of other n ≡ true → IsBehind after n → (n.0 ≡ m.0) ⊎ ((n.0 < m.0) ⊎ (m.0 < n.0)) → m.0 ≤ n.0
-      by_order other stands n t b (inl e) = omega arith
-      by_order other stands n t b (inr (inl lt)) =
-          let (i, e) = stands_in_slot slots other stands in
-          let held = indexed.held i other n e t in
-          let empty = none n b lt in
-          absurd (cc)
-      by_order other stands n t b (inr (inr gt)) = omega arith
+      by_cases : (t : Bool) → (t && (op.begin.0 == m.0)) ≡ false
+      by_cases true = f
+      by_cases false = refl
 
-      only : (other : Op) → Contains (standing slots) other → is_moment_of other m ≡ true → other ≡ op
-      only other stands t =
-          let (i, e) = stands_in_slot slots other stands in
-          let held = indexed.held i other m e t in
-          let same : other.id ≡ id = cc in
-          let own = found_in_slot slots place holder indexed id i other (ap place (sym same) ∙ indexed.placed i other e) e in
-          cc
+  -- nor does a write where one stands at its beginning
+  pub turn_with_second : (shelf : Shelf) (id : OpId) → AreInTurn shelf before → id_at shelf (spot_then op.begin) ≡ Some id → AreInTurn shelf (before ++ op ∷ [])
+  turn_with_second shelf id are taken m = are m ∙ ap (option_map (λ (w : Op). w.id)) (by_moment (op.begin.0 == m.0) refl)
+    where
+      by_found : (found : Option Op) → find (begins_then op.begin) before ≡ found → find (begins_then op.begin) before ≡ find (begins_then op.begin) (before ++ op ∷ [])
+      by_found None e = let none = are op.begin ∙ ap (option_map (λ (w : Op). w.id)) e in absurd (cc)
+      by_found (Some w) e = e ∙ sym (find_still (begins_then op.begin) before op w e)
 
-  -- the id of a holder stands
-  pub never_lost : (m : Moment) (id : OpId) → holder m ≡ Some id → ¬ (op_of (standing slots) id ≡ None)
-  never_lost m id h lost =
-      let (i, a, e, t, same) = indexed.holds m id h in
-      let own = found_in_slot slots place holder indexed id i a (ap place (sym same) ∙ indexed.placed i a e) e in
+      by_moment : (t : Bool) → (op.begin.0 == m.0) ≡ t → find (begins_then m) before ≡ find (begins_then m) (before ++ op ∷ [])
+      by_moment true t =
+          let same : op.begin ≡ m = same_moment op.begin m ((Decides-eqb op.begin.0 m.0).0 t) in
+          subst (λ (n : Moment). find (begins_then n) before ≡ find (begins_then n) (before ++ op ∷ [])) same (by_found (find (begins_then op.begin) before) refl)
+      by_moment false f = sym (find_past (begins_then m) before op (other_begin m f))
+
+  -- a write that is put there
+  pub turn_with_write : (shelf held new : Shelf) → AreInTurn shelf before → is_write op ≡ true → id_at shelf (spot_then op.begin) ≡ None
+      → ((other : Spot) → id_at held other ≡ id_at shelf other)
+      → ((other : Spot) → place_at new other ≡ cond (same_spot (spot_then op.begin) other) (Some (Some op.id)) (place_at held other))
+      → AreInTurn new (before ++ op ∷ [])
+  turn_with_write shelf held new are write none same put m = ap joined (put (spot_then m)) ∙ by_moment (op.begin.0 == m.0) refl
+    where
+      by_moment : (t : Bool) → (op.begin.0 == m.0) ≡ t → joined (cond (true && t) (Some (Some op.id)) (place_at held (spot_then m))) ≡ option_map (λ (w : Op). w.id) (find (begins_then m) (before ++ op ∷ []))
+      by_moment true t =
+          let begins : op.begin ≡ m = same_moment op.begin m ((Decides-eqb op.begin.0 m.0).0 t) in
+          let empty : find (begins_then m) before ≡ None = not_mapped (λ (w : Op). w.id) (find (begins_then m) before) (sym (are m) ∙ subst (λ (n : Moment). id_at shelf (spot_then n) ≡ None) begins none) in
+          ap (option_map (λ (w : Op). w.id)) (sym (find_at (begins_then m) before op (rw (write, t) refl) empty))
+      by_moment false f = same (spot_then m) ∙ are m ∙ ap (option_map (λ (w : Op). w.id)) (sym (find_past (begins_then m) before op (other_begin m f)))
+
+-- the next write, by the shelf
+module _ (ops : List Op) (ids : HasDistinctIds ops) (shelf : Shelf) (are : AreInTurn shelf ops) (after : Option Moment) where
+  -- where no id stands, no write begins
+  none_begins : (w : Op) → Contains ops w → IsWrite w → ¬ (id_at shelf (spot_then w.begin) ≡ None)
+  none_begins w stands write e =
+      let none = find-None (begins_then w.begin) ops (not_mapped (λ (w : Op). w.id) (find (begins_then w.begin) ops) (sym (are w.begin) ∙ e)) in
+      let f = All-contains (λ op. begins_then w.begin op ≡ false) ops w none stands in
+      let t = begins_itself w write in
       cc
+
+  pub none_next : ((m : Moment) → IsBehind after m → id_at shelf (spot_then m) ≡ None) → IsNextWrite ops after None
+  none_next none = all_from (λ w. IsWrite w → ¬ IsBehind after w.begin) ops (λ w stands write behind. none_begins w stands write (none w.begin behind))
+
+  pub next_found : (m : Moment) (id : OpId) (found : Option Op) → IsBehind after m → id_at shelf (spot_then m) ≡ Some id → ((n : Moment) → IsBehind after n → n.0 < m.0 → id_at shelf (spot_then n) ≡ None) → found ≡ op_of ops id → IsNextWrite ops after found
+  next_found m id found behind there none is = by_found (find (begins_then m) ops) refl
+    where
+      by_order : (w v : Op) → w.begin.0 ≡ m.0 → Contains ops v → IsWrite v → IsBehind after v.begin → (v.begin.0 ≡ m.0) ⊎ ((v.begin.0 < m.0) ⊎ (m.0 < v.begin.0)) → w.begin.0 ≤ v.begin.0
+      by_order w v b stands write after_it (inl e) = omega arith
+      by_order w v b stands write after_it (inr (inl lt)) = absurd (none_begins v stands write (none v.begin after_it lt))
+      by_order w v b stands write after_it (inr (inr gt)) = omega arith
+
+      by_found : (o : Option Op) → find (begins_then m) ops ≡ o → IsNextWrite ops after found
+      by_found None e = let lost = sym there ∙ (are m ∙ ap (option_map (λ (w : Op). w.id)) e) in absurd (cc)
+      by_found (Some w) e =
+          let h = find-Some (begins_then m) ops w e in
+          let parts = and_parts (is_write w) (w.begin.0 == m.0) h.1 in
+          let begins : w.begin.0 ≡ m.0 = (Decides-eqb w.begin.0 m.0).0 parts.1 in
+          let named : w.id ≡ id = (let f = sym there ∙ (are m ∙ ap (option_map (λ (w : Op). w.id)) e) in cc) in
+          let it : found ≡ Some w = is ∙ (ap (op_of ops) (sym named) ∙ found_by_id ops w ids h.0) in
+          subst (IsNextWrite ops after) (sym it) (
+            h.0,
+            parts.0,
+            subst (IsBehind after) (sym (same_moment w.begin m begins)) behind,
+            all_from (λ v. IsWrite v → IsBehind after v.begin → w.begin.0 ≤ v.begin.0) ops (λ v stands write after_it. by_order w v begins stands write after_it (cases_order v.begin.0 m.0)),
+          )
+
+-- the next write, with one operation more among those that were looked at
+module _ (ops : List Op) (after : Option Moment) (op : Op) where
+  pub next_with : (next : Option Op) → IsNextWrite ops after next → IsWrite op × IsBehind after op.begin × IfSome next (λ n. op.begin.0 < n.begin.0) → IsNextWrite (ops ++ op ∷ []) after (Some op)
+  next_with None none (write, behind, sooner) = (
+    Contains-push ops op,
+    write,
+    behind,
+    All-push (λ v. IsWrite v → IsBehind after v.begin → op.begin.0 ≤ v.begin.0) ops op
+        (all_from (λ v. IsWrite v → IsBehind after v.begin → op.begin.0 ≤ v.begin.0) ops (λ v stands wv bv. absurd (All-contains (λ w. IsWrite w → ¬ IsBehind after w.begin) ops v none stands wv bv)))
+        (λ wv bv. omega arith),
+  )
+  next_with (Some n) (stands, wn, bn, least) (write, behind, sooner) = (
+    Contains-push ops op,
+    write,
+    behind,
+    All-push (λ v. IsWrite v → IsBehind after v.begin → op.begin.0 ≤ v.begin.0) ops op
+        (all_from (λ v. IsWrite v → IsBehind after v.begin → op.begin.0 ≤ v.begin.0) ops (λ v sv wv bv.
+        let le = All-contains (λ v. IsWrite v → IsBehind after v.begin → n.begin.0 ≤ v.begin.0) ops v least sv wv bv in omega arith))
+        (λ wv bv. omega arith),
+  )
+
+  pub next_still : (next : Option Op) → IsNextWrite ops after next → (IsWrite op → IsBehind after op.begin → IsSomeAnd next (λ n. n.begin.0 ≤ op.begin.0)) → IsNextWrite (ops ++ op ∷ []) after next
+  next_still None none later = All-push (λ w. IsWrite w → ¬ IsBehind after w.begin) ops op none (λ write behind. later write behind)
+  next_still (Some n) (stands, wn, bn, least) later = (
+    Contains-append_left ops (op ∷ []) n stands,
+    wn,
+    bn,
+    All-push (λ v. IsWrite v → IsBehind after v.begin → n.begin.0 ≤ v.begin.0) ops op least later,
+  )

@@ -1,24 +1,26 @@
 -- The look-ups by id and by moment, and what an edit leaves of them.
-use Rattle.std.proofs.Common.{◌≡◌, ◌≢◌, ◌==◌, ℕ, inl, inr, ◌⊎◌, Bool, true, false, not, ◌&&◌, List, [], ◌∷◌, ◌++◌, length, set, Option, Some, None, refl, sym, ap, ◌∙◌, subst, cond}
-use Rattle.std.specs.Prelude.{IfSome, is_some, option_map}
+use Rattle.std.proofs.Common.{◌≡◌, ◌≢◌, ◌==◌, ℕ, zero, suc, inl, inr, ◌⊎◌, Bool, true, false, not, ◌&&◌, List, [], ◌∷◌, ◌++◌, length, set, Option, Some, None, refl, sym, ap, ◌∙◌, cond}
+use Rattle.std.specs.Prelude.{IfSome, option_map}
 use Rattle.std.proofs.lemmas.Bool.Decides.{Decides-eqb, Decides-or}
 use Rattle.std.proofs.lemmas.List.Elements.{All-contains}
 use Rattle.intervals.specs.declared.operation.Op.{Op}
 use Rattle.intervals.specs.declared.operation.OpId.{OpId}
 use Rattle.intervals.specs.declared.operation.Moment.{Moment}
-use Rattle.intervals.specs.declared.moments.Moments.{Moments}
 use Rattle.intervals.specs.declared.edit.Change.{Change}
 use Rattle.intervals.specs.declared.edit.Edit.TheVariants.{Append, Amend}
 use Rattle.intervals.specs.Operation.{same_id}
 use Rattle.intervals.specs.Edit.{op_of, changed, new_op}
 use Rattle.intervals.specs.Refusal.{is_at, is_moment_of, find_other_with, moments_refusal, first_refusal}
 use Rattle.intervals.specs.Standing.{IsMomentOf, ShareNoMoment}
-use Rattle.intervals.specs.Moments.{HasPlaces, IsHeld, is_moment_of_next, kept_at}
 use Rattle.intervals.specs.Table.{standing, slot_at, IsIndexed}
 use Rattle.intervals.proofs.Accepted.{shares_none, moments_accepted}
 use Rattle.intervals.proofs.Found.{find-None, find-Some}
 use Rattle.intervals.proofs.Ids.{Decides-same_id_is, same_id-refl, none_of, not_taken, other_way}
 use Rattle.intervals.proofs.Slots.{slot_stands, stands_in_slot, slot_within, slot_at-more, slot_at-others, slot_at-past, slot_at-set, slot_at-set_others, IsOnlyAt}
+
+abbrev is_moment_of_next : Option Op → Moment → Bool
+is_moment_of_next None moment = false
+is_moment_of_next (Some op) moment = is_moment_of op moment
 
 abbrev has_id : Option Op → OpId → Bool
 has_id None id = false
@@ -59,47 +61,10 @@ moment_of op m t = by_cases ((Decides-or (op.begin.0 == m.0) (is_at op.end m) (D
     by_cases (inl e) = inl (same_moment op.begin m e)
     by_cases (inr t) = inr (by_end op.end t)
 
--- the place of the beginning was held, and then that of the end
-pub both_held : (op : Op) (first second : Moments) (end : Moment) → op.end ≡ Some end → is_some (kept_at first op.begin) ≡ true
-    → ((other : Moment) → is_some (kept_at first other) ≡ true → kept_at second other ≡ kept_at first other) → is_some (kept_at second end) ≡ true → HasPlaces second op
-both_held op first second end e began others ended m t = by_cases (moment_of op m t)
-  where
-    by_cases : IsMomentOf op m → is_some (kept_at second m) ≡ true
-    by_cases (inl f) = subst (λ (x : Moment). is_some (kept_at second x) ≡ true) f (ap is_some (others op.begin began) ∙ began)
-    by_cases (inr f) = subst (λ (x : Moment). is_some (kept_at second x) ≡ true) (some_is end m (sym e ∙ f)) ended
-
-module _ (before after : Moments) (prepared : Option Op) (awaited : (m : Moment) → IsHeld before m → is_moment_of_next prepared m ≡ true) where
-  -- the operation that the places were held for has come to them, or they were let go
-  pub none_held : (op : Op) → prepared ≡ Some op → ((m : Moment) → IsHeld after m → IsHeld before m × (is_moment_of op m ≡ false)) → (m : Moment) → IsHeld after m → false ≡ true
-  none_held op is gone m held =
-      let (was, other) = gone m held in
-      let t = awaited m was in
-      let e = ap (λ o. is_moment_of_next o m) is in
-      cc
-
-  -- the places of one operation were held, where none was
-  pub held_for : (op : Op) → prepared ≡ None → ((m : Moment) → is_moment_of op m ≡ false → kept_at after m ≡ kept_at before m) → (m : Moment) → IsHeld after m → is_moment_of op m ≡ true
-  held_for op none others m held = by_cases (is_moment_of op m) refl
-    where
-      by_cases : (t : Bool) → is_moment_of op m ≡ t → t ≡ true
-      by_cases true t = refl
-      by_cases false f =
-          let t = awaited m (sym (others m f) ∙ held) in
-          let e = ap (λ o. is_moment_of_next o m) none in
-          absurd (cc)
-
-  -- another operation left its moments, and the places of the one that is to come stay
-  pub held_still : ((m : Moment) → IsHeld after m → is_moment_of_next prepared m ≡ false → IsHeld before m) → (m : Moment) → IsHeld after m → is_moment_of_next prepared m ≡ true
-  held_still stays m held = by_cases (is_moment_of_next prepared m) refl
-    where
-      by_cases : (t : Bool) → is_moment_of_next prepared m ≡ t → t ≡ true
-      by_cases true t = refl
-      by_cases false f = let t = awaited m (stays m held f) in absurd (cc)
-
--- what is so of the operation that is there, where two facts of it give the third
-pub if_some_both : {X : Type 0} (P Q R : X → Type 0) → ((x : X) → P x → Q x → R x) → (o : Option X) → IfSome o P → IfSome o Q → IfSome o R
-if_some_both P Q R f None p q = tt
-if_some_both P Q R f (Some x) p q = f x p q
+-- what is so of the operation that is there, where it follows
+pub if_some : {X : Type 0} (P Q : X → Type 0) → ((x : X) → P x → Q x) → (o : Option X) → IfSome o P → IfSome o Q
+if_some P Q f None p = tt
+if_some P Q f (Some x) p = f x p
 
 module _ (at : ℕ → Option Op) (place : OpId → Option ℕ) (holder : Moment → Option OpId) (indexed : IsIndexed at place holder) where
   -- two operations of one id are in one slot
@@ -205,6 +170,19 @@ module _ (at : ℕ → Option Op) (place : OpId → Option ℕ) (holder : Moment
 
     pub indexed_after : IsIndexed at' place' holder'
     indexed_after = record { placed = placed; there = there; held = held; holds = holds }
+
+none_at : (i : ℕ) → slot_at [] i ≡ None
+none_at zero = refl
+none_at (suc i) = refl
+
+-- of no slots nothing is found
+pub indexed_none : (place : OpId → Option ℕ) (holder : Moment → Option OpId) → ((id : OpId) → place id ≡ None) → ((m : Moment) → holder m ≡ None) → IsIndexed (slot_at []) place holder
+indexed_none place holder no_place no_holder = record {
+  placed = λ i op e. let none = none_at i in absurd (cc);
+  there = λ id i e. let none = no_place id in absurd (cc);
+  held = λ i op m e t. let none = none_at i in absurd (cc);
+  holds = λ m id e. let none = no_holder m in absurd (cc);
+}
 
 -- look-ups that give the same are as good
 pub indexed_alike : (at at' : ℕ → Option Op) (place place' : OpId → Option ℕ) (holder holder' : Moment → Option OpId) → IsIndexed at place holder

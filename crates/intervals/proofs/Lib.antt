@@ -1,7 +1,7 @@
 pub mod Agreement
 pub mod Members
 pub mod LeastOf
-mod Kept
+mod RisingRows
 mod Spots
 mod InTurn
 mod Overlapping

@@ -1,74 +1,28 @@
 -- The first two writes in turn that overlap are the first overlap.
 use Rattle.std.proofs.Common.{◌≡◌, ◌<◌, ◌≤◌, ◌⊎◌, inl, inr, Bool, true, false, not, ◌&&◌, List, Option, Some, None, refl, sym, ap, subst, ◌∙◌, arith}
-use Rattle.std.specs.Prelude.{All, Contains, IsTrue, IfSome, option_map}
+use Rattle.std.specs.Prelude.{Contains, IsTrue, IfSome, option_map}
 use Rattle.std.specs.List.{list_any}
 use Rattle.std.proofs.lemmas.Bool.{cases_order, and_parts}
 use Rattle.std.proofs.lemmas.List.Elements.{All-contains}
 use Rattle.std.proofs.lemmas.List.Folds.{list_any_none, list_any_at}
 use Rattle.intervals.specs.declared.operation.Op.{Op}
-use Rattle.intervals.specs.declared.operation.OpId.{OpId}
 use Rattle.intervals.specs.declared.operation.Moment.{Moment}
-use Rattle.intervals.specs.Operation.{IsWrite, EndsBefore, ends_before, is_write, overlaps, precedes, same_id}
-use Rattle.intervals.specs.Least.{IsLeast, least_by}
-use Rattle.intervals.specs.Moments.{IsBehind}
-use Rattle.intervals.specs.InTurn.{IsNextHolder, IsNextWrite}
+use Rattle.intervals.specs.Operation.{IsWrite, ends_before, is_write, overlaps, precedes, same_id}
+use Rattle.intervals.specs.Least.{IsLeast}
+use Rattle.intervals.specs.InTurn.{IsNextWrite}
 use Rattle.intervals.specs.Refusal.{begin_number, first_overlap, ids_with, overlap_of, overlaps_another}
-use Rattle.intervals.specs.Refusal.{is_moment_of, is_overlapped}
+use Rattle.intervals.specs.Refusal.{is_overlapped}
 use Rattle.intervals.specs.Standing.{HasDistinctIds, HasDistinctMoments, HasEndsAfterBeginnings}
-use Rattle.intervals.proofs.Accepted.{at_moment}
 use Rattle.intervals.proofs.Agreement.{Decides-ends_before, false_unless}
 use Rattle.intervals.proofs.Ids.{Decides-same_id_is, found_by_id, same_id-refl}
-use Rattle.intervals.proofs.InTurn.{IsFrom}
 use Rattle.intervals.proofs.LeastOf.{AreTold, least_is, none_least}
-use Rattle.intervals.proofs.Members.{all_from, begin_apart, same_moment}
+use Rattle.intervals.proofs.Members.{all_from, begin_apart}
 
 -- a write that stands; and each write that begins before it precedes those that begin later
 pub record IsReached (ops : List Op) (w : Op) : Type 0 where
   pub stands : Contains ops w
   pub write : IsWrite w
   pub earlier : (v x : Op) → Contains ops v → Contains ops x → IsWrite v → IsWrite x → v.begin.0 < w.begin.0 → v.begin.0 < x.begin.0 → precedes v x ≡ true
-
--- what is behind a moment that is behind another is behind that
-behind_later : (after : Option Moment) (moment m : Moment) → IsBehind after moment → moment.0 < m.0 → IsBehind after m
-behind_later None moment m h lt = tt
-behind_later (Some a) moment m h lt = omega arith
-
--- where the writes that begin behind the first moment begin behind the one that is reached, and there is one more holder behind that
-module _ (ops : List Op) (after reached : Option Moment) (from : IsFrom after reached) (none : All (λ w. IsWrite w → IsBehind after w.begin → IsBehind reached w.begin) ops)
-    (moment : Moment) (op : Op) (next : IsNextHolder ops reached (Some (moment, op))) where
-  pub from_next : IsFrom after (Some moment)
-  from_next m lt = behind_later after moment m (from moment next.2) lt
-
-  at_least : (w : Op) → Contains ops w → IsWrite w → IsBehind after w.begin → moment.0 ≤ w.begin.0
-  at_least w stands write behind =
-      All-contains (λ other. (m : Moment) → is_moment_of other m ≡ true → IsBehind reached m → moment.0 ≤ m.0) ops w next.3 stands w.begin (at_moment w w.begin (inl refl))
-      (All-contains (λ v. IsWrite v → IsBehind after v.begin → IsBehind reached v.begin) ops w none stands write behind)
-
-  -- it is a write that begins then
-  pub write_found : IsWrite op → op.begin.0 ≡ moment.0 → IsNextWrite ops after (Some op)
-  write_found write e =
-      let same : moment ≡ op.begin = same_moment moment op.begin (sym e) in (
-        next.0,
-        write,
-        subst (IsBehind after) same (from moment next.2),
-        all_from (λ v. IsWrite v → IsBehind after v.begin → op.begin.0 ≤ v.begin.0) ops (λ v stands wv behind. let le = at_least v stands wv behind in omega arith),
-      )
-
-  -- it is not
-  pub write_passed : (is_write op ≡ false) ⊎ (¬ (op.begin.0 ≡ moment.0)) → All (λ w. IsWrite w → IsBehind after w.begin → moment.0 < w.begin.0) ops
-  write_passed other = all_from (λ w. IsWrite w → IsBehind after w.begin → moment.0 < w.begin.0) ops (λ w stands write behind. by_order w stands write behind (cases_order moment.0 w.begin.0))
-    where
-      not_it : IsWrite op → op.begin.0 ≡ moment.0 → (is_write op ≡ false) ⊎ (¬ (op.begin.0 ≡ moment.0)) → ⊥
-      not_it write e (inl none) = cc
-      not_it write e (inr other) = other e
-
-      by_order : (w : Op) → Contains ops w → IsWrite w → IsBehind after w.begin → (moment.0 ≡ w.begin.0) ⊎ ((moment.0 < w.begin.0) ⊎ (w.begin.0 < moment.0)) → moment.0 < w.begin.0
-      by_order w stands write behind (inl e) =
-          let begins : w.begin ≡ moment = same_moment w.begin moment (sym e) in
-          let same : w ≡ op = All-contains (λ other. is_moment_of other moment ≡ true → other ≡ op) ops w next.4 stands (at_moment w moment (inl begins)) in
-          absurd (not_it (subst (λ (o : Op). IsWrite o) same write) (subst (λ (o : Op). o.begin.0 ≡ moment.0) same (sym e)) other)
-      by_order w stands write behind (inr (inl lt)) = lt
-      by_order w stands write behind (inr (inr gt)) = absurd (let le = at_least w stands write behind in omega arith)
 
 -- what ends before a moment ends before a later one
 ends_earlier : (end : Option Moment) (m n : Moment) → ends_before end m ≡ true → m.0 ≤ n.0 → ends_before end n ≡ true

@@ -1,6 +1,6 @@
 -- The first write that repeats a value, found slot by slot.
-use Rattle.std.proofs.Common.{◌≡◌, ◌<◌, ◌≤◌, ◌+◌, ℕ, zero, suc, Bool, true, false, not, ◌&&◌, List, [], ◌∷◌, ◌++◌, length, Option, Some, None, refl, sym, ap, subst, ◌∙◌, cond, arith}
-use Rattle.std.specs.Prelude.{All, find, take, drop, option_map}
+use Rattle.std.proofs.Common.{◌≡◌, ◌≤◌, ◌+◌, ℕ, zero, suc, Bool, true, false, ◌&&◌, List, [], ◌∷◌, ◌++◌, length, Option, Some, None, refl, sym, ap, subst, ◌∙◌, cond, arith}
+use Rattle.std.specs.Prelude.{All, find, option_map}
 use Rattle.std.proofs.lemmas.List.Elements.{All-contains, All-head, All-tail, All-weaker}
 use Rattle.intervals.specs.declared.operation.Op.{Op}
 use Rattle.intervals.specs.declared.operation.OpId.{OpId}
@@ -20,12 +20,12 @@ use Rattle.intervals.specs.Table.{standing, slot_at}
 use Rattle.intervals.specs.Terms.{Terms}
 use Rattle.intervals.proofs.Agreement.{Decides-same_value}
 use Rattle.intervals.proofs.Found.{not_mapped}
-use Rattle.intervals.proofs.Fronts.{front_of, front_none, front_some, rest_of, rest_none, rest_past, rest_some}
+use Rattle.intervals.proofs.Fronts.{front_of, front_none, front_on, front_over, front_some, rest_of, rest_none, rest_past, rest_some}
 use Rattle.intervals.proofs.Ids.{none_of, not_found, other_way}
 use Rattle.intervals.proofs.Slots.{slot_stands}
 
 -- one more at the end of a list in which the first that passes is looked for
-find_past : (p : Op → Bool) (ops : List Op) (op : Op) → p op ≡ false → find p (ops ++ op ∷ []) ≡ find p ops
+pub find_past : (p : Op → Bool) (ops : List Op) (op : Op) → p op ≡ false → find p (ops ++ op ∷ []) ≡ find p ops
 find_past p [] op e = rw e refl
 find_past p (a ∷ ops) op e = by_cases (p a) (find_past p ops op e)
   where
@@ -33,7 +33,7 @@ find_past p (a ∷ ops) op e = by_cases (p a) (find_past p ops op e)
     by_cases true rest = refl
     by_cases false rest = rest
 
-find_at : (p : Op → Bool) (ops : List Op) (op : Op) → p op ≡ true → find p ops ≡ None → find p (ops ++ op ∷ []) ≡ Some op
+pub find_at : (p : Op → Bool) (ops : List Op) (op : Op) → p op ≡ true → find p ops ≡ None → find p (ops ++ op ∷ []) ≡ Some op
 find_at p [] op t e = rw t refl
 find_at p (a ∷ ops) op t e = by_cases (p a) e (find_at p ops op t)
   where
@@ -149,7 +149,7 @@ module _ (claim : Terms) (slots : List (Option Op)) where
 
 -- the shelf is that of the operations before the next place
 pub first_on : (shelf : Shelf) (slots : List (Option Op)) (k : ℕ) (op : Op) → slot_at slots k ≡ Some op → AreFirst shelf (front_of slots k ++ op ∷ []) → AreFirst shelf (front_of slots (k + 1))
-first_on shelf slots k op at are = subst (λ (n : ℕ). AreFirst shelf (front_of slots n)) (more k) (subst (AreFirst shelf) (sym (front_some slots k op at)) are)
+first_on shelf = front_on (AreFirst shelf)
 
 pub first_over : (shelf : Shelf) (slots : List (Option Op)) (k : ℕ) → slot_at slots k ≡ None → AreFirst shelf (front_of slots k) → AreFirst shelf (front_of slots (k + 1))
-first_over shelf slots k at are = subst (λ (n : ℕ). AreFirst shelf (front_of slots n)) (more k) (subst (AreFirst shelf) (sym (front_none slots k at)) are)
+first_over shelf = front_over (AreFirst shelf)

@@ -17,7 +17,7 @@ use Rattle.intervals.specs.declared.claim.Holder.TheVariants as holders
 use Rattle.intervals.specs.declared.refusal.Refusal.{Refusal}
 use Rattle.intervals.specs.declared.refusal.Refusal.TheVariants.{UnknownOp, OpTaken, MomentTaken, WritesOverlap, ValueTaken, ClaimFixed}
 use Rattle.intervals.specs.Terms.{Terms, Claimed}
-use Rattle.intervals.specs.Operation.{is_write, is_judged_read, same_id, same_value, value_of}
+use Rattle.intervals.specs.Operation.{is_write, is_judged_read, same_id, value_of}
 use Rattle.intervals.specs.Edit.{op_of, amended, changed, edited, claim_after}
 use Rattle.intervals.specs.Bare.{bare, bare_change, bare_edit, bare_held}
 use Rattle.intervals.specs.Least.{is_less, less_of, least_from}

@@ -10,6 +10,7 @@ pub mod Kind
 pub mod Judging
 pub mod Histories
 pub mod Shelf
+pub mod Rising
 pub mod Moments
 pub mod InTurn
 pub mod FirstWrites

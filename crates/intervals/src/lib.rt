@@ -17,7 +17,7 @@
 //! definitions; each row of the tests of `register_book` runs these calls.
 //!
 //! An edit takes the time of a few look-ups, however many operations stand: `OpTable` finds them by their
-//! ids and by their moments, and can make room for an operation before it is admitted. `OpBook` is the
+//! ids and by their moments, each in a `RisingMap` (`rising.rt`), and can make room for an operation before it is admitted. `OpBook` is the
 //! same with nothing prepared. `overlap.rt` and `repeat.rt` find what is in the way of a claim. `Shelf` has ids by value and moment, with places held ahead.
 //!
 //! Begin with `specs/Operation.antt`, then `Edit.antt` and `Refusal.antt` (what stands, and the reply to
@@ -34,6 +34,7 @@ mod operation;
 mod overlap;
 mod refusal;
 mod repeat;
+mod rising;
 mod shelf;
 mod table;
 

@@ -23,7 +23,7 @@ impl<T: Drop> From<AllocFailed<T>> for Memory {
 }
 
 /// A point of the one clock that all operations are timed by.
-#[derive(Clone, Copy, Debug, PartialEq, Eq, PartialOrd, Ord)]
+#[derive(Clone, Copy, Debug, PartialEq, Eq, PartialOrd, Ord, Hash)]
 pub struct Moment(pub u64);
 
 /// What a register holds.
@@ -38,7 +38,7 @@ pub enum Value {
 pub struct RegId(pub u32);
 
 /// An operation's name: its trace, and the place of its invocation there.
-#[derive(Clone, Copy, Debug, PartialEq, Eq, Hash)]
+#[derive(Clone, Copy, Debug, PartialEq, Eq, PartialOrd, Ord, Hash)]
 pub struct OpId {
     pub feeder: u32,
     pub event: u64,

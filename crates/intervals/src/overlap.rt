@@ -1,23 +1,42 @@
 //! Which writes that stand overlap.
 
-ghost use Rattle.std.specs.Prelude.{◌≡◌};
-ghost use Rattle.intervals.specs.InTurn.{IsNextWrite};
+ghost use Rattle.std.specs.Prelude.{◌≡◌, ◌<◌, ◌≤◌, ◌++◌, ◌∷◌, [], List, true, false, None, Some, MatchOption, IfOk, IfSome, IsSomeAnd, OnOk};
+ghost use Rattle.intervals.specs.declared.operation.Moment.{Moment as AMoment};
+ghost use Rattle.intervals.specs.declared.operation.Op.{Op as AnOp};
+ghost use Rattle.intervals.specs.InTurn.{AreInTurn, IsNextWrite, spot_then};
+ghost use Rattle.intervals.specs.Moments.{IsBehind};
+ghost use Rattle.intervals.specs.Operation.{IsWrite};
 ghost use Rattle.intervals.specs.Refusal.{first_overlap as first_that_overlap};
+ghost use Rattle.intervals.specs.Shelf.{id_at};
 ghost use Rattle.intervals.specs.Standing.{HasDistinctIds, HasDistinctMoments, HasEndsAfterBeginnings};
+ghost use Rattle.intervals.specs.Table.{standing};
 
-use crate::{Moment, Op, OpId, OpTable, precedes};
+use crate::{Memory, Moment, Op, OpId, OpTable, Shelf, Spot, Value, precedes};
+use std::alloc::Global;
 
 impl<'t> OpTable<'t> {
     /// The write of least beginning that overlaps another write, and of those that it overlaps the one of
-    /// least beginning. It takes the time of a look-up for each operation, and no memory.
-    pub fn first_overlap(&self) -> Option<(OpId, OpId)>
+    /// least beginning. It takes the time of a look-up for each write; where memory is refused each next write is
+    /// looked for among all operations.
+    pub fn first_overlap(&self, alloc: Global) -> Option<(OpId, OpId)>
         requires ids { HasDistinctIds self.now.ops }
         requires moments { HasDistinctMoments self.now.ops }
         requires ends { HasEndsAfterBeginnings self.now.ops }
         ensures { result ≡ first_that_overlap self.now.ops }
     {
-        let mut write = self.next_write(None)?;
-        while let Some(next) = self.next_write(Some(write.begin)) {
+        self.first_in_turn(&turn_of(alloc, self.slots()))
+    }
+
+    /// The same, with the writes in turn of their beginnings, where there is memory for them.
+    fn first_in_turn(&self, turn: &Option<Shelf>) -> Option<(OpId, OpId)>
+        requires turn { IfSome turn.now (λ turn. AreInTurn turn self.now.ops) }
+        requires ids { HasDistinctIds self.now.ops }
+        requires moments { HasDistinctMoments self.now.ops }
+        requires ends { HasEndsAfterBeginnings self.now.ops }
+        ensures { result ≡ first_that_overlap self.now.ops }
+    {
+        let mut write = self.next_write(turn, None)?;
+        while let Some(next) = self.next_write(turn, Some(write.begin)) {
             if !precedes(&write, &next) {
                 return Some((write.id, next.id));
             }
@@ -27,16 +46,98 @@ impl<'t> OpTable<'t> {
     }
 
     /// Of the writes that begin behind the moment the one that begins first; of all where none is given.
-    fn next_write(&self, after: Option<Moment>) -> Option<Op<'t>>
+    fn next_write(&self, turn: &Option<Shelf>, after: Option<Moment>) -> Option<Op<'t>>
+        requires turn { IfSome turn.now (λ turn. AreInTurn turn self.now.ops) }
+        requires ids { HasDistinctIds self.now.ops }
         ensures { IsNextWrite self.now.ops after result }
     {
-        let mut reached = after;
-        while let Some((moment, op)) = self.next_holder(reached) {
-            if op.is_write() && op.begin.0 == moment.0 {
-                return Some(op);
+        match turn {
+            Some(turn) => {
+                let (_, id) = first_behind(turn, after)?;
+                self.get(id).copied()
             }
-            reached = Some(moment);
+            None => next_among(self.slots(), after),
         }
-        None
     }
+}
+
+/// The writes in turn of their beginnings, where there is memory for them.
+fn turn_of(alloc: Global, slots: &[Option<Op>]) -> Option<Shelf>
+    ensures { IfSome result (λ turn. AreInTurn turn (standing slots.now)) }
+{
+    match writes_in_turn(alloc, slots) {
+        Ok(turn) => Some(turn),
+        Err(_) => None,
+    }
+}
+
+fn writes_in_turn(alloc: Global, slots: &[Option<Op>]) -> Result<Shelf, Memory>
+    ensures { IfOk result (λ turn. AreInTurn turn (standing slots.now)) }
+{
+    let mut turn = Shelf::new(alloc);
+    for slot in slots {
+        if let Some(op) = slot {
+            put_in_turn(&mut turn, op)?;
+        }
+    }
+    Ok(turn)
+}
+
+/// Puts the operation at its beginning, where it is a write.
+fn put_in_turn(turn: &mut Shelf, op: &Op) -> Result<(), Memory>
+    ensures { (before : List AnOp) → AreInTurn turn.old before → OnOk result (AreInTurn turn.new (before ++ op.now ∷ [])) }
+{
+    let spot = Spot {
+        value: Value::Nil,
+        moment: op.begin,
+    };
+    if op.is_write() && turn.get(spot).is_none() {
+        turn.hold(spot)?;
+        turn.put(spot, op.id);
+    }
+    Ok(())
+}
+
+/// The first id behind the moment, of those on a shelf of moments alone.
+fn first_behind(turn: &Shelf, after: Option<Moment>) -> Option<(Moment, OpId)>
+    ensures { MatchOption result
+        ((m : AMoment) → IsBehind after m → id_at turn.now (spot_then m) ≡ None)
+        (λ found. IsBehind after found.0 × (id_at turn.now (spot_then found.0) ≡ Some found.1)
+        × ((m : AMoment) → IsBehind after m → m.0 < found.0.0 → id_at turn.now (spot_then m) ≡ None)) }
+{
+    match after {
+        Some(moment) => turn.first_after(Value::Nil, moment),
+        None => turn.first_from(Value::Nil, Moment(0)),
+    }
+}
+
+/// Of the writes in the slots that begin behind the moment the one that begins first.
+fn next_among<'t>(slots: &[Option<Op<'t>>], after: Option<Moment>) -> Option<Op<'t>>
+    ensures { IsNextWrite (standing slots.now) after result }
+{
+    let mut next: Option<Op<'t>> = None;
+    for slot in slots {
+        if let Some(op) = slot {
+            if comes_sooner(op, after, &next) {
+                next = Some(*op);
+            }
+        }
+    }
+    next
+}
+
+/// Whether it is a write that begins behind the moment, and before the next one so far.
+fn comes_sooner(op: &Op, after: Option<Moment>, next: &Option<Op>) -> bool
+    ensures sooner { result ≡ true → IsWrite op.now × IsBehind after op.now.begin × IfSome next.now (λ n. op.now.begin.0 < n.begin.0) }
+    ensures not { result ≡ false → IsWrite op.now → IsBehind after op.now.begin → IsSomeAnd next.now (λ n. n.begin.0 ≤ op.now.begin.0) }
+{
+    let is_behind = match after {
+        Some(after) => after.0 < op.begin.0,
+        None => true,
+    };
+    let is_before = match next {
+        Some(next) => op.begin.0 < next.begin.0,
+        None => true,
+    };
+    op.is_write() && is_behind && is_before
 }

@@ -1,21 +1,15 @@
 //! The operations that stand, by their ids and by their moments, and room for one more.
 
 ghost use Rattle.std.specs.Prelude.{◌≡◌, ◌↔◌, ◌<◌, ◌≤◌, ℕ, [], List, length, None, Some, OnOk, OnErr, IfSome, IsTrue, option_copied, option_map, vec_len, vec_capacity};
-ghost use Rattle.std.specs.HashMap.{get as place_of};
 ghost use Rattle.intervals.specs.Edit.{op_of, found_by, edited, new_op as new_one};
-ghost use Rattle.intervals.specs.Moments.{HasPlaces};
 ghost use Rattle.intervals.specs.Operation.{same_id};
-ghost use Rattle.intervals.specs.InTurn.{IsNextHolder};
 ghost use Rattle.intervals.specs.Refusal.{first_refusal, moments_refusal, ok_unless, find_other_with};
-ghost use Rattle.intervals.specs.Table.{admitted, prepared_after, standing, slot_at};
+ghost use Rattle.intervals.specs.Table.{ArePlaces, admitted, place_of, prepared_after, standing, slot_at};
 
-use crate::moments::{
-    Moments, ends_too_early, hold_moments, is_too_large, move_moments, put_moments,
-    release_moments, take_moments,
-};
+use crate::moments::{ends_too_early, is_too_large, move_moments, put_moments, take_moments};
+use crate::rising::RisingMap;
 use crate::{Change, Edit, Memory, Moment, Op, OpId, Refusal, changed};
 use std::alloc::Global;
-use std::collections::HashMap;
 use std::marker::Model;
 
 /// The operations of one register that stand, in the order of their appends, and room for one more that
@@ -23,29 +17,27 @@ use std::marker::Model;
 #[derive(Drop)]
 pub struct OpTable<'t> {
     slots: Vec<Option<Op<'t>>>,
-    places: HashMap<OpId, usize>,
-    moments: Moments,
+    places: RisingMap<OpId, usize>,
+    moments: RisingMap<Moment, OpId>,
     count: usize,
     prepared: Option<Op<'t>>,
 }
 
 impl<'t> Model for OpTable<'t> {
-    ghost use Rattle.std.specs.Prelude.{◌≡◌, ◌<◌, true, IfSome, length, vec_capacity, vec_len};
-    ghost use Rattle.std.specs.HashMap.{get as place_of, spare};
-    ghost use Rattle.intervals.specs.declared.operation.Moment.{Moment as AMoment};
-    ghost use Rattle.intervals.specs.Moments.{holder_at, HasPlaces, IsHeld, is_moment_of_next};
-    ghost use Rattle.intervals.specs.Operation.{same_id};
-    ghost use Rattle.intervals.specs.Table.{Tabled, IsIndexed, standing, slot_at};
+    ghost use Rattle.std.specs.Prelude.{◌≡◌, IfSome, length};
+    ghost use Rattle.intervals.specs.Moments.{AreMoments, holder_at};
+    ghost use Rattle.intervals.specs.Table.{ArePlaces, HasSlotRoom, IsIndexed, Tabled, place_of, slot_at, standing};
 
     ghost Value = { Tabled };
 
     ghost view = { λ t. record { ops = standing t.slots.items; prepared = t.prepared } };
 
     ghost invariant = { λ t.
-        IsIndexed (slot_at t.slots.items) (place_of same_id t.places) (holder_at t.moments)
+        IsIndexed (slot_at t.slots.items) (place_of t.places) (holder_at t.moments)
         × (t.count ≡ length (standing t.slots.items))
-        × ((m : AMoment) → IsHeld t.moments m → is_moment_of_next t.prepared m ≡ true)
-        × IfSome t.prepared (λ op. (vec_len t.slots < vec_capacity t.slots) × (0 < spare t.places) × HasPlaces t.moments op) };
+        × ArePlaces t.places
+        × AreMoments t.moments
+        × IfSome t.prepared (λ op. HasSlotRoom t.slots t.places t.moments) };
 }
 
 impl<'t> OpTable<'t> {
@@ -54,8 +46,8 @@ impl<'t> OpTable<'t> {
     {
         OpTable {
             slots: Vec::new(alloc),
-            places: HashMap::new(alloc),
-            moments: Moments::new(alloc),
+            places: RisingMap::new(alloc),
+            moments: RisingMap::new(alloc),
             count: 0,
             prepared: None,
         }
@@ -131,18 +123,6 @@ impl<'t> OpTable<'t> {
         }
     }
 
-    /// The first moment behind that one that an operation has, and that operation; the first of all where none is
-    /// given.
-    pub(crate) fn next_holder(&self, after: Option<Moment>) -> Option<(Moment, Op<'t>)>
-        ensures { IsNextHolder self.now.ops after result }
-    {
-        let (moment, id) = self.moments.first_behind(after)?;
-        let Some(op) = self.get(id) else {
-            unreachable!()
-        };
-        Some((moment, *op))
-    }
-
     /// The operation that there is room for.
     pub fn prepared(&self) -> Option<Op<'t>>
         ensures { result ≡ self.now.prepared }
@@ -159,7 +139,7 @@ impl<'t> OpTable<'t> {
     {
         self.slots.reserve(1)?;
         self.places.reserve(1)?;
-        hold_moments(&mut self.moments, op)?;
+        self.moments.reserve(2)?;
         self.prepared = Some(*op);
         Ok(())
     }
@@ -168,9 +148,7 @@ impl<'t> OpTable<'t> {
     pub fn release(&mut self)
         ensures { self.new ≡ record self.old { prepared = None } }
     {
-        if let Some(op) = self.prepared.take() {
-            release_moments(&mut self.moments, &op);
-        }
+        self.prepared = None;
     }
 
     /// Carries out an edit that `check` accepts. An operation that it adds or changes was prepared.
@@ -194,9 +172,7 @@ impl<'t> OpTable<'t> {
     {
         let place = self.slots.len();
         self.slots.push_reserved(Some(*op));
-        let Ok(_) = self.places.insert(op.id, place) else {
-            unreachable!()
-        };
+        self.places.put(op.id, place);
         put_moments(&mut self.moments, op);
         self.count += 1;
         self.prepared = None;
@@ -223,8 +199,8 @@ impl<'t> OpTable<'t> {
         let Some((place, op)) = find_slot(self.slots.as_slice(), &self.places, id) else {
             unreachable!()
         };
-        take_moments(&mut self.moments, op, &self.prepared);
-        self.places.remove(&id);
+        take_moments(&mut self.moments, op);
+        self.places.remove(id);
         self.slots[place] = None;
         self.count -= 1;
         drop_empty_end(&mut self.slots);
@@ -254,7 +230,7 @@ impl<'t> OpTable<'t> {
     fn other_with(&self, id: OpId, moment: Moment) -> Option<OpId>
         ensures { result ≡ option_map (λ op. op.id) (find_other_with self.now.ops id moment) }
     {
-        let holder = self.moments.holder_of(moment)?;
+        let holder = self.moments.get(moment)?;
         if holder == id { None } else { Some(holder) }
     }
 }
@@ -262,15 +238,16 @@ impl<'t> OpTable<'t> {
 /// The slot of that id, and the operation in it.
 fn find_slot<'b, 't>(
     slots: &'b [Option<Op<'t>>],
-    places: &HashMap<OpId, usize>,
+    places: &RisingMap<OpId, usize>,
     id: OpId,
 ) -> Option<(usize, &'b Op<'t>)>
-    ensures place { IfSome result (λ found. place_of same_id places.now id ≡ Some found.0) }
+    requires { ArePlaces places.now }
+    ensures place { IfSome result (λ found. place_of places.now id ≡ Some found.0) }
     ensures slot { IfSome result (λ found. slot_at slots.now found.0 ≡ Some found.1.now) }
     ensures within { IfSome result (λ found. found.0 < length slots.now) }
-    ensures none { result ≡ None → (i : ℕ) → place_of same_id places.now id ≡ Some i → slot_at slots.now i ≡ None }
+    ensures none { result ≡ None → (i : ℕ) → place_of places.now id ≡ Some i → slot_at slots.now i ≡ None }
 {
-    let place = *places.get(&id)?;
+    let place = places.get(id)?;
     let op = slots.get(place)?.as_ref()?;
     Some((place, op))
 }

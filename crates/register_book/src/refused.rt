@@ -81,13 +81,13 @@ fn claim_refusal_of<'t>(
         return Ok(Some(Refusal::ClaimFixed));
     }
     match kind {
-        Kind::Safe | Kind::Regular => Ok(refusal_of_one_writer(judge)),
+        Kind::Safe | Kind::Regular => Ok(refusal_of_one_writer(alloc, judge)),
         Kind::Atomic => refusal_of_atomic(alloc, judge),
     }
 }
 
 /// The first refusal of a claim to be safe or regular. Of such a register no writes overlap.
-fn refusal_of_one_writer(judge: &Judge) -> Option<Refusal>
+fn refusal_of_one_writer(alloc: Global, judge: &Judge) -> Option<Refusal>
     requires { StandApart (held_by judge.now).claim (held_by judge.now).ops }
     ensures { result ≡ one_writer_refusal (held_by judge.now).claim (held_by judge.now).ops }
 {
@@ -101,7 +101,7 @@ fn refusal_of_one_writer(judge: &Judge) -> Option<Refusal>
     if judge.claim().kind != Kind::Atomic {
         return None;
     }
-    let (write, other) = judge.operations().first_overlap()?;
+    let (write, other) = judge.operations().first_overlap(alloc)?;
     Some(Refusal::ClaimOverlap(write, other))
 }
 

@@ -42,6 +42,13 @@ impl<T: Keyed, S: Summarizes<T>> SummaryTree<T, S> {
         }
     }
 
+    /// How many items it holds.
+    pub fn len(&self) -> usize
+        ensures { result ≡ length self.now.items }
+    {
+        self.places.taken()
+    }
+
     /// How many items can be inserted without memory.
     pub fn free(&self) -> usize
         ensures { result ≡ self.now.free }

@@ -1,4 +1,4 @@
--- What a look at one side, at the zone between and at the other side finds.
+-- What a look at the sides of a zone finds.
 use Rattle.std.proofs.Common.{◌≡◌, ◌∙◌, ◌⊎◌, inl, inr, Bool, true, false, not, cond, List, [], ◌∷◌, ◌++◌, Option, Some, None, refl, sym, ap, subst}
 use Rattle.std.specs.Prelude.{All, ◌||◌, ◌&&◌, if◌then◌else◌}
 use Rattle.std.specs.List.{find}
@@ -10,13 +10,11 @@ use Rattle.zone_tree.specs.declared.edge.Edge.{Edge}
 use Rattle.zone_tree.specs.declared.edge.Edge.TheVariants.{Before, At, Never}
 use Rattle.zone_tree.specs.declared.zone.Zone.{Zone}
 use Rattle.zone_tree.specs.declared.summary.Summary.{Summary}
-use Rattle.intervals.specs.declared.operation.Value.{Value}
-use Rattle.intervals.specs.Operation.{same_value}
 use Rattle.zone_tree.specs.Edge.{comes_before, ComesBefore}
 use Rattle.zone_tree.specs.Zone.{HasOrderedEdges}
 use Rattle.zone_tree.specs.Order.{IsByLeft, StandInOrder}
-use Rattle.zone_tree.specs.Summary.{latest, one_zone, join, summary_of}
-use Rattle.zone_tree.specs.Look.{is_behind, reaches, reaches_but, falls_short, begins_before, last_that, has_forward}
+use Rattle.zone_tree.specs.Summary.{one_zone, join, summary_of}
+use Rattle.zone_tree.specs.Look.{is_behind, begins_before, last_that, has_forward}
 use Rattle.zone_tree.proofs.EdgeOrder.{before_transitive, before-false, not_after_before}
 use Rattle.summary_tree.proofs.Lists.{find_none}
 use Rattle.zone_tree.proofs.Sides.{earlier_edges, later_edges}
@@ -26,13 +24,7 @@ use Rattle.zone_tree.proofs.Summaries.{or_clear, one_forward, earliest_before}
 find_around : (p : Zone → Bool) (xs : List Zone) (z : Zone) (ys : List Zone) (o : Option Zone) → find p xs ≡ o → find p (xs ++ z ∷ ys) ≡ option_or o (find p (z ∷ ys))
 find_around p xs z ys o e = find-append p xs (z ∷ ys) ∙ ap (λ found. option_or found (find p (z ∷ ys))) e
 
-pub find_in_left : (p : Zone → Bool) (xs : List Zone) (z : Zone) (ys : List Zone) (w : Zone) → find p xs ≡ Some w → find p (xs ++ z ∷ ys) ≡ Some w
-find_in_left p xs z ys w e = find_around p xs z ys (Some w) e
-
-pub find_here : (p : Zone → Bool) (xs : List Zone) (z : Zone) (ys : List Zone) → find p xs ≡ None → p z ≡ true → find p (xs ++ z ∷ ys) ≡ Some z
-find_here p xs z ys e h = find_around p xs z ys None e ∙ ap (λ (b : Bool). cond b (Some z) (find p ys)) h
-
-pub find_in_right : (p : Zone → Bool) (xs : List Zone) (z : Zone) (ys : List Zone) → find p xs ≡ None → p z ≡ false → find p (xs ++ z ∷ ys) ≡ find p ys
+find_in_right : (p : Zone → Bool) (xs : List Zone) (z : Zone) (ys : List Zone) → find p xs ≡ None → p z ≡ false → find p (xs ++ z ∷ ys) ≡ find p ys
 find_in_right p xs z ys e h = find_around p xs z ys None e ∙ ap (λ (b : Bool). cond b (Some z) (find p ys)) h
 
 -- the first zone behind an edge
@@ -73,60 +65,6 @@ no_forward_all (z ∷ zones) edges none =
     All-cons (λ z. z.forward ≡ false) z zones
     (not_forward_by z (All-head HasOrderedEdges z zones edges) parts.0 (cases_Bool z.forward))
     (no_forward_all zones (All-tail HasOrderedEdges z zones edges) parts.1)
-
-find_no_forward : (q : Zone → Bool) (zones : List Zone) → StandInOrder zones → has_forward (summary_of zones) ≡ false → find (λ z. z.forward && q z) zones ≡ None
-find_no_forward q zones order none =
-    find_none (λ z. z.forward && q z) zones
-    (All-weaker (λ z. z.forward ≡ false) (λ z. (z.forward && q z) ≡ false) (λ z b. ap (λ f. f && q z) b) zones (no_forward_all zones order.edges none))
-
-pub none_falls_short : (edge : Edge) (zones : List Zone) → StandInOrder zones → has_forward (summary_of zones) ≡ false → find (falls_short edge) zones ≡ None
-none_falls_short edge zones order none = find_no_forward (λ z. comes_before z.right edge) zones order none
-
--- where the greatest right edge of a forward zone comes before the edge
-last_of_join : (z : Zone) (zones : List Zone) → (summary_of (z ∷ zones)).last_forward ≡ latest (one_zone z).last_forward (summary_of zones).last_forward
-unfolding summary_of join
-last_of_join z zones = refl
-
-latest_parts_by : (a b e : Edge) → ComesBefore (latest a b) e → (comes_before a b ≡ true) ⊎ (comes_before a b ≡ false) → ComesBefore a e × ComesBefore b e
-latest_parts_by a b e h (inl f) =
-    let later : ComesBefore b e = sym (ap (λ (c : Bool). comes_before (if c then b else a) e) f) ∙ h in
-    (before_transitive a b e f later, later)
-latest_parts_by a b e h (inr f) =
-    let later : ComesBefore a e = sym (ap (λ (c : Bool). comes_before (if c then b else a) e) f) ∙ h in
-    (later, not_after_before b a e (both_ways (comes_before a b) f) later)
-
-short_by : (edge : Edge) (z : Zone) → ComesBefore (one_zone z).last_forward edge → (z.forward ≡ true) ⊎ (z.forward ≡ false) → reaches edge z ≡ false
-short_by edge z h (inl f) =
-    let short : ComesBefore z.right edge = sym (ap (λ (s : Summary). comes_before s.last_forward edge) (one_forward z f)) ∙ h in
-    ap (λ b. b && not (comes_before z.right edge)) f ∙ ap not short
-short_by edge z h (inr b) = ap (λ f. f && not (comes_before z.right edge)) b
-
-all_short : (edge : Edge) (zones : List Zone) → ComesBefore (summary_of zones).last_forward edge → All (λ z. reaches edge z ≡ false) zones
-all_short edge [] h = All-nil (λ z. reaches edge z ≡ false)
-all_short edge (z ∷ zones) h =
-    let here : ComesBefore (latest (one_zone z).last_forward (summary_of zones).last_forward) edge = subst (λ (e : Edge). ComesBefore e edge) (last_of_join z zones) h in
-    let parts = latest_parts_by (one_zone z).last_forward (summary_of zones).last_forward edge here (cases_Bool (comes_before (one_zone z).last_forward (summary_of zones).last_forward)) in
-    All-cons (λ z. reaches edge z ≡ false) z zones (short_by edge z parts.0 (cases_Bool z.forward)) (all_short edge zones parts.1)
-
-pub none_reaches_far : (edge : Edge) (zones : List Zone) → ComesBefore (summary_of zones).last_forward edge → find (reaches edge) zones ≡ None
-none_reaches_far edge zones h = find_none (reaches edge) zones (all_short edge zones h)
-
-pub none_reaches : (edge : Edge) (zones : List Zone) → StandInOrder zones → has_forward (summary_of zones) ≡ false → find (reaches edge) zones ≡ None
-none_reaches edge zones order none = find_no_forward (λ z. not (comes_before z.right edge)) zones order none
-
--- nor one of another value
-find_no_other : (edge : Edge) (value : Value) (zones : List Zone) → All (λ z. reaches edge z ≡ false) zones → find (reaches_but edge value) zones ≡ None
-find_no_other edge value zones none =
-    find_none (reaches_but edge value) zones
-    (All-weaker (λ z. reaches edge z ≡ false) (λ z. reaches_but edge value z ≡ false) (λ z b. ap (λ r. r && not (same_value z.value value)) b) zones none)
-
-pub no_other_reaches_far : (edge : Edge) (value : Value) (zones : List Zone) → ComesBefore (summary_of zones).last_forward edge → find (reaches_but edge value) zones ≡ None
-no_other_reaches_far edge value zones h = find_no_other edge value zones (all_short edge zones h)
-
-pub no_other_reaches : (edge : Edge) (value : Value) (zones : List Zone) → StandInOrder zones → has_forward (summary_of zones) ≡ false → find (reaches_but edge value) zones ≡ None
-no_other_reaches edge value zones order none =
-    find_no_other edge value zones
-    (All-weaker (λ z. z.forward ≡ false) (λ z. reaches edge z ≡ false) (λ z b. ap (λ f. f && not (comes_before z.right edge)) b) zones (no_forward_all zones order.edges none))
 
 -- the last zone that passes
 pub last_empty : (p : Zone → Bool) → last_that p [] ≡ None

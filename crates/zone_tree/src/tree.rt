@@ -1,7 +1,5 @@
-ghost use Rattle.std.specs.Prelude.{◌≡◌, ◌+◌, ◌*◌, ◌<◌, ◌≤◌, ◌↔◌, ◌&&◌, not, All, [], ◌∷◌, length, is_some, if◌then◌else◌, OnOk, OnErr, IsNone, IsSome, IsTrue, IfSome};
-ghost use Rattle.std.specs.List.{find};
-ghost use Rattle.intervals.specs.Operation.{same_value};
-ghost use Rattle.zone_tree.specs.Edge.{comes_before, ComesBefore};
+ghost use Rattle.std.specs.Prelude.{◌≡◌, ◌+◌, ◌*◌, ◌<◌, ◌≤◌, ◌↔◌, All, [], ◌∷◌, length, is_some, if◌then◌else◌, OnOk, OnErr, IsNone, IsSome, IsTrue, IfSome};
+ghost use Rattle.zone_tree.specs.Edge.{ComesBefore};
 ghost use Rattle.zone_tree.specs.Zone.{HasOrderedEdges};
 ghost use Rattle.zone_tree.specs.Conflict.{IsClean, IsFirstConflict};
 ghost use Rattle.zone_tree.specs.Order.{StandInOrder, HasNoZoneAt, with_zone, without_zone_at, zone_at};
@@ -10,7 +8,7 @@ ghost use Rattle.zone_tree.specs.Digits.{digits};
 use crate::look::{self, Part};
 use crate::summary::Summary;
 use crate::{Edge, Zone, Zones};
-use intervals::{Memory, Value};
+use intervals::Memory;
 use std::alloc::Global;
 use std::marker::Model;
 use summary_tree::{Summarizes, SummaryTree};
@@ -41,6 +39,13 @@ impl ZoneTree {
         ZoneTree {
             tree: SummaryTree::new(alloc),
         }
+    }
+
+    /// How many zones it holds.
+    pub fn len(&self) -> usize
+        ensures { result ≡ length self.now.zones }
+    {
+        self.tree.len()
     }
 
     /// How many zones can be inserted without memory.
@@ -128,28 +133,6 @@ impl ZoneTree {
         ensures { result ≡ zone_at left self.now.zones }
     {
         self.tree.get(left)
-    }
-
-    /// The first forward zone by left edge whose right edge is not before that one.
-    pub fn first_reaching(&self, edge: Edge) -> Option<Zone>
-        ensures { result ≡ find (λ z. z.forward && not (comes_before z.right edge)) self.now.zones }
-    {
-        look::first_reaching(self.all(), edge)
-    }
-
-    /// The first forward zone by left edge whose right edge is not before that one and whose value is
-    /// another than that.
-    pub fn first_reaching_but(&self, edge: Edge, value: Value) -> Option<Zone>
-        ensures { result ≡ find (λ z. z.forward && not (comes_before z.right edge) && not (same_value z.value value)) self.now.zones }
-    {
-        look::first_reaching_but(self.all(), edge, value)
-    }
-
-    /// The first forward zone by left edge whose right edge comes before that one.
-    pub fn first_short_of(&self, edge: Edge) -> Option<Zone>
-        ensures { result ≡ find (λ z. z.forward && comes_before z.right edge) self.now.zones }
-    {
-        look::first_short_of(self.all(), edge)
     }
 
     /// Whether no two zones conflict.

@@ -1,31 +1,36 @@
 -- What the parts of a register's judge are to each other after an edit.
-use Rattle.std.proofs.Common.{◌≡◌, ◌≤◌, List, [], length, Option, Some, None, Bool, true, false, cond, ◌||◌, refl, sym, ◌∙◌, subst, arith}
-use Rattle.std.specs.Prelude.{IfSome, IsSome, is_some}
+use Rattle.std.proofs.Common.{◌≡◌, ℕ, ◌≤◌, ◌+◌, List, [], length, Option, Some, None, Bool, true, false, cond, ◌||◌, refl, sym, ap, ◌∙◌, subst, arith}
+use Rattle.std.specs.Prelude.{IfSome, IsNone, IsSome, is_some}
+use Rattle.std.proofs.lemmas.Bool.{both_ways}
 use Rattle.std.proofs.lemmas.List.{length-map}
 use Rattle.std.proofs.lemmas.List.Sorted.{length_permutation}
 use Rattle.intervals.specs.declared.operation.Op.{Op}
 use Rattle.intervals.specs.declared.operation.Value.{Value}
 use Rattle.intervals.specs.declared.edit.Edit.{Edit}
-use Rattle.intervals.specs.Operation.{is_write, value_of, writes}
+use Rattle.intervals.specs.Operation.{IsWrite, is_write, value_of, writes}
 use Rattle.intervals.specs.Edit.{new_op, edited, edit_id, found_by}
 use Rattle.intervals.specs.Refusal.{reply_to}
 use Rattle.intervals.specs.declared.claim.Kind.TheVariants.{Atomic}
 use Rattle.intervals.specs.Table.{Tabled, prepared_after}
 use Rattle.intervals.specs.Terms.{Terms}
 use Rattle.zone_tree.specs.declared.zone.Zone.{Zone}
-use Rattle.zone_tree.specs.Order.{Contents, StandInOrder}
+use Rattle.stretch_tree.specs.declared.stretch.Stretch.{Stretch}
+use Rattle.stretch_tree.specs.Order.{Contents as Stretches}
+use Rattle.zone_tree.specs.Order.{Contents as Zones, StandInOrder}
 use Rattle.zones.specs.declared.index.Members.{Members}
 use Rattle.zones.specs.Cluster.{values_from, written_zone, zones_from}
-use Rattle.zones.specs.Faults.{AreStretched, AreStretchesAt}
+use Rattle.zones.specs.Faults.{AreStretched, AreStretchesAt, CanStretch, IsStretchAtSome, stretch_shape}
 use Rattle.zones.specs.Index.{AreMembers, HasPlaces, HasPlacesOf, HoldsOnlyFor}
 use Rattle.zones.specs.Members.{IsChange}
 use Rattle.zones.specs.Together.{HasRoomFor, HoldTogether}
-use Rattle.zones.specs.Zoned.{AreExchanged, AreZoned, AreZonesAt, CanExchange, NeedsNoRoom, AreManyWriters, judged_part, other_value, value_in}
+use Rattle.zones.specs.Moves.{AreExchanged, Stands}
+use Rattle.zones.specs.Zoned.{AreZoned, AreZonesAt, CanExchange, NeedsNoRoom, AreManyWriters, judged_part, other_value, value_in, zone_shape}
 use Rattle.zones.proofs.Members.{in_none}
 use Rattle.zones.proofs.Edited.{apart_kept, apart_none, change_of_edit}
 use Rattle.zones.proofs.InTree.{zones_each_once}
-use Rattle.zones.proofs.Moved.{can_move, keeps_room, moved_zoned}
-use Rattle.zones.proofs.Stretches.{moved_stretched, stretched_none, stretches_can_move, stretches_keep_room}
+use Rattle.zones.proofs.Lengths.{kept_length}
+use Rattle.zones.proofs.Moved.{can_move, keeps_room, moved_zoned, zone_gone}
+use Rattle.zones.proofs.Stretches.{moved_stretched, stretch_stands, stretched_none, stretches_are_new}
 
 -- of no operations a tree has no zones
 zoned_none : AreZoned [] []
@@ -37,34 +42,36 @@ as_many_writes claim ops tree apart order zoned =
     length_permutation (zones_from None ops) tree (zones_each_once ops tree apart.kept.moments (apart.kept.values apart.atomic).apart order zoned)
     ∙ (length-map (values_from None ops) (written_zone ops) ∙ length-map (writes ops) (λ w. value_of w.act))
 
-pub room_of_none : (members : Members) (zones stretches : Contents) (prepared : Option Op) → prepared ≡ None → IfSome prepared (HasRoomFor members zones stretches)
+pub room_of_none : (members : Members) (zones : Zones) (stretches : Stretches) (prepared : Option Op) → prepared ≡ None → IfSome prepared (HasRoomFor members zones stretches)
 room_of_none members zones stretches prepared e = subst (λ (p : Option Op). IfSome p (HasRoomFor members zones stretches)) (sym e) tt
 
-pub room_of_one : (members : Members) (zones stretches : Contents) (prepared : Option Op) (op : Op) → prepared ≡ Some op → HasPlaces op members → 2 ≤ zones.free → 2 ≤ stretches.free → IfSome prepared (HasRoomFor members zones stretches)
+pub room_of_one : (members : Members) (zones : Zones) (stretches : Stretches) (prepared : Option Op) (op : Op) → prepared ≡ Some op → HasPlaces op members → 2 ≤ zones.free → length zones.zones + 6 ≤ stretches.free → IfSome prepared (HasRoomFor members zones stretches)
 room_of_one members zones stretches prepared op e places more most =
     subst (λ (p : Option Op). IfSome p (HasRoomFor members zones stretches)) (sym e) (record { places = places; zones_free = more; stretches_free = most })
 
 -- of no operations
-pub together_at_first : (claim : Terms) → claim.kind ≡ Atomic → (table : Tabled) (members : Members) (zones stretches : Contents) → table ≡ record { ops = []; prepared = None } → AreMembers [] members → HoldsOnlyFor None members
-    → zones.zones ≡ [] → stretches.zones ≡ [] → HoldTogether claim table members zones stretches
-together_at_first claim atomic table members zones stretches e are only no_zones none =
+pub together_at_first : (claim : Terms) → claim.kind ≡ Atomic → (table : Tabled) (members : Members) (zones : Zones) (stretches : Stretches) → table ≡ record { ops = []; prepared = None } → AreMembers [] members → HoldsOnlyFor None members
+    → zones.zones ≡ [] → stretches.stretches ≡ [] → 2 ≤ stretches.free → HoldTogether claim table members zones stretches
+together_at_first claim atomic table members zones stretches e are only no_zones none enough =
     subst (λ (t : Tabled). HoldTogether claim t members zones stretches) (sym e) (record {
       apart = apart_none claim atomic;
       members_of = are;
       zoned = subst (AreZoned []) (sym no_zones) zoned_none;
       stretched = subst (AreStretched claim []) (sym none) (stretched_none claim);
+      spare = subst (λ (l : List Zone). length l + 2 ≤ stretches.free) (sym no_zones) enough;
       room = tt;
       only = only;
     })
 
 -- of the same operations
-pub together_kept : (claim : Terms) (table other : Tabled) (members changed : Members) (zones others stretches rest : Contents) → HoldTogether claim table members zones stretches
-    → other.ops ≡ table.ops → AreMembers table.ops changed → others.zones ≡ zones.zones → rest.zones ≡ stretches.zones → IfSome other.prepared (HasRoomFor changed others rest) → HoldsOnlyFor other.prepared changed → HoldTogether claim other changed others rest
-together_kept claim table other members changed zones others stretches rest together same are zones_same rest_same room only = record {
+pub together_kept : (claim : Terms) (table other : Tabled) (members changed : Members) (zones others : Zones) (stretches rest : Stretches) → HoldTogether claim table members zones stretches
+    → other.ops ≡ table.ops → AreMembers table.ops changed → others.zones ≡ zones.zones → rest.stretches ≡ stretches.stretches → stretches.free ≤ rest.free → IfSome other.prepared (HasRoomFor changed others rest) → HoldsOnlyFor other.prepared changed → HoldTogether claim other changed others rest
+together_kept claim table other members changed zones others stretches rest together same are zones_same rest_same more room only = record {
   apart = subst (AreManyWriters claim) (sym same) together.apart;
   members_of = subst (λ (l : List Op). AreMembers l changed) (sym same) are;
   zoned = subst (λ (l : List Op). AreZoned l others.zones) (sym same) (subst (AreZoned table.ops) (sym zones_same) together.zoned);
-  stretched = subst (λ (l : List Op). AreStretched claim l rest.zones) (sym same) (subst (AreStretched claim table.ops) (sym rest_same) together.stretched);
+  stretched = subst (λ (l : List Op). AreStretched claim l rest.stretches) (sym same) (subst (AreStretched claim table.ops) (sym rest_same) together.stretched);
+  spare = subst (λ (l : List Zone). length l + 2 ≤ rest.free) (sym zones_same) (let a = together.spare in omega (arith, more));
   room = room;
   only = only;
 }
@@ -83,21 +90,22 @@ some_part None some = absurd (cc)
 some_part (Some op) some = (op, refl)
 
 -- the room of the prepared operation
-module _ (members : Members) (zones stretches : Contents) (prepared : Option Op) (room : IfSome prepared (HasRoomFor members zones stretches)) where
-  pub enough_for : (new : Option Op) → IfSome new (λ op. prepared ≡ Some op) → IsSome (judged_part new) → (2 ≤ zones.free) × (2 ≤ stretches.free)
-  enough_for new is some =
+module _ (members : Members) (zones : Zones) (stretches : Stretches) (prepared : Option Op) (room : IfSome prepared (HasRoomFor members zones stretches)) where
+  pub room_for : (new : Option Op) → IfSome new (λ op. prepared ≡ Some op) → IsSome (judged_part new) → (2 ≤ zones.free) × (length zones.zones + 6 ≤ stretches.free)
+  room_for new is some =
       let (op, e) = some_part new some in
       let at : prepared ≡ Some op = subst (λ (n : Option Op). IfSome n (λ op. prepared ≡ Some op)) e is in
       let h : HasRoomFor members zones stretches op = subst (λ (p : Option Op). IfSome p (HasRoomFor members zones stretches)) at room in
       (h.zones_free, h.stretches_free)
 
   -- it stays where there is no new operation
-  module _ (after : Members) (zones_after stretches_after : Contents) (new : Option Op) (places : HasPlacesOf prepared after)
-      (zones_kept : judged_part new ≡ None → zones.free ≤ zones_after.free) (stretches_kept : judged_part new ≡ None → stretches.free ≤ stretches_after.free) where
+  module _ (after : Members) (zones_after : Zones) (stretches_after : Stretches) (new : Option Op) (places : HasPlacesOf prepared after)
+      (zones_kept : judged_part new ≡ None → zones.free ≤ zones_after.free) (stretches_kept : judged_part new ≡ None → length zones_after.zones + stretches.free ≤ length zones.zones + stretches_after.free) where
     pub room_after : IfSome (prepared_after new prepared) (HasRoomFor after zones_after stretches_after)
     room_after = by_cases new prepared room places zones_kept stretches_kept
       where
-        by_cases : (n p : Option Op) → IfSome p (HasRoomFor members zones stretches) → HasPlacesOf p after → (judged_part n ≡ None → zones.free ≤ zones_after.free) → (judged_part n ≡ None → stretches.free ≤ stretches_after.free)
+        by_cases : (n p : Option Op) → IfSome p (HasRoomFor members zones stretches) → HasPlacesOf p after → (judged_part n ≡ None → zones.free ≤ zones_after.free)
+            → (judged_part n ≡ None → length zones_after.zones + stretches.free ≤ length zones.zones + stretches_after.free)
             → IfSome (prepared_after n p) (HasRoomFor after zones_after stretches_after)
         by_cases (Some op) p h places more most = tt
         by_cases None None h places more most = tt
@@ -106,6 +114,15 @@ module _ (members : Members) (zones stretches : Contents) (prepared : Option Op)
           zones_free = (let a = h.zones_free in let b = more refl in omega arith);
           stretches_free = (let a = h.stretches_free in let b = most refl in omega arith);
         }
+
+  -- enough places are left
+  pub spare_after : length zones.zones + 2 ≤ stretches.free → (new : Option Op) → IfSome new (λ op. prepared ≡ Some op) → (zones_after : List Zone) (free : ℕ)
+      → (judged_part new ≡ None → length zones_after + stretches.free ≤ length zones.zones + free) → length zones_after ≤ length zones.zones + 2 → stretches.free ≤ free + 2 → length zones_after + 2 ≤ free
+  spare_after spare new is zones_after free kept more most = by_cases (judged_part new) refl
+    where
+      by_cases : (part : Option Op) → judged_part new ≡ part → length zones_after + 2 ≤ free
+      by_cases None e = omega (arith, spare, kept e)
+      by_cases (Some op) e = omega (arith, (room_for new is (ap is_some e)).1, more, most)
 
 module _ (claim : Terms) (ops : List Op) (edit : Edit) (apart : AreManyWriters claim ops) (accepted : reply_to claim ops edit ≡ None)
     (old new : Option Op) (old_is : old ≡ judged_part (found_by ops (edit_id edit))) (new_is : new ≡ judged_part (new_op ops edit))
@@ -119,9 +136,8 @@ module _ (claim : Terms) (ops : List Op) (edit : Edit) (apart : AreManyWriters c
       (subst (λ (n : Option Op). IsChange ops (judged_part (found_by ops (edit_id edit))) n after) (sym new_is)
       (subst (λ (l : List Op). IsChange ops (judged_part (found_by ops (edit_id edit))) (judged_part (new_op ops edit)) l) (sym after_is) (change_of_edit claim ops edit apart accepted)))
 
-  module _ (first second : Option Value) (first_is : first ≡ value_in old) (second_is : second ≡ other_value first (value_in new))
-      (earlier later : Option Zone × Option Zone) (tree : Contents) where
-    module _ (zoned : AreZoned ops tree.zones) (earlier_is : AreZonesAt ops first second earlier) (later_is : AreZonesAt after first second later) where
+  module _ (first second : Option Value) (first_is : first ≡ value_in old) (second_is : second ≡ other_value first (value_in new)) where
+    module _ (earlier later : Option Zone × Option Zone) (tree : Zones) (zoned : AreZoned ops tree.zones) (earlier_is : AreZonesAt ops first second earlier) (later_is : AreZonesAt after first second later) where
       at_values : (list : List Op) (found : Option Zone × Option Zone) → AreZonesAt list first second found → AreZonesAt list (value_in old) (other_value (value_in old) (value_in new)) found
       at_values list found is =
           subst (λ (u : Option Value). AreZonesAt list u (other_value u (value_in new)) found) first_is
@@ -137,30 +153,78 @@ module _ (claim : Terms) (ops : List Op) (edit : Edit) (apart : AreManyWriters c
           keeps_room ops old new after change_is apart.kept.moments apart_after.kept.moments tree.zones zoned earlier later gone come changes
           (at_values ops earlier earlier_is) (at_values after later later_is) none
 
-      pub zoned_after : (result : List Zone) → AreExchanged earlier later tree.zones result → AreZoned after result
+      pub zoned_after : (result : List Zone) → AreExchanged zone_shape earlier later tree.zones result → AreZoned after result
       zoned_after result is =
           subst (AreZoned after) (sym is.moves)
           (moved_zoned ops old new after change_is apart.kept.moments apart_after.kept.moments tree.zones zoned earlier later is.gone is.come is.changes
           (at_values ops earlier earlier_is) (at_values after later later_is))
 
-    module _ (stretched : AreStretched claim ops tree.zones) (earlier_is : AreStretchesAt claim ops first second earlier) (later_is : AreStretchesAt claim after first second later) where
-      stretches_at : (list : List Op) (found : Option Zone × Option Zone) → AreStretchesAt claim list first second found → AreStretchesAt claim list (value_in old) (other_value (value_in old) (value_in new)) found
+      -- where nothing comes there are no more zones, and where a write goes there are fewer
+      pub no_more_zones : new ≡ None → (result : List Zone) → AreExchanged zone_shape earlier later tree.zones result → length result ≤ length tree.zones
+      no_more_zones none result is = kept_length is.gone is.come tree.zones result (zones_need_no_room none is.gone is.come is.changes) is.moves
+
+      pub fewer_zones : new ≡ None → (w : Op) → old ≡ Some w → IsWrite w → (result : List Zone) → AreExchanged zone_shape earlier later tree.zones result → length result + 1 ≤ length tree.zones
+      fewer_zones none w e write result is =
+          zone_gone ops old new after change_is tree.zones zoned earlier later (at_values ops earlier earlier_is) (at_values after later later_is) none w e write is.gone is.come is.changes
+          (zones_need_no_room none is.gone is.come is.changes).other result is.moves
+
+    module _ (earlier later : Option Stretch × Option Stretch) (tree : Stretches) (stretched : AreStretched claim ops tree.stretches)
+        (earlier_is : AreStretchesAt claim ops first second earlier) (later_is : AreStretchesAt claim after first second later) where
+      stretches_at : (list : List Op) (found : Option Stretch × Option Stretch) → AreStretchesAt claim list first second found → AreStretchesAt claim list (value_in old) (other_value (value_in old) (value_in new)) found
       stretches_at list found is =
           subst (λ (u : Option Value). AreStretchesAt claim list u (other_value u (value_in new)) found) first_is
           (subst (λ (u : Option Value). AreStretchesAt claim list first u found) second_is is)
 
-      pub can_exchange_stretches : (IsSome new → 2 ≤ tree.free) → CanExchange tree earlier later
-      can_exchange_stretches enough gone come changes =
-          stretches_can_move claim ops old new after change_is apart.kept.moments apart_after.kept.moments tree.zones stretched earlier later gone come changes
-          (stretches_at ops earlier earlier_is) (stretches_at after later later_is) tree.free tree.steps enough
+      pub can_exchange_stretches : CanStretch tree.stretches earlier later
+      can_exchange_stretches gone come changes =
+          stretches_are_new claim ops old new after change_is apart.kept.moments apart_after.kept.moments tree.stretches stretched earlier later
+          (stretches_at ops earlier earlier_is) (stretches_at after later later_is) gone come changes
 
-      pub stretches_need_no_room : new ≡ None → NeedsNoRoom tree.zones earlier later
-      stretches_need_no_room none gone come changes =
-          stretches_keep_room claim ops old new after change_is apart.kept.moments apart_after.kept.moments tree.zones stretched earlier later gone come changes
-          (stretches_at ops earlier earlier_is) (stretches_at after later later_is) none
-
-      pub stretched_after : (result : List Zone) → AreExchanged earlier later tree.zones result → AreStretched claim after result
+      pub stretched_after : (result : List Stretch) → AreExchanged stretch_shape earlier later tree.stretches result → AreStretched claim after result
       stretched_after result is =
           subst (AreStretched claim after) (sym is.moves)
-          (moved_stretched claim ops old new after change_is apart.kept.moments apart_after.kept.moments tree.zones stretched earlier later is.gone is.come is.changes
-          (stretches_at ops earlier earlier_is) (stretches_at after later later_is))
+          (moved_stretched claim ops old new after change_is apart.kept.moments apart_after.kept.moments tree.stretches stretched earlier later
+          (stretches_at ops earlier earlier_is) (stretches_at after later later_is) is.gone is.come is.changes)
+
+      -- where nothing comes there is no second stretch
+      pub no_second : new ≡ None → IsNone later.1
+      no_second none = second_none (value_in old) (value_in new) (ap value_in none) later.1 (stretches_at after later later_is).other
+        where
+          second_none : (f s : Option Value) → s ≡ None → (found : Option Stretch) → IsStretchAtSome claim after (other_value f s) found → IsNone found
+          second_none None s e found is = (let at : found ≡ None = subst (λ (u : Option Value). IsStretchAtSome claim after u found) e is in ap is_some at)
+          second_none (Some u) None e found is = ap is_some is
+          second_none (Some u) (Some v) e found is = absurd (cc)
+
+      pub stands_for : new ≡ None → ((op : Op) → old ≡ Some op → ¬ IsWrite op) → IsSome later.0 → Stands tree.stretches earlier.0
+      stands_for none reads =
+          stretch_stands claim ops old new after change_is apart.kept.moments apart_after.kept.moments tree.stretches stretched earlier later
+          (stretches_at ops earlier earlier_is) (stretches_at after later later_is) none reads
+
+    -- where nothing comes each stretch that comes has the place of one that goes, or of a write's
+    pub room_left : new ≡ None
+        → (earlier later : Option Zone × Option Zone) (zones : Zones) → AreZoned ops zones.zones → AreZonesAt ops first second earlier → AreZonesAt after first second later
+        → (result : List Zone) → AreExchanged zone_shape earlier later zones.zones result
+        → (was is : Option Stretch × Option Stretch) (stretches : Stretches) → AreStretched claim ops stretches.stretches → AreStretchesAt claim ops first second was → AreStretchesAt claim after first second is
+        → (free : ℕ) → (IsNone is.1 → stretches.free ≤ free + 1) → (IsNone is.1 → (IsSome is.0 → Stands stretches.stretches was.0) → stretches.free ≤ free)
+        → length result + stretches.free ≤ length zones.zones + free
+    room_left none earlier later zones zoned earlier_is later_is result exchanged was is stretches stretched was_is is_is free one kept = by_old old refl
+      where
+        second_none : IsNone is.1
+        second_none = no_second was is stretches stretched was_is is_is none
+
+        where_reads : ((op : Op) → old ≡ Some op → ¬ IsWrite op) → length result + stretches.free ≤ length zones.zones + free
+        where_reads reads =
+            omega (
+              arith,
+              no_more_zones earlier later zones zoned earlier_is later_is none result exchanged,
+              kept second_none (stands_for was is stretches stretched was_is is_is none reads),
+            )
+
+        by_write : (op : Op) → old ≡ Some op → (t : Bool) → is_write op ≡ t → length result + stretches.free ≤ length zones.zones + free
+        by_write op e true t = omega (arith, fewer_zones earlier later zones zoned earlier_is later_is none op e t result exchanged, one second_none)
+        by_write op e false t =
+            where_reads (λ x f write. let same : op ≡ x = let both : Some op ≡ Some x = sym e ∙ f in cc in both_ways (is_write op) t (subst IsWrite (sym same) write))
+
+        by_old : (o : Option Op) → old ≡ o → length result + stretches.free ≤ length zones.zones + free
+        by_old None e = where_reads (λ x f. absurd (let g : None ≡ Some x = sym e ∙ f in cc))
+        by_old (Some op) e = by_write op e (is_write op) refl

@@ -1,18 +1,20 @@
 -- The edges of a value: what an edit makes of them, and what its zone and its stretch are by them.
 use Rattle.std.proofs.Common.{◌≡◌, ◌≢◌, ◌↔◌, ◌⊎◌, inl, inr, Bool, true, false, ◌&&◌, List, Option, Some, None, refl, sym, ap, ◌∙◌, subst, cond}
-use Rattle.std.specs.Prelude.{Contains, IfSome, IsSome}
+use Rattle.std.specs.Prelude.{Contains, IfSome, IsSome, IsTrue}
 use Rattle.std.proofs.lemmas.List.Elements.{All-contains}
 use Rattle.intervals.specs.declared.operation.Op.{Op}
+use Rattle.intervals.specs.declared.operation.Moment.{Moment}
 use Rattle.intervals.specs.declared.operation.Value.{Value}
 use Rattle.intervals.specs.Operation.{IsJudgedRead, IsWrite, is_judged_read, is_write, judged, same_value, value_of}
+use Rattle.stretch_tree.specs.declared.stretch.Stretch.{Stretch}
 use Rattle.zone_tree.specs.declared.edge.Edge.{Edge}
 use Rattle.zone_tree.specs.declared.edge.Edge.TheVariants.{Before, At, Never}
 use Rattle.zone_tree.specs.Edge.{ComesBefore}
-use Rattle.zones.specs.Cluster.{earlier_of, edge_of_end, later_of, zone_between}
+use Rattle.zones.specs.Cluster.{earlier_of, edge_of_end, later_of}
 use Rattle.zones.specs.Edges.{AreEdges, AreReadEdges, AreWriteEdges, part_of, read_part, write_part}
 use Rattle.zone_tree.specs.declared.zone.Zone.{Zone}
 use Rattle.zones.specs.declared.edges.Edges.{Edges}
-use Rattle.zones.specs.Faults.{IsRead, IsStretchAt, begin_of_write, first_end_of, write_of}
+use Rattle.zones.specs.Faults.{IsAtFault, IsRead, IsStretchAt, begin_of_write, first_end_of, moment_of, write_of}
 use Rattle.intervals.specs.Standing.{IsInitial}
 use Rattle.intervals.specs.Terms.{Terms}
 use Rattle.intervals.specs.Kind.{HasNoWrite}
@@ -22,7 +24,7 @@ use Rattle.zones.proofs.EdgeOrder.{AtMost, at_most_both, at_most_itself, at_most
 use Rattle.zones.proofs.Ends.{in_judged-read, in_judged-write, none_begins, none_ends}
 use Rattle.zones.proofs.Judged.{is_judged}
 use Rattle.zones.proofs.Members.{Decides-same_value, all_from, kept_stands}
-use Rattle.zones.proofs.Stretches.{begin_at_write, begin_never, first_at_most, first_held, no_write}
+use Rattle.zones.proofs.Stretches.{BeginCases, IsHeld, at_write, begin_cases, first_at_most, first_end_is, first_held, first_of_reads, never_written, no_write, no_write_at, written}
 use Rattle.zones.proofs.Written.{never_last}
 
 -- what passes a test and has the value
@@ -253,49 +255,61 @@ first_end_by_edge ops v begin end are = at_most_both (first_end_of ops v) end (b
     by_first (inl e) = subst (AtMost end) (sym e) (never_last end)
     by_first (inr (r, (h, j, s), f)) = subst (AtMost end) f (All-contains (λ op. IsJudgedRead op → value_of op.act ≡ v → AtMost end (edge_of_end op.end)) ops r are.end.least h j s)
 
--- a value is read where a read has begun
-pub read_by_edge : (ops : List Op) (v : Value) (begin end : Edge) → AreReadEdges ops v begin end → ComesBefore Before begin ↔ IsRead ops v
-read_by_edge ops v begin end are = (
-  (λ h. let (r, k, j, s, f) = begun IsJudgedRead ops v begin are.begin h in (r, k, j, s)),
-  (λ read. has_begun IsJudgedRead ops v begin are.begin read.0 read.1 read.2 read.3),
-)
-
 -- where the write begins
 module _ (ops : List Op) (v : Value) (begin end : Edge) (are : AreWriteEdges ops v begin end) where
   pub begin_by_edge : ComesBefore Before begin → begin ≡ begin_of_write (write_of ops v)
   begin_by_edge h =
       let (w, k, t, s, f) = begun IsWrite ops v begin are.begin h in
       let is : IsTheWriteAt ops v w = record { stands = k; write = t; same = s } in
-      sym f ∙ sym (begin_at_write ops v w is (λ x is_x. are.one x w is_x is))
+      sym f ∙ sym (at_write ops v w is (λ x is_x. are.one x w is_x is)).0
 
   pub begin_by_none : ¬ ComesBefore Before begin → Never ≡ begin_of_write (write_of ops v)
-  begin_by_none n = sym (begin_never ops v (no_write ops v (λ w is. n (has_begun IsWrite ops v begin are.begin w is.stands is.write is.same))))
+  begin_by_none n = sym (never_written ops v (no_write ops v (λ w is. n (has_begun IsWrite ops v begin are.begin w is.stands is.write is.same)))).0
 
 -- edges are those of the value that they name
 pub at_itself : (ops : List Op) (v : Value) (edges : Edges) → AreEdges ops v edges → AreEdges ops edges.value edges
 at_itself ops v edges are = subst (λ (u : Value). AreEdges ops u edges) (sym are.same) are
 
 -- the stretch of a value
-module _ (claim : Terms) (ops : List Op) (v : Value) (begin end : Edge) (are : AreReadEdges ops v begin end) where
-  pub stretch_by_edge : ¬ IsInitial claim v → ComesBefore Before begin → (at : Edge) → at ≡ begin_of_write (write_of ops v) → (zone : Zone) → zone ≡ zone_between end at v → IsStretchAt claim ops v (Some zone)
-  stretch_by_edge later h at at_is zone e = record {
+module _ (claim : Terms) (ops : List Op) (v : Value) where
+  read_by_end : (end : Moment) → first_end_of ops v ≡ At end → IsRead ops v
+  read_by_end end is = by_cases (first_held ops v)
+    where
+      by_cases : IsHeld ops v → IsRead ops v
+      by_cases (inl e) = absurd (let f : Never ≡ At end = sym e ∙ is in cc)
+      by_cases (inr (r, (h, j, s), e)) = (r, h, j, s)
+
+  written_is : (t : Bool) → IsTrue t ↔ HasWrite ops v → t ≡ written ops v
+  written_is t is = by_cases t is (begin_cases ops v)
+    where
+      by_cases : (t : Bool) → IsTrue t ↔ HasWrite ops v → BeginCases ops v → t ≡ written ops v
+      by_cases true is (inl (w, at, e, f)) = sym f
+      by_cases false is (inl (w, at, e, f)) = absurd (let g : false ≡ true = is.1 (w, at) in cc)
+      by_cases true is (inr (none, e, f)) = let (w, at) = is.0 refl in absurd (no_write_at ops v none w at)
+      by_cases false is (inr (none, e, f)) = sym f
+
+  pub stretch_by_edge : (end : Moment) → first_end_of ops v ≡ At end → (at : Edge) → at ≡ begin_of_write (write_of ops v) → ComesBefore (At end) at → ¬ IsInitial claim v
+      → (t : Bool) → IsTrue t ↔ HasWrite ops v → IsStretchAt claim ops v (Some (record { end = end; written = t; value = v }))
+  stretch_by_edge end first at at_is before not_initial t is = record {
     stretch =
-        e
-        ∙ (ap (λ (m : Edge). zone_between m at v) (sym (first_end_by_edge ops v begin end are))
-        ∙ ap (λ (m : Edge). zone_between (first_end_of ops v) m v) at_is);
+        ap {B = Stretch} (λ (m : Edge). record { end = moment_of m; written = t; value = v }) (sym first)
+        ∙ ap {B = Stretch} (λ (t : Bool). record { end = moment_of (first_end_of ops v); written = t; value = v }) (written_is t is);
     none = λ n. absurd (cc);
-    some = λ n. ((read_by_edge ops v begin end are).0 h, later);
+    some = λ n. record {
+      read = read_by_end end first;
+      not_initial = not_initial;
+      before = subst (λ (x : Edge). ComesBefore x (begin_of_write (write_of ops v))) (sym first) (subst (ComesBefore (At end)) at_is before);
+    };
   }
 
-  pub no_stretch_by_edge : ¬ ComesBefore Before begin → IsStretchAt claim ops v None
-  no_stretch_by_edge n = record {
-    stretch = tt;
-    none = λ none read. n ((read_by_edge ops v begin end are).1 read.0);
-    some = λ some. absurd (cc);
-  }
+  pub no_stretch : ¬ IsAtFault claim ops v → IsStretchAt claim ops v None
+  no_stretch none = record { stretch = tt; none = λ e. none; some = λ some. absurd (cc) }
 
-pub no_stretch_at_first : (claim : Terms) (ops : List Op) (v : Value) → IsInitial claim v → IsStretchAt claim ops v None
-no_stretch_at_first claim ops v first = record { stretch = tt; none = λ none read. read.1 first; some = λ some. absurd (cc) }
+  -- a value at fault has a first end
+  pub ends_at_fault : (begin end : Edge) → AreReadEdges ops v begin end → IsAtFault claim ops v → (m : Moment) × (end ≡ At m)
+  ends_at_fault begin end are fault =
+      let (m, id, is) = first_of_reads ops v fault.read in
+      (m, sym (first_end_by_edge ops v begin end are) ∙ first_end_is ops v m id is)
 
 -- a zone is found where a write has the value
 pub found_where_written : (ops : List Op) (v : Value) (found : Option Zone) → IsZoneAt ops v found → IsSome found ↔ HasWrite ops v

@@ -3,7 +3,8 @@ use Rattle.std.proofs.Common.{◌≡◌, ◌<◌, ◌≤◌, ◌⊎◌, inl, inr
 use Rattle.std.specs.Prelude.{IsSome}
 use Rattle.zone_tree.specs.declared.zone.Zone.{Zone}
 use Rattle.zone_tree.specs.Order.{Contents}
-use Rattle.zones.specs.Zoned.{AreChanges, AreExchanged, CanExchange, CanMove, IsNew, KeepsRoom, NeedsNoRoom, Stands, with, without}
+use Rattle.zones.specs.Moves.{AreChanges, AreExchanged, IsNew, KeepsRoom, Stands, with, without}
+use Rattle.zones.specs.Zoned.{CanExchange, CanMove, NeedsNoRoom, zone_shape}
 
 module _ (before after : Option Zone × Option Zone) where
   both : AreChanges before after before after
@@ -12,7 +13,7 @@ module _ (before after : Option Zone × Option Zone) where
   pub can_move_both : (tree : Contents) → CanExchange tree before after → CanMove tree before after
   can_move_both tree can = can before after both
 
-  pub none_moved : before.0 ≡ after.0 → before.1 ≡ after.1 → (zones : List Zone) → AreExchanged before after zones zones
+  pub none_moved : before.0 ≡ after.0 → before.1 ≡ after.1 → (zones : List Zone) → AreExchanged zone_shape before after zones zones
   none_moved e f zones = record {
     gone = (None, None);
     come = (None, None);
@@ -32,10 +33,10 @@ module _ (before after : Option Zone × Option Zone) where
         by_room (inl two) = inl (omega (arith, two))
         by_room (inr keeps) = inr (keeps.one is)
 
-    pub first_is_new : (tree : Contents) → CanExchange tree before after → IsNew (without before.0 tree.zones) after.0
-    first_is_new tree can = (can (before.0, None) (after.0, None) first_alone).first
+    pub first_is_new : (tree : Contents) → CanExchange tree before after → IsNew zone_shape (without zone_shape before.0 tree.zones) after.0
+    first_is_new tree can = (can (before.0, None) (after.0, None) first_alone).new.first
 
-    pub first_moved : (zones result : List Zone) → result ≡ with after.0 (without before.0 zones) → AreExchanged before after zones result
+    pub first_moved : (zones result : List Zone) → result ≡ with zone_shape after.0 (without zone_shape before.0 zones) → AreExchanged zone_shape before after zones result
     first_moved zones result is = record {
       gone = (before.0, None);
       come = (after.0, None);
@@ -61,10 +62,10 @@ module _ (before after : Option Zone × Option Zone) where
         by_room (inl two) = inl (omega (arith, two))
         by_room (inr keeps) = none_comes tree.zones keeps is
 
-    pub second_is_new : (tree : Contents) → CanExchange tree before after → IsNew (without before.1 tree.zones) after.1
-    second_is_new tree can = (can (None, before.1) (None, after.1) second_alone).second
+    pub second_is_new : (tree : Contents) → CanExchange tree before after → IsNew zone_shape (without zone_shape before.1 tree.zones) after.1
+    second_is_new tree can = (can (None, before.1) (None, after.1) second_alone).new.second
 
-    pub second_moved : (zones result : List Zone) → result ≡ with after.1 (without before.1 zones) → AreExchanged before after zones result
+    pub second_moved : (zones result : List Zone) → result ≡ with zone_shape after.1 (without zone_shape before.1 zones) → AreExchanged zone_shape before after zones result
     second_moved zones result is = record {
       gone = (None, before.1);
       come = (None, after.1);

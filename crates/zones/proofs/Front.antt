@@ -119,8 +119,3 @@ module _ (claim : Terms) (ops : List Op) (apart : AreManyWriters claim ops) (fir
 
   pub second_may : MayStart (initial_of claim ops) (start_of claim ops) second.value
   second_may = may second (subst (λ (zones : List Zone). Contains zones second) (sym h.conflict.parts) (Contains-append_right h.conflict.earlier (second ∷ h.conflict.later) second (here second h.conflict.later)))
-
--- what is mapped to none is none
-pub none_behind : {X Y : Type 0} (f : X → Y) (found : Option X) (result : Option Y) → result ≡ option_map f found → result ≡ None → found ≡ None
-none_behind f None result is none = refl
-none_behind f (Some x) result is none = absurd (let some : Some (f x) ≡ None = sym is ∙ none in cc)

@@ -16,7 +16,7 @@ use Rattle.zone_tree.specs.declared.edge.Edge.TheVariants.{Before, At, Never}
 use Rattle.zone_tree.specs.declared.zone.Zone.{Zone}
 use Rattle.zone_tree.specs.Edge.{ComesBefore, same_edge}
 use Rattle.zone_tree.specs.Order.{IsByLeft, StandInOrder, without_zone_at, zone_at}
-use Rattle.zone_tree.proofs.EdgeOrder.{Decides-same_edge}
+use Rattle.zone_tree.proofs.EdgeOrder.{Decides-same_edge, edge_exact, left_of}
 use Rattle.zone_tree.proofs.Places.{members_without, order_left}
 use Rattle.zones.specs.AtFirst.{fresh}
 use Rattle.zones.specs.Cluster.{zone_of, written_zone, values_from, zones_from, zones_of}
@@ -46,7 +46,7 @@ each_once : (zones tree : List Zone) → AllPairs Apart zones → StandInOrder t
 each_once [] [] apart order each only = IsPermutation-refl []
 each_once [] (z ∷ tree) apart order each only = absurd (in_none z (only z (here z tree)))
 each_once (a ∷ zones) tree apart order each only =
-    by_found (zone_at a.left tree) refl (found_standing tree a a.left (each a (here a zones)) refl) (each_once zones (without_zone_at a.left tree) (pairs_tail Apart a zones apart) (order_left a.left tree order))
+    by_found (zone_at a.left tree) refl (found_standing left_of same_edge edge_exact tree a a.left (each a (here a zones)) refl) (each_once zones (without_zone_at a.left tree) (pairs_tail Apart a zones apart) (order_left a.left tree order))
   where
     others : (z : Zone) → Contains zones z → a.left ≢ z.left
     others z h = All-contains (Apart a) zones z (pairs_head Apart a zones apart) h

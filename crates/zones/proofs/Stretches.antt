@@ -1,7 +1,7 @@
--- The stretches of the values that are read: their edges, and what an edit makes of them.
-use Rattle.std.proofs.Common.{◌≡◌, ◌≢◌, ◌⊎◌, ◌≤◌, ◌<◌, ℕ, inl, inr, true, false, ◌&&◌, List, [], Option, Some, None, Decides, refl, sym, ap, ◌∙◌, subst, arith}
-use Rattle.std.specs.Prelude.{Contains, IsSome, filter, map}
-use Rattle.std.proofs.lemmas.Bool.{cond_both, both_ways, cases_order, lt-ltb, ltb-true}
+-- The values at fault and their stretches: the edges of these, and what an edit makes of them.
+use Rattle.std.proofs.Common.{◌≡◌, ◌≢◌, ◌⊎◌, ◌≤◌, ◌<◌, inl, inr, Bool, true, false, ◌&&◌, List, [], Option, Some, None, Decides, refl, sym, ap, ◌∙◌, subst, arith}
+use Rattle.std.specs.Prelude.{Contains, IsNone, IsSome, IfSome, is_some, filter, map}
+use Rattle.std.proofs.lemmas.Bool.{both_ways, cases_order, lt-ltb, ltb-true}
 use Rattle.std.proofs.lemmas.Bool.Decides.{Decides-and, not_from_Decides}
 use Rattle.std.proofs.lemmas.List.Elements.{All-contains}
 use Rattle.intervals.specs.declared.operation.Op.{Op}
@@ -13,60 +13,25 @@ use Rattle.intervals.specs.Standing.{HasDistinctMoments}
 use Rattle.intervals.specs.Judging.{end_number}
 use Rattle.intervals.specs.Terms.{Terms}
 use Rattle.intervals.proofs.Found.{find-None, find-Some}
+use Rattle.stretch_tree.specs.declared.stretch.Stretch.{Stretch}
+use Rattle.stretch_tree.proofs.MomentOrder.{moment_exact, moment_order}
 use Rattle.zone_tree.specs.declared.edge.Edge.{Edge}
 use Rattle.zone_tree.specs.declared.edge.Edge.TheVariants.{At, Never}
-use Rattle.zone_tree.specs.declared.zone.Zone.{Zone}
-use Rattle.zone_tree.specs.Edge.{ComesBefore, comes_before}
-use Rattle.zone_tree.specs.Zone.{HasOrderedEdges, IsForward}
-use Rattle.zones.specs.Cluster.{Span, edge_of_end, has_value, span_of, zone_between}
-use Rattle.zones.specs.Faults.{AreStretched, AreStretchesAt, IsRead, IsReadLater, IsStretchAtSome, begin_of_write, first_end_of, reads_of, stretch_of, write_of}
+use Rattle.zone_tree.specs.Edge.{ComesBefore}
+use Rattle.zones.specs.Cluster.{Span, edge_of_end, has_value, span_of}
+use Rattle.zones.specs.Faults.{AreStretched, AreStretchesAt, IsAtFault, IsRead, IsStretchAt, IsStretchAtSome, begin_of_write, first_end_of, moment_of, reads_of, stretch_of, stretch_shape, write_of}
 use Rattle.intervals.specs.Kind.{HasNoWrite}
 use Rattle.zones.specs.Members.{EndsFirstOf, IsChange, IsTheWriteAt}
-use Rattle.zones.specs.Zoned.{AreChanges, CanMove, KeepsRoom, moved, other_value, value_in}
+use Rattle.zones.specs.Moves.{AreChanges, AreNew, Stands, moved}
+use Rattle.zones.specs.Zoned.{other_value, value_in}
 use Rattle.zones.proofs.Cluster.{EdgeIn, least-bound, least-held, settle}
-use Rattle.zones.proofs.EdgeOrder.{AtMost, at_most_both}
+use Rattle.zones.proofs.EdgeOrder.{AtMost, at_most_both, not_after_before}
 use Rattle.zones.proofs.Edited.{from_map}
 use Rattle.zones.proofs.FirstReads.{ended_at, has_end}
 use Rattle.zones.proofs.Judged.{is_judged, judged_read, judged_write}
 use Rattle.zones.proofs.Members.{Decides-same_value, in_none, kept, kept_stands, all_from, mapped}
-use Rattle.zones.proofs.PerValue.{StandForValues, HasZonesBut, IsZoneForSome, DifferWhereTouched, IsUntouched, moved_tree, tree_can_move, tree_keeps_room}
-use Rattle.zones.proofs.Written.{never_last, write_member}
-
--- the zone between two edges
-abbrev pub forward_zone : Edge → Edge → Value → Zone
-forward_zone m M v = record { left = m; right = M; forward = true; value = v }
-
-abbrev pub backward_zone : Edge → Edge → Value → Zone
-backward_zone m M v = record { left = M; right = m; forward = false; value = v }
-
-between_cases : (m M : Edge) (v : Value) → (ComesBefore m M × (zone_between m M v ≡ forward_zone m M v)) ⊎ ((¬ ComesBefore m M) × (zone_between m M v ≡ backward_zone m M v))
-between_cases m M v =
-    cond_both (comes_before m M) (forward_zone m M v) (backward_zone m M v)
-    (λ (z : Zone). (ComesBefore m M × (z ≡ forward_zone m M v)) ⊎ ((¬ ComesBefore m M) × (z ≡ backward_zone m M v)))
-    (λ p. inl (p, refl)) (λ f. inr (both_ways (comes_before m M) f, refl))
-
-pub between_forward : (m M : Edge) (v : Value) → ComesBefore m M → zone_between m M v ≡ forward_zone m M v
-between_forward m M v p = by_cases (between_cases m M v)
-  where
-    by_cases : (ComesBefore m M × (zone_between m M v ≡ forward_zone m M v)) ⊎ ((¬ ComesBefore m M) × (zone_between m M v ≡ backward_zone m M v)) → zone_between m M v ≡ forward_zone m M v
-    by_cases (inl (q, e)) = e
-    by_cases (inr (n, e)) = absurd (n p)
-
-pub forward_between : (m M : Edge) (v : Value) → IsForward (zone_between m M v) → ComesBefore m M
-forward_between m M v h = by_cases (between_cases m M v)
-  where
-    by_cases : (ComesBefore m M × (zone_between m M v ≡ forward_zone m M v)) ⊎ ((¬ ComesBefore m M) × (zone_between m M v ≡ backward_zone m M v)) → ComesBefore m M
-    by_cases (inl (q, e)) = q
-    by_cases (inr (n, e)) = absurd (let f : false ≡ true = sym (ap (λ (z : Zone). z.forward) e) ∙ h in cc)
-
-value_between : (m M : Edge) (v : Value) → (zone_between m M v).value ≡ v
-value_between m M v = cond_both (comes_before m M) (forward_zone m M v) (backward_zone m M v) (λ (z : Zone). z.value ≡ v) (λ p. refl) (λ f. refl)
-
-order_between : (m M : Edge) (v : Value) → HasOrderedEdges (zone_between m M v)
-order_between m M v =
-    cond_both (comes_before m M) (forward_zone m M v) (backward_zone m M v) HasOrderedEdges
-    (λ p. (λ t. p, λ n. absurd (n refl)))
-    (λ f. (λ t. absurd (cc), λ n. both_ways (comes_before m M) f))
+use Rattle.zones.proofs.PerValue.{StandForValues, HasItemsBut, IsItemForSome, IsUntouched, KeepsItem, moved_tree, tree_is_new}
+use Rattle.zones.proofs.Written.{never_last}
 
 -- of two moments
 moments_in_order : (m n : Moment) → AtMost (At m) (At n) → m.0 ≤ n.0
@@ -186,16 +151,19 @@ module _ (ops : List Op) (v : Value) where
           let (write, same) = (decides w).0 t in
           inl (w, e, record { stands = h; write = write; same = same })
 
--- where the write of a value begins
+-- where the write of a value begins, and whether there is one
 module _ (ops : List Op) (v : Value) where
   abbrev pub begin : Edge
   begin = begin_of_write (write_of ops v)
 
+  abbrev pub written : Bool
+  written = is_some (write_of ops v)
+
   abbrev pub BeginsAtWrite : Type 0
-  BeginsAtWrite = (w : Op) × IsTheWriteAt ops v w × (begin ≡ At w.begin)
+  BeginsAtWrite = (w : Op) × IsTheWriteAt ops v w × (begin ≡ At w.begin) × (written ≡ true)
 
   abbrev pub BeginsNever : Type 0
-  BeginsNever = HasNoWrite ops v × (begin ≡ Never)
+  BeginsNever = HasNoWrite ops v × (begin ≡ Never) × (written ≡ false)
 
   abbrev pub BeginCases : Type 0
   BeginCases = BeginsAtWrite ⊎ BeginsNever
@@ -204,46 +172,37 @@ module _ (ops : List Op) (v : Value) where
   begin_cases = by_write (write_cases ops v)
     where
       by_write : ((w : Op) × (write_of ops v ≡ Some w) × IsTheWriteAt ops v w) ⊎ ((write_of ops v ≡ None) × HasNoWrite ops v) → BeginCases
-      by_write (inl (w, e, is)) = inl (w, is, ap begin_of_write e)
-      by_write (inr (e, none)) = inr (none, ap begin_of_write e)
+      by_write (inl (w, e, is)) = inl (w, is, ap begin_of_write e, ap is_some e)
+      by_write (inr (e, none)) = inr (none, ap begin_of_write e, ap is_some e)
 
-  pub begin_at_write : (w : Op) → IsTheWriteAt ops v w → ((x : Op) → IsTheWriteAt ops v x → x ≡ w) → begin ≡ At w.begin
-  begin_at_write w is one = by_cases begin_cases
+  pub at_write : (w : Op) → IsTheWriteAt ops v w → ((x : Op) → IsTheWriteAt ops v x → x ≡ w) → (begin ≡ At w.begin) × (written ≡ true)
+  at_write w is one = by_cases begin_cases
     where
-      by_cases : BeginCases → begin ≡ At w.begin
-      by_cases (inl (x, other, e)) = e ∙ ap (λ (o : Op). At o.begin) (one x other)
-      by_cases (inr (none, e)) = absurd (no_write_at ops v none w is)
+      by_cases : BeginCases → (begin ≡ At w.begin) × (written ≡ true)
+      by_cases (inl (x, other, e, t)) = (e ∙ ap (λ (o : Op). At o.begin) (one x other), t)
+      by_cases (inr (none, e, f)) = absurd (no_write_at ops v none w is)
 
-  pub begin_never : HasNoWrite ops v → begin ≡ Never
-  begin_never none = by_cases begin_cases
+  pub never_written : HasNoWrite ops v → (begin ≡ Never) × (written ≡ false)
+  never_written none = by_cases begin_cases
     where
-      by_cases : BeginCases → begin ≡ Never
-      by_cases (inl (x, other, e)) = absurd (no_write_at ops v none x other)
-      by_cases (inr (none, e)) = e
+      by_cases : BeginCases → (begin ≡ Never) × (written ≡ false)
+      by_cases (inl (x, other, e, t)) = absurd (no_write_at ops v none x other)
+      by_cases (inr (none, e, f)) = (e, f)
 
-  -- the left edge of a stretch is a moment of the value's operations
-  pub left_of_stretch : (initial : Value) → IsRead ops v → EdgeIn initial ops v (stretch_of ops v).left
-  left_of_stretch initial read = let (end, id, is) = first_of_reads ops v read in by_cases end id is (between_cases (first_end_of ops v) begin v)
-    where
-      by_begin : (end : Moment) → first_end_of ops v ≡ At end → ¬ ComesBefore (first_end_of ops v) begin → BeginCases → EdgeIn initial ops v begin
-      by_begin end first n (inl (w, is, e)) = subst (EdgeIn initial ops v) (sym e) (w, write_member initial ops v w is, inl refl)
-      by_begin end first n (inr (none, e)) = absurd (n (rw (first, e) refl))
+  -- the end of a stretch is that of a read of the value
+  pub end_in : (initial : Value) → IsRead ops v → EdgeIn initial ops v (At (stretch_of ops v).end)
+  end_in initial read =
+      let (end, id, is) = first_of_reads ops v read in
+      let at : end ≡ (stretch_of ops v).end = ap moment_of (sym (first_end_is ops v end id is)) in
+      subst (λ (m : Moment). EdgeIn initial ops v (At m)) at (is.read, (kept is_judged ops is.read is.stands (judged_read is.read is.judged).0, is.same), inr is.ended)
 
-      by_cases : (end : Moment) (id : OpId) → EndsFirstOf ops v end id
-          → (ComesBefore (first_end_of ops v) begin × (stretch_of ops v ≡ forward_zone (first_end_of ops v) begin v)) ⊎ ((¬ ComesBefore (first_end_of ops v) begin) × (stretch_of ops v ≡ backward_zone (first_end_of ops v) begin v))
-          → EdgeIn initial ops v (stretch_of ops v).left
-      by_cases end id is (inl (p, e)) =
-          let left : (stretch_of ops v).left ≡ At end = ap (λ (z : Zone). z.left) e ∙ first_end_is ops v end id is in
-          subst (EdgeIn initial ops v) (sym left) (is.read, (kept is_judged ops is.read is.stands (judged_read is.read is.judged).0, is.same), inr is.ended)
-      by_cases end id is (inr (n, e)) =
-          subst (EdgeIn initial ops v) (sym (ap (λ (z : Zone). z.left) e)) (by_begin end (first_end_is ops v end id is) n begin_cases)
-
-pub stretches_stand : (claim : Terms) (ops : List Op) → HasDistinctMoments ops → StandForValues (IsReadLater claim ops) (stretch_of ops)
+pub stretches_stand : (claim : Terms) (ops : List Op) → HasDistinctMoments ops → StandForValues stretch_shape (IsAtFault claim ops) (stretch_of ops)
 stretches_stand claim ops moments = record {
-  value = λ v. value_between (first_end_of ops v) (begin ops v) v;
-  order = λ v. order_between (first_end_of ops v) (begin ops v) v;
-  one_left = λ u v h k e.
-      settle claim.initial ops moments u v (stretch_of ops v).left (subst (EdgeIn claim.initial ops u) e (left_of_stretch ops u claim.initial h.0)) (left_of_stretch ops v claim.initial k.0);
+  value = λ v. refl;
+  may_stand = λ v. tt;
+  one_key = λ u v h k e.
+      settle claim.initial ops moments u v (At (stretch_of ops v).end)
+      (subst (λ (m : Moment). EdgeIn claim.initial ops u (At m)) e (end_in ops u claim.initial h.read)) (end_in ops v claim.initial k.read);
 }
 
 -- more reads have no later first end
@@ -256,31 +215,25 @@ first_of_more ops more v each = by_cases (first_held ops v)
 
 -- a change touches the values of what goes and of what comes alone
 module _ (before : List Op) (old new : Option Op) (after : List Op) (change : IsChange before old new after) (v : Value) where
-  stays : ((op : Op) → old ≡ Some op → value_of op.act ≢ v) → (op : Op) → Contains before op → is_judged op ≡ true → value_of op.act ≡ v → Contains after op
-  stays apart op h j e = by_cases (change.stay op (kept is_judged before op h j))
+  stays : (op : Op) → (old ≡ Some op → ⊥) → Contains before op → is_judged op ≡ true → Contains after op
+  stays op apart h j = by_cases (change.stay op (kept is_judged before op h j))
     where
       by_cases : (old ≡ Some op) ⊎ Contains (judged after) op → Contains after op
-      by_cases (inl f) = absurd (apart op f e)
+      by_cases (inl f) = absurd (apart f)
       by_cases (inr k) = (kept_stands is_judged after op k).0
 
-  stood : ((op : Op) → new ≡ Some op → value_of op.act ≢ v) → (op : Op) → Contains after op → is_judged op ≡ true → value_of op.act ≡ v → Contains before op
-  stood apart op h j e = by_cases (change.stood op (kept is_judged after op h j))
+  stood : (op : Op) → (new ≡ Some op → ⊥) → Contains after op → is_judged op ≡ true → Contains before op
+  stood op apart h j = by_cases (change.stood op (kept is_judged after op h j))
     where
       by_cases : (new ≡ Some op) ⊎ (Contains (judged before) op × (old ≢ Some op)) → Contains before op
-      by_cases (inl f) = absurd (apart op f e)
+      by_cases (inl f) = absurd (apart f)
       by_cases (inr (k, n)) = (kept_stands is_judged before op k).0
 
   read_still : ((op : Op) → old ≡ Some op → value_of op.act ≢ v) → (r : Op) → IsReadAt before v r → IsReadAt after v r
-  read_still apart r (h, j, e) = (stays apart r h (judged_read r j).0 e, j, e)
+  read_still apart r (h, j, e) = (stays r (λ f. apart r f e) h (judged_read r j).0, j, e)
 
   read_stood : ((op : Op) → new ≡ Some op → value_of op.act ≢ v) → (r : Op) → IsReadAt after v r → IsReadAt before v r
-  read_stood apart r (h, j, e) = (stood apart r h (judged_read r j).0 e, j, e)
-
-  write_still : ((op : Op) → old ≡ Some op → value_of op.act ≢ v) → (w : Op) → IsTheWriteAt before v w → IsTheWriteAt after v w
-  write_still apart w is = record { stands = stays apart w is.stands (judged_write w is.write) is.same; write = is.write; same = is.same }
-
-  write_stood : ((op : Op) → new ≡ Some op → value_of op.act ≢ v) → (w : Op) → IsTheWriteAt after v w → IsTheWriteAt before v w
-  write_stood apart w is = record { stands = stood apart w is.stands (judged_write w is.write) is.same; write = is.write; same = is.same }
+  read_stood apart r (h, j, e) = (stood r (λ f. apart r f e) h (judged_read r j).0, j, e)
 
   one_after : (x w : Op) → IsTheWriteAt after v x → IsTheWriteAt after v w → x ≡ w
   one_after x w a b =
@@ -288,47 +241,82 @@ module _ (before : List Op) (old new : Option Op) (after : List Op) (change : Is
       (kept is_judged after x a.stands (judged_write x a.write)) (kept is_judged after w b.stands (judged_write w b.write))
       (a.same ∙ sym b.same) a.write b.write
 
-  module _ (untouched : IsUntouched old new v) where
-    begin_kept : begin before v ≡ begin after v
-    begin_kept = by_cases (begin_cases before v)
+  -- the write stays where what goes is no write of the value, and it stood where what comes is none
+  module _ (by_old : (op : Op) → old ≡ Some op → IsWrite op → value_of op.act ≢ v) (by_new : (op : Op) → new ≡ Some op → IsWrite op → value_of op.act ≢ v) where
+    write_still : (w : Op) → IsTheWriteAt before v w → IsTheWriteAt after v w
+    write_still w is = record { stands = stays w (λ f. by_old w f is.write is.same) is.stands (judged_write w is.write); write = is.write; same = is.same }
+
+    write_stood : (w : Op) → IsTheWriteAt after v w → IsTheWriteAt before v w
+    write_stood w is = record { stands = stood w (λ f. by_new w f is.write is.same) is.stands (judged_write w is.write); write = is.write; same = is.same }
+
+    write_kept : (begin before v ≡ begin after v) × (written before v ≡ written after v)
+    write_kept = by_cases (begin_cases before v)
       where
-        by_cases : BeginCases before v → begin before v ≡ begin after v
-        by_cases (inl (w, is, e)) =
-            let stands = write_still untouched.by_old w is in
-            e ∙ sym (begin_at_write after v w stands (λ x other. one_after x w other stands))
-        by_cases (inr (none, e)) =
-            e ∙ sym (begin_never after v (no_write after v (λ w is. no_write_at before v none w (write_stood untouched.by_new w is))))
+        by_cases : BeginCases before v → (begin before v ≡ begin after v) × (written before v ≡ written after v)
+        by_cases (inl (w, is, e, t)) =
+            let stands = write_still w is in
+            let at = at_write after v w stands (λ x other. one_after x w other stands) in
+            (e ∙ sym at.0, t ∙ sym at.1)
+        by_cases (inr (none, e, f)) =
+            let never = never_written after v (no_write after v (λ w is. no_write_at before v none w (write_stood w is))) in
+            (e ∙ sym never.0, f ∙ sym never.1)
+
+  module _ (untouched : IsUntouched old new v) where
+    first_kept : first_end_of before v ≡ first_end_of after v
+    first_kept =
+        at_most_both (first_end_of before v) (first_end_of after v)
+        (first_of_more after before v (read_stood untouched.by_new)) (first_of_more before after v (read_still untouched.by_old))
+
+    wrote : (begin before v ≡ begin after v) × (written before v ≡ written after v)
+    wrote = write_kept (λ op e _. untouched.by_old op e) (λ op e _. untouched.by_new op e)
 
     stretch_kept : stretch_of before v ≡ stretch_of after v
     stretch_kept =
-        let first : first_end_of before v ≡ first_end_of after v =
-        at_most_both (first_end_of before v) (first_end_of after v)
-        (first_of_more after before v (read_stood untouched.by_new)) (first_of_more before after v (read_still untouched.by_old))
-        in
-        ap (λ (m : Edge). zone_between m (begin before v) v) first
-        ∙ ap (λ (m : Edge). zone_between (first_end_of after v) m v) begin_kept
+        ap {B = Stretch} (λ (m : Edge). record { end = moment_of m; written = written before v; value = v }) first_kept
+        ∙ ap {B = Stretch} (λ (t : Bool). record { end = moment_of (first_end_of after v); written = t; value = v }) wrote.1
 
-stretch_for : (claim : Terms) (ops : List Op) (value : Option Value) (found : Option Zone) → IsStretchAtSome claim ops value found → IsZoneForSome (IsReadLater claim ops) (stretch_of ops) value found
+    fault_kept : (claim : Terms) → KeepsItem (IsAtFault claim before) (IsAtFault claim after) (stretch_of before) (stretch_of after) v
+    fault_kept claim = record {
+      still = λ fault. record {
+        read = (let (r, h, j, e) = fault.read in let (k, t, f) = read_still untouched.by_old r (h, j, e) in (r, k, t, f));
+        not_initial = fault.not_initial;
+        before = subst (λ (x : Edge). ComesBefore x (begin after v)) first_kept (subst (λ (x : Edge). ComesBefore (first_end_of before v) x) wrote.0 fault.before);
+      };
+      stood = λ fault. record {
+        read = (let (r, h, j, e) = fault.read in let (k, t, f) = read_stood untouched.by_new r (h, j, e) in (r, k, t, f));
+        not_initial = fault.not_initial;
+        before = subst (λ (x : Edge). ComesBefore x (begin before v)) (sym first_kept) (subst (λ (x : Edge). ComesBefore (first_end_of after v) x) (sym wrote.0) fault.before);
+      };
+      same = λ fault. stretch_kept;
+    }
+
+  -- where a read goes and nothing comes no value comes to be at fault
+  fault_stood : (claim : Terms) → new ≡ None → ((op : Op) → old ≡ Some op → ¬ IsWrite op) → IsAtFault claim after v → IsAtFault claim before v
+  fault_stood claim none reads fault =
+      let no_new : (op : Op) → new ≡ Some op → value_of op.act ≢ v = λ op e. absurd (let g : None ≡ Some op = sym none ∙ e in cc) in
+      let wrote = write_kept (λ op e t. absurd (reads op e t)) (λ op e _. no_new op e) in
+      record {
+        read = (let (r, h, j, e) = fault.read in let (k, t, f) = read_stood no_new r (h, j, e) in (r, k, t, f));
+        not_initial = fault.not_initial;
+        before =
+            not_after_before (first_end_of before v) (first_end_of after v) (begin before v) (first_of_more after before v (read_stood no_new))
+            (subst (λ (x : Edge). ComesBefore (first_end_of after v) x) (sym wrote.0) fault.before);
+      }
+
+stretch_for : (claim : Terms) (ops : List Op) (value : Option Value) (found : Option Stretch) → IsStretchAtSome claim ops value found → IsItemForSome (IsAtFault claim ops) (stretch_of ops) value found
 stretch_for claim ops None found is = is
-stretch_for claim ops (Some value) found is = record { zone = is.stretch; none = is.none; some = is.some }
+stretch_for claim ops (Some value) found is = record { item = is.stretch; none = is.none; some = is.some }
 
 -- an edit's stretches are moved
 module _ (claim : Terms) (before : List Op) (old new : Option Op) (after : List Op) (change : IsChange before old new after)
-    (moments : HasDistinctMoments before) (moments_after : HasDistinctMoments after) (stretches : List Zone) (stretched : AreStretched claim before stretches)
-    (earlier later gone come : Option Zone × Option Zone) (changes : AreChanges earlier later gone come)
+    (moments : HasDistinctMoments before) (moments_after : HasDistinctMoments after) (stretches : List Stretch) (stretched : AreStretched claim before stretches)
+    (earlier later : Option Stretch × Option Stretch)
     (earlier_is : AreStretchesAt claim before (value_in old) (other_value (value_in old) (value_in new)) earlier)
     (later_is : AreStretchesAt claim after (value_in old) (other_value (value_in old) (value_in new)) later) where
-  differ : DifferWhereTouched old new (IsReadLater claim before) (IsReadLater claim after) (stretch_of before) (stretch_of after)
-  differ = record {
-    still = λ v is ((r, h, j, e), later). let (k, t, f) = read_still before old new after change v is.by_old r (h, j, e) in ((r, k, t, f), later);
-    stood = λ v apart ((r, h, j, e), later). let (k, t, f) = read_stood before old new after change v apart r (h, j, e) in ((r, k, t, f), later);
-    same = λ v is. stretch_kept before old new after change v is;
-  }
-
-  tree : HasZonesBut (IsReadLater claim before) (stretch_of before) (λ v. ⊥) stretches
+  tree : HasItemsBut stretch_shape (IsAtFault claim before) (stretch_of before) (λ v. ⊥) stretches
   tree = record {
-    each = λ v read out. stretched.each v read;
-    only = λ z h. let (read, e) = stretched.only z h in (read, (λ n. n), e);
+    each = λ v fault out. stretched.each v fault;
+    only = λ s h. let (fault, e) = stretched.only s h in (fault, (λ n. n), e);
   }
 
   abbrev first : Option Value
@@ -337,35 +325,41 @@ module _ (claim : Terms) (before : List Op) (old new : Option Op) (after : List 
   abbrev second : Option Value
   second = other_value (value_in old) (value_in new)
 
-  pub moved_stretched : AreStretched claim after (moved gone come stretches)
-  moved_stretched =
-      let whole =
-      moved_tree old new (IsReadLater claim before) (IsReadLater claim after) (stretch_of before) (stretch_of after)
-      (stretches_stand claim before moments) (stretches_stand claim after moments_after) differ stretches tree earlier later gone come changes
-      (stretch_for claim before first earlier.0 earlier_is.one) (stretch_for claim before second earlier.1 earlier_is.other)
-      (stretch_for claim after first later.0 later_is.one) (stretch_for claim after second later.1 later_is.other)
-      in
-      record {
-        each = λ v read. whole.each v read (λ n. n);
-        only = λ z h. let (read, in_tree, e) = whole.only z h in (read, e);
-      }
+  module _ (gone come : Option Stretch × Option Stretch) (changes : AreChanges earlier later gone come) where
+    pub moved_stretched : AreStretched claim after (moved stretch_shape gone come stretches)
+    moved_stretched =
+        let whole =
+        moved_tree stretch_shape moment_order moment_exact old new (IsAtFault claim before) (IsAtFault claim after) (stretch_of before) (stretch_of after)
+        (stretches_stand claim before moments) (stretches_stand claim after moments_after) (λ v is. fault_kept before old new after change v is claim) stretches tree earlier later gone come changes
+        (stretch_for claim before first earlier.0 earlier_is.one) (stretch_for claim before second earlier.1 earlier_is.other)
+        (stretch_for claim after first later.0 later_is.one) (stretch_for claim after second later.1 later_is.other)
+        in
+        record {
+          each = λ v fault. whole.each v fault (λ n. n);
+          only = λ s h. let (fault, in_tree, e) = whole.only s h in (fault, e);
+        }
 
-  pub stretches_can_move : (free steps : ℕ) → (IsSome new → 2 ≤ free) → CanMove (record { zones = stretches; free = free; steps = steps }) gone come
-  stretches_can_move =
-      tree_can_move old new (IsReadLater claim before) (IsReadLater claim after) (stretch_of before) (stretch_of after)
-      (stretches_stand claim before moments) (stretches_stand claim after moments_after) differ stretches tree earlier later gone come changes
-      (stretch_for claim before first earlier.0 earlier_is.one) (stretch_for claim before second earlier.1 earlier_is.other)
-      (stretch_for claim after first later.0 later_is.one) (stretch_for claim after second later.1 later_is.other)
+    pub stretches_are_new : AreNew stretch_shape stretches gone come
+    stretches_are_new =
+        tree_is_new stretch_shape moment_order moment_exact old new (IsAtFault claim before) (IsAtFault claim after) (stretch_of before) (stretch_of after)
+        (stretches_stand claim before moments) (stretches_stand claim after moments_after) (λ v is. fault_kept before old new after change v is claim) stretches tree earlier later gone come changes
+        (stretch_for claim before first earlier.0 earlier_is.one) (stretch_for claim before second earlier.1 earlier_is.other)
+        (stretch_for claim after first later.0 later_is.one) (stretch_for claim after second later.1 later_is.other)
 
-  pub stretches_keep_room : new ≡ None → KeepsRoom stretches gone come
-  stretches_keep_room =
-      tree_keeps_room old new (IsReadLater claim before) (IsReadLater claim after) (stretch_of before) (stretch_of after)
-      (stretches_stand claim before moments) (stretches_stand claim after moments_after) differ stretches tree earlier later gone come changes
-      (stretch_for claim before first earlier.0 earlier_is.one) (stretch_for claim before second earlier.1 earlier_is.other)
-      (stretch_for claim after first later.0 later_is.one) (stretch_for claim after second later.1 later_is.other)
+  -- where a read goes and nothing comes a stretch comes for one that stands
+  pub stretch_stands : new ≡ None → ((op : Op) → old ≡ Some op → ¬ IsWrite op) → IsSome later.0 → Stands stretches earlier.0
+  stretch_stands none reads = by_value first earlier_is.one later_is.one
+    where
+      by_stretch : (v : Value) (one : Option Stretch) → IsStretchAt claim before v one → IsAtFault claim before v → Stands stretches one
+      by_stretch v None is fault = absurd (is.none refl fault)
+      by_stretch v (Some s) is fault = subst (Contains stretches) (sym is.stretch) (stretched.each v fault)
+
+      by_value : (u : Option Value) → IsStretchAtSome claim before u earlier.0 → IsStretchAtSome claim after u later.0 → IsSome later.0 → Stands stretches earlier.0
+      by_value None was is some = absurd (let e : is_some later.0 ≡ false = ap is_some is in both_ways (is_some later.0) e some)
+      by_value (Some v) was is some = by_stretch v earlier.0 was (fault_stood before old new after change v claim none reads (is.some some))
 
 pub stretched_none : (claim : Terms) → AreStretched claim [] []
 stretched_none claim = record {
-  each = λ v ((r, h, j, e), later). absurd (in_none r h);
-  only = λ z h. absurd (in_none z h);
+  each = λ v fault. absurd (in_none fault.read.0 fault.read.1);
+  only = λ s h. absurd (in_none s h);
 }

@@ -1,6 +1,6 @@
 -- The verdict of a register's judge.
-use Rattle.std.proofs.Common.{◌↔◌, List, Option, Some, None}
-use Rattle.std.specs.Prelude.{IfSome, IsNone, IsPermutation, IsSomeAnd}
+use Rattle.std.proofs.Common.{◌≡◌, ◌↔◌, true, false, ◌||◌, List, Option, Some, None, refl}
+use Rattle.std.specs.Prelude.{IfSome, IsNone, IsPermutation, IsSomeAnd, is_some}
 use Rattle.std.proofs.lemmas.List.Sorted.{IsPermutation-sym}
 use Rattle.intervals.specs.declared.operation.Op.{Op}
 use Rattle.intervals.specs.declared.operation.Value.{Value}
@@ -35,3 +35,17 @@ module _ (initial : Option Value) (ops : List Op) where
 
 pub same_as : (P Q R : Type 0) → P ↔ Q → Q ↔ R → P ↔ R
 same_as P Q R f g = ((λ p. g.0 (f.0 p)), λ r. f.1 (g.1 r))
+
+-- what there is of three
+module _ {X Y Z : Type 0} where
+  none_there : (a : Option X) (b : Option Y) (c : Option Z) → ((is_some a || is_some b) || is_some c) ≡ false → (a ≡ None) × (b ≡ None) × (c ≡ None)
+  none_there None None None e = (refl, refl, refl)
+  none_there None None (Some z) e = absurd (cc)
+  none_there None (Some y) c e = absurd (cc)
+  none_there (Some x) b c e = absurd (cc)
+
+  -- where there is none of the three, the rest decides
+  pub rest_decides : (P Q R : Type 0) (a : Option X) (b : Option Y) (c : Option Z) → P ↔ ((a ≡ None) × (b ≡ None) × (c ≡ None) × Q) → ((is_some a || is_some b) || is_some c) ≡ false → R ↔ Q → R ↔ P
+  rest_decides P Q R a b c law none is =
+      let (d, e, f) = none_there a b c none in
+      ((λ r. law.1 (d, e, f, is.0 r)), λ p. is.1 (law.0 p).3)

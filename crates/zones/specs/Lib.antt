@@ -11,6 +11,7 @@ pub mod Members
 pub mod Edges
 pub mod Index
 pub mod Faults
+pub mod Moves
 pub mod Zoned
 pub mod Together
 pub mod Refused

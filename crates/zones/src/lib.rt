@@ -39,9 +39,9 @@
 //!
 //! The calls are in `register.rt`. `index.rt` keeps the ids of the judged operations of each value on
 //! shelves, by their ends and their beginnings, so that an edit looks at the first and the last of the two
-//! values that it may touch alone, once (`edges.rt`): what it makes of them gives their zones and stretches
-//! (`zone_in.rt`, `stretch.rt`). It moves their zones in one tree and their stretches, from the first read of a
-//! value to its write, in another (`moves.rt`); of each tree the root says what is asked. `prepare` makes the
+//! values that it may touch alone, once (`edges.rt`): what it makes of them gives their zones (`zone_in.rt`) and,
+//! where they are at fault, their stretches (`stretch.rt`). It moves their zones in one tree (`moves.rt`) and
+//! their stretches in another (`stretch_moves.rt`); of each tree the root says what is asked. `prepare` makes the
 //! room for one operation ahead: to withdraw others and then to admit it takes no memory.
 #![tactic(auto)]
 
@@ -53,6 +53,7 @@ mod moves;
 mod order;
 mod register;
 mod stretch;
+mod stretch_moves;
 mod writes;
 mod zone_in;
 

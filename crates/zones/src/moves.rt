@@ -4,7 +4,8 @@ ghost use Rattle.std.specs.Prelude.{◌≡◌, ◌⊎◌, ◌+◌, ◌*◌, ◌<
 ghost use Rattle.zone_tree.specs.Digits.{digits};
 ghost use Rattle.zone_tree.specs.Edge.{same_edge};
 ghost use Rattle.zone_tree.specs.Order.{zone_at};
-ghost use Rattle.zones.specs.Zoned.{AreExchanged, CanExchange, CanMove, IsNew, KeepsRoom, NeedsNoRoom, Stands, with, without, moved};
+ghost use Rattle.zones.specs.Moves.{AreExchanged, IsNew, KeepsRoom, Stands, with, without, moved};
+ghost use Rattle.zones.specs.Zoned.{CanExchange, CanMove, NeedsNoRoom, zone_shape};
 
 use intervals::is_same_value;
 use zone_tree::laws::digits_are_the_least_that_hold_a_number;
@@ -17,7 +18,7 @@ pub fn exchange(
     after: &(Option<Zone>, Option<Zone>),
 )
     requires { CanExchange tree.old before.now after.now }
-    ensures zones { AreExchanged before.now after.now tree.old.zones tree.new.zones }
+    ensures zones { AreExchanged zone_shape before.now after.now tree.old.zones tree.new.zones }
     ensures room { NeedsNoRoom tree.old.zones before.now after.now → tree.old.free ≤ tree.new.free }
     ensures steps { tree.new.steps ≤ tree.old.steps + 4 * (2 * digits (length tree.old.zones + 1) + 1) }
     ensures rises { tree.old.steps ≤ tree.new.steps }
@@ -47,8 +48,8 @@ fn is_unchanged(before: &Option<Zone>, after: &Option<Zone>) -> bool
 /// One zone for another. Where it keeps its left edge it is replaced.
 fn move_zone(tree: &mut ZoneTree, gone: &Option<Zone>, come: &Option<Zone>)
     requires room { IsSome come.now → (0 < tree.old.free) ⊎ Stands tree.old.zones gone.now }
-    requires new { IsNew (without gone.now tree.old.zones) come.now }
-    ensures zones { tree.new.zones ≡ with come.now (without gone.now tree.old.zones) }
+    requires new { IsNew zone_shape (without zone_shape gone.now tree.old.zones) come.now }
+    ensures zones { tree.new.zones ≡ with zone_shape come.now (without zone_shape gone.now tree.old.zones) }
     ensures room { (IsSome come.now → Stands tree.old.zones gone.now) → tree.old.free ≤ tree.new.free }
     ensures steps { tree.new.steps ≤ tree.old.steps + 4 * (2 * digits (length tree.old.zones + 1) + 1) }
     ensures rises { tree.old.steps ≤ tree.new.steps }
@@ -77,7 +78,7 @@ fn move_both(
     come: &(Option<Zone>, Option<Zone>),
 )
     requires { CanMove tree.old gone.now come.now }
-    ensures zones { tree.new.zones ≡ moved gone.now come.now tree.old.zones }
+    ensures zones { tree.new.zones ≡ moved zone_shape gone.now come.now tree.old.zones }
     ensures room { KeepsRoom tree.old.zones gone.now come.now → tree.old.free ≤ tree.new.free }
     ensures steps { tree.new.steps ≤ tree.old.steps + 4 * (2 * digits (length tree.old.zones + 1) + 1) }
     ensures rises { tree.old.steps ≤ tree.new.steps }
@@ -105,7 +106,7 @@ fn is_same_edge(a: Edge, b: Edge) -> bool
 }
 
 fn take(tree: &mut ZoneTree, zone: &Option<Zone>)
-    ensures zones { tree.new.zones ≡ without zone.now tree.old.zones }
+    ensures zones { tree.new.zones ≡ without zone_shape zone.now tree.old.zones }
     ensures kept { tree.old.free ≤ tree.new.free }
     ensures freed { Stands tree.old.zones zone.now → tree.old.free < tree.new.free }
     ensures steps { tree.new.steps ≤ tree.old.steps + (2 * digits (length tree.old.zones) + 1) }
@@ -121,8 +122,8 @@ fn take(tree: &mut ZoneTree, zone: &Option<Zone>)
 
 fn put(tree: &mut ZoneTree, zone: &Option<Zone>)
     requires room { IsSome zone.now → 0 < tree.old.free }
-    requires new { IsNew tree.old.zones zone.now }
-    ensures zones { tree.new.zones ≡ with zone.now tree.old.zones }
+    requires new { IsNew zone_shape tree.old.zones zone.now }
+    ensures zones { tree.new.zones ≡ with zone_shape zone.now tree.old.zones }
     ensures free { tree.old.free ≤ tree.new.free + 1 }
     ensures kept { IsNone zone.now → tree.old.free ≤ tree.new.free }
     ensures steps { tree.new.steps ≤ tree.old.steps + (2 * digits (length tree.old.zones) + 1) }

@@ -1,6 +1,6 @@
 //! The calls of an atomic register's judge.
 
-ghost use Rattle.std.specs.Prelude.{◌≡◌, ◌↔◌, ◌+◌, ◌*◌, ◌≤◌, All, length, IsOk, ◌++◌, ◌∷◌, [], Contains, IfOk, IfSome, IsSome, IsNone, IsSomeAnd, IsTrue, OnOk, OnErr, None, Some, option_map};
+ghost use Rattle.std.specs.Prelude.{◌≡◌, ◌↔◌, ◌||◌, ◌+◌, ◌*◌, ◌≤◌, All, length, IsOk, ◌++◌, ◌∷◌, [], Contains, IfOk, IfSome, IsSome, IsNone, IsSomeAnd, IsTrue, OnOk, OnErr, None, Some, is_some, option_map};
 ghost use Rattle.intervals.specs.Operation.{IsWrite, writes};
 ghost use Rattle.intervals.specs.Edit.{op_of as op_in, new_op, edited};
 ghost use Rattle.intervals.specs.Terms.{terms_of};
@@ -23,12 +23,17 @@ use crate::edges::{edges_after, edges_in, edges_of};
 use crate::index::Members;
 use crate::laws::{faultless_exactly_where_arranged, faultless_where_no_fault_is_first};
 use crate::moves::exchange;
-use crate::stretch::{first_early, first_split, first_writeless, sole_value, stretches_in};
+use crate::stretch::{
+    first_early, first_split, first_writeless, has_early, has_split, has_writeless, sole_value,
+    stretches_in,
+};
+use crate::stretch_moves::exchange_stretches;
 use crate::writes::check_write;
 use crate::zone_in::{initial_zone, zone_in, zones_in};
 use intervals::{Claim, Edit, Kind, Memory, Op, OpId, OpTable, Refusal, Value, is_same_value};
 use std::alloc::Global;
 use std::marker::Model;
+use stretch_tree::StretchTree;
 use zone_tree::{Zone, ZoneTree};
 
 /// The operations of one atomic register, by the clusters of their values.
@@ -38,7 +43,7 @@ pub struct Clusters<'t> {
     table: OpTable<'t>,
     members: Members,
     zones: ZoneTree,
-    stretches: ZoneTree,
+    stretches: StretchTree,
 }
 
 impl<'t> Model for Clusters<'t> {
@@ -62,7 +67,8 @@ impl<'t> Clusters<'t> {
         let table = OpTable::new(alloc);
         let members = Members::new(alloc);
         let zones = ZoneTree::new(alloc);
-        let stretches = ZoneTree::new(alloc);
+        let mut stretches = StretchTree::new(alloc);
+        stretches.reserve(2)?;
         Ok(Clusters {
             claim,
             table,
@@ -116,7 +122,10 @@ impl<'t> Clusters<'t> {
         ensures err { OnErr result (self.new ≡ self.old) }
     {
         self.zones.reserve(2)?;
-        self.stretches.reserve(2)?;
+        // Once its write is withdrawn a value that is read is at fault, and a withdrawal takes no memory: so there
+        // is a place for each write, beside those of this edit.
+        let places = self.zones.len().checked_add(6).ok_or(Memory)?;
+        self.stretches.reserve(places)?;
         self.members.hold(op)?;
         if let Err(refused) = self.table.prepare(op) {
             self.members.release(op);
@@ -179,7 +188,7 @@ impl<'t> Clusters<'t> {
         let stretches = stretches_in(&edges, &self.claim);
         let stretches_after = stretches_in(&after, &self.claim);
         exchange(&mut self.zones, &zones, &zones_after);
-        exchange(&mut self.stretches, &stretches, &stretches_after);
+        exchange_stretches(&mut self.stretches, &stretches, &stretches_after);
     }
 
     pub fn admit_write(&mut self, write: &Op<'t>) -> Result<(), Memory>
@@ -233,12 +242,10 @@ impl<'t> Clusters<'t> {
     fn initial(&self) -> Option<Value>
         ensures { result ≡ initial_of self.now.claim self.now.ops }
     {
-        // That the stretches stand in order is known of what is gone over.
-        let _ = self.stretches.iter();
         if self.claim.has_known_initial() {
             return Some(self.claim.at_first());
         }
-        sole_value(&self.stretches, &self.members, &self.table)
+        sole_value(&self.stretches)
     }
 
     /// The zone of a value that has a write or is the initial one, where there is one.
@@ -257,8 +264,6 @@ impl<'t> Clusters<'t> {
     pub fn first_unwritten(&self) -> Option<OpId>
         ensures { result ≡ option_map (λ op. op.id) (unwritten_of self.now.claim self.now.ops) }
     {
-        // That the stretches stand in order is known of what is gone over.
-        let _ = self.stretches.iter();
         if !self.claim.has_known_initial() {
             return None;
         }
@@ -271,8 +276,6 @@ impl<'t> Clusters<'t> {
     pub fn first_split(&self) -> Option<(OpId, OpId)>
         ensures { result ≡ option_map (λ pair. (pair.0.id, pair.1.id)) (split_first self.now.claim self.now.ops) }
     {
-        // That the stretches stand in order is known of what is gone over.
-        let _ = self.stretches.iter();
         if self.claim.has_known_initial() {
             return None;
         }
@@ -284,8 +287,6 @@ impl<'t> Clusters<'t> {
     pub fn first_early(&self) -> Option<(OpId, OpId)>
         ensures { result ≡ option_map (λ pair. (pair.0.id, pair.1.id)) (early_first self.now.ops) }
     {
-        // That the stretches stand in order is known of what is gone over.
-        let _ = self.stretches.iter();
         let (read, write) = first_early(&self.stretches, &self.members, &self.table)?;
         Some((read.id, write.id))
     }
@@ -352,10 +353,19 @@ impl<'t> Clusters<'t> {
         ensures { IsTrue result ↔ IsFaultless (start_of self.now.claim self.now.ops) self.now.ops }
     {
         faultless_where_no_fault_is_first();
-        let unwritten = self.first_unwritten();
-        let split = self.first_split();
-        // Where there is neither, at most one stretch has no end, so an early read is found at once.
-        unwritten.is_none() && split.is_none() && self.first_early().is_none() && self.clean()
+        !self.has_faulty_read() && self.clean()
+    }
+
+    /// Whether a read is unwritten or early, or two reads tell of different initial values.
+    fn has_faulty_read(&self) -> bool
+        ensures { result ≡ (is_some (unwritten_of self.now.claim self.now.ops) || is_some (split_first self.now.claim self.now.ops)) || is_some (early_first self.now.ops) }
+    {
+        let is_unwritten = if self.claim.has_known_initial() {
+            has_writeless(&self.stretches)
+        } else {
+            has_split(&self.stretches)
+        };
+        is_unwritten || has_early(&self.stretches)
     }
 }
 

@@ -1,10 +1,9 @@
-//! The stretches between the reads of a value and its write, and the faulty reads that they show.
+//! The values at fault, and the faulty reads that their stretches show.
 
-ghost use Rattle.std.specs.Prelude.{◌≡◌, List, Option};
+ghost use Rattle.std.specs.Prelude.{◌≡◌, List, Option, is_some};
 ghost use Rattle.intervals.specs.declared.operation.Op.{Op as AnOp};
 ghost use Rattle.intervals.specs.declared.operation.Value.{Value as AValue};
 ghost use Rattle.intervals.specs.Terms.{Terms, terms_of};
-ghost use Rattle.zone_tree.specs.Order.{StandInOrder};
 ghost use Rattle.zones.specs.AtFirst.{first_writeless as writeless_first, first_writeless_but as writeless_first_but, sole_of, with_other};
 ghost use Rattle.zones.specs.Edges.{AreEdges, AreEdgesAt, AreEdgesAtSome};
 ghost use Rattle.zones.specs.Fault.{first_early as early_first};
@@ -15,22 +14,30 @@ ghost use Rattle.zones.specs.Zoned.{AreManyWriters};
 use crate::crossing::first_read;
 use crate::edges::Edges;
 use crate::index::Members;
-use crate::zone_in::zone_between;
+use crate::zone_in::is_written;
 use intervals::{Claim, Op, OpTable, Value};
-use zone_tree::{Edge, Zone, ZoneTree};
+use stretch_tree::{Stretch, StretchTree};
+use zone_tree::Edge;
 
-/// The stretch of the value, where some judged read has it and it is not known to be the initial one.
-pub fn stretch_in(edges: &Edges, claim: &Claim) -> Option<Zone>
+/// The stretch of the value, where that is at fault: some judged read has it that ended before its write
+/// begins, and it is not known to be the initial one.
+pub fn stretch_in(edges: &Edges, claim: &Claim) -> Option<Stretch>
     ensures { (ops : List AnOp) (value : AValue) → AreEdges ops value edges.now → IsStretchAt (terms_of claim.now) ops value result }
 {
+    let Edge::At(end) = edges.read_end else {
+        return None;
+    };
+    if !edges.read_end.comes_before(begin_of(edges)) {
+        return None;
+    }
     if claim.is_initial(edges.value) {
         return None;
     }
-    if Edge::Before.comes_before(edges.read_begin) {
-        Some(zone_between(edges.read_end, begin_of(edges), edges.value))
-    } else {
-        None
-    }
+    Some(Stretch {
+        end,
+        written: is_written(edges),
+        value: edges.value,
+    })
 }
 
 fn begin_of(edges: &Edges) -> Edge
@@ -47,7 +54,7 @@ fn begin_of(edges: &Edges) -> Edge
 pub fn stretches_in(
     edges: &(Option<Edges>, Option<Edges>),
     claim: &Claim,
-) -> (Option<Zone>, Option<Zone>)
+) -> (Option<Stretch>, Option<Stretch>)
     ensures { (ops : List AnOp) (first second : Option AValue) → AreEdgesAt ops first second edges.now → AreStretchesAt (terms_of claim.now) ops first second result }
 {
     (
@@ -56,40 +63,26 @@ pub fn stretches_in(
     )
 }
 
-/// The writeless read that ended first: nothing wrote its value, so its stretch has no end.
+/// The writeless read that ended first: nothing wrote its value.
 pub fn first_writeless<'t>(
-    stretches: &ZoneTree,
+    stretches: &StretchTree,
     members: &Members,
     table: &OpTable<'t>,
 ) -> Option<Op<'t>>
-    ensures { (claim : Terms) → AreMembers table.now.ops members.now → AreManyWriters claim table.now.ops → AreStretched claim table.now.ops stretches.now.zones → StandInOrder stretches.now.zones
+    ensures { (claim : Terms) → AreMembers table.now.ops members.now → AreManyWriters claim table.now.ops → AreStretched claim table.now.ops stretches.now.stretches
         → result ≡ writeless_first claim table.now.ops }
 {
-    let stretch = stretches.first_reaching(Edge::Never)?;
-    first_read(members, table, stretch.value)
-}
-
-/// Of the writeless reads of another value the one that ended first.
-fn first_writeless_but<'t>(
-    stretches: &ZoneTree,
-    members: &Members,
-    table: &OpTable<'t>,
-    value: Value,
-) -> Option<Op<'t>>
-    ensures { (claim : Terms) → AreMembers table.now.ops members.now → AreManyWriters claim table.now.ops → AreStretched claim table.now.ops stretches.now.zones → StandInOrder stretches.now.zones
-        → result ≡ writeless_first_but value claim table.now.ops }
-{
-    let stretch = stretches.first_reaching_but(Edge::Never, value)?;
+    let stretch = stretches.first_writeless()?;
     first_read(members, table, stretch.value)
 }
 
 /// The writeless read that ended first, and of those of another value the one that ended first.
 pub fn first_split<'t>(
-    stretches: &ZoneTree,
+    stretches: &StretchTree,
     members: &Members,
     table: &OpTable<'t>,
 ) -> Option<(Op<'t>, Op<'t>)>
-    ensures { (claim : Terms) → AreMembers table.now.ops members.now → AreManyWriters claim table.now.ops → AreStretched claim table.now.ops stretches.now.zones → StandInOrder stretches.now.zones
+    ensures { (claim : Terms) → AreMembers table.now.ops members.now → AreManyWriters claim table.now.ops → AreStretched claim table.now.ops stretches.now.stretches
         → result ≡ with_other claim table.now.ops (writeless_first claim table.now.ops) }
 {
     let first = first_writeless(stretches, members, table)?;
@@ -97,34 +90,75 @@ pub fn first_split<'t>(
     Some((first, other))
 }
 
-/// The value of the writeless reads, where they have just one.
-pub fn sole_value(stretches: &ZoneTree, members: &Members, table: &OpTable) -> Option<Value>
-    ensures { (claim : Terms) → AreMembers table.now.ops members.now → AreManyWriters claim table.now.ops → AreStretched claim table.now.ops stretches.now.zones → StandInOrder stretches.now.zones
-        → result ≡ sole_of claim table.now.ops (writeless_first claim table.now.ops) }
+/// Of the writeless reads of another value the one that ended first.
+fn first_writeless_but<'t>(
+    stretches: &StretchTree,
+    members: &Members,
+    table: &OpTable<'t>,
+    value: Value,
+) -> Option<Op<'t>>
+    ensures { (claim : Terms) → AreMembers table.now.ops members.now → AreManyWriters claim table.now.ops → AreStretched claim table.now.ops stretches.now.stretches
+        → result ≡ writeless_first_but value claim table.now.ops }
 {
-    let first = first_writeless(stretches, members, table)?;
-    match first_writeless_but(stretches, members, table, first.value()) {
-        Some(_) => None,
-        None => Some(first.value()),
-    }
+    let stretch = stretches.first_writeless_but(value)?;
+    first_read(members, table, stretch.value)
 }
 
 /// The early read that ended first, and the write of its value.
 pub fn first_early<'t>(
-    stretches: &ZoneTree,
+    stretches: &StretchTree,
     members: &Members,
     table: &OpTable<'t>,
 ) -> Option<(Op<'t>, Op<'t>)>
-    ensures { (claim : Terms) → AreMembers table.now.ops members.now → AreManyWriters claim table.now.ops → AreStretched claim table.now.ops stretches.now.zones → StandInOrder stretches.now.zones
+    ensures { (claim : Terms) → AreMembers table.now.ops members.now → AreManyWriters claim table.now.ops → AreStretched claim table.now.ops stretches.now.stretches
         → result ≡ early_first table.now.ops }
 {
-    let stretch = stretches.first_short_of(Edge::Never)?;
+    let stretch = stretches.first_early()?;
     let read = first_read(members, table, stretch.value)?;
     let write = members.write_of(table, stretch.value)?;
     Some((read, write))
 }
 
-fn stretch_in_some(edges: &Option<Edges>, claim: &Claim) -> Option<Zone>
+/// The value of the writeless reads, where they have just one.
+pub fn sole_value(stretches: &StretchTree) -> Option<Value>
+    ensures { (claim : Terms) (ops : List AnOp) → AreManyWriters claim ops → AreStretched claim ops stretches.now.stretches
+        → result ≡ sole_of claim ops (writeless_first claim ops) }
+{
+    let first = stretches.first_writeless()?;
+    match stretches.first_writeless_but(first.value) {
+        Some(_) => None,
+        None => Some(first.value),
+    }
+}
+
+/// Whether some read is writeless.
+pub fn has_writeless(stretches: &StretchTree) -> bool
+    ensures { (claim : Terms) (ops : List AnOp) → AreManyWriters claim ops → AreStretched claim ops stretches.now.stretches
+        → result ≡ is_some (writeless_first claim ops) }
+{
+    stretches.first_writeless().is_some()
+}
+
+/// Whether writeless reads have several values.
+pub fn has_split(stretches: &StretchTree) -> bool
+    ensures { (claim : Terms) (ops : List AnOp) → AreManyWriters claim ops → AreStretched claim ops stretches.now.stretches
+        → result ≡ is_some (with_other claim ops (writeless_first claim ops)) }
+{
+    match stretches.first_writeless() {
+        Some(first) => stretches.first_writeless_but(first.value).is_some(),
+        None => false,
+    }
+}
+
+/// Whether some read is early.
+pub fn has_early(stretches: &StretchTree) -> bool
+    ensures { (claim : Terms) (ops : List AnOp) → AreManyWriters claim ops → AreStretched claim ops stretches.now.stretches
+        → result ≡ is_some (early_first ops) }
+{
+    stretches.first_early().is_some()
+}
+
+fn stretch_in_some(edges: &Option<Edges>, claim: &Claim) -> Option<Stretch>
     ensures { (ops : List AnOp) (value : Option AValue) → AreEdgesAtSome ops value edges.now → IsStretchAtSome (terms_of claim.now) ops value result }
 {
     match edges {

@@ -42,7 +42,7 @@ pub fn zones_in(edges: &(Option<Edges>, Option<Edges>)) -> (Option<Zone>, Option
     (zone_in_some(&edges.0), zone_in_some(&edges.1))
 }
 
-fn is_written(edges: &Edges) -> bool
+pub fn is_written(edges: &Edges) -> bool
     ensures { (ops : List Op) (value : AValue) → AreEdges ops value edges.now → IsTrue result ↔ HasWrite ops value }
 {
     Edge::Before.comes_before(edges.write_begin)

@@ -1,5 +1,4 @@
-use Rattle.std.proofs.Common.{◌≡◌, true, false, Some, None, sym, ◌∙◌, rules}
-use Rattle.intervals.specs.Operation.{is_write}
+use Rattle.std.proofs.Common.{◌≡◌, Some, None, sym, ◌∙◌, rules}
 use Rattle.intervals.specs.Refusal.{holder_of}
 use Rattle.intervals.specs.Table.{slot_at}
 use Rattle.intervals.specs.Terms.{terms_of}

@@ -1,23 +1,23 @@
 use Rattle.std.proofs.Common.{◌∙◌, sym}
-use Rattle.zone_tree.specs.declared.edge.Edge.TheVariants.{Never}
-use Rattle.zones.proofs.FirstStretch.{first_read_early, is_short, no_early_shown, read_shown, write_shown}
+use Rattle.stretch_tree.specs.Look.{is_early}
+use Rattle.zones.proofs.FirstStretch.{first_read_early, no_early_shown, read_shown, write_shown}
 use Rattle.zones.proofs.stretch.first_early.Goals as goal
 
 pub returns-in_err-stretch : goal.returns-in_err-stretch
-returns-in_err-stretch c claim members apart stretched order =
-    c.from_residual.ensures ∙ sym (no_early_shown claim c.args.table.now.ops apart c.args.stretches.now.zones stretched order (sym c.in_err-stretch.ensures))
+returns-in_err-stretch c claim members apart stretched =
+    c.from_residual.ensures ∙ sym (no_early_shown claim c.args.table.now.ops apart c.args.stretches.now.stretches stretched (sym c.in_err-stretch.ensures.first))
 
 pub returns-in_err-read : goal.returns-in_err-read
-returns-in_err-read c claim members apart stretched order = absurd (
-    read_shown claim c.args.table.now.ops apart c.args.stretches.now.zones stretched order (is_short Never) c.in_ok-stretch.stretch (sym c.in_ok-stretch.ensures)
+returns-in_err-read c claim members apart stretched = absurd (
+    read_shown claim c.args.table.now.ops apart c.args.stretches.now.stretches stretched c.in_ok-stretch.ensures.order is_early c.in_ok-stretch.stretch (sym c.in_ok-stretch.ensures.first)
     (c.in_err-read.ensures members apart.kept.ids))
 
 pub returns-in_err-write : goal.returns-in_err-write
-returns-in_err-write c claim members apart stretched order = absurd (
-    write_shown claim c.args.table.now.ops apart c.args.stretches.now.zones stretched order c.in_ok-stretch.stretch (sym c.in_ok-stretch.ensures)
+returns-in_err-write c claim members apart stretched = absurd (
+    write_shown claim c.args.table.now.ops apart c.args.stretches.now.stretches stretched c.in_ok-stretch.ensures.order c.in_ok-stretch.stretch (sym c.in_ok-stretch.ensures.first)
     (c.in_err-write.ensures members apart.kept.ids))
 
 pub returns : goal.returns
-returns c claim members apart stretched order =
-    first_read_early claim c.args.table.now.ops apart c.args.stretches.now.zones stretched order c.in_ok-stretch.stretch (sym c.in_ok-stretch.ensures)
+returns c claim members apart stretched =
+    first_read_early claim c.args.table.now.ops apart c.args.stretches.now.stretches stretched c.in_ok-stretch.ensures.order c.in_ok-stretch.stretch (sym c.in_ok-stretch.ensures.first)
     c.in_ok-read.read (c.in_ok-read.ensures members apart.kept.ids) c.in_ok-write.write (c.in_ok-write.ensures members apart.kept.ids)

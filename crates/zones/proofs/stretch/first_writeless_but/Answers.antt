@@ -3,10 +3,10 @@ use Rattle.zones.proofs.FirstStretch.{first_read_other, no_other_shown}
 use Rattle.zones.proofs.stretch.first_writeless_but.Goals as goal
 
 pub returns-in_err-stretch : goal.returns-in_err-stretch
-returns-in_err-stretch c claim members apart stretched order =
-    c.from_residual.ensures ∙ sym (no_other_shown claim c.args.table.now.ops apart c.args.stretches.now.zones stretched order c.args.value (sym c.in_err-stretch.ensures))
+returns-in_err-stretch c claim members apart stretched =
+    c.from_residual.ensures ∙ sym (no_other_shown claim c.args.table.now.ops apart c.args.stretches.now.stretches stretched c.args.value (sym c.in_err-stretch.ensures.first))
 
 pub returns : goal.returns
-returns c claim members apart stretched order =
-    first_read_other claim c.args.table.now.ops apart c.args.stretches.now.zones stretched order c.args.value c.in_ok-stretch.stretch (sym c.in_ok-stretch.ensures)
+returns c claim members apart stretched =
+    first_read_other claim c.args.table.now.ops apart c.args.stretches.now.stretches stretched c.args.value c.in_ok-stretch.ensures.order c.in_ok-stretch.stretch (sym c.in_ok-stretch.ensures.first)
     c.first_read.result (c.first_read.ensures members apart.kept.ids)

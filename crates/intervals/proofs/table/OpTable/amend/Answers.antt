@@ -1,27 +1,26 @@
-use Rattle.std.proofs.Common.{Some, refl, sym, ap, ◌∙◌, subst}
-use Rattle.std.specs.HashMap.{get as place_of}
-use Rattle.intervals.specs.Moments.{holder_at, HasPlaces}
-use Rattle.intervals.specs.Operation.{same_id}
+use Rattle.std.proofs.Common.{refl}
+use Rattle.intervals.specs.Table.{place_of}
+use Rattle.intervals.specs.Moments.{holder_at}
 use Rattle.intervals.proofs.Slots.{standing_changed, as_many}
-use Rattle.intervals.proofs.Indexed.{none_in_slot, found_in_slot, new_in_slot, has_own_id, only_there, indexed_amended, none_held}
+use Rattle.intervals.proofs.Indexed.{none_in_slot, found_in_slot, new_in_slot, has_own_id, only_there, indexed_amended}
 use Rattle.intervals.proofs.table.OpTable.amend.Goals as goal
 
 pub unreachable-requires : goal.unreachable-requires
 unreachable-requires c =
     let inside = c.self.inside in
-    let none = none_in_slot inside.slots.items (place_of same_id inside.places) (holder_at inside.moments) c.self.invariant.0 c.args.id
+    let none = none_in_slot inside.slots.items (place_of inside.places) (holder_at inside.moments) c.self.invariant.0 c.args.id
     (λ i e. rw (← c.as_slice.ensures.value) (c.in_default.ensures.none refl i e)) in
     let e = rw (← c.self.view_is, none) at c.requires.accepted in
     cc
 
-pub move_moments-requires-clause-places : goal.move_moments-requires-clause-places
-move_moments-requires-clause-places c =
+pub move_moments-requires-clause-room : goal.move_moments-requires-clause-room
+move_moments-requires-clause-room c =
     let inside = c.self.inside in
     let slot = rw c.as_slice.ensures.value at c.in-Some.ensures.slot in
-    let new = new_in_slot inside.slots.items (place_of same_id inside.places) (holder_at inside.moments) c.self.invariant.0 c.args.id c.args.change.now c.in-Some.place c.in-Some.op.now c.in-Some.ensures.place slot in
+    let new = new_in_slot inside.slots.items (place_of inside.places) (holder_at inside.moments) c.self.invariant.0 c.args.id c.args.change.now c.in-Some.place c.in-Some.op.now c.in-Some.ensures.place slot in
     let room = rw (← c.self.view_is, new) at c.requires.room in
-    let held = rw room at c.self.invariant.3 in
-    subst (HasPlaces inside.moments) (sym c.changed-new.ensures) held.2
+    let held = rw room at c.self.invariant.4 in
+    held.2
 
 pub move_moments-requires-clause-held : goal.move_moments-requires-clause-held
 move_moments-requires-clause-held c m t =
@@ -31,16 +30,14 @@ move_moments-requires-clause-held c m t =
 pub invariant_of-self : goal.invariant_of-self
 invariant_of-self c =
     let inside = c.self.inside in
-    let slot = rw c.as_slice.ensures.value at c.in-Some.ensures.slot in
-    let new = new_in_slot inside.slots.items (place_of same_id inside.places) (holder_at inside.moments) c.self.invariant.0 c.args.id c.args.change.now c.in-Some.place c.in-Some.op.now c.in-Some.ensures.place slot in
-    let room = rw (← c.self.view_is, new) at c.requires.room in (
+    let slot = rw c.as_slice.ensures.value at c.in-Some.ensures.slot in (
       rw c.changed-new.ensures
-          (indexed_amended inside.slots.items (place_of same_id inside.places) (holder_at inside.moments) c.self.invariant.0 c.args.id c.args.change.now c.in-Some.place c.in-Some.op.now _
+          (indexed_amended inside.slots.items (place_of inside.places) (holder_at inside.moments) c.self.invariant.0 c.args.id c.args.change.now c.in-Some.place c.in-Some.op.now _
           (rw (← c.self.view_is) at c.requires.accepted) c.in-Some.ensures.place slot
           (λ m. rw c.changed-new.ensures at (c.move_moments.ensures.holders m))),
       rw (as_many inside.slots.items c.in-Some.place c.in-Some.op.now c.changed-new.result slot) c.self.invariant.1,
-      none_held inside.moments c.move_moments.new.moments inside.prepared c.self.invariant.2 c.changed-new.result
-          (room ∙ ap Some (sym c.changed-new.ensures)) c.move_moments.ensures.held,
+      c.self.invariant.2,
+      c.move_moments.ensures.order,
       tt,
     )
 
@@ -48,7 +45,7 @@ pub returns : goal.returns
 returns c =
     let inside = c.self.inside in
     let slot = rw c.as_slice.ensures.value at c.in-Some.ensures.slot in
-    let found = found_in_slot inside.slots.items (place_of same_id inside.places) (holder_at inside.moments) c.self.invariant.0 c.args.id c.in-Some.place c.in-Some.op.now c.in-Some.ensures.place slot in
-    let own = has_own_id inside.slots.items (place_of same_id inside.places) (holder_at inside.moments) c.self.invariant.0 c.args.id c.in-Some.place c.in-Some.op.now c.in-Some.ensures.place slot in
-    let only = only_there inside.slots.items (place_of same_id inside.places) (holder_at inside.moments) c.self.invariant.0 c.args.id c.in-Some.place c.in-Some.op.now c.in-Some.ensures.place slot in
+    let found = found_in_slot inside.slots.items (place_of inside.places) (holder_at inside.moments) c.self.invariant.0 c.args.id c.in-Some.place c.in-Some.op.now c.in-Some.ensures.place slot in
+    let own = has_own_id inside.slots.items (place_of inside.places) (holder_at inside.moments) c.self.invariant.0 c.args.id c.in-Some.place c.in-Some.op.now c.in-Some.ensures.place slot in
+    let only = only_there inside.slots.items (place_of inside.places) (holder_at inside.moments) c.self.invariant.0 c.args.id c.in-Some.place c.in-Some.op.now c.in-Some.ensures.place slot in
     rw (c.changed-new.ensures, standing_changed inside.slots.items c.in-Some.place c.in-Some.op.now c.args.id c.args.change.now slot own only, ← c.self.view_is, found) refl

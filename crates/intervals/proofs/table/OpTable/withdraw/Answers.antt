@@ -1,16 +1,15 @@
 use Rattle.std.proofs.Common.{refl, arith, set, None}
-use Rattle.std.specs.HashMap.{get as place_of}
+use Rattle.intervals.specs.Table.{place_of}
 use Rattle.intervals.specs.Moments.{holder_at}
-use Rattle.intervals.specs.Operation.{same_id}
 use Rattle.intervals.specs.Table.{slot_at}
 use Rattle.intervals.proofs.Slots.{standing_without, one_less}
-use Rattle.intervals.proofs.Indexed.{none_in_slot, has_own_id, only_there, indexed_without, indexed_alike, if_some_both, held_still}
+use Rattle.intervals.proofs.Indexed.{none_in_slot, has_own_id, only_there, indexed_without, indexed_alike, if_some}
 use Rattle.intervals.proofs.table.OpTable.withdraw.Goals as goal
 
 pub unreachable-requires : goal.unreachable-requires
 unreachable-requires c =
     let inside = c.self.inside in
-    let none = none_in_slot inside.slots.items (place_of same_id inside.places) (holder_at inside.moments) c.self.invariant.0 c.args.id
+    let none = none_in_slot inside.slots.items (place_of inside.places) (holder_at inside.moments) c.self.invariant.0 c.args.id
     (λ i e. rw (← c.as_slice.ensures.value) (c.in_default.ensures.none refl i e)) in
     let e = rw (← c.self.view_is, none) at c.requires in
     cc
@@ -19,19 +18,20 @@ pub invariant_of-self : goal.invariant_of-self
 invariant_of-self c =
     let inside = c.self.inside in
     let slot = rw c.as_slice.ensures.value at c.in-Some.ensures.slot in
-    let indexed = indexed_without inside.slots.items (place_of same_id inside.places) (holder_at inside.moments) c.self.invariant.0 c.args.id c.in-Some.place c.in-Some.op.now
-    (place_of same_id c.remove.new.self) (holder_at c.take_moments.new.moments) c.in-Some.ensures.place slot c.remove.ensures.updates.0 c.take_moments.ensures.holders in (
-      indexed_alike (slot_at (set inside.slots.items c.in-Some.place None)) _ (place_of same_id c.remove.new.self) _ (holder_at c.take_moments.new.moments) _ indexed
+    let indexed = indexed_without inside.slots.items (place_of inside.places) (holder_at inside.moments) c.self.invariant.0 c.args.id c.in-Some.place c.in-Some.op.now
+    (place_of c.remove.new.self) (holder_at c.take_moments.new.moments) c.in-Some.ensures.place slot c.remove.ensures.values c.take_moments.ensures.holders in (
+      indexed_alike (slot_at (set inside.slots.items c.in-Some.place None)) _ (place_of c.remove.new.self) _ (holder_at c.take_moments.new.moments) _ indexed
           c.drop_empty_end.ensures.slots (λ id. refl) (λ m. refl),
       rw c.drop_empty_end.ensures.standing (omega (arith, one_less inside.slots.items c.in-Some.place c.in-Some.op.now slot, c.self.invariant.1)),
-      held_still inside.moments c.take_moments.new.moments inside.prepared c.self.invariant.2 c.take_moments.ensures.held,
-      if_some_both _ _ _ (λ op room kept. (omega (arith, room.0, c.drop_empty_end.ensures.len, c.drop_empty_end.ensures.capacity), omega (arith, room.1, c.remove.ensures.spare), kept room.2)) inside.prepared c.self.invariant.3 c.take_moments.ensures.kept,
+      c.remove.ensures.order,
+      c.take_moments.ensures.order,
+      if_some _ _ (λ op room. (omega (arith, room.0, c.drop_empty_end.ensures.len, c.drop_empty_end.ensures.capacity), c.remove.ensures.kept 1 room.1, c.take_moments.ensures.kept 2 room.2)) inside.prepared c.self.invariant.4,
     )
 
 pub returns : goal.returns
 returns c =
     let inside = c.self.inside in
     let slot = rw c.as_slice.ensures.value at c.in-Some.ensures.slot in
-    let own = has_own_id inside.slots.items (place_of same_id inside.places) (holder_at inside.moments) c.self.invariant.0 c.args.id c.in-Some.place c.in-Some.op.now c.in-Some.ensures.place slot in
-    let only = only_there inside.slots.items (place_of same_id inside.places) (holder_at inside.moments) c.self.invariant.0 c.args.id c.in-Some.place c.in-Some.op.now c.in-Some.ensures.place slot in
+    let own = has_own_id inside.slots.items (place_of inside.places) (holder_at inside.moments) c.self.invariant.0 c.args.id c.in-Some.place c.in-Some.op.now c.in-Some.ensures.place slot in
+    let only = only_there inside.slots.items (place_of inside.places) (holder_at inside.moments) c.self.invariant.0 c.args.id c.in-Some.place c.in-Some.op.now c.in-Some.ensures.place slot in
     rw (c.drop_empty_end.ensures.standing, standing_without inside.slots.items c.in-Some.place c.in-Some.op.now c.args.id slot own only, ← c.self.view_is) refl

@@ -1,4 +1,4 @@
-use Rattle.std.proofs.Common.{◌≡◌, None, Option, refl, ap, subst, sym, ◌∙◌}
+use Rattle.std.proofs.Common.{◌≡◌, ℕ, ◌+◌, ◌≤◌, length, None, Option, refl, ap, subst, sym, ◌∙◌, rules}
 use Rattle.intervals.specs.declared.operation.Op.{Op}
 use Rattle.intervals.specs.Table.{Tabled}
 use Rattle.intervals.specs.Terms.{terms_of}
@@ -12,7 +12,7 @@ invariant_of-self-in_err-hold c =
     let none = ap (λ (x : Clustered). x.prepared) c.self.view_is ∙ c.requires in
     together_kept (terms_of c.self.inside.claim) c.self.inside.table c.self.inside.table c.self.inside.members c.hold.new.self
     c.self.inside.zones c.reserve.new.self c.self.inside.stretches c.reserve-2.new.self c.self.invariant
-    refl (c.hold.ensures.members c.self.inside.table.ops c.self.invariant.members_of) c.reserve.ensures.zones c.reserve-2.ensures.zones
+    refl (c.hold.ensures.members c.self.inside.table.ops c.self.invariant.members_of) c.reserve.ensures.zones c.reserve-2.ensures.stretches c.reserve-2.ensures.kept
     (room_of_none c.hold.new.self c.reserve.new.self c.reserve-2.new.self c.self.inside.table.prepared none)
     (λ row spot held. c.self.invariant.only row spot (sym (c.in_err-hold.ensures.err row spot) ∙ held))
 
@@ -23,16 +23,17 @@ invariant_of-self-in-Err c =
     let none : c.prepare.new.self.prepared ≡ None = ap (λ (t : Tabled). t.prepared) table ∙ (ap (λ (x : Clustered). x.prepared) c.self.view_is ∙ c.requires) in
     together_kept (terms_of c.self.inside.claim) c.self.inside.table c.prepare.new.self c.self.inside.members c.release.new.self
     c.self.inside.zones c.reserve.new.self c.self.inside.stretches c.reserve-2.new.self c.self.invariant
-    (ap (λ (t : Tabled). t.ops) table) (c.release.ensures.members ops (c.hold.ensures.members ops c.self.invariant.members_of)) c.reserve.ensures.zones c.reserve-2.ensures.zones
+    (ap (λ (t : Tabled). t.ops) table) (c.release.ensures.members ops (c.hold.ensures.members ops c.self.invariant.members_of)) c.reserve.ensures.zones c.reserve-2.ensures.stretches c.reserve-2.ensures.kept
     (room_of_none c.release.new.self c.reserve.new.self c.reserve-2.new.self c.prepare.new.self.prepared none)
     (subst (λ (o : Option Op). HoldsOnlyFor o c.release.new.self) (sym none) (c.release.ensures.only (c.in_ok-hold.ensures.only (subst (λ (o : Option Op). HoldsOnlyFor o c.self.inside.members) (ap (λ (x : Clustered). x.prepared) c.self.view_is ∙ c.requires) c.self.invariant.only))))
 
 pub invariant_of-self-in_default : goal.invariant_of-self-in_default
 invariant_of-self-in_default c =
     let ops = c.self.inside.table.ops in
+    let places : c.in_ok-places.places ≡ length c.reserve.new.self.zones + 6 = search rules in
     together_kept (terms_of c.self.inside.claim) c.self.inside.table c.prepare.new.self c.self.inside.members c.hold.new.self
     c.self.inside.zones c.reserve.new.self c.self.inside.stretches c.reserve-2.new.self c.self.invariant
-    (ap (λ (t : Tabled). t.ops) c.in_default.ensures.ok) (c.hold.ensures.members ops c.self.invariant.members_of) c.reserve.ensures.zones c.reserve-2.ensures.zones
+    (ap (λ (t : Tabled). t.ops) c.in_default.ensures.ok) (c.hold.ensures.members ops c.self.invariant.members_of) c.reserve.ensures.zones c.reserve-2.ensures.stretches c.reserve-2.ensures.kept
     (room_of_one c.hold.new.self c.reserve.new.self c.reserve-2.new.self c.prepare.new.self.prepared c.args.op.now (ap (λ (t : Tabled). t.prepared) c.in_default.ensures.ok)
-    c.in_ok-hold.ensures.places c.in_ok-reserve.ensures.ok c.in_ok-reserve-2.ensures.ok)
+    c.in_ok-hold.ensures.places c.in_ok-reserve.ensures.ok (subst (λ (n : ℕ). n ≤ c.reserve-2.new.self.free) places c.in_ok-reserve-2.ensures.ok))
     (subst (λ (o : Option Op). HoldsOnlyFor o c.hold.new.self) (sym (ap (λ (t : Tabled). t.prepared) c.in_default.ensures.ok)) (c.in_ok-hold.ensures.only (subst (λ (o : Option Op). HoldsOnlyFor o c.self.inside.members) (ap (λ (x : Clustered). x.prepared) c.self.view_is ∙ c.requires) c.self.invariant.only)))

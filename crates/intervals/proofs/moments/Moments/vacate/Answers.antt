@@ -1,6 +1,0 @@
-use Rattle.std.proofs.Common.{Some, None}
-use Rattle.intervals.proofs.Kept.{kept_after}
-use Rattle.intervals.proofs.moments.Moments.vacate.Goals as goal
-
-pub returns : goal.returns
-returns c = kept_after c.args.self.now (record { holders = c.insert.new.self }) c.args.moment (Some None) c.in-Ok.ensures.updates

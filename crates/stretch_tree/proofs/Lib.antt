@@ -1,0 +1,4 @@
+pub mod MomentOrder
+mod Looks
+mod Summaries
+pub mod Crosses

@@ -1,0 +1,38 @@
+-- The summary of a list is that of its parts.
+use Rattle.std.proofs.Common.{◌≡◌, ◌∙◌, Bool, true, false, not, ◌||◌, List, [], ◌∷◌, ◌++◌, refl, sym, ap}
+use Rattle.std.specs.Prelude.{All}
+use Rattle.std.specs.List.{list_any}
+use Rattle.std.proofs.lemmas.List.Elements.{All-nil, All-cons}
+use Rattle.std.proofs.lemmas.List.Folds.{list_any-append}
+use Rattle.stretch_tree.specs.declared.stretch.Stretch.{Stretch}
+use Rattle.stretch_tree.specs.declared.summary.Summary.{Summary}
+use Rattle.stretch_tree.specs.Look.{is_early, is_writeless}
+use Rattle.stretch_tree.specs.Summary.{join, one_stretch, summary_of}
+
+neither : (a b : Bool) → (a || b) ≡ false → (a ≡ false) × (b ≡ false)
+neither true b e = absurd (cc)
+neither false b e = (refl, e)
+
+-- where no stretch passes, each fails
+pub none_passes : (p : Stretch → Bool) (stretches : List Stretch) → list_any p stretches ≡ false → All (λ s. p s ≡ false) stretches
+none_passes p [] e = All-nil (λ s. p s ≡ false)
+none_passes p (s ∷ stretches) e =
+    let parts = neither (p s) (list_any p stretches) e in
+    All-cons (λ s. p s ≡ false) s stretches parts.0 (none_passes p stretches parts.1)
+
+or_false : (a : Bool) → a ≡ (a || false)
+or_false true = refl
+or_false false = refl
+
+pub summary_of_one : (s : Stretch) → one_stretch s ≡ summary_of (s ∷ [])
+summary_of_one s =
+    ap {B = Summary} (λ (w : Bool). record { writeless = w; early = s.written }) (or_false (not s.written))
+    ∙ ap {B = Summary} (λ (e : Bool). record { writeless = not s.written || false; early = e }) (or_false s.written)
+
+of_both : (xs ys : List Stretch) → join (summary_of xs) (summary_of ys) ≡ summary_of (xs ++ ys)
+of_both xs ys =
+    ap {B = Summary} (λ (w : Bool). record { writeless = w; early = list_any is_early xs || list_any is_early ys }) (sym (list_any-append is_writeless xs ys))
+    ∙ ap {B = Summary} (λ (e : Bool). record { writeless = list_any is_writeless (xs ++ ys); early = e }) (sym (list_any-append is_early xs ys))
+
+pub summary_of_joined : (s t : Summary) (xs ys : List Stretch) → s ≡ summary_of xs → t ≡ summary_of ys → join s t ≡ summary_of (xs ++ ys)
+summary_of_joined s t xs ys e f = ap (λ (x : Summary). join x t) e ∙ (ap (join (summary_of xs)) f ∙ of_both xs ys)

@@ -1,0 +1,46 @@
+ghost use Rattle.std.specs.Prelude.{◌≡◌, nat_lt};
+ghost use Rattle.stretch_tree.specs.Order.{comes_before as moment_before, same_moment};
+
+use intervals::{Moment, Value};
+use summary_tree::Keyed;
+
+/// A value whose first read has no write, or ended before its write begins.
+#[derive(Clone, Copy, Debug)]
+pub struct Stretch {
+    /// When the first read of the value ended.
+    pub end: Moment,
+    /// Whether the value has a write. Then the read is early, else it is writeless.
+    pub written: bool,
+    pub value: Value,
+}
+
+impl Keyed for Stretch {
+    type Key = Moment;
+
+    ghost key = { λ s. s.end };
+
+    ghost comes_before = { moment_before };
+
+    ghost same = { same_moment };
+
+    fn placeholder() -> Self {
+        Stretch {
+            end: Moment(0),
+            written: false,
+            value: Value::Nil,
+        }
+    }
+
+    #[inline(always)]
+    fn key(&self) -> Moment {
+        self.end
+    }
+
+    #[inline(always)]
+    fn comes_before(a: Moment, b: Moment) -> bool {
+        a.0 < b.0
+    }
+
+    #[inline(always)]
+    fn keys_are_in_one_order() {}
+}

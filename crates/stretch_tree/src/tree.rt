@@ -1,0 +1,108 @@
+ghost use Rattle.std.specs.Prelude.{◌≡◌, ◌+◌, ◌<◌, ◌≤◌, ◌&&◌, not, [], find, is_some, if◌then◌else◌, OnOk, OnErr};
+ghost use Rattle.intervals.specs.Operation.{same_value};
+ghost use Rattle.stretch_tree.specs.Order.{AreByEnd, HasNoneAt, with_stretch, without_stretch_at, stretch_at};
+
+use crate::Stretch;
+use crate::look::{self, Part};
+use crate::summary::Summary;
+use intervals::{Memory, Moment, Value};
+use std::alloc::Global;
+use std::marker::Model;
+use summary_tree::SummaryTree;
+
+/// Stretches of different ends, and reserved places for more. How many levels its calls go down is not
+/// counted: the bound on the steps of an edit is that of the tree of zones.
+#[derive(Drop)]
+pub struct StretchTree {
+    tree: SummaryTree<Stretch, Summary>,
+}
+
+impl Model for StretchTree {
+    ghost use Rattle.stretch_tree.specs.Order.{Contents};
+
+    ghost Value = { Contents };
+
+    ghost view = { λ t. record { stretches = t.tree.items; free = t.tree.free } };
+}
+
+impl StretchTree {
+    /// A tree of no stretches and no places.
+    pub fn new(alloc: Global) -> Self
+        ensures stretches { result.stretches ≡ [] }
+        ensures free { result.free ≡ 0 }
+    {
+        StretchTree {
+            tree: SummaryTree::new(alloc),
+        }
+    }
+
+    /// How many stretches can be inserted without memory.
+    pub fn free(&self) -> usize
+        ensures { result ≡ self.now.free }
+    {
+        self.tree.free()
+    }
+
+    /// Makes room for that many more stretches.
+    pub fn reserve(&mut self, places: usize) -> Result<(), Memory>
+        ensures stretches { self.new.stretches ≡ self.old.stretches }
+        ensures ok { OnOk result (places ≤ self.new.free) }
+        ensures kept { self.old.free ≤ self.new.free }
+        ensures err { OnErr result (self.new ≡ self.old) }
+        ensures memory { OnErr result (self.old.free < places) }
+    {
+        self.tree.reserve(places)
+    }
+
+    /// Puts a stretch of a new end into a reserved place.
+    pub fn insert(&mut self, stretch: Stretch)
+        requires room { 0 < self.old.free }
+        requires new_end { HasNoneAt stretch.end self.old.stretches }
+        ensures stretches { self.new.stretches ≡ with_stretch stretch self.old.stretches }
+        ensures free { self.new.free + 1 ≡ self.old.free }
+    {
+        self.tree.insert(stretch);
+    }
+
+    /// Takes the stretch of that end out. Its place stays reserved.
+    pub fn remove(&mut self, end: Moment) -> Option<Stretch>
+        ensures stretch { result ≡ stretch_at end self.old.stretches }
+        ensures stretches { self.new.stretches ≡ without_stretch_at end self.old.stretches }
+        ensures free { self.new.free ≡ (if is_some result then self.old.free + 1 else self.old.free) }
+    {
+        self.tree.remove(end)
+    }
+
+    /// The writeless stretch of the least end.
+    pub fn first_writeless(&self) -> Option<Stretch>
+        ensures first { result ≡ find (λ s. not s.written) self.now.stretches }
+        ensures order { AreByEnd self.now.stretches }
+    {
+        look::first_writeless(self.all())
+    }
+
+    /// Of the writeless stretches of another value than that the one of the least end.
+    pub fn first_writeless_but(&self, value: Value) -> Option<Stretch>
+        ensures first { result ≡ find (λ s. not s.written && not (same_value s.value value)) self.now.stretches }
+        ensures order { AreByEnd self.now.stretches }
+    {
+        look::first_writeless_but(self.all(), value)
+    }
+
+    /// The early stretch of the least end.
+    pub fn first_early(&self) -> Option<Stretch>
+        ensures first { result ≡ find (λ s. s.written) self.now.stretches }
+        ensures order { AreByEnd self.now.stretches }
+    {
+        look::first_early(self.all())
+    }
+
+    fn all(&self) -> Part<'_>
+        ensures stretches { result.tree.now.items ≡ self.now.stretches }
+        ensures order { AreByEnd self.now.stretches }
+    {
+        Part {
+            tree: self.tree.tree(),
+        }
+    }
+}
