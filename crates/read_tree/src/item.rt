@@ -68,7 +68,7 @@ impl Keyed for Item {
 
     ghost same = { same_spot };
 
-    fn placeholder() -> Self {
+    fn spare() -> Self {
         Item {
             value: Value::Nil,
             moment: Moment(0),

@@ -4,8 +4,9 @@ use Rattle.std.specs.Prelude.{IsTrue}
 use Rattle.std.proofs.lemmas.Bool.{ltb-true, lt-ltb, cases_order}
 use Rattle.std.proofs.lemmas.Bool.Decides.{Decides-eqb}
 use Rattle.intervals.specs.declared.operation.Moment.{Moment}
+use Rattle.intervals.specs.Moments.{same_moment}
 use Rattle.summary_tree.specs.Order.{IsOrder, IsExact}
-use Rattle.stretch_tree.specs.Order.{comes_before, same_moment}
+use Rattle.stretch_tree.specs.Order.{comes_before}
 
 same_by_number : (m n : Moment) → m.0 ≡ n.0 → m ≡ n
 same_by_number m n e = ap {B = Moment} (λ (k : ℕ). record { 0 = k }) e

@@ -1,7 +1,8 @@
 -- Stretches by their ends.
-use Rattle.std.specs.Prelude.{ℕ, ◌≢◌, ◌==◌, Bool, not, nat_lt, IsTrue, All, List, ◌∷◌, ◌++◌, Option, filter, find}
+use Rattle.std.specs.Prelude.{ℕ, ◌≢◌, Bool, not, nat_lt, IsTrue, All, List, ◌∷◌, ◌++◌, Option, filter, find}
 use Rattle.std.specs.List.{AllPairs}
 use Rattle.intervals.specs.declared.operation.Moment.{Moment}
+use Rattle.intervals.specs.Moments.{same_moment}
 use Rattle.stretch_tree.specs.declared.stretch.Stretch.{Stretch}
 
 -- what a tree holds: its stretches by end, and how many more it has room for
@@ -12,10 +13,6 @@ pub record Contents : Type 0 where
 -- the first moment comes before the second
 abbrev pub comes_before : Moment → Moment → Bool
 comes_before a b = nat_lt a.0 b.0
-
--- two moments are one
-abbrev pub same_moment : Moment → Moment → Bool
-same_moment a b = a.0 == b.0
 
 -- each end comes before those of all later stretches
 abbrev pub AreByEnd : List Stretch → Type 0

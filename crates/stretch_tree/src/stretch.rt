@@ -1,5 +1,6 @@
 ghost use Rattle.std.specs.Prelude.{◌≡◌, nat_lt};
-ghost use Rattle.stretch_tree.specs.Order.{comes_before as moment_before, same_moment};
+ghost use Rattle.intervals.specs.Moments.{same_moment};
+ghost use Rattle.stretch_tree.specs.Order.{comes_before as moment_before};
 
 use intervals::{Moment, Value};
 use summary_tree::Keyed;
@@ -23,7 +24,7 @@ impl Keyed for Stretch {
 
     ghost same = { same_moment };
 
-    fn placeholder() -> Self {
+    fn spare() -> Self {
         Stretch {
             end: Moment(0),
             written: false,

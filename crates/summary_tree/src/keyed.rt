@@ -13,8 +13,8 @@ pub trait Keyed: Copy {
 
     ghost same: { Self.Key → Self.Key → Bool };
 
-    /// What a spare node holds.
-    fn placeholder() -> Self;
+    /// The item of a spare node.
+    fn spare() -> Self;
 
     fn key(&self) -> Self::Key
         ensures { result ≡ key self.now };

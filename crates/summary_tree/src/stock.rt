@@ -126,11 +126,11 @@ fn fill<T: Keyed, S: Summarizes<T>>(
     Ok(())
 }
 
-/// A spare node: its item is a placeholder.
+/// A spare node, with the item of one.
 fn empty<T: Keyed, S: Summarizes<T>>() -> Node<T, S>
     ensures { IsAlone result }
 {
-    let item = T::placeholder();
+    let item = T::spare();
     Node {
         left: Tree::new(),
         item,

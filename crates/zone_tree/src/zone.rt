@@ -51,7 +51,7 @@ impl Keyed for Zone {
 
     ghost same = { same_edge };
 
-    fn placeholder() -> Self {
+    fn spare() -> Self {
         Zone {
             left: Edge::Before,
             right: Edge::Before,

@@ -4,11 +4,12 @@ use Rattle.std.specs.Prelude.{◌≡◌, ◌&&◌, Contains, List, Option, Some,
 use Rattle.intervals.specs.declared.operation.Op.{Op}
 use Rattle.intervals.specs.declared.operation.Moment.{Moment}
 use Rattle.intervals.specs.declared.operation.Value.{Value}
+use Rattle.intervals.specs.Moments.{same_moment}
 use Rattle.intervals.specs.Operation.{IsJudgedRead, is_judged_read, is_write, value_of, same_value}
 use Rattle.intervals.specs.Standing.{IsInitial}
 use Rattle.intervals.specs.Terms.{Terms}
 use Rattle.stretch_tree.specs.declared.stretch.Stretch.{Stretch}
-use Rattle.stretch_tree.specs.Order.{comes_before, same_moment}
+use Rattle.stretch_tree.specs.Order.{comes_before}
 use Rattle.zone_tree.specs.declared.edge.Edge.{Edge}
 use Rattle.zone_tree.specs.declared.edge.Edge.TheVariants.{Before, At, Never}
 use Rattle.zone_tree.specs.Edge.{ComesBefore}
