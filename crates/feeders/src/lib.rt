@@ -33,6 +33,3 @@ pub use feeder::Feeder;
 pub use log::{BreakCode, Broken, Code, Line, Log, What};
 pub use pages::Pages;
 pub use run::{Run, run_readers, run_traces};
-
-#[cfg(test)]
-mod tests;

@@ -49,6 +49,3 @@ pub use opening::Opening;
 pub use pass::Pass;
 pub use seen::Seen;
 pub use state::ShardState;
-
-#[cfg(test)]
-mod tests;

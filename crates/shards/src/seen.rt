@@ -60,7 +60,7 @@ impl<'t> Seen<'t> {
     }
 
     /// The farthest entry known in a shard.
-    pub(crate) fn farthest(&self, shard: u32) -> Option<&Numbered<'t>>
+    pub fn farthest(&self, shard: u32) -> Option<&Numbered<'t>>
         ensures { option_copied result ≡ farthest_in self.now.farthest shard }
     {
         match self.farthest.get(shard as usize) {
