@@ -1,6 +1,6 @@
 -- The look-ups by id and by moment, and what an edit leaves of them.
-use Rattle.std.proofs.Common.{◌≡◌, ◌≢◌, ◌==◌, ℕ, zero, suc, inl, inr, ◌⊎◌, Bool, true, false, not, ◌&&◌, List, [], ◌∷◌, ◌++◌, length, set, Option, Some, None, refl, sym, ap, ◌∙◌, cond}
-use Rattle.std.specs.Prelude.{IfSome, option_map}
+use Rattle.std.proofs.Common.{◌≡◌, ◌≢◌, ◌==◌, ℕ, zero, suc, inl, inr, ◌⊎◌, Bool, true, false, not, ◌&&◌, List, [], ◌∷◌, ◌++◌, length, set, map, Option, Some, None, refl, sym, ap, subst, ◌∙◌, cond}
+use Rattle.std.specs.Prelude.{IfSome, IsSome, option_map}
 use Rattle.std.proofs.lemmas.Bool.Decides.{Decides-eqb, Decides-or}
 use Rattle.std.proofs.lemmas.List.Elements.{All-contains}
 use Rattle.intervals.specs.declared.operation.Op.{Op}
@@ -9,14 +9,14 @@ use Rattle.intervals.specs.declared.operation.Moment.{Moment}
 use Rattle.intervals.specs.declared.edit.Change.{Change}
 use Rattle.intervals.specs.declared.edit.Edit.TheVariants.{Append, Amend}
 use Rattle.intervals.specs.Operation.{same_id}
-use Rattle.intervals.specs.Edit.{op_of, changed, new_op}
+use Rattle.intervals.specs.Edit.{op_of, amended, changed, edited, new_op}
 use Rattle.intervals.specs.Refusal.{is_at, is_moment_of, find_other_with, moments_refusal, first_refusal}
 use Rattle.intervals.specs.Standing.{IsMomentOf, ShareNoMoment}
 use Rattle.intervals.specs.Table.{standing, slot_at, IsIndexed}
 use Rattle.intervals.proofs.Accepted.{shares_none, moments_accepted}
 use Rattle.intervals.proofs.Found.{find-None, find-Some}
 use Rattle.intervals.proofs.Ids.{Decides-same_id_is, same_id-refl, none_of, not_taken, other_way}
-use Rattle.intervals.proofs.Slots.{slot_stands, stands_in_slot, slot_within, slot_at-more, slot_at-others, slot_at-past, slot_at-set, slot_at-set_others, IsOnlyAt}
+use Rattle.intervals.proofs.Slots.{slot_stands, stands_in_slot, slot_within, slot_at-more, slot_at-others, slot_at-past, slot_at-set, slot_at-set_others, standing_changed, IsOnlyAt}
 
 abbrev is_moment_of_next : Option Op → Moment → Bool
 is_moment_of_next None moment = false
@@ -65,6 +65,24 @@ moment_of op m t = by_cases ((Decides-or (op.begin.0 == m.0) (is_at op.end m) (D
 pub if_some : {X : Type 0} (P Q : X → Type 0) → ((x : X) → P x → Q x) → (o : Option X) → IfSome o P → IfSome o Q
 if_some P Q f None p = tt
 if_some P Q f (Some x) p = f x p
+
+-- the operation that an amendment leaves has its id
+pub left_id : (ops : List Op) (id : OpId) (change : Change) (new : Op) → new_op ops (Amend id change) ≡ Some new → id ≡ new.id
+left_id ops id change new left = by_cases (op_of ops id) refl left
+  where
+    by_cases : (o : Option Op) → op_of ops id ≡ o → option_map (λ op. changed op change) o ≡ Some new → id ≡ new.id
+    by_cases None o e = absurd (cc)
+    by_cases (Some op) o e =
+        let own : op.id ≡ id = (Decides-same_id_is op.id id).0 (find-Some (λ op. same_id op.id id) ops op o).1 in
+        sym own ∙ ap (λ (a : Op). a.id) (some_is (changed op change) new e)
+
+-- and one of that id stands
+pub left_stands : (ops : List Op) (id : OpId) (change : Change) (new : Op) → new_op ops (Amend id change) ≡ Some new → IsSome (op_of ops new.id)
+left_stands ops id change new left = subst (λ (id : OpId). IsSome (op_of ops id)) (left_id ops id change new left) (by_cases (op_of ops id) left)
+  where
+    by_cases : (o : Option Op) → option_map (λ op. changed op change) o ≡ Some new → IsSome o
+    by_cases None e = absurd (cc)
+    by_cases (Some op) e = refl
 
 module _ (at : ℕ → Option Op) (place : OpId → Option ℕ) (holder : Moment → Option OpId) (indexed : IsIndexed at place holder) where
   -- two operations of one id are in one slot
@@ -265,7 +283,7 @@ module _ (slots : List (Option Op)) (place : OpId → Option ℕ) (holder : Mome
   only_there id i op p e = one_id (slot_at slots) place holder indexed i op id e (has_own_id id i op p e)
 
   -- the new operation of an amendment is that of the slot, changed
-  pub new_in_slot : (id : OpId) (change : Change) (i : ℕ) (op : Op) → place id ≡ Some i → slot_at slots i ≡ Some op → new_op (standing slots) (Amend id change) ≡ Some (changed op change)
+  new_in_slot : (id : OpId) (change : Change) (i : ℕ) (op : Op) → place id ≡ Some i → slot_at slots i ≡ Some op → new_op (standing slots) (Amend id change) ≡ Some (changed op change)
   new_in_slot id change i op p e = ap (option_map (λ op. changed op change)) (found_in_slot id i op p e)
 
   pub indexed_appended : (op : Op) (i : ℕ) (place' : OpId → Option ℕ) (holder' : Moment → Option OpId) → first_refusal (standing slots) (Append op) ≡ None → i ≡ length slots
@@ -281,27 +299,33 @@ module _ (slots : List (Option Op)) (place : OpId → Option ℕ) (holder : Mome
       none : op_of (standing slots) op.id ≡ None
       none = not_taken (op_of (standing slots) op.id) (moments_refusal (standing slots) op) accepted
 
-  pub indexed_amended : (id : OpId) (change : Change) (i : ℕ) (op : Op) (holder' : Moment → Option OpId) → first_refusal (standing slots) (Amend id change) ≡ None → place id ≡ Some i → slot_at slots i ≡ Some op
-      → ((m : Moment) → holder' m ≡ cond (is_moment_of (changed op change) m) (Some op.id) (cond (is_moment_of op m) None (holder m)))
-      → IsIndexed (slot_at (set slots i (Some (changed op change)))) place holder'
-  indexed_amended id change i op holder' accepted p e holders =
+  pub indexed_amended : (new : Op) (i : ℕ) (op : Op) (holder' : Moment → Option OpId) → moments_refusal (standing slots) new ≡ None → op.id ≡ new.id → slot_at slots i ≡ Some op
+      → ((m : Moment) → holder' m ≡ cond (is_moment_of new m) (Some new.id) (cond (is_moment_of op m) None (holder m)))
+      → IsIndexed (slot_at (set slots i (Some new))) place holder'
+  indexed_amended new i op holder' accepted same e holders =
       indexed_after (slot_at slots) place holder indexed (slot_at (set slots i (Some new))) place holder' i (Some op) (Some new)
       e (slot_at-set slots i (Some new) (slot_within slots i op e)) (slot_at-set_others slots i (Some new)) places holders
-      (λ j other f apart. other_way other.id op.id (elsewhere_other j other f apart))
-      (λ j other f apart. moments_free new (moments_accepted (standing slots) (Amend id change) new accepted (new_in_slot id change i op p e)) j other f (elsewhere_other j other f apart))
+      (λ j other f apart. other_way other.id new.id (elsewhere_other j other f apart))
+      (λ j other f apart. moments_free new accepted j other f (elsewhere_other j other f apart))
     where
-      new : Op
-      new = changed op change
-
-      elsewhere_other : (j : ℕ) (other : Op) → slot_at slots j ≡ Some other → j ≢ i → same_id other.id op.id ≡ false
-      elsewhere_other = one_id (slot_at slots) place holder indexed i op op.id e (same_id-refl op.id)
+      elsewhere_other : (j : ℕ) (other : Op) → slot_at slots j ≡ Some other → j ≢ i → same_id other.id new.id ≡ false
+      elsewhere_other = one_id (slot_at slots) place holder indexed i op new.id e ((Decides-same_id_is op.id new.id).1 same)
 
       by_id : (q : OpId) (t : Bool) → same_id op.id q ≡ t → place q ≡ cond t (Some i) (cond t None (place q))
       by_id q false t = refl
       by_id q true t = ap place (sym ((Decides-same_id_is op.id q).0 t)) ∙ indexed.placed i op e
 
-      places : (q : OpId) → place q ≡ cond (same_id op.id q) (Some i) (cond (same_id op.id q) None (place q))
-      places q = by_id q (same_id op.id q) refl
+      places : (q : OpId) → place q ≡ cond (same_id new.id q) (Some i) (cond (same_id op.id q) None (place q))
+      places q = subst (λ (id : OpId). place q ≡ cond (same_id id q) (Some i) (cond (same_id op.id q) None (place q))) same (by_id q (same_id op.id q) refl)
+
+  -- the operation that an amendment leaves, in the slot of its id, leaves what the edit leaves
+  pub standing_left : (id : OpId) (change : Change) (i : ℕ) (op new : Op) → place new.id ≡ Some i → slot_at slots i ≡ Some op → new_op (standing slots) (Amend id change) ≡ Some new
+      → standing (set slots i (Some new)) ≡ edited (standing slots) (Amend id change)
+  standing_left id change i op new p e left =
+      let there : place id ≡ Some i = ap place (left_id (standing slots) id change new left) ∙ p in
+      let is : changed op change ≡ new = some_is (changed op change) new (sym (new_in_slot id change i op there e) ∙ left) in
+      subst (λ (o : Op). standing (set slots i (Some o)) ≡ map (amended id change) (standing slots)) is
+      (standing_changed slots i op id change e (has_own_id id i op there e) (only_there id i op there e))
 
   pub indexed_without : (id : OpId) (i : ℕ) (op : Op) (place' : OpId → Option ℕ) (holder' : Moment → Option OpId) → place id ≡ Some i → slot_at slots i ≡ Some op
       → ((q : OpId) → place' q ≡ cond (same_id id q) None (place q))

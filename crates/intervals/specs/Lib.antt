@@ -2,6 +2,7 @@ pub mod Operation
 pub mod Least
 pub mod Terms
 pub mod Edit
+pub mod Target
 pub mod Bare
 pub mod Standing
 pub mod Refusal

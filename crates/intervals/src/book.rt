@@ -62,7 +62,7 @@ impl<'t> OpBook<'t> {
     pub fn new_op(&self, edit: &Edit<'t>) -> Option<Op<'t>>
         ensures { result ≡ new_one self.now edit.now }
     {
-        self.table.new_op(edit)
+        self.table.target(edit).new
     }
 
     /// The first refusal, from `UnknownOp` to `MomentTooLarge`, that holds of the edit. Whether a
@@ -70,7 +70,7 @@ impl<'t> OpBook<'t> {
     pub fn check(&self, edit: &Edit<'t>) -> Result<(), Refusal>
         ensures { result ≡ ok_unless (first_refusal self.now edit.now) }
     {
-        self.table.check(edit, &self.table.new_op(edit))
+        self.table.check(edit, &self.table.target(edit))
     }
 
     /// Carries out an edit that `check` accepts. A withdrawal takes no memory.
@@ -80,10 +80,11 @@ impl<'t> OpBook<'t> {
         ensures err { OnErr result (self.new ≡ self.old) }
         ensures memory { OnErr result (IsSome (new_one self.old edit.entry)) }
     {
-        if let Some(op) = self.table.new_op(&edit) {
-            self.table.prepare(&op)?;
+        let target = self.table.target(&edit);
+        if let Some(op) = &target.new {
+            self.table.prepare(op)?;
         }
-        self.table.admit(&edit);
+        self.table.admit(&edit, &target);
         Ok(())
     }
 }

@@ -37,6 +37,7 @@ mod repeat;
 mod rising;
 mod shelf;
 mod table;
+mod target;
 
 pub use book::OpBook;
 pub use claim::{Claim, Holder, Initial, Kind, Writers};
@@ -47,3 +48,4 @@ pub use operation::{
 pub use refusal::Refusal;
 pub use shelf::{Shelf, Spot};
 pub use table::OpTable;
+pub use target::Target;

@@ -1,14 +1,19 @@
 //! The operations that stand, by their ids and by their moments, and room for one more.
 
-ghost use Rattle.std.specs.Prelude.{◌≡◌, ◌↔◌, ◌<◌, ◌≤◌, ℕ, [], List, length, None, Some, OnOk, OnErr, IfSome, IsTrue, option_copied, option_map, vec_len, vec_capacity};
+ghost use Rattle.std.specs.Prelude.{◌≡◌, ◌↔◌, ◌<◌, ◌≤◌, ℕ, [], List, length, None, Some, OnOk, OnErr, IfSome, IsSome, IsTrue, option_copied, option_map, vec_len, vec_capacity};
+ghost use Rattle.intervals.specs.declared.edit.Change.{Change as AChange};
+ghost use Rattle.intervals.specs.declared.operation.Op.{Op as AnOp};
+ghost use Rattle.intervals.specs.declared.operation.OpId.{OpId as AnId};
 ghost use Rattle.intervals.specs.Edit.{op_of, found_by, edited, new_op as new_one};
 ghost use Rattle.intervals.specs.Operation.{same_id};
 ghost use Rattle.intervals.specs.Refusal.{first_refusal, moments_refusal, ok_unless, find_other_with};
+ghost use Rattle.intervals.specs.Target.{IsTargetOf};
 ghost use Rattle.intervals.specs.Table.{ArePlaces, admitted, place_of, prepared_after, standing, slot_at};
 
 use crate::moments::{ends_too_early, is_too_large, move_moments, put_moments, take_moments};
 use crate::rising::RisingMap;
-use crate::{Change, Edit, Memory, Moment, Op, OpId, Refusal, changed};
+use crate::target::{Target, new_op};
+use crate::{Edit, Memory, Moment, Op, OpId, Refusal};
 use std::alloc::Global;
 use std::marker::Model;
 
@@ -86,36 +91,44 @@ impl<'t> OpTable<'t> {
         self.get(id?).copied()
     }
 
-    /// The operation that the edit adds or changes, as it is afterwards.
-    pub fn new_op(&self, edit: &Edit<'t>) -> Option<Op<'t>>
-        ensures { result ≡ new_one self.now.ops edit.now }
+    /// What the edit is about, found once for the check, the judge and the table.
+    pub fn target(&self, edit: &Edit<'t>) -> Target<'t>
+        ensures { IsTargetOf self.now.ops edit.now result }
     {
-        match edit {
-            Edit::Append(op) => Some(*op),
-            Edit::Amend(id, change) => {
-                let op = self.get(*id)?;
-                Some(changed(op, change))
-            }
-            Edit::Withdraw(_) | Edit::Claim(_) => None,
+        let (place, old) = self.look_up(edit.id());
+        let new = new_op(edit, &old);
+        Target { place, old, new }
+    }
+
+    /// The operation of that id, where one is given and stands, behind the slot that it is in.
+    fn look_up(&self, id: Option<OpId>) -> (usize, Option<Op<'t>>)
+        ensures { result.1 ≡ found_by self.now.ops id }
+    {
+        let Some(id) = id else {
+            return (0, None);
+        };
+        match find_slot(self.slots.as_slice(), &self.places, id) {
+            Some((place, op)) => (place, Some(*op)),
+            None => (0, None),
         }
     }
 
-    /// The first refusal, from `UnknownOp` to `MomentTooLarge`, that holds of the edit, of which the new operation
-    /// is given. Whether a write is one that the register's claim allows is its judge's to say.
-    pub fn check(&self, edit: &Edit<'t>, new: &Option<Op<'t>>) -> Result<(), Refusal>
-        requires { new.now ≡ new_one self.now.ops edit.now }
+    /// The first refusal, from `UnknownOp` to `MomentTooLarge`, that holds of the edit.
+    /// Whether a write is one that the register's claim allows is its judge's to say.
+    pub fn check(&self, edit: &Edit<'t>, target: &Target<'t>) -> Result<(), Refusal>
+        requires { IsTargetOf self.now.ops edit.now target.now }
         ensures { result ≡ ok_unless (first_refusal self.now.ops edit.now) }
     {
         match edit {
-            Edit::Append(op) => match self.get(op.id) {
+            Edit::Append(op) => match &target.old {
                 Some(_) => Err(Refusal::OpTaken),
                 None => self.check_moments(op),
             },
-            Edit::Amend(..) => match new {
+            Edit::Amend(..) => match &target.new {
                 Some(op) => self.check_moments(op),
                 None => Err(Refusal::UnknownOp),
             },
-            Edit::Withdraw(id) => match self.get(*id) {
+            Edit::Withdraw(_) => match &target.old {
                 Some(_) => Ok(()),
                 None => Err(Refusal::UnknownOp),
             },
@@ -152,15 +165,21 @@ impl<'t> OpTable<'t> {
     }
 
     /// Carries out an edit that `check` accepts. An operation that it adds or changes was prepared.
-    pub fn admit(&mut self, edit: &Edit<'t>)
+    pub fn admit(&mut self, edit: &Edit<'t>, target: &Target<'t>)
         requires accepted { first_refusal self.old.ops edit.now ≡ None }
+        requires target { IsTargetOf self.old.ops edit.now target.now }
         requires room { IfSome (new_one self.old.ops edit.now) (λ op. self.old.prepared ≡ Some op) }
         ensures { self.new ≡ record { ops = edited self.old.ops edit.now; prepared = prepared_after (new_one self.old.ops edit.now) self.old.prepared } }
     {
         match edit {
             Edit::Append(op) => self.append(op),
-            Edit::Amend(id, change) => self.amend(*id, change),
-            Edit::Withdraw(id) => self.withdraw(*id),
+            Edit::Amend(..) => {
+                let Some(op) = &target.new else {
+                    unreachable!()
+                };
+                self.amend(op, target.place);
+            }
+            Edit::Withdraw(id) => self.withdraw(*id, target.place),
             Edit::Claim(_) => {}
         }
     }
@@ -178,25 +197,29 @@ impl<'t> OpTable<'t> {
         self.prepared = None;
     }
 
-    fn amend(&mut self, id: OpId, change: &Change<'t>)
-        requires accepted { first_refusal self.old.ops (Edit.Amend id change.now) ≡ None }
-        requires room { self.old.prepared ≡ new_one self.old.ops (Edit.Amend id change.now) }
-        ensures { self.new ≡ admitted self.old (Edit.Amend id change.now) }
+    /// Puts the operation in the slot of the one of its id, which is looked for in the slot `first` first.
+    fn amend(&mut self, op: &Op<'t>, first: usize)
+        requires stands { IsSome (op_of self.old.ops op.now.id) }
+        requires accepted { moments_refusal self.old.ops op.now ≡ None }
+        requires room { self.old.prepared ≡ Some op.now }
+        ensures { (id : AnId) (change : AChange) → new_one self.old.ops (Edit.Amend id change) ≡ Some op.now → self.new ≡ admitted self.old (Edit.Amend id change) }
     {
-        let Some((place, op)) = find_slot(self.slots.as_slice(), &self.places, id) else {
+        let Some((place, old)) = find_slot_from(self.slots.as_slice(), &self.places, op.id, first)
+        else {
             unreachable!()
         };
-        let new = changed(op, change);
-        move_moments(&mut self.moments, op, &new);
-        self.slots[place] = Some(new);
+        move_moments(&mut self.moments, old, op);
+        self.slots[place] = Some(*op);
         self.prepared = None;
     }
 
-    fn withdraw(&mut self, id: OpId)
+    /// Takes the operation of that id out, which is looked for in the slot `first` first.
+    fn withdraw(&mut self, id: OpId, first: usize)
         requires { first_refusal self.old.ops (Edit.Withdraw id) ≡ None }
         ensures { self.new ≡ admitted self.old (Edit.Withdraw id) }
     {
-        let Some((place, op)) = find_slot(self.slots.as_slice(), &self.places, id) else {
+        let Some((place, op)) = find_slot_from(self.slots.as_slice(), &self.places, id, first)
+        else {
             unreachable!()
         };
         take_moments(&mut self.moments, op);
@@ -250,6 +273,29 @@ fn find_slot<'b, 't>(
     let place = places.get(id)?;
     let op = slots.get(place)?.as_ref()?;
     Some((place, op))
+}
+
+/// The slot of that id and the operation in it, where each operation stands in the slot of its own id. The slot `first`
+/// is looked at before the id is looked up.
+fn find_slot_from<'b, 't>(
+    slots: &'b [Option<Op<'t>>],
+    places: &RisingMap<OpId, usize>,
+    id: OpId,
+    first: usize,
+) -> Option<(usize, &'b Op<'t>)>
+    requires order { ArePlaces places.now }
+    requires placed { (i : ℕ) (op : AnOp) → slot_at slots.now i ≡ Some op → place_of places.now op.id ≡ Some i }
+    ensures place { IfSome result (λ found. place_of places.now id ≡ Some found.0) }
+    ensures slot { IfSome result (λ found. slot_at slots.now found.0 ≡ Some found.1.now) }
+    ensures within { IfSome result (λ found. found.0 < length slots.now) }
+    ensures none { result ≡ None → (i : ℕ) → place_of places.now id ≡ Some i → slot_at slots.now i ≡ None }
+{
+    if let Some(Some(op)) = slots.get(first) {
+        if op.has_id(id) {
+            return Some((first, op));
+        }
+    }
+    find_slot(slots, places, id)
 }
 
 /// Takes the empty slots at the end out.

@@ -1,6 +1,7 @@
 ghost use Rattle.std.specs.Prelude.{◌≡◌, ◌≢◌, ◌↔◌, ◌+◌, ◌≤◌, [], All, Some, None, false, length, IfOk, IfSome, OnOk, OnErr, IsNone, IsTrue, option_copied};
 ghost use Rattle.intervals.specs.Terms.{terms_of, IsKnownUnlessAtomic};
-ghost use Rattle.intervals.specs.Edit.{op_of, is_claim, new_op};
+ghost use Rattle.intervals.specs.Edit.{op_of, is_claim};
+ghost use Rattle.intervals.specs.Target.{IsTargetOf};
 ghost use Rattle.intervals.specs.Refusal.{reply_to, to_kind_refusal, carried_out, after_edit};
 ghost use Rattle.intervals.specs.Kind.{Holds};
 ghost use Rattle.zones.specs.AtFirst.{with_start};
@@ -14,7 +15,7 @@ use crate::judge::Judge;
 use crate::laws::a_witness_stands;
 use crate::refused::refusal_of;
 use crate::{Fault, Reply, Witness};
-use intervals::{Claim, Edit, Kind, Memory, Op, OpId};
+use intervals::{Claim, Edit, Kind, Memory, Op, OpId, Target};
 use std::alloc::Global;
 use std::marker::Model;
 
@@ -89,19 +90,19 @@ impl<'t> RegisterBook<'t> {
         ensures none { is_claim edit.entry ≡ false → self.old.claim.kind ≢ Kind.Atomic → self.new.steps ≡ self.old.steps }
         ensures again { edit.entry ≡ Edit.Claim self.old.claim.kind → self.new.steps ≡ self.old.steps }
     {
-        let new = self.judge.operations().new_op(&edit);
-        if let Some(refusal) = refusal_of(self.alloc, &self.judge, &edit, &new)? {
+        let target = self.judge.operations().target(&edit);
+        if let Some(refusal) = refusal_of(self.alloc, &self.judge, &edit, &target)? {
             return Ok(Reply::Refused(refusal));
         }
-        self.carry_out(&edit, &new)?;
+        self.carry_out(&edit, &target)?;
         Ok(Reply::Accepted {
             holds: self.holds(),
         })
     }
 
-    fn carry_out(&mut self, edit: &Edit<'t>, new: &Option<Op<'t>>) -> Result<(), Memory>
+    fn carry_out(&mut self, edit: &Edit<'t>, target: &Target<'t>) -> Result<(), Memory>
         requires accepted { reply_to self.old.claim self.old.ops edit.now ≡ None }
-        requires new { new.now ≡ new_op self.old.ops edit.now }
+        requires target { IsTargetOf self.old.ops edit.now target.now }
         ensures ok { OnOk result (claimed_of self.new ≡ carried_out (claimed_of self.old) edit.now) }
         ensures err { OnErr result (self.new ≡ self.old) }
         ensures memory { OnErr result (TakesMemory (claimed_of self.old) edit.now) }
@@ -112,7 +113,7 @@ impl<'t> RegisterBook<'t> {
     {
         match edit {
             Edit::Claim(kind) => self.change_kind(*kind),
-            _ => self.judge.admit(edit, new),
+            _ => self.judge.admit(edit, target),
         }
     }
 

@@ -2,7 +2,8 @@
 
 ghost use Rattle.std.specs.Prelude.{◌≡◌, ◌≢◌, ◌↔◌, ◌+◌, ◌≤◌, [], None, IfOk, IfSome, OnOk, OnErr, IsNone, IsSome, IsTrue};
 ghost use Rattle.intervals.specs.Terms.{terms_of, IsKnownUnlessAtomic};
-ghost use Rattle.intervals.specs.Edit.{edited, new_op};
+ghost use Rattle.intervals.specs.Edit.{edited};
+ghost use Rattle.intervals.specs.Target.{IsTargetOf};
 ghost use Rattle.intervals.specs.Refusal.{reply_to, to_kind_refusal, write_refusal, ok_unless};
 ghost use Rattle.intervals.specs.Standing.{HasDistinctIds, StandApart};
 ghost use Rattle.intervals.specs.Kind.{Holds};
@@ -15,7 +16,7 @@ ghost use Rattle.register_book.specs.Fault.{IsWitness};
 use crate::Witness;
 use crate::many_writers::witness_of;
 use crate::one_writer::wrong_read_of;
-use intervals::{Claim, Edit, Kind, Memory, Op, OpId, OpTable, Refusal};
+use intervals::{Claim, Edit, Kind, Memory, Op, OpId, OpTable, Refusal, Target};
 use safe_regular::SingleWriterJudge;
 use std::alloc::Global;
 use zones::Clusters;
@@ -55,7 +56,9 @@ impl<'t> Judge<'t> {
         let mut judge = Judge::new(alloc, &claim)?;
         for slot in self.operations().slots() {
             if let Some(op) = slot {
-                judge.admit(&Edit::Append(*op), slot)?;
+                let edit = Edit::Append(*op);
+                let target = judge.operations().target(&edit);
+                judge.admit(&edit, &target)?;
             }
         }
         Ok(judge)
@@ -89,23 +92,23 @@ impl<'t> Judge<'t> {
         }
     }
 
-    /// Carries out an edit that nothing refuses, of which the new operation is given: what it needs is made room for first, and then nothing
+    /// Carries out an edit that nothing refuses: what it needs is made room for first, and then nothing
     /// is refused.
-    pub fn admit(&mut self, edit: &Edit<'t>, new: &Option<Op<'t>>) -> Result<(), Memory>
+    pub fn admit(&mut self, edit: &Edit<'t>, target: &Target<'t>) -> Result<(), Memory>
         requires accepted { reply_to (held_by self.old).claim (held_by self.old).ops edit.now ≡ None }
-        requires new { new.now ≡ new_op (held_by self.old).ops edit.now }
+        requires target { IsTargetOf (held_by self.old).ops edit.now target.now }
         requires none_prepared { HasNonePrepared self.old }
         ensures ok { OnOk result (held_by self.new ≡ record (held_by self.old) { ops = edited (held_by self.old).ops edit.now; steps = (held_by self.new).steps }) }
         ensures err { OnErr result (self.new ≡ self.old) }
-        ensures memory { OnErr result (IsSome new.now) }
+        ensures memory { OnErr result (IsSome target.now.new) }
         ensures kind { IsOfItsKind self.old → IsOfItsKind self.new }
         ensures left { HasNonePrepared self.new }
         ensures steps { (held_by self.new).steps ≤ (held_by self.old).steps + most_steps (held_by self.old).ops }
         ensures rises { (held_by self.old).steps ≤ (held_by self.new).steps }
     {
         match self {
-            Judge::One(judge) => judge.admit(edit, new),
-            Judge::Many(clusters) => clusters.admit(edit, new),
+            Judge::One(judge) => judge.admit(edit, target),
+            Judge::Many(clusters) => clusters.admit(edit, target),
         }
     }
 

@@ -1,7 +1,7 @@
 //! Which edits are refused.
 
 ghost use Rattle.std.specs.Prelude.{◌≡◌, ◌≢◌, [], None, IfOk, OnErr, IsTrue, option_map};
-ghost use Rattle.intervals.specs.Edit.{new_op};
+ghost use Rattle.intervals.specs.Target.{IsTargetOf};
 ghost use Rattle.intervals.specs.Refusal.{reply_to, first_refusal, new_write_refusal, write_refusal, claim_refusal, one_writer_refusal, repeat_claimed, first_repeat};
 ghost use Rattle.intervals.specs.Standing.{StandApart};
 ghost use Rattle.register_book.specs.Judge.{held_by};
@@ -9,28 +9,28 @@ ghost use Rattle.register_book.specs.Reply.{IsTurn};
 
 use crate::judge::Judge;
 use intervals::laws::{first_overlap_began_first, first_repeat_was_appended_first};
-use intervals::{Edit, Kind, Memory, Op, OpTable, Refusal};
+use intervals::{Edit, Kind, Memory, Op, OpTable, Refusal, Target};
 use std::alloc::Global;
 
-/// The first refusal that holds of the edit, of which the new operation is given. A claim of a register to be atomic that was not alone may want memory,
+/// The first refusal that holds of the edit. A claim of a register to be atomic that was not alone may want memory,
 /// and then nothing refuses it.
 pub fn refusal_of<'t>(
     alloc: Global,
     judge: &Judge<'t>,
     edit: &Edit<'t>,
-    new: &Option<Op<'t>>,
+    target: &Target<'t>,
 ) -> Result<Option<Refusal>, Memory>
     requires apart { StandApart (held_by judge.now).claim (held_by judge.now).ops }
-    requires new { new.now ≡ new_op (held_by judge.now).ops edit.now }
+    requires target { IsTargetOf (held_by judge.now).ops edit.now target.now }
     ensures refusal { IfOk result (λ refusal. refusal ≡ reply_to (held_by judge.now).claim (held_by judge.now).ops edit.now) }
     ensures memory { OnErr result (reply_to (held_by judge.now).claim (held_by judge.now).ops edit.now ≡ None) }
     ensures turn { OnErr result (IsTurn (held_by judge.now).claim.kind edit.now) }
 {
-    let refusal = list_refusal(judge.operations(), edit, new);
+    let refusal = list_refusal(judge.operations(), edit, target);
     if refusal.is_some() {
         return Ok(refusal);
     }
-    let refusal = new_write_refusal_of(judge, new);
+    let refusal = new_write_refusal_of(judge, &target.new);
     if refusal.is_some() {
         return Ok(refusal);
     }
@@ -39,11 +39,11 @@ pub fn refusal_of<'t>(
 
 /// The first refusal that the list alone decides.
 #[tactic(auto, using(crate::proofs::Refusals::err_ok_unless))]
-fn list_refusal<'t>(ops: &OpTable<'t>, edit: &Edit<'t>, new: &Option<Op<'t>>) -> Option<Refusal>
-    requires { new.now ≡ new_op ops.now.ops edit.now }
+fn list_refusal<'t>(ops: &OpTable<'t>, edit: &Edit<'t>, target: &Target<'t>) -> Option<Refusal>
+    requires { IsTargetOf ops.now.ops edit.now target.now }
     ensures { result ≡ first_refusal ops.now.ops edit.now }
 {
-    ops.check(edit, new).err()
+    ops.check(edit, target).err()
 }
 
 /// The first refusal of the new operation of an edit, where there is one and it is a write.

@@ -1,9 +1,10 @@
 //! The calls of the judge of one writer's register.
 
 ghost use Rattle.std.specs.Prelude.{◌≡◌, ◌≢◌, ◌↔◌, ◌++◌, ◌∷◌, [], None, Some, IfOk, IfSome, OnOk, OnErr, IsNone, IsSome, IsSomeAnd, IsOk, IsTrue, not, option_map};
-ghost use Rattle.intervals.specs.Edit.{new_op, edited, op_of as op_in};
+ghost use Rattle.intervals.specs.Edit.{edited, op_of as op_in};
 ghost use Rattle.intervals.specs.Operation.{IsWrite, IsJudgedRead, is_write as writes};
 ghost use Rattle.intervals.specs.Table.{prepared_after};
+ghost use Rattle.intervals.specs.Target.{IsTargetOf};
 ghost use Rattle.intervals.specs.Terms.{terms_of};
 ghost use Rattle.intervals.specs.Kind.{IsSafe, IsRegular, Holds};
 ghost use Rattle.intervals.specs.Refusal.{write_refusal, reply_to, ok_unless};
@@ -13,7 +14,7 @@ ghost use Rattle.safe_regular.specs.Judge.{without_write, without_read};
 use crate::line::{cover_before, exchange, initial_item, item_of, renew, spot_of};
 use crate::writes::{Writes, check_write};
 use intervals::laws::{regular_without_wrong_reads, safe_without_wrong_reads};
-use intervals::{Claim, Edit, Kind, Memory, Op, OpId, OpTable, Refusal};
+use intervals::{Claim, Edit, Kind, Memory, Op, OpId, OpTable, Refusal, Target};
 use read_tree::ReadTree;
 use read_tree::laws::{each_spot_has_a_last_cover, short_reads_are_told};
 use std::alloc::Global;
@@ -111,40 +112,41 @@ impl<'t> SingleWriterJudge<'t> {
         self.table.release();
     }
 
-    /// Carries out an edit that nothing refuses, of which the new operation is given. It takes no memory where that
-    /// is prepared or there is none.
-    pub fn admit(&mut self, edit: &Edit<'t>, new: &Option<Op<'t>>) -> Result<(), Memory>
+    /// Carries out an edit that nothing refuses. It takes no memory where the new operation is prepared or there
+    /// is none.
+    pub fn admit(&mut self, edit: &Edit<'t>, target: &Target<'t>) -> Result<(), Memory>
         requires accepted { reply_to self.old.claim self.old.ops edit.now ≡ None }
-        requires new { new.now ≡ new_op self.old.ops edit.now }
-        requires prepared { IfSome self.old.prepared (λ op. IfSome new.now (λ new. new ≡ op)) }
-        ensures ok { OnOk result (self.new ≡ record self.old { ops = edited self.old.ops edit.now; prepared = prepared_after new.now self.old.prepared }) }
+        requires target { IsTargetOf self.old.ops edit.now target.now }
+        requires prepared { IfSome self.old.prepared (λ op. IfSome target.now.new (λ new. new ≡ op)) }
+        ensures ok { OnOk result (self.new ≡ record self.old { ops = edited self.old.ops edit.now; prepared = prepared_after target.now.new self.old.prepared }) }
         ensures err { OnErr result (self.new ≡ self.old) }
-        ensures memory { OnErr result (IsSome new.now × (self.old.prepared ≡ None)) }
+        ensures memory { OnErr result (IsSome target.now.new × (self.old.prepared ≡ None)) }
     {
-        if let Some(op) = new {
+        if let Some(op) = &target.new {
             if self.table.prepared().is_none() {
                 self.prepare(op)?;
             }
         }
-        self.settle(edit, new);
+        self.settle(edit, target);
         Ok(())
     }
 
     /// Carries out an edit whose new operation is prepared: the item of the old operation goes, that of the
     /// new one comes, and the covers in front of both are made anew.
-    fn settle(&mut self, edit: &Edit<'t>, new: &Option<Op<'t>>)
+    fn settle(&mut self, edit: &Edit<'t>, target: &Target<'t>)
         requires accepted { reply_to self.old.claim self.old.ops edit.now ≡ None }
-        requires new { new.now ≡ new_op self.old.ops edit.now }
-        requires prepared { IfSome new.now (λ op. self.old.prepared ≡ Some op) }
-        ensures { self.new ≡ record self.old { ops = edited self.old.ops edit.now; prepared = prepared_after new.now self.old.prepared } }
+        requires target { IsTargetOf self.old.ops edit.now target.now }
+        requires prepared { IfSome target.now.new (λ op. self.old.prepared ≡ Some op) }
+        ensures { self.new ≡ record self.old { ops = edited self.old.ops edit.now; prepared = prepared_after target.now.new self.old.prepared } }
     {
-        let old = self.table.find(edit.id());
-        let spot = spot_of(&self.claim, &old);
-        self.writes.change(&old, new, &self.table.prepared());
-        self.table.admit(edit);
+        let old = &target.old;
+        let new = &target.new;
+        let spot = spot_of(&self.claim, old);
+        self.writes.change(old, new, &self.table.prepared());
+        self.table.admit(edit, target);
         let item = item_of(&self.claim, &self.writes, &self.table, new);
-        let left = cover_before(&self.claim, &self.writes, &self.table, &None, &old);
-        let come = cover_before(&self.claim, &self.writes, &self.table, &old, new);
+        let left = cover_before(&self.claim, &self.writes, &self.table, &None, old);
+        let come = cover_before(&self.claim, &self.writes, &self.table, old, new);
         exchange(&mut self.line, spot, item);
         renew(&mut self.line, left);
         renew(&mut self.line, come);
@@ -159,7 +161,9 @@ impl<'t> SingleWriterJudge<'t> {
         ensures ok { OnOk result (self.new ≡ record self.old { ops = self.old.ops ++ write.now ∷ []; prepared = None }) }
         ensures err { OnErr result (self.new ≡ self.old) }
     {
-        self.admit(&Edit::Append(*write), &Some(*write))
+        let edit = Edit::Append(*write);
+        let target = self.table.target(&edit);
+        self.admit(&edit, &target)
     }
 
     /// Admits a read that has an end.
@@ -171,7 +175,9 @@ impl<'t> SingleWriterJudge<'t> {
         ensures ok { OnOk result (self.new ≡ record self.old { ops = self.old.ops ++ read.now ∷ []; prepared = None }) }
         ensures err { OnErr result (self.new ≡ self.old) }
     {
-        self.admit(&Edit::Append(*read), &Some(*read))
+        let edit = Edit::Append(*read);
+        let target = self.table.target(&edit);
+        self.admit(&edit, &target)
     }
 
     /// Without the write of that id. What is not there, or no write, is left alone.
@@ -196,7 +202,9 @@ impl<'t> SingleWriterJudge<'t> {
         requires { IsSome (op_in self.old.ops id) }
         ensures { self.new ≡ record self.old { ops = edited self.old.ops (Edit.Withdraw id) } }
     {
-        self.settle(&Edit::Withdraw(id), &None);
+        let edit = Edit::Withdraw(id);
+        let target = self.table.target(&edit);
+        self.settle(&edit, &target);
     }
 
     /// Of the reads that break the sentence of the claimed kind the one that ended first.

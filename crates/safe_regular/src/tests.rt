@@ -102,7 +102,7 @@ fn list_refusal<'t>(judge: &SingleWriterJudge<'t>, edit: &Edit<'t>) -> Option<Re
     ensures { result ≡ first_refusal judge.now.ops edit.now }
 {
     let operations = judge.operations();
-    operations.check(edit, &operations.new_op(edit)).err()
+    operations.check(edit, &operations.target(edit)).err()
 }
 
 #[tactic(auto, using(crate::proofs::Refusals::err_ok_unless))]
@@ -115,7 +115,7 @@ fn refusal_of_write(judge: &SingleWriterJudge, op: &Op) -> Option<Refusal>
 fn new_refusal<'t>(judge: &SingleWriterJudge<'t>, edit: &Edit<'t>) -> Option<Refusal>
     ensures { result ≡ new_write_refusal judge.now.claim judge.now.ops (new_one judge.now.ops edit.now) }
 {
-    match judge.operations().new_op(edit) {
+    match judge.operations().target(edit).new {
         Some(op) => refusal_of_write(judge, &op),
         None => None,
     }
@@ -162,10 +162,9 @@ fn carried_out<'t>(judge: &mut SingleWriterJudge<'t>, edit: Edit<'t>) -> Result<
     match edit {
         Edit::Append(op) if op.is_write() => judge.admit_write(&op),
         Edit::Append(op) if op.is_judged_read() => judge.admit_read(&op),
-        Edit::Append(op) => judge.admit(&edit, &Some(op)),
-        Edit::Amend(..) | Edit::Claim(_) => {
-            let new = judge.operations().new_op(&edit);
-            judge.admit(&edit, &new)
+        Edit::Append(_) | Edit::Amend(..) | Edit::Claim(_) => {
+            let target = judge.operations().target(&edit);
+            judge.admit(&edit, &target)
         }
         Edit::Withdraw(id) => {
             judge.drop_write(id);
@@ -270,7 +269,9 @@ fn with_room<'t>(
         judge.release(&op);
         return Ok(());
     }
-    judge.admit(&Edit::Append(op), &Some(op))
+    let edit = Edit::Append(op);
+    let target = judge.operations().target(&edit);
+    judge.admit(&edit, &target)
 }
 
 /// Behind `+` room is made for the operation first.

@@ -2,7 +2,8 @@
 
 ghost use Rattle.std.specs.Prelude.{◌≡◌, ◌↔◌, ◌||◌, ◌+◌, ◌*◌, ◌≤◌, All, length, IsOk, ◌++◌, ◌∷◌, [], Contains, IfOk, IfSome, IsSome, IsNone, IsSomeAnd, IsTrue, OnOk, OnErr, None, Some, is_some, option_map};
 ghost use Rattle.intervals.specs.Operation.{IsWrite, writes};
-ghost use Rattle.intervals.specs.Edit.{op_of as op_in, new_op, edited};
+ghost use Rattle.intervals.specs.Edit.{op_of as op_in, edited};
+ghost use Rattle.intervals.specs.Target.{IsTargetOf};
 ghost use Rattle.intervals.specs.Terms.{terms_of};
 ghost use Rattle.intervals.specs.Kind.{IsAtomic};
 ghost use Rattle.intervals.specs.Refusal.{first_refusal, write_refusal, reply_to, ok_unless};
@@ -30,7 +31,9 @@ use crate::stretch::{
 use crate::stretch_moves::exchange_stretches;
 use crate::writes::check_write;
 use crate::zone_in::{initial_zone, zone_in, zones_in};
-use intervals::{Claim, Edit, Kind, Memory, Op, OpId, OpTable, Refusal, Value, is_same_value};
+use intervals::{
+    Claim, Edit, Kind, Memory, Op, OpId, OpTable, Refusal, Target, Value, is_same_value,
+};
 use std::alloc::Global;
 use std::marker::Model;
 use stretch_tree::StretchTree;
@@ -143,45 +146,45 @@ impl<'t> Clusters<'t> {
         self.table.release();
     }
 
-    /// Carries out an edit that nothing refuses, of which the new operation is given. It takes no memory where that
-    /// is prepared or there is none.
-    pub fn admit(&mut self, edit: &Edit<'t>, new: &Option<Op<'t>>) -> Result<(), Memory>
+    /// Carries out an edit that nothing refuses. It takes no memory where the new operation is prepared or there
+    /// is none.
+    pub fn admit(&mut self, edit: &Edit<'t>, target: &Target<'t>) -> Result<(), Memory>
         requires accepted { reply_to self.old.claim self.old.ops edit.now ≡ None }
-        requires new { new.now ≡ new_op self.old.ops edit.now }
-        requires prepared { IfSome self.old.prepared (λ op. IfSome new.now (λ new. new ≡ op)) }
-        ensures ok { OnOk result (self.new ≡ record self.old { ops = edited self.old.ops edit.now; prepared = prepared_after new.now self.old.prepared; steps = self.new.steps }) }
+        requires target { IsTargetOf self.old.ops edit.now target.now }
+        requires prepared { IfSome self.old.prepared (λ op. IfSome target.now.new (λ new. new ≡ op)) }
+        ensures ok { OnOk result (self.new ≡ record self.old { ops = edited self.old.ops edit.now; prepared = prepared_after target.now.new self.old.prepared; steps = self.new.steps }) }
         ensures err { OnErr result (self.new ≡ self.old) }
-        ensures memory { OnErr result (IsSome new.now × (self.old.prepared ≡ None)) }
+        ensures memory { OnErr result (IsSome target.now.new × (self.old.prepared ≡ None)) }
         ensures steps { self.new.steps ≤ self.old.steps + 4 * (2 * digits (length (writes self.old.ops) + 1) + 1) }
         ensures rises { self.old.steps ≤ self.new.steps }
     {
-        if let Some(op) = new {
+        if let Some(op) = &target.new {
             if self.table.prepared().is_none() {
                 self.prepare(op)?;
             }
         }
-        self.settle(edit, new);
+        self.settle(edit, target);
         Ok(())
     }
 
     /// Carries out an edit whose new operation is prepared.
-    fn settle(&mut self, edit: &Edit<'t>, new: &Option<Op<'t>>)
+    fn settle(&mut self, edit: &Edit<'t>, target: &Target<'t>)
         requires accepted { reply_to self.old.claim self.old.ops edit.now ≡ None }
-        requires new { new.now ≡ new_op self.old.ops edit.now }
-        requires prepared { IfSome new.now (λ op. self.old.prepared ≡ Some op) }
-        ensures edited { self.new ≡ record self.old { ops = edited self.old.ops edit.now; prepared = prepared_after new.now self.old.prepared; steps = self.new.steps } }
+        requires target { IsTargetOf self.old.ops edit.now target.now }
+        requires prepared { IfSome target.now.new (λ op. self.old.prepared ≡ Some op) }
+        ensures edited { self.new ≡ record self.old { ops = edited self.old.ops edit.now; prepared = prepared_after target.now.new self.old.prepared; steps = self.new.steps } }
         ensures steps { self.new.steps ≤ self.old.steps + 4 * (2 * digits (length (writes self.old.ops) + 1) + 1) }
         ensures rises { self.old.steps ≤ self.new.steps }
     {
         // That the zones stand in order is known of what is gone over.
         let _ = self.zones.iter();
-        let old = judged(&self.table.find(edit.id()));
-        let new = judged(new);
+        let old = judged(&target.old);
+        let new = judged(&target.new);
         let first = value_in(&old);
         let second = other_value(first, value_in(&new));
         let edges = edges_in(&self.members, &self.table, &old, first, second);
         self.members.change(&old, &new, &self.table.prepared());
-        self.table.admit(edit);
+        self.table.admit(edit, target);
         let after = edges_after(&edges, &self.members, &self.table, &old, &new);
         let zones = zones_in(&edges);
         let zones_after = zones_in(&after);
@@ -201,7 +204,9 @@ impl<'t> Clusters<'t> {
         ensures steps { self.new.steps ≤ self.old.steps + 4 * (2 * digits (length (writes self.old.ops) + 1) + 1) }
         ensures rises { self.old.steps ≤ self.new.steps }
     {
-        self.admit(&Edit::Append(*write), &Some(*write))
+        let edit = Edit::Append(*write);
+        let target = self.table.target(&edit);
+        self.admit(&edit, &target)
     }
 
     /// A read that has no end is kept, and judged when it has one.
@@ -215,7 +220,9 @@ impl<'t> Clusters<'t> {
         ensures steps { self.new.steps ≤ self.old.steps + 4 * (2 * digits (length (writes self.old.ops) + 1) + 1) }
         ensures rises { self.old.steps ≤ self.new.steps }
     {
-        self.admit(&Edit::Append(*read), &Some(*read))
+        let edit = Edit::Append(*read);
+        let target = self.table.target(&edit);
+        self.admit(&edit, &target)
     }
 
     pub fn drop_write(&mut self, id: OpId)
@@ -224,8 +231,10 @@ impl<'t> Clusters<'t> {
         ensures steps { self.new.steps ≤ self.old.steps + 4 * (2 * digits (length (writes self.old.ops) + 1) + 1) }
         ensures rises { self.old.steps ≤ self.new.steps }
     {
+        let edit = Edit::Withdraw(id);
+        let target = self.table.target(&edit);
         // A withdrawal takes no memory.
-        let _ = self.admit(&Edit::Withdraw(id), &None);
+        let _ = self.admit(&edit, &target);
     }
 
     pub fn drop_read(&mut self, id: OpId)
@@ -234,8 +243,10 @@ impl<'t> Clusters<'t> {
         ensures steps { self.new.steps ≤ self.old.steps + 4 * (2 * digits (length (writes self.old.ops) + 1) + 1) }
         ensures rises { self.old.steps ≤ self.new.steps }
     {
+        let edit = Edit::Withdraw(id);
+        let target = self.table.target(&edit);
         // A withdrawal takes no memory.
-        let _ = self.admit(&Edit::Withdraw(id), &None);
+        let _ = self.admit(&edit, &target);
     }
 
     /// The initial value: the known one, or the one that all reads of values without a write return.

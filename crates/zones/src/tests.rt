@@ -109,7 +109,7 @@ fn list_refusal<'t>(clusters: &Clusters<'t>, edit: &Edit<'t>) -> Option<Refusal>
     ensures { result ≡ first_refusal clusters.now.ops edit.now }
 {
     let operations = clusters.operations();
-    operations.check(edit, &operations.new_op(edit)).err()
+    operations.check(edit, &operations.target(edit)).err()
 }
 
 #[tactic(auto, using(crate::proofs::Refusals::err_ok_unless))]
@@ -122,7 +122,7 @@ fn refusal_of_write(clusters: &Clusters, op: &Op) -> Option<Refusal>
 fn new_refusal<'t>(clusters: &Clusters<'t>, edit: &Edit<'t>) -> Option<Refusal>
     ensures { result ≡ new_write_refusal clusters.now.claim clusters.now.ops (new_one clusters.now.ops edit.now) }
 {
-    match clusters.operations().new_op(edit) {
+    match clusters.operations().target(edit).new {
         Some(op) => refusal_of_write(clusters, &op),
         None => None,
     }
@@ -170,8 +170,8 @@ fn carried_out<'t>(clusters: &mut Clusters<'t>, edit: Edit<'t>) -> Result<(), Me
         Edit::Append(op) if op.is_write() => clusters.admit_write(&op),
         Edit::Append(op) => clusters.admit_read(&op),
         Edit::Amend(..) | Edit::Claim(_) => {
-            let new = clusters.operations().new_op(&edit);
-            clusters.admit(&edit, &new)
+            let target = clusters.operations().target(&edit);
+            clusters.admit(&edit, &target)
         }
         Edit::Withdraw(id) => {
             withdraw(clusters, id);
@@ -241,7 +241,9 @@ fn instead<'t>(
         clusters.release(&op);
         return Ok(());
     }
-    clusters.admit(&Edit::Append(op), &Some(op))
+    let edit = Edit::Append(op);
+    let target = clusters.operations().target(&edit);
+    clusters.admit(&edit, &target)
 }
 
 /// Tells a refusal, or carries the edit out.

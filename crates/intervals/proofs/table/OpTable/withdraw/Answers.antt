@@ -6,6 +6,9 @@ use Rattle.intervals.proofs.Slots.{standing_without, one_less}
 use Rattle.intervals.proofs.Indexed.{none_in_slot, has_own_id, only_there, indexed_without, indexed_alike, if_some}
 use Rattle.intervals.proofs.table.OpTable.withdraw.Goals as goal
 
+pub find_slot_from-requires-clause-placed : goal.find_slot_from-requires-clause-placed
+find_slot_from-requires-clause-placed c i op e = c.self.invariant.0.placed i op (rw c.as_slice.ensures.value at e)
+
 pub unreachable-requires : goal.unreachable-requires
 unreachable-requires c =
     let inside = c.self.inside in

@@ -5,6 +5,7 @@ use Rattle.intervals.specs.Operation.{writes}
 use Rattle.intervals.specs.Edit.{new_op, edited, edit_id, found_by}
 use Rattle.intervals.specs.Refusal.{reply_to}
 use Rattle.intervals.specs.Table.{Tabled, prepared_after}
+use Rattle.intervals.specs.Target.{IsTargetOf}
 use Rattle.intervals.specs.Terms.{terms_of}
 use Rattle.intervals.proofs.Accepted.{edit_accepted}
 use Rattle.zone_tree.specs.Digits.{digits}
@@ -19,8 +20,8 @@ use Rattle.zones.proofs.register.Clusters.settle.Goals as goal
 pub change-requires-clause-prepared : goal.change-requires-clause-prepared
 change-requires-clause-prepared c =
     let same : c.prepared.result ≡ c.args.self.now.prepared = c.prepared.ensures ∙ ap (λ (x : Clustered). x.prepared) c.self.view_is in
-    let is : IfSome c.args.new.now (λ op. c.prepared.result ≡ Some op) = subst (λ (p : Option Op). IfSome c.args.new.now (λ op. p ≡ Some op)) (sym same) c.requires.prepared in
-    subst (λ (n : Option Op). IfSome n (λ op. c.prepared.result ≡ Some op)) (sym c.judged-new.ensures) (judged_prepared c.args.new.now c.prepared.result is)
+    let is : IfSome c.args.target.now.new (λ op. c.prepared.result ≡ Some op) = subst (λ (p : Option Op). IfSome c.args.target.now.new (λ op. p ≡ Some op)) (sym same) c.requires.prepared in
+    subst (λ (n : Option Op). IfSome n (λ op. c.prepared.result ≡ Some op)) (sym c.judged-new.ensures) (judged_prepared c.args.target.now.new c.prepared.result is)
 
 pub admit-requires-clause-accepted : goal.admit-requires-clause-accepted
 admit-requires-clause-accepted c =
@@ -28,11 +29,14 @@ admit-requires-clause-accepted c =
     let ops = c.self.inside.table.ops in
     edit_accepted claim ops c.args.edit.now (subst (λ (x : Clustered). reply_to x.claim x.ops c.args.edit.now ≡ None) (sym c.self.view_is) c.requires.accepted)
 
+pub admit-requires-clause-target : goal.admit-requires-clause-target
+admit-requires-clause-target c = subst (λ (x : Clustered). IsTargetOf x.ops c.args.edit.now c.args.target.now) (sym c.self.view_is) c.requires.target
+
 pub admit-requires-clause-room : goal.admit-requires-clause-room
 admit-requires-clause-room c =
     let prepared = c.self.inside.table.prepared in
-    let asked : c.args.new.now ≡ new_op c.self.inside.table.ops c.args.edit.now = subst (λ (x : Clustered). c.args.new.now ≡ new_op x.ops c.args.edit.now) (sym c.self.view_is) c.requires.new in
-    let held : IfSome c.args.new.now (λ op. prepared ≡ Some op) = subst (λ (x : Clustered). IfSome c.args.new.now (λ op. x.prepared ≡ Some op)) (sym c.self.view_is) c.requires.prepared in
+    let asked : c.args.target.now.new ≡ new_op c.self.inside.table.ops c.args.edit.now = subst (λ (x : Clustered). c.args.target.now.new ≡ new_op x.ops c.args.edit.now) (sym c.self.view_is) c.requires.target.new in
+    let held : IfSome c.args.target.now.new (λ op. prepared ≡ Some op) = subst (λ (x : Clustered). IfSome c.args.target.now.new (λ op. x.prepared ≡ Some op)) (sym c.self.view_is) c.requires.prepared in
     subst (λ (n : Option Op). IfSome n (λ op. prepared ≡ Some op)) asked held
 
 pub exchange-requires : goal.exchange-requires
@@ -41,10 +45,11 @@ exchange-requires c =
     let ops = c.self.inside.table.ops in
     let prepared = c.self.inside.table.prepared in
     let accepted : reply_to claim ops c.args.edit.now ≡ None = subst (λ (x : Clustered). reply_to x.claim x.ops c.args.edit.now ≡ None) (sym c.self.view_is) c.requires.accepted in
-    let old_is : c.judged-old.result ≡ judged_part (found_by ops (edit_id c.args.edit.now)) = search rules in
-    let asked : c.args.new.now ≡ new_op ops c.args.edit.now = subst (λ (x : Clustered). c.args.new.now ≡ new_op x.ops c.args.edit.now) (sym c.self.view_is) c.requires.new in
+    let found : c.args.target.now.old ≡ found_by ops (edit_id c.args.edit.now) = subst (λ (x : Clustered). c.args.target.now.old ≡ found_by x.ops (edit_id c.args.edit.now)) (sym c.self.view_is) c.requires.target.old in
+    let old_is : c.judged-old.result ≡ judged_part (found_by ops (edit_id c.args.edit.now)) = c.judged-old.ensures ∙ ap judged_part found in
+    let asked : c.args.target.now.new ≡ new_op ops c.args.edit.now = subst (λ (x : Clustered). c.args.target.now.new ≡ new_op x.ops c.args.edit.now) (sym c.self.view_is) c.requires.target.new in
     let new_is : c.judged-new.result ≡ judged_part (new_op ops c.args.edit.now) = c.judged-new.ensures ∙ ap judged_part asked in
-    let held : IfSome c.args.new.now (λ op. prepared ≡ Some op) = subst (λ (x : Clustered). IfSome c.args.new.now (λ op. x.prepared ≡ Some op)) (sym c.self.view_is) c.requires.prepared in
+    let held : IfSome c.args.target.now.new (λ op. prepared ≡ Some op) = subst (λ (x : Clustered). IfSome c.args.target.now.new (λ op. x.prepared ≡ Some op)) (sym c.self.view_is) c.requires.prepared in
     let after = c.admit.new.self.ops in
     let after_is : after ≡ edited ops c.args.edit.now = ap (λ (t : Tabled). t.ops) c.admit.ensures in
     let apart = c.self.invariant.apart in
@@ -58,7 +63,7 @@ exchange-requires c =
     can_exchange_zones claim ops c.args.edit.now apart accepted c.judged-old.result c.judged-new.result old_is new_is after after_is
     c.value_in-first.result c.other_value-second.result (search rules) (search rules) c.zones_in-zones.result c.zones_in-zones_after.result c.self.inside.zones c.self.invariant.zoned
     (c.zones_in-zones.ensures ops first second before_is) (c.zones_in-zones_after.ensures after first second later_is)
-    (λ some. (room_for c.self.inside.members c.self.inside.zones c.self.inside.stretches prepared c.self.invariant.room c.args.new.now held (subst (λ (n : Option Op). IsSome n) c.judged-new.ensures some)).0)
+    (λ some. (room_for c.self.inside.members c.self.inside.zones c.self.inside.stretches prepared c.self.invariant.room c.args.target.now.new held (subst (λ (n : Option Op). IsSome n) c.judged-new.ensures some)).0)
 
 pub exchange_stretches-requires-clause-room : goal.exchange_stretches-requires-clause-room
 exchange_stretches-requires-clause-room c = let a = c.self.invariant.spare in omega arith
@@ -68,8 +73,9 @@ exchange_stretches-requires-clause-new c =
     let claim = terms_of c.self.inside.claim in
     let ops = c.self.inside.table.ops in
     let accepted : reply_to claim ops c.args.edit.now ≡ None = subst (λ (x : Clustered). reply_to x.claim x.ops c.args.edit.now ≡ None) (sym c.self.view_is) c.requires.accepted in
-    let old_is : c.judged-old.result ≡ judged_part (found_by ops (edit_id c.args.edit.now)) = search rules in
-    let asked : c.args.new.now ≡ new_op ops c.args.edit.now = subst (λ (x : Clustered). c.args.new.now ≡ new_op x.ops c.args.edit.now) (sym c.self.view_is) c.requires.new in
+    let found : c.args.target.now.old ≡ found_by ops (edit_id c.args.edit.now) = subst (λ (x : Clustered). c.args.target.now.old ≡ found_by x.ops (edit_id c.args.edit.now)) (sym c.self.view_is) c.requires.target.old in
+    let old_is : c.judged-old.result ≡ judged_part (found_by ops (edit_id c.args.edit.now)) = c.judged-old.ensures ∙ ap judged_part found in
+    let asked : c.args.target.now.new ≡ new_op ops c.args.edit.now = subst (λ (x : Clustered). c.args.target.now.new ≡ new_op x.ops c.args.edit.now) (sym c.self.view_is) c.requires.target.new in
     let new_is : c.judged-new.result ≡ judged_part (new_op ops c.args.edit.now) = c.judged-new.ensures ∙ ap judged_part asked in
     let after = c.admit.new.self.ops in
     let after_is : after ≡ edited ops c.args.edit.now = ap (λ (t : Tabled). t.ops) c.admit.ensures in
@@ -93,10 +99,11 @@ invariant_of-self c =
     let zones = c.self.inside.zones in
     let stretches = c.self.inside.stretches in
     let accepted : reply_to claim ops c.args.edit.now ≡ None = subst (λ (x : Clustered). reply_to x.claim x.ops c.args.edit.now ≡ None) (sym c.self.view_is) c.requires.accepted in
-    let old_is : c.judged-old.result ≡ judged_part (found_by ops (edit_id c.args.edit.now)) = search rules in
-    let asked : c.args.new.now ≡ new_op ops c.args.edit.now = subst (λ (x : Clustered). c.args.new.now ≡ new_op x.ops c.args.edit.now) (sym c.self.view_is) c.requires.new in
+    let found : c.args.target.now.old ≡ found_by ops (edit_id c.args.edit.now) = subst (λ (x : Clustered). c.args.target.now.old ≡ found_by x.ops (edit_id c.args.edit.now)) (sym c.self.view_is) c.requires.target.old in
+    let old_is : c.judged-old.result ≡ judged_part (found_by ops (edit_id c.args.edit.now)) = c.judged-old.ensures ∙ ap judged_part found in
+    let asked : c.args.target.now.new ≡ new_op ops c.args.edit.now = subst (λ (x : Clustered). c.args.target.now.new ≡ new_op x.ops c.args.edit.now) (sym c.self.view_is) c.requires.target.new in
     let new_is : c.judged-new.result ≡ judged_part (new_op ops c.args.edit.now) = c.judged-new.ensures ∙ ap judged_part asked in
-    let held : IfSome c.args.new.now (λ op. prepared ≡ Some op) = subst (λ (x : Clustered). IfSome c.args.new.now (λ op. x.prepared ≡ Some op)) (sym c.self.view_is) c.requires.prepared in
+    let held : IfSome c.args.target.now.new (λ op. prepared ≡ Some op) = subst (λ (x : Clustered). IfSome c.args.target.now.new (λ op. x.prepared ≡ Some op)) (sym c.self.view_is) c.requires.prepared in
     let after = c.admit.new.self.ops in
     let after_is : after ≡ edited ops c.args.edit.now = ap (λ (t : Tabled). t.ops) c.admit.ensures in
     let apart = c.self.invariant.apart in
@@ -127,7 +134,7 @@ invariant_of-self c =
       stretched = stretched_after claim ops c.args.edit.now apart accepted c.judged-old.result c.judged-new.result old_is new_is after after_is
           c.value_in-first.result c.other_value-second.result (search rules) (search rules) c.stretches_in-stretches.result c.stretches_in-stretches_after.result stretches c.self.invariant.stretched
           stretches_before stretches_later c.exchange_stretches.new.tree.stretches c.exchange_stretches.ensures.stretches;
-      spare = spare_after c.self.inside.members zones stretches prepared c.self.invariant.room c.self.invariant.spare c.args.new.now held c.exchange.new.tree.zones c.exchange_stretches.new.tree.free
+      spare = spare_after c.self.inside.members zones stretches prepared c.self.invariant.room c.self.invariant.spare c.args.target.now.new held c.exchange.new.tree.zones c.exchange_stretches.new.tree.free
           (subst (λ (n : Option Op). n ≡ None → length c.exchange.new.tree.zones + stretches.free ≤ length zones.zones + c.exchange_stretches.new.tree.free) c.judged-new.ensures no_fewer)
           (more_length c.exchange.ensures.zones.gone c.exchange.ensures.zones.come zones.zones c.exchange.new.tree.zones c.exchange.ensures.zones.moves) c.exchange_stretches.ensures.room;
       room = subst (λ (p : Option Op). IfSome p (HasRoomFor c.change.new.self c.exchange.new.tree c.exchange_stretches.new.tree)) (sym (ap (λ (t : Tabled). t.prepared) c.admit.ensures))
@@ -138,7 +145,7 @@ invariant_of-self c =
           zones_before zones_later (new_is ∙ none)))
           (λ none. no_fewer (new_is ∙ none)));
       only = subst (λ (p : Option Op). HoldsOnlyFor p c.change.new.self) (sym (ap (λ (t : Tabled). t.prepared) c.admit.ensures ∙ ap (λ (n : Option Op). prepared_after n prepared) (sym asked)))
-          (only_after c.args.new.now prepared c.change.new.self (subst (λ (x : Clustered). IfSome c.args.new.now (λ op. x.prepared ≡ Some op)) (sym c.self.view_is) c.requires.prepared)
+          (only_after c.args.target.now.new prepared c.change.new.self (subst (λ (x : Clustered). IfSome c.args.target.now.new (λ op. x.prepared ≡ Some op)) (sym c.self.view_is) c.requires.prepared)
           (subst (λ (n : Option Op). HoldsOnlyFor (prepared_after n prepared) c.change.new.self) c.judged-new.ensures
           (subst (λ (p : Option Op). HoldsOnlyFor p c.self.inside.members → HoldsOnlyFor (prepared_after c.judged-new.result p) c.change.new.self) c.prepared.ensures c.change.ensures.only c.self.invariant.only)));
     }
@@ -148,10 +155,10 @@ returns-clause-edited c =
     let claim = terms_of c.self.inside.claim in
     let table = c.self.inside.table in
     let steps = c.exchange.new.tree.steps in
-    let asked : c.args.new.now ≡ new_op table.ops c.args.edit.now = subst (λ (x : Clustered). c.args.new.now ≡ new_op x.ops c.args.edit.now) (sym c.self.view_is) c.requires.new in
+    let asked : c.args.target.now.new ≡ new_op table.ops c.args.edit.now = subst (λ (x : Clustered). c.args.target.now.new ≡ new_op x.ops c.args.edit.now) (sym c.self.view_is) c.requires.target.new in
     ap {B = Clustered} (λ (t : Tabled). record { claim = claim; ops = t.ops; prepared = t.prepared; steps = steps }) c.admit.ensures
     ∙ (ap {B = Clustered} (λ (n : Option Op). record { claim = claim; ops = edited table.ops c.args.edit.now; prepared = prepared_after n table.prepared; steps = steps }) (sym asked)
-    ∙ ap {B = Clustered} (λ (x : Clustered). record { claim = x.claim; ops = edited x.ops c.args.edit.now; prepared = prepared_after c.args.new.now x.prepared; steps = steps }) c.self.view_is)
+    ∙ ap {B = Clustered} (λ (x : Clustered). record { claim = x.claim; ops = edited x.ops c.args.edit.now; prepared = prepared_after c.args.target.now.new x.prepared; steps = steps }) c.self.view_is)
 
 pub returns-clause-steps : goal.returns-clause-steps
 returns-clause-steps c =

@@ -1,0 +1,31 @@
+//! What an edit is about.
+
+ghost use Rattle.std.specs.Prelude.{◌≡◌, List};
+ghost use Rattle.intervals.specs.declared.operation.Op.{Op as AnOp};
+ghost use Rattle.intervals.specs.Edit.{edit_id, found_by, new_op as new_one};
+
+use crate::{Edit, Op, changed};
+
+/// What an edit is about: the operation of its id that stands, and the operation that the edit adds or leaves in
+/// its place. It is made once, and lent to the check, the judge and the table.
+#[derive(Clone, Copy)]
+pub struct Target<'t> {
+    /// The slot that the table looks at first. Nothing rests on it.
+    pub(crate) place: usize,
+    pub old: Option<Op<'t>>,
+    pub new: Option<Op<'t>>,
+}
+
+/// The operation that the edit adds, or leaves in the place of the one of its id that stands.
+pub(crate) fn new_op<'t>(edit: &Edit<'t>, old: &Option<Op<'t>>) -> Option<Op<'t>>
+    ensures { (ops : List AnOp) → old.now ≡ found_by ops (edit_id edit.now) → result ≡ new_one ops edit.now }
+{
+    match edit {
+        Edit::Append(op) => Some(*op),
+        Edit::Amend(_, change) => match old {
+            Some(op) => Some(changed(op, change)),
+            None => None,
+        },
+        Edit::Withdraw(_) | Edit::Claim(_) => None,
+    }
+}
