@@ -96,19 +96,22 @@ impl<'t> OpTable<'t> {
         ensures { IsTargetOf self.now.ops edit.now result }
     {
         let (place, old) = self.look_up(edit.id());
-        let new = new_op(edit, &old);
-        Target { place, old, new }
+        Target {
+            place,
+            old: old.copied(),
+            new: new_op(edit, old),
+        }
     }
 
     /// The operation of that id, where one is given and stands, behind the slot that it is in.
-    fn look_up(&self, id: Option<OpId>) -> (usize, Option<Op<'t>>)
-        ensures { result.1 ≡ found_by self.now.ops id }
+    fn look_up(&self, id: Option<OpId>) -> (usize, Option<&Op<'t>>)
+        ensures { option_copied result.1 ≡ found_by self.now.ops id }
     {
         let Some(id) = id else {
             return (0, None);
         };
         match find_slot(self.slots.as_slice(), &self.places, id) {
-            Some((place, op)) => (place, Some(*op)),
+            Some((place, op)) => (place, Some(op)),
             None => (0, None),
         }
     }

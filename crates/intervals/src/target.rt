@@ -1,6 +1,6 @@
 //! What an edit is about.
 
-ghost use Rattle.std.specs.Prelude.{◌≡◌, List};
+ghost use Rattle.std.specs.Prelude.{◌≡◌, List, option_copied};
 ghost use Rattle.intervals.specs.declared.operation.Op.{Op as AnOp};
 ghost use Rattle.intervals.specs.Edit.{edit_id, found_by, new_op as new_one};
 
@@ -17,8 +17,8 @@ pub struct Target<'t> {
 }
 
 /// The operation that the edit adds, or leaves in the place of the one of its id that stands.
-pub(crate) fn new_op<'t>(edit: &Edit<'t>, old: &Option<Op<'t>>) -> Option<Op<'t>>
-    ensures { (ops : List AnOp) → old.now ≡ found_by ops (edit_id edit.now) → result ≡ new_one ops edit.now }
+pub(crate) fn new_op<'t>(edit: &Edit<'t>, old: Option<&Op<'t>>) -> Option<Op<'t>>
+    ensures { (ops : List AnOp) → option_copied old.entry ≡ found_by ops (edit_id edit.now) → result ≡ new_one ops edit.now }
 {
     match edit {
         Edit::Append(op) => Some(*op),
