@@ -9,7 +9,9 @@ use crate::{Keyed, Summarizes};
 use std::mem;
 
 /// The tree of a node of which a side has changed, and whether it keeps its height and its summary. Where
-/// the side keeps its own, nothing is made anew.
+/// the side keeps its own, nothing is made anew, which is what comes most often: so that case stands where it
+/// is called.
+#[inline(always)]
 pub fn settle<T: Keyed, S: Summarizes<T>>(node: Box<Node<T, S>>, stays: bool) -> (Tree<T, S>, bool)
     requires near { DifferByAtMost 2 node.value.left.height node.value.right.height }
     requires room { max node.value.left.height node.value.right.height < 255 }
@@ -21,6 +23,19 @@ pub fn settle<T: Keyed, S: Summarizes<T>>(node: Box<Node<T, S>>, stays: bool) ->
     if stays {
         return (keep(node), true);
     }
+    settle_anew(node)
+}
+
+/// The tree of a node of which a side has changed, with its height and its summary made anew. It stands apart
+/// so that where the side keeps its own no more than a test is done.
+#[inline(never)]
+fn settle_anew<T: Keyed, S: Summarizes<T>>(node: Box<Node<T, S>>) -> (Tree<T, S>, bool)
+    requires near { DifferByAtMost 2 node.value.left.height node.value.right.height }
+    requires room { max node.value.left.height node.value.right.height < 255 }
+    ensures items { result.0.items ≡ items_of node.value }
+    ensures height { IsSettled node.value.left.height node.value.right.height result.0.height }
+    ensures stays { IsTrue result.1 → KeepsTop node.value result.0 }
+{
     let (left, right) = (node.left.height(), node.right.height());
     if left > right + 1 {
         (lean_right(node), false)
