@@ -173,6 +173,7 @@ fn release(shelf: &mut Shelf, spot: Option<Spot>)
 
 /// Takes the old operation out and puts the new one in, whose place is held. The place of the prepared
 /// one stays. An operation that keeps its spot is not touched.
+#[inline(always)]
 fn change_row(
     shelf: &mut Shelf,
     row: Row,
