@@ -178,14 +178,15 @@ impl<'t> Clusters<'t> {
     {
         // That the zones stand in order is known of what is gone over.
         let _ = self.zones.iter();
-        let old = judged(&target.old);
-        let new = judged(&target.new);
-        let first = value_in(&old);
-        let second = other_value(first, value_in(&new));
-        let edges = edges_in(&self.members, &self.table, &old, first, second);
-        self.members.change(&old, &new, &self.table.prepared());
+        let none = None;
+        let old = judged(&target.old, &none);
+        let new = judged(&target.new, &none);
+        let first = value_in(old);
+        let second = other_value(first, value_in(new));
+        let edges = edges_in(&self.members, &self.table, old, first, second);
+        self.members.change(old, new, &self.table.prepared());
         self.table.admit(edit, target);
-        let after = edges_after(&edges, &self.members, &self.table, &old, &new);
+        let after = edges_after(&edges, &self.members, &self.table, old, new);
         let zones = zones_in(&edges);
         let zones_after = zones_in(&after);
         let stretches = stretches_in(&edges, &self.claim);
@@ -380,13 +381,14 @@ impl<'t> Clusters<'t> {
     }
 }
 
-/// The operation, where it is a write or has an end.
-fn judged<'t>(op: &Option<Op<'t>>) -> Option<Op<'t>>
-    ensures { result ≡ judged_part op.now }
+/// The operation, where it is a write or has an end, and else none, which is lent beside.
+fn judged<'b, 't>(op: &'b Option<Op<'t>>, none: &'b Option<Op<'t>>) -> &'b Option<Op<'t>>
+    requires { none.now ≡ None }
+    ensures { result.now ≡ judged_part op.now }
 {
     match op {
-        Some(op) if op.is_write() || op.end.is_some() => Some(*op),
-        _ => None,
+        Some(found) if found.is_write() || found.end.is_some() => op,
+        _ => none,
     }
 }
 

@@ -46,21 +46,21 @@ exchange-requires c =
     let prepared = c.self.inside.table.prepared in
     let accepted : reply_to claim ops c.args.edit.now ≡ None = subst (λ (x : Clustered). reply_to x.claim x.ops c.args.edit.now ≡ None) (sym c.self.view_is) c.requires.accepted in
     let found : c.args.target.now.old ≡ found_by ops (edit_id c.args.edit.now) = subst (λ (x : Clustered). c.args.target.now.old ≡ found_by x.ops (edit_id c.args.edit.now)) (sym c.self.view_is) c.requires.target.old in
-    let old_is : c.judged-old.result ≡ judged_part (found_by ops (edit_id c.args.edit.now)) = c.judged-old.ensures ∙ ap judged_part found in
+    let old_is : c.judged-old.result.now ≡ judged_part (found_by ops (edit_id c.args.edit.now)) = c.judged-old.ensures ∙ ap judged_part found in
     let asked : c.args.target.now.new ≡ new_op ops c.args.edit.now = subst (λ (x : Clustered). c.args.target.now.new ≡ new_op x.ops c.args.edit.now) (sym c.self.view_is) c.requires.target.new in
-    let new_is : c.judged-new.result ≡ judged_part (new_op ops c.args.edit.now) = c.judged-new.ensures ∙ ap judged_part asked in
+    let new_is : c.judged-new.result.now ≡ judged_part (new_op ops c.args.edit.now) = c.judged-new.ensures ∙ ap judged_part asked in
     let held : IfSome c.args.target.now.new (λ op. prepared ≡ Some op) = subst (λ (x : Clustered). IfSome c.args.target.now.new (λ op. x.prepared ≡ Some op)) (sym c.self.view_is) c.requires.prepared in
     let after = c.admit.new.self.ops in
     let after_is : after ≡ edited ops c.args.edit.now = ap (λ (t : Tabled). t.ops) c.admit.ensures in
     let apart = c.self.invariant.apart in
-    let later = apart_after claim ops c.args.edit.now apart accepted c.judged-old.result c.judged-new.result old_is new_is after after_is in
-    let change = change_is claim ops c.args.edit.now apart accepted c.judged-old.result c.judged-new.result old_is new_is after after_is in
+    let later = apart_after claim ops c.args.edit.now apart accepted c.judged-old.result.now c.judged-new.result.now old_is new_is after after_is in
+    let change = change_is claim ops c.args.edit.now apart accepted c.judged-old.result.now c.judged-new.result.now old_is new_is after after_is in
     let members : AreMembers after c.change.new.self = c.change.ensures.members ops after c.self.invariant.members_of change in
     let first = c.value_in-first.result in
     let second = c.other_value-second.result in
     let before_is = c.edges_in-edges.ensures c.self.invariant.members_of apart.kept.ids change.goes in
     let later_is = c.edges_after-after.ensures ops first second before_is change members later.kept.ids in
-    can_exchange_zones claim ops c.args.edit.now apart accepted c.judged-old.result c.judged-new.result old_is new_is after after_is
+    can_exchange_zones claim ops c.args.edit.now apart accepted c.judged-old.result.now c.judged-new.result.now old_is new_is after after_is
     c.value_in-first.result c.other_value-second.result (search rules) (search rules) c.zones_in-zones.result c.zones_in-zones_after.result c.self.inside.zones c.self.invariant.zoned
     (c.zones_in-zones.ensures ops first second before_is) (c.zones_in-zones_after.ensures after first second later_is)
     (λ some. (room_for c.self.inside.members c.self.inside.zones c.self.inside.stretches prepared c.self.invariant.room c.args.target.now.new held (subst (λ (n : Option Op). IsSome n) c.judged-new.ensures some)).0)
@@ -74,20 +74,20 @@ exchange_stretches-requires-clause-new c =
     let ops = c.self.inside.table.ops in
     let accepted : reply_to claim ops c.args.edit.now ≡ None = subst (λ (x : Clustered). reply_to x.claim x.ops c.args.edit.now ≡ None) (sym c.self.view_is) c.requires.accepted in
     let found : c.args.target.now.old ≡ found_by ops (edit_id c.args.edit.now) = subst (λ (x : Clustered). c.args.target.now.old ≡ found_by x.ops (edit_id c.args.edit.now)) (sym c.self.view_is) c.requires.target.old in
-    let old_is : c.judged-old.result ≡ judged_part (found_by ops (edit_id c.args.edit.now)) = c.judged-old.ensures ∙ ap judged_part found in
+    let old_is : c.judged-old.result.now ≡ judged_part (found_by ops (edit_id c.args.edit.now)) = c.judged-old.ensures ∙ ap judged_part found in
     let asked : c.args.target.now.new ≡ new_op ops c.args.edit.now = subst (λ (x : Clustered). c.args.target.now.new ≡ new_op x.ops c.args.edit.now) (sym c.self.view_is) c.requires.target.new in
-    let new_is : c.judged-new.result ≡ judged_part (new_op ops c.args.edit.now) = c.judged-new.ensures ∙ ap judged_part asked in
+    let new_is : c.judged-new.result.now ≡ judged_part (new_op ops c.args.edit.now) = c.judged-new.ensures ∙ ap judged_part asked in
     let after = c.admit.new.self.ops in
     let after_is : after ≡ edited ops c.args.edit.now = ap (λ (t : Tabled). t.ops) c.admit.ensures in
     let apart = c.self.invariant.apart in
-    let later = apart_after claim ops c.args.edit.now apart accepted c.judged-old.result c.judged-new.result old_is new_is after after_is in
-    let change = change_is claim ops c.args.edit.now apart accepted c.judged-old.result c.judged-new.result old_is new_is after after_is in
+    let later = apart_after claim ops c.args.edit.now apart accepted c.judged-old.result.now c.judged-new.result.now old_is new_is after after_is in
+    let change = change_is claim ops c.args.edit.now apart accepted c.judged-old.result.now c.judged-new.result.now old_is new_is after after_is in
     let members : AreMembers after c.change.new.self = c.change.ensures.members ops after c.self.invariant.members_of change in
     let first = c.value_in-first.result in
     let second = c.other_value-second.result in
     let before_is = c.edges_in-edges.ensures c.self.invariant.members_of apart.kept.ids change.goes in
     let later_is = c.edges_after-after.ensures ops first second before_is change members later.kept.ids in
-    can_exchange_stretches claim ops c.args.edit.now apart accepted c.judged-old.result c.judged-new.result old_is new_is after after_is
+    can_exchange_stretches claim ops c.args.edit.now apart accepted c.judged-old.result.now c.judged-new.result.now old_is new_is after after_is
     c.value_in-first.result c.other_value-second.result (search rules) (search rules) c.stretches_in-stretches.result c.stretches_in-stretches_after.result c.self.inside.stretches c.self.invariant.stretched
     (c.stretches_in-stretches.ensures ops first second before_is) (c.stretches_in-stretches_after.ensures after first second later_is)
 
@@ -100,15 +100,15 @@ invariant_of-self c =
     let stretches = c.self.inside.stretches in
     let accepted : reply_to claim ops c.args.edit.now ≡ None = subst (λ (x : Clustered). reply_to x.claim x.ops c.args.edit.now ≡ None) (sym c.self.view_is) c.requires.accepted in
     let found : c.args.target.now.old ≡ found_by ops (edit_id c.args.edit.now) = subst (λ (x : Clustered). c.args.target.now.old ≡ found_by x.ops (edit_id c.args.edit.now)) (sym c.self.view_is) c.requires.target.old in
-    let old_is : c.judged-old.result ≡ judged_part (found_by ops (edit_id c.args.edit.now)) = c.judged-old.ensures ∙ ap judged_part found in
+    let old_is : c.judged-old.result.now ≡ judged_part (found_by ops (edit_id c.args.edit.now)) = c.judged-old.ensures ∙ ap judged_part found in
     let asked : c.args.target.now.new ≡ new_op ops c.args.edit.now = subst (λ (x : Clustered). c.args.target.now.new ≡ new_op x.ops c.args.edit.now) (sym c.self.view_is) c.requires.target.new in
-    let new_is : c.judged-new.result ≡ judged_part (new_op ops c.args.edit.now) = c.judged-new.ensures ∙ ap judged_part asked in
+    let new_is : c.judged-new.result.now ≡ judged_part (new_op ops c.args.edit.now) = c.judged-new.ensures ∙ ap judged_part asked in
     let held : IfSome c.args.target.now.new (λ op. prepared ≡ Some op) = subst (λ (x : Clustered). IfSome c.args.target.now.new (λ op. x.prepared ≡ Some op)) (sym c.self.view_is) c.requires.prepared in
     let after = c.admit.new.self.ops in
     let after_is : after ≡ edited ops c.args.edit.now = ap (λ (t : Tabled). t.ops) c.admit.ensures in
     let apart = c.self.invariant.apart in
-    let later = apart_after claim ops c.args.edit.now apart accepted c.judged-old.result c.judged-new.result old_is new_is after after_is in
-    let change = change_is claim ops c.args.edit.now apart accepted c.judged-old.result c.judged-new.result old_is new_is after after_is in
+    let later = apart_after claim ops c.args.edit.now apart accepted c.judged-old.result.now c.judged-new.result.now old_is new_is after after_is in
+    let change = change_is claim ops c.args.edit.now apart accepted c.judged-old.result.now c.judged-new.result.now old_is new_is after after_is in
     let members : AreMembers after c.change.new.self = c.change.ensures.members ops after c.self.invariant.members_of change in
     let first = c.value_in-first.result in
     let second = c.other_value-second.result in
@@ -118,8 +118,8 @@ invariant_of-self c =
     let zones_later = c.zones_in-zones_after.ensures after first second later_is in
     let stretches_before = c.stretches_in-stretches.ensures ops first second before_is in
     let stretches_later = c.stretches_in-stretches_after.ensures after first second later_is in
-    let no_fewer : c.judged-new.result ≡ None → length c.exchange.new.tree.zones + stretches.free ≤ length zones.zones + c.exchange_stretches.new.tree.free =
-    λ none. room_left claim ops c.args.edit.now apart accepted c.judged-old.result c.judged-new.result old_is new_is after after_is
+    let no_fewer : c.judged-new.result.now ≡ None → length c.exchange.new.tree.zones + stretches.free ≤ length zones.zones + c.exchange_stretches.new.tree.free =
+    λ none. room_left claim ops c.args.edit.now apart accepted c.judged-old.result.now c.judged-new.result.now old_is new_is after after_is
     c.value_in-first.result c.other_value-second.result (search rules) (search rules) none
     c.zones_in-zones.result c.zones_in-zones_after.result zones c.self.invariant.zoned zones_before zones_later c.exchange.new.tree.zones c.exchange.ensures.zones
     c.stretches_in-stretches.result c.stretches_in-stretches_after.result stretches c.self.invariant.stretched stretches_before stretches_later
@@ -128,10 +128,10 @@ invariant_of-self c =
     record {
       apart = later;
       members_of = members;
-      zoned = zoned_after claim ops c.args.edit.now apart accepted c.judged-old.result c.judged-new.result old_is new_is after after_is
+      zoned = zoned_after claim ops c.args.edit.now apart accepted c.judged-old.result.now c.judged-new.result.now old_is new_is after after_is
           c.value_in-first.result c.other_value-second.result (search rules) (search rules) c.zones_in-zones.result c.zones_in-zones_after.result zones c.self.invariant.zoned
           zones_before zones_later c.exchange.new.tree.zones c.exchange.ensures.zones;
-      stretched = stretched_after claim ops c.args.edit.now apart accepted c.judged-old.result c.judged-new.result old_is new_is after after_is
+      stretched = stretched_after claim ops c.args.edit.now apart accepted c.judged-old.result.now c.judged-new.result.now old_is new_is after after_is
           c.value_in-first.result c.other_value-second.result (search rules) (search rules) c.stretches_in-stretches.result c.stretches_in-stretches_after.result stretches c.self.invariant.stretched
           stretches_before stretches_later c.exchange_stretches.new.tree.stretches c.exchange_stretches.ensures.stretches;
       spare = spare_after c.self.inside.members zones stretches prepared c.self.invariant.room c.self.invariant.spare c.args.target.now.new held c.exchange.new.tree.zones c.exchange_stretches.new.tree.free
@@ -140,14 +140,14 @@ invariant_of-self c =
       room = subst (λ (p : Option Op). IfSome p (HasRoomFor c.change.new.self c.exchange.new.tree c.exchange_stretches.new.tree)) (sym (ap (λ (t : Tabled). t.prepared) c.admit.ensures))
           (room_after c.self.inside.members zones stretches prepared c.self.invariant.room c.change.new.self c.exchange.new.tree c.exchange_stretches.new.tree (new_op ops c.args.edit.now)
           (subst (λ (p : Option Op). HasPlacesOf p c.change.new.self) c.prepared.ensures c.change.ensures.places)
-          (λ none. c.exchange.ensures.room (zones_need_no_room claim ops c.args.edit.now apart accepted c.judged-old.result c.judged-new.result old_is new_is after after_is
+          (λ none. c.exchange.ensures.room (zones_need_no_room claim ops c.args.edit.now apart accepted c.judged-old.result.now c.judged-new.result.now old_is new_is after after_is
           c.value_in-first.result c.other_value-second.result (search rules) (search rules) c.zones_in-zones.result c.zones_in-zones_after.result zones c.self.invariant.zoned
           zones_before zones_later (new_is ∙ none)))
           (λ none. no_fewer (new_is ∙ none)));
       only = subst (λ (p : Option Op). HoldsOnlyFor p c.change.new.self) (sym (ap (λ (t : Tabled). t.prepared) c.admit.ensures ∙ ap (λ (n : Option Op). prepared_after n prepared) (sym asked)))
           (only_after c.args.target.now.new prepared c.change.new.self (subst (λ (x : Clustered). IfSome c.args.target.now.new (λ op. x.prepared ≡ Some op)) (sym c.self.view_is) c.requires.prepared)
           (subst (λ (n : Option Op). HoldsOnlyFor (prepared_after n prepared) c.change.new.self) c.judged-new.ensures
-          (subst (λ (p : Option Op). HoldsOnlyFor p c.self.inside.members → HoldsOnlyFor (prepared_after c.judged-new.result p) c.change.new.self) c.prepared.ensures c.change.ensures.only c.self.invariant.only)));
+          (subst (λ (p : Option Op). HoldsOnlyFor p c.self.inside.members → HoldsOnlyFor (prepared_after c.judged-new.result.now p) c.change.new.self) c.prepared.ensures c.change.ensures.only c.self.invariant.only)));
     }
 
 pub returns-clause-edited : goal.returns-clause-edited
