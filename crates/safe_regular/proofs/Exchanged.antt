@@ -1,13 +1,16 @@
 -- What stands after an exchange, and after a renewal.
-use Rattle.std.proofs.Common.{◌≡◌, ◌⊎◌, inl, inr, true, false, not, List, Option, Some, None, sym, ap, ◌∙◌, subst}
-use Rattle.std.specs.Prelude.{Contains, IfSome}
-use Rattle.std.proofs.lemmas.Bool.{not-true, not_from_false}
+use Rattle.std.proofs.Common.{◌≡◌, ◌⊎◌, inl, inr, true, false, not, List, Option, Some, None, refl, sym, ap, ◌∙◌, subst}
+use Rattle.std.specs.Prelude.{Contains, IfSome, IsSome}
+use Rattle.std.proofs.lemmas.Bool.{cases_Bool, not-true, not_from_false}
+use Rattle.intervals.specs.declared.operation.Op.{Op}
 use Rattle.intervals.specs.declared.shelf.Spot.{Spot}
 use Rattle.intervals.specs.Shelf.{same_spot}
+use Rattle.intervals.specs.Terms.{Terms}
 use Rattle.read_tree.specs.declared.item.Item.{Item}
-use Rattle.read_tree.specs.Items.{item_at, place_of, renewed}
-use Rattle.read_tree.proofs.Members.{kept_from, kept_in, none_found_where, new_or_old, new_stands, old_stands, renewed_from, renewed_in, stays_in}
-use Rattle.safe_regular.specs.Line.{IsAway, IsExchanged, IsFreeFor, IsRenewed, IsTaken, items_renewed, items_with, items_without}
+use Rattle.read_tree.specs.Items.{AreInOrder, item_at, place_of, renewed}
+use Rattle.read_tree.proofs.Members.{kept_from, kept_in, none_found_where, new_or_old, new_stands, old_stands, one_of_a_spot, renewed_from, renewed_in, stays_in}
+use Rattle.read_tree.proofs.Order.{same_true}
+use Rattle.safe_regular.specs.Line.{IsAway, IsExchanged, IsFreeFor, IsItemOf, IsRenewed, IsTaken, items_renewed, items_with, items_without}
 
 -- who stands where what was at the spot is gone
 gone_from : (spot : Option Spot) (items : List Item) (x : Item) → Contains (items_without spot items) x → Contains items x × IsAway spot x
@@ -67,3 +70,27 @@ is_exchanged_there (Some spot) (Some y) items taken (s, x, at, is, e) =
         | inr came ↦ inr (ap Some (sym came.0))
       ];
     }
+
+-- an item that stands where it is to come changes nothing
+pub is_exchanged_itself : (spot : Option Spot) (x : Item) (items : List Item) → AreInOrder items → Contains items x → spot ≡ Some (place_of x) → IsExchanged spot (Some x) items items
+is_exchanged_itself None x items order stands at = absurd (cc)
+is_exchanged_itself (Some spot) x items order stands at =
+    let place : spot ≡ place_of x = cc in
+    record {
+      kept = λ z h away. h;
+      put = λ z e. let same : x ≡ z = cc in subst (Contains items) same stands;
+      only = λ z h. elim (cases_Bool (same_spot (place_of z) spot)) [
+        | inl t ↦ inr (ap Some (one_of_a_spot items x z order stands h (sym place ∙ sym (same_true (place_of z) spot t))))
+        | inr f ↦ inl (h, f)
+      ];
+    }
+
+-- an item comes only with an operation
+module _ (claim : Terms) (ops : List Op) (new : Option Op) where
+  pub no_item : (item : Option Item) → IsItemOf claim ops new item → new ≡ None → item ≡ None
+  no_item None is none = refl
+  no_item (Some x) is none = absurd (let of_op = (is.is x refl).1 in let new_is = of_op.1 in cc)
+
+  pub some_new : (item : Option Item) → IsItemOf claim ops new item → IsSome item → IsSome new
+  some_new None is some = absurd (cc)
+  some_new (Some x) is some = let of_op = (is.is x refl).1 in subst IsSome (sym of_op.1) refl

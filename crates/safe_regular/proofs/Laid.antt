@@ -36,7 +36,7 @@ neither : (a b : Bool) → a ≡ false → b ≡ false → (a || b) ≡ false
 neither a b f g = rw (f, g) refl
 
 -- an operation that has an item
-laid : (claim : Terms) (o : Op) → (t : Bool) → (is_write o || is_judged_read o) ≡ t → IsLaid o → spot_in claim (Some o) ≡ Some (place_in claim o)
+pub laid : (claim : Terms) (o : Op) → (t : Bool) → (is_write o || is_judged_read o) ≡ t → IsLaid o → spot_in claim (Some o) ≡ Some (place_in claim o)
 laid claim o t e (inl write) = rw write refl
 laid claim o t e (inr judged) = elim (is_write o) as (λ b. cond (b || is_judged_read o) (Some (place_in claim o)) None ≡ Some (place_in claim o)) [ true ↦ refl | false ↦ rw judged refl ]
 

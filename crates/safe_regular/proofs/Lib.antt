@@ -19,3 +19,4 @@ pub mod Covered
 pub mod Named
 pub mod Crosses
 pub mod Laid
+pub mod Kept

@@ -5,7 +5,6 @@ use Rattle.std.proofs.lemmas.Bool.{both_ways}
 use Rattle.intervals.specs.declared.operation.Op.{Op}
 use Rattle.intervals.specs.declared.edit.Edit.{Edit}
 use Rattle.intervals.specs.Edit.{edited, new_op, edit_id, found_by, has_id}
-use Rattle.intervals.specs.Operation.{same_id}
 use Rattle.intervals.specs.Refusal.{reply_to}
 use Rattle.intervals.specs.Table.{prepared_after}
 use Rattle.intervals.specs.Terms.{Terms}
@@ -14,11 +13,12 @@ use Rattle.read_tree.specs.declared.item.Item.{Item}
 use Rattle.read_tree.specs.Items.{AreInOrder, Contents}
 use Rattle.safe_regular.specs.declared.writes.Writes.{Writes}
 use Rattle.safe_regular.specs.Held.{AreOneWriters, CanJudge, HasRoomFor}
-use Rattle.safe_regular.specs.Line.{AreItems, IsCoverBefore, IsExchanged, IsFreeFor, IsItemOf, IsRenewed, IsTaken, spot_in}
+use Rattle.safe_regular.specs.Line.{AreItems, IsChanged, IsCoverBefore, IsRenewed, MayBeChanged}
 use Rattle.safe_regular.specs.Writes.{AreWrites, HasPlaceIn, HoldsOnlyFor, IsAddedOf}
 use Rattle.safe_regular.proofs.Changed.{others_of, IsAmong, other_stands, other_apart, before_cases, other_after, new_stands, after_cases, goes, comes}
 use Rattle.intervals.proofs.Ids.{found_stands}
 use Rattle.safe_regular.proofs.Edited.{apart_kept}
+use Rattle.safe_regular.proofs.Kept.{own_cover_stands}
 use Rattle.safe_regular.proofs.Laid.{items_after, place_is_free, place_is_taken}
 use Rattle.safe_regular.proofs.Told.{writes_apart}
 
@@ -29,19 +29,11 @@ room_after writes writes' line line' prepared (Some op) after room place free e 
 room_after writes writes' line line' None None after room place free e = rw e tt
 room_after writes writes' line line' (Some op) None after room place free e = rw e (record { place = place; free = let le = free refl in let one = room.free in omega arith })
 
--- where no operation comes, no item does
-pub no_item : (new : Option Op) (item : Option Item) → new ≡ None → ((x : Item) → item ≡ Some x → (o : Op) × (new ≡ Some o)) → item ≡ None
-no_item new None none of_new = refl
-no_item new (Some x) none of_new = absurd (let (o, is) = of_new x refl in cc)
-
--- where the new operation has an item, there is room for it
-pub room_for_new : (writes : Writes) (line : Contents) (prepared new : Option Op) → IfSome prepared (HasRoomFor writes line) → IfSome new (λ op. prepared ≡ Some op)
-    → (item : Option Item) → ((x : Item) → item ≡ Some x → (o : Op) × (new ≡ Some o)) → IsSome item → 0 < line.free
-room_for_new writes line prepared new room is None of_new some = absurd (cc)
-room_for_new writes line prepared new room is (Some x) of_new some =
-    let (o, new_is) = of_new x refl in
-    let prepared_is : prepared ≡ Some o = subst (λ (p : Option Op). IfSome p (λ op. prepared ≡ Some op)) new_is is in
-    let there : HasRoomFor writes line o = subst (λ (p : Option Op). IfSome p (HasRoomFor writes line)) prepared_is room in
+-- there is room for the item of the new operation
+pub room_for_new : (writes : Writes) (line : Contents) (prepared new : Option Op) → IfSome prepared (HasRoomFor writes line) → IfSome new (λ op. prepared ≡ Some op) → IsSome new → 0 < line.free
+room_for_new writes line prepared None room is some = absurd (cc)
+room_for_new writes line prepared (Some o) room is some =
+    let there : HasRoomFor writes line o = subst (λ (p : Option Op). IfSome p (HasRoomFor writes line)) is room in
     let one = there.free in omega (arith, one)
 
 module _ (claim : Terms) (ops : List Op) (edit : Edit) (apart : AreOneWriters claim ops) (accepted : reply_to claim ops edit ≡ None)
@@ -102,14 +94,19 @@ module _ (claim : Terms) (ops : List Op) (edit : Edit) (apart : AreOneWriters cl
   not_new : (x y : Op) → Contains others x → new ≡ Some y → ¬ (x ≡ y)
   not_new x y among e = other_than x y among (new_stands ops edit y (sym new_is ∙ e)).1
 
-  module _ (item : Option Item) (item_is : IsItemOf claim listed new item) (first : List Item) (are : AreItems claim ops first) where
-    pub place_for_new : IsFreeFor (spot_in claim old) item first
-    place_for_new = place_is_free claim ops others listed old new apart later_listed was_among in_listed not_new item item_is first are
-
-    pub old_place : IsTaken (spot_in claim old) first
-    old_place = place_is_taken claim ops old apart (λ o e. in_before o (inr e)) first are
+  module _ (line : Contents) (are : AreItems claim ops line.items) where
+    -- the item of the old operation may go, and that of the new one come
+    pub may_be_changed : (IsSome new → 0 < line.free) → MayBeChanged claim listed old new line
+    may_be_changed room = record {
+      order = are.order;
+      taken = place_is_taken claim ops old apart (λ o e. in_before o (inr e)) line.items are;
+      apart = λ item item_is. place_is_free claim ops others listed old new apart later_listed was_among in_listed not_new item item_is line.items are;
+      room = room;
+      kept = own_cover_stands claim ops others listed old new apart later_listed was_among in_before is_among in_listed line.items are;
+    }
 
     pub laid_after : (left come : Option Item) → IsCoverBefore claim listed None old left → IsCoverBefore claim listed old new come
-        → (second third last : List Item) → IsExchanged (spot_in claim old) item first second → IsRenewed left second third → IsRenewed come third last → AreInOrder last → AreItems claim listed last
+        → (second third last : List Item) → IsChanged claim listed old new line.items second → IsRenewed left second third → IsRenewed come third last → AreInOrder last → AreItems claim listed last
     laid_after left come left_is come_is second third last one two three order =
-        items_after claim ops others listed old new apart later_listed was_among in_before is_among in_listed not_old item left come item_is left_is come_is first second third last are one two three order
+        items_after claim ops others listed old new apart later_listed was_among in_before is_among in_listed not_old one.item left come one.is left_is come_is
+        line.items second third last are one.exchanged two three order

@@ -1,7 +1,7 @@
 -- What stands in the tree of reads and covers for the operations: each judged read at its end, each
 -- write as a cover at its beginning, and the initial value as a cover before all. Moments are counted
 -- from 1 there, so that 0 is before all. Words of the proofs; no public clause speaks of them.
-use Rattle.std.specs.Prelude.{◌≡◌, ℕ, ◌+◌, ◌⊎◌, min, Bool, true, false, ◌||◌, List, Contains, Option, Some, None, IfSome, option_map, if◌then◌else◌}
+use Rattle.std.specs.Prelude.{◌≡◌, ℕ, ◌+◌, ◌<◌, ◌⊎◌, min, Bool, true, false, ◌||◌, List, Contains, Option, Some, None, IfSome, IsSome, option_map, if◌then◌else◌}
 use Rattle.intervals.specs.declared.operation.Op.{Op}
 use Rattle.intervals.specs.declared.operation.Moment.{Moment}
 use Rattle.intervals.specs.declared.operation.Value.TheVariants.{Nil}
@@ -13,8 +13,9 @@ use Rattle.intervals.specs.Operation.{IsWrite, IsJudgedRead, is_write, is_judged
 use Rattle.intervals.specs.Shelf.{same_spot, spot_of}
 use Rattle.intervals.specs.Terms.{Terms}
 use Rattle.read_tree.specs.declared.item.Item.{Item}
-use Rattle.read_tree.specs.Items.{AreInOrder, place_of, renewed, with_item, without_item}
+use Rattle.read_tree.specs.Items.{AreInOrder, Contents, place_of, renewed, with_item, without_item}
 use Rattle.safe_regular.specs.LookUp.{BeginsAfter, BeginsBefore, BeginsFrom, IsFirstOf, IsLast, NoneFits}
+use Rattle.safe_regular.specs.Writes.{StandAlike}
 
 -- the moment of that number, counted from 1
 abbrev pub counted : ℕ → ℕ
@@ -205,3 +206,38 @@ HasWriteAt (Some op) moment = IsWrite op × (op.begin.0 ≡ moment)
 pub record IsCoverBefore (claim : Terms) (ops : List Op) (other op : Option Op) (item : Option Item) : Type 0 where
   pub is : (x : Item) → item ≡ Some x → IsItem claim ops x
   pub there : (o : Op) → op ≡ Some o → IsWrite o → has_rows claim.kind ≡ true → ((x : Item) × (item ≡ Some x) × IsInFront claim ops o.begin.0 x) ⊎ HasWriteAt other o.begin.0
+
+-- both are writes of one id, beginning and value
+pub record AreOneCover (old new : Op) : Type 0 where
+  pub alike : StandAlike old new
+  pub value : value_of old.act ≡ value_of new.act
+
+-- the same of two operations that there may be
+abbrev pub AreOneCoverIn : Option Op → Option Op → Type 0
+AreOneCoverIn old new = (o n : Op) × (old ≡ Some o) × (new ≡ Some n) × AreOneCover o n
+
+-- where values have rows such a write keeps its cover: how far that covers is said by the write behind it
+pub record KeepsItsCover (kind : Kind) (old new : Option Op) : Type 0 where
+  pub rows : has_rows kind ≡ true
+  pub one : AreOneCoverIn old new
+
+-- the item of the new operation stands, and it does where the old one's stood
+pub record IsLaidAlready (claim : Terms) (ops : List Op) (old new : Option Op) (items : List Item) : Type 0 where
+  pub item : Item
+  pub is : IsItemOf claim ops new (Some item)
+  pub stands : Contains items item
+  pub place : spot_in claim old ≡ Some (place_of item)
+
+-- the item of the old operation may go, and that of the new one come
+pub record MayBeChanged (claim : Terms) (ops : List Op) (old new : Option Op) (line : Contents) : Type 0 where
+  pub order : AreInOrder line.items
+  pub taken : IsTaken (spot_in claim old) line.items
+  pub apart : (item : Option Item) → IsItemOf claim ops new item → IsFreeFor (spot_in claim old) item line.items
+  pub room : IsSome new → 0 < line.free
+  pub kept : KeepsItsCover claim.kind old new → IsLaidAlready claim ops old new line.items
+
+-- the item of the old operation is gone, and that of the new one has come
+pub record IsChanged (claim : Terms) (ops : List Op) (old new : Option Op) (before after : List Item) : Type 0 where
+  pub item : Option Item
+  pub is : IsItemOf claim ops new item
+  pub exchanged : IsExchanged (spot_in claim old) item before after

@@ -11,7 +11,7 @@ ghost use Rattle.intervals.specs.Refusal.{write_refusal, reply_to, ok_unless};
 ghost use Rattle.intervals.specs.Judging.{first_wrong as first_wrong_of};
 ghost use Rattle.safe_regular.specs.Judge.{without_write, without_read};
 
-use crate::line::{cover_before, exchange, initial_item, item_of, renew, spot_of};
+use crate::line::{change_item, cover_before, initial_item, renew};
 use crate::writes::{Writes, check_write};
 use intervals::laws::{regular_without_wrong_reads, safe_without_wrong_reads};
 use intervals::{Claim, Edit, Kind, Memory, Op, OpId, OpTable, Refusal, Target};
@@ -141,13 +141,18 @@ impl<'t> SingleWriterJudge<'t> {
     {
         let old = &target.old;
         let new = &target.new;
-        let spot = spot_of(&self.claim, old);
         self.writes.change(old, new, &self.table.prepared());
         self.table.admit(edit, target);
-        let item = item_of(&self.claim, &self.writes, &self.table, new);
+        change_item(
+            &mut self.line,
+            &self.claim,
+            &self.writes,
+            &self.table,
+            old,
+            new,
+        );
         let left = cover_before(&self.claim, &self.writes, &self.table, &None, old);
         let come = cover_before(&self.claim, &self.writes, &self.table, old, new);
-        exchange(&mut self.line, spot, item);
         renew(&mut self.line, left);
         renew(&mut self.line, come);
     }

@@ -7,10 +7,11 @@ ghost use Rattle.intervals.specs.Standing.{HasDistinctIds};
 ghost use Rattle.intervals.specs.Terms.{terms_of};
 ghost use Rattle.read_tree.specs.declared.item.Item.{Item as AnItem};
 ghost use Rattle.read_tree.specs.Items.{AreInOrder, place_of, item_at};
-ghost use Rattle.safe_regular.specs.Line.{counted as counted_from_1, reach_by as reach_by_end, end_of as end_of_op, has_rows as rows_of, number_of as number_of_op, read_reach as reach_of_read, cover_reach as reach_of_cover, initial_reach as reach_of_initial, read_item as item_of_read, cover_item as item_of_write, initial_item as item_of_initial, spot_in, items_without, items_with, items_renewed, IsTaken, IsFreeFor, IsExchanged, IsRenewed, IsItem, IsItemOf, IsInFront, HasWriteAt, IsCoverBefore};
+ghost use Rattle.safe_regular.specs.Line.{counted as counted_from_1, reach_by as reach_by_end, end_of as end_of_op, has_rows as rows_of, number_of as number_of_op, read_reach as reach_of_read, cover_reach as reach_of_cover, initial_reach as reach_of_initial, read_item as item_of_read, cover_item as item_of_write, initial_item as item_of_initial, spot_in, items_without, items_with, items_renewed, IsTaken, IsFreeFor, IsExchanged, IsRenewed, IsItem, IsItemOf, IsInFront, HasWriteAt, IsCoverBefore, AreOneCover, AreOneCoverIn, KeepsItsCover, MayBeChanged, IsChanged};
+ghost use Rattle.safe_regular.specs.Held.{CanJudge};
 ghost use Rattle.safe_regular.specs.Writes.{AreWrites};
 
-use crate::writes::{Writes, first_after, first_from, last_before};
+use crate::writes::{Writes, first_after, first_from, last_before, stand_alike};
 use intervals::{Claim, Kind, Moment, Op, OpId, OpTable, Spot, Value, is_same_value};
 use read_tree::{Item, ReadTree};
 
@@ -142,7 +143,7 @@ fn number_of(op: &Op) -> u64
 }
 
 /// Where the item of the operation stands, where it has one.
-pub fn spot_of(claim: &Claim, op: &Option<Op>) -> Option<Spot>
+fn spot_of(claim: &Claim, op: &Option<Op>) -> Option<Spot>
     ensures { result ≡ spot_in (terms_of claim.now) op.now }
 {
     let Some(op) = op else {
@@ -164,7 +165,7 @@ pub fn spot_of(claim: &Claim, op: &Option<Op>) -> Option<Spot>
 }
 
 /// The item of an operation that stands: a write is a cover, a read that has an end a read.
-pub fn item_of(claim: &Claim, writes: &Writes, table: &OpTable, op: &Option<Op>) -> Option<Item>
+fn item_of(claim: &Claim, writes: &Writes, table: &OpTable, op: &Option<Op>) -> Option<Item>
     ensures { AreWrites table.now.ops writes.now → HasDistinctIds table.now.ops → IfSome op.now (Contains table.now.ops)
         → IsItemOf (terms_of claim.now) table.now.ops op.now result }
 {
@@ -228,8 +229,54 @@ fn cover_in_front(claim: &Claim, writes: &Writes, table: &OpTable, moment: Momen
     }
 }
 
+/// Takes the item of the old operation out, and puts that of the new one in. Where values have rows, how far
+/// a write covers is said by the write behind it and not by its own end: so the cover of a write that keeps
+/// its beginning, value and id is not touched.
+pub fn change_item(
+    line: &mut ReadTree,
+    claim: &Claim,
+    writes: &Writes,
+    table: &OpTable,
+    old: &Option<Op>,
+    new: &Option<Op>,
+)
+    requires judged { CanJudge table.now.ops writes.now }
+    requires listed { IfSome new.now (Contains table.now.ops) }
+    requires change { MayBeChanged (terms_of claim.now) table.now.ops old.now new.now line.old }
+    ensures changed { IsChanged (terms_of claim.now) table.now.ops old.now new.now line.old.items line.new.items }
+    ensures free { new.now ≡ None → line.old.free ≤ line.new.free }
+{
+    if !keeps_its_cover(claim, old, new) {
+        let spot = spot_of(claim, old);
+        let item = item_of(claim, writes, table, new);
+        exchange(line, spot, item);
+    }
+}
+
+/// Whether a write that stays is one whose cover stays as it is, whatever its end.
+fn keeps_its_cover(claim: &Claim, old: &Option<Op>, new: &Option<Op>) -> bool
+    ensures { result ≡ true → KeepsItsCover claim.now.kind old.now new.now }
+{
+    has_rows(claim.kind) && are_one_cover_in(old, new)
+}
+
+fn are_one_cover_in(old: &Option<Op>, new: &Option<Op>) -> bool
+    ensures { result ≡ true → AreOneCoverIn old.now new.now }
+{
+    match (old, new) {
+        (Some(old), Some(new)) => are_one_cover(old, new),
+        _ => false,
+    }
+}
+
+fn are_one_cover(old: &Op, new: &Op) -> bool
+    ensures { result ≡ true → AreOneCover old.now new.now }
+{
+    stand_alike(old, new) && is_same_value(old.value(), new.value())
+}
+
 /// Takes out what stands at the spot, and puts the item in.
-pub fn exchange(line: &mut ReadTree, spot: Option<Spot>, item: Option<Item>)
+fn exchange(line: &mut ReadTree, spot: Option<Spot>, item: Option<Item>)
     requires room { IsSome item → 0 < line.old.free }
     requires taken { IsTaken spot line.old.items }
     requires apart { IsFreeFor spot item line.old.items }

@@ -101,7 +101,7 @@ impl Writes {
     }
 }
 
-/// Whether both are writes of one id and beginning.
+/// Whether the new operation is a write that stands where the old one does.
 fn keeps_its_spot(old: &Option<Op>, new: &Option<Op>) -> bool
     ensures { result ≡ true → StandAlikeIn old.now new.now }
 {
@@ -111,7 +111,8 @@ fn keeps_its_spot(old: &Option<Op>, new: &Option<Op>) -> bool
     }
 }
 
-fn stand_alike(old: &Op, new: &Op) -> bool
+/// Whether both are writes of one id and beginning.
+pub fn stand_alike(old: &Op, new: &Op) -> bool
     ensures { result ≡ true → StandAlike old.now new.now }
 {
     old.is_write() && new.is_write() && old.has_id(new.id) && old.begin.0 == new.begin.0
