@@ -85,6 +85,19 @@ is_exchanged_itself (Some spot) x items order stands at =
       ];
     }
 
+pub is_renewed_itself : (x : Item) (before after : List Item) → AreInOrder before → Contains before x → IsRenewed None before after → IsRenewed (Some x) before after
+is_renewed_itself x before after order stands kept = record {
+  kept = λ z h away. kept.kept z h tt;
+  put = λ z other e h t. let same : x ≡ z = cc in subst (Contains after) same (kept.kept x stands tt);
+  only = λ z h. elim (kept.only z h) [
+    | inl stood ↦ elim (cases_Bool (same_spot (place_of z) (place_of x))) [
+      | inl t ↦ inr (ap Some (one_of_a_spot before x z order stands stood.0 (sym (same_true (place_of z) (place_of x) t))))
+      | inr f ↦ inl (stood.0, f)
+    ]
+    | inr came ↦ absurd (cc)
+  ];
+}
+
 -- an item comes only with an operation
 module _ (claim : Terms) (ops : List Op) (new : Option Op) where
   pub no_item : (item : Option Item) → IsItemOf claim ops new item → new ≡ None → item ≡ None

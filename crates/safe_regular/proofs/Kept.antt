@@ -1,23 +1,30 @@
 -- Which covers an edit leaves as they are.
-use Rattle.std.proofs.Common.{◌≡◌, ℕ, suc, inl, inr, true, ◌||◌, List, Option, Some, refl, sym, ap, ◌∙◌, subst, arith}
-use Rattle.std.specs.Prelude.{Contains}
+use Rattle.std.proofs.Common.{◌≡◌, ℕ, suc, ◌-◌, ◌<◌, ◌≤◌, inl, inr, Bool, true, ◌&&◌, ◌||◌, List, Option, Some, None, Decides, refl, sym, ap, ◌∙◌, subst, arith}
+use Rattle.std.specs.Prelude.{Contains, IsTrue, nat_lt}
+use Rattle.std.proofs.lemmas.Bool.{cases_lt}
+use Rattle.std.proofs.lemmas.Bool.Decides.{Decides-and, Decides-ltb}
+use Rattle.std.proofs.lemmas.List.Elements.{All-contains}
 use Rattle.intervals.specs.declared.operation.Op.{Op}
 use Rattle.intervals.specs.declared.operation.OpId.{OpId}
 use Rattle.intervals.specs.declared.operation.Moment.{Moment}
 use Rattle.intervals.specs.declared.operation.Value.{Value}
 use Rattle.intervals.specs.declared.claim.Kind.{Kind}
 use Rattle.intervals.specs.declared.claim.Kind.TheVariants.{Safe, Regular, Atomic}
-use Rattle.intervals.specs.Operation.{is_write, is_judged_read, value_of}
+use Rattle.intervals.specs.Least.{least_by}
+use Rattle.intervals.specs.Operation.{IsWrite, is_write, is_judged_read, value_of}
 use Rattle.intervals.specs.Terms.{Terms}
+use Rattle.intervals.proofs.Agreement.{Decides-IsTrue}
+use Rattle.intervals.proofs.LeastOf.{least_by-IsLeast, least_from-None}
 use Rattle.read_tree.specs.declared.item.Item.{Item}
-use Rattle.read_tree.specs.Items.{place_of}
+use Rattle.read_tree.specs.Items.{AreInOrder, place_of}
 use Rattle.safe_regular.specs.Held.{AreOneWriters}
-use Rattle.safe_regular.specs.LookUp.{BeginsFrom, IsFirstOf}
-use Rattle.safe_regular.specs.Line.{AreItems, AreOneCover, IsItem, IsLaid, IsLaidAlready, KeepsItsCover, counted, cover_item, cover_reach, has_rows, moment_of, place_in, spot_in}
+use Rattle.safe_regular.specs.LookUp.{BeginsBefore, BeginsFrom, IsFirstOf, IsLastOf}
+use Rattle.safe_regular.specs.Line.{AreItems, AreOneCover, ComesLastUnended, IsAway, IsCoverBefore, IsExchanged, IsInFront, IsItem, IsLaid, IsLaidAlready, IsRenewed, KeepsItsCover, counted, cover_item, cover_reach, has_rows, initial_item, initial_reach, moment_of, place_in, reach_by, spot_in}
 use Rattle.safe_regular.proofs.Changed.{IsAmong}
-use Rattle.safe_regular.proofs.Laid.{laid}
+use Rattle.safe_regular.proofs.Exchanged.{is_renewed_itself}
+use Rattle.safe_regular.proofs.Laid.{at_or_away, laid}
 use Rattle.safe_regular.proofs.Next.{some_first, IsApartFrom, next_before}
-use Rattle.safe_regular.proofs.Told.{place_of_cover}
+use Rattle.safe_regular.proofs.Told.{items_told, place_of_cover, same_is, writes_apart}
 
 same_in : (a b : Item) → Some a ≡ Some b → a ≡ b
 same_in a b e = cc
@@ -83,3 +90,142 @@ module _ (claim : Terms) (ops others after : List Op) (old new : Option Op) (bef
             ap (spot_in claim) old_is ∙ laid claim o (is_write o || is_judged_read o) refl (inl alike.old_writes)
             ∙ ap Some (sym (place_of_cover claim ops before_apart o next alike.old_writes) ∙ ap place_of same);
       }
+
+-- of the writes that begin before a moment a last one, or none
+some_last : (m : ℕ) (ops : List Op) → (found : Option Op) × IsLastOf (BeginsBefore m) ops found
+some_last m ops = (least_by left test ops, by_cases (least_by left test ops) refl)
+  where
+    left : Op → ℕ
+    left op = m - op.begin.0
+
+    test : Op → Bool
+    test op = is_write op && nat_lt op.begin.0 m
+
+    passes : (op : Op) → Decides (test op) (IsWrite op × (op.begin.0 < m))
+    passes op = Decides-and (is_write op) (nat_lt op.begin.0 m) (Decides-IsTrue (is_write op)) (Decides-ltb op.begin.0 m)
+
+    by_cases : (found : Option Op) → least_by left test ops ≡ found → IsLastOf (BeginsBefore m) ops found
+    by_cases None e = λ w stands write fits. All-contains (λ o. ¬ IsTrue (test o)) ops w (least_from-None left test None ops e).1 stands ((passes w).1 (write, fits))
+    by_cases (Some n) e =
+        let is = least_by-IsLeast left test ops n e in
+        let q = (passes n).0 is.passes in
+        record {
+          stands = is.stands;
+          write = q.0;
+          fits = q.1;
+          last = λ w stands write fits.
+              let le : left n ≤ left w = All-contains (λ o. IsTrue (test o) → left n ≤ left o) ops w is.least stands ((passes w).1 (write, fits)) in
+              let lt : n.begin.0 < m = q.1 in
+              omega (arith, le, lt, fits);
+        }
+
+module _ (claim : Terms) (ops others after : List Op) (old new : Option Op) (before_apart : AreOneWriters claim ops) (after_apart : AreOneWriters claim after)
+    (before_cases : (x : Op) → Contains ops x → IsAmong others old x) (in_before : (x : Op) → IsAmong others old x → Contains ops x)
+    (after_cases : (x : Op) → Contains after x → IsAmong others new x) (in_after : (x : Op) → IsAmong others new x → Contains after x)
+    (new_other : (x y : Op) → Contains others x → new ≡ Some y → ¬ (x ≡ y))
+    (items : List Item) (are : AreItems claim ops items) (comes : ComesLastUnended after old new) where
+  abbrev op : Op
+  op = comes.write
+
+  op_stands : Contains after op
+  op_stands = in_after op (inr comes.is)
+
+  -- each write that stood begins before the one that comes
+  stood_before : (v : Op) → Contains ops v → IsWrite v → Contains after v × (v.begin.0 < op.begin.0)
+  stood_before v stands write = elim (before_cases v stands) [
+    | inr gone ↦ absurd (let none = comes.none in cc)
+    | inl among ↦
+        let v_stands = in_after v (inl among) in
+        elim (cases_lt v.begin.0 op.begin.0) [
+          | inl lt ↦ (v_stands, lt)
+          | inr le ↦ elim (cases_lt op.begin.0 v.begin.0) [
+            | inl behind ↦ absurd (comes.last v v_stands write behind)
+            | inr ge ↦ absurd (new_other v op among comes.is ((writes_apart claim after after_apart).one v op v_stands op_stands write comes.writes (omega (arith, le, ge))))
+          ]
+        ]
+  ]
+
+  -- behind a moment with no write from there to the one that comes
+  module _ (n : ℕ) (above : n ≤ op.begin.0) (below : (u : Op) → Contains after u → IsWrite u → u.begin.0 < op.begin.0 → u.begin.0 < n) where
+    first_behind : IsFirstOf (BeginsFrom n) after (Some op)
+    first_behind = record {
+      stands = op_stands;
+      write = comes.writes;
+      fits = above;
+      first = λ v stands write from. elim (cases_lt v.begin.0 op.begin.0) [
+        | inl lt ↦ absurd (let b : v.begin.0 < n = below v stands write lt in omega (arith, b, from))
+        | inr le ↦ le
+      ];
+    }
+
+    none_behind : IsFirstOf (BeginsFrom n) ops None
+    none_behind v stands write from =
+        let (v_stands, lt) = stood_before v stands write in
+        let b : v.begin.0 < n = below v v_stands write lt in omega (arith, b, from)
+
+  -- a cover reaches as far with that write behind it as with none
+  same_reach : (kind : Kind) (end : Option Moment) → cover_reach kind end None ≡ cover_reach kind end (Some op)
+  same_reach Safe end = refl
+  same_reach Regular end = ap reach_by (sym comes.unended)
+  same_reach Atomic end = ap reach_by (sym comes.unended)
+
+  same_initial : (kind : Kind) → initial_reach kind None ≡ initial_reach kind (Some op)
+  same_initial Safe = refl
+  same_initial Regular = ap reach_by (sym comes.unended)
+  same_initial Atomic = ap reach_by (sym comes.unended)
+
+  -- so the cover in front of it stands already
+  abbrev InFrontAlready : Type 0
+  InFrontAlready = (x : Item) × IsItem claim after x × IsInFront claim after op.begin.0 x × Contains items x
+
+  by_last : (found : Option Op) → IsLastOf (BeginsBefore op.begin.0) after found → InFrontAlready
+  by_last None none =
+      let below : (u : Op) → Contains after u → IsWrite u → u.begin.0 < op.begin.0 → u.begin.0 < 0 = λ u stands write lt. absurd (none u stands write lt) in
+      let same : initial_item claim None ≡ initial_item claim (Some op) = ap (λ (reach : ℕ). let x : Item = record (initial_item claim None) { reach = reach } in x) (same_initial claim.kind) in (
+        initial_item claim (Some op),
+        inr (inr (record { next = Some op; next_is = first_behind 0 (omega arith) below; is = refl })),
+        inr (none, refl),
+        subst (Contains items) same (are.each (initial_item claim None) (inr (inr (record { next = None; next_is = none_behind 0 (omega arith) below; is = refl })))),
+      )
+  by_last (Some w) last =
+      let below : (u : Op) → Contains after u → IsWrite u → u.begin.0 < op.begin.0 → u.begin.0 < suc w.begin.0 =
+      λ u stands write lt. let le : u.begin.0 ≤ w.begin.0 = last.last u stands write lt in omega (arith, le) in
+      let same : cover_item claim w None ≡ cover_item claim w (Some op) = ap (λ (reach : ℕ). let x : Item = record (cover_item claim w None) { reach = reach } in x) (same_reach claim.kind w.end) in (
+        cover_item claim w (Some op),
+        inr (inl (record { write = w; stands = last.stands; writes = last.write; next = Some op; next_is = first_behind (suc w.begin.0) last.fits below; is = refl })),
+        inl (w, last, place_of_cover claim after after_apart w (Some op) last.write),
+        subst (Contains items) same
+            (are.each (cover_item claim w None) (inr (inl (record { write = w; stands = w_stood; writes = last.write; next = None; next_is = none_behind (suc w.begin.0) last.fits below; is = refl })))),
+      )
+    where
+      w_stood : Contains ops w
+      w_stood = elim (after_cases w last.stands) [
+        | inl among ↦ in_before w (inl among)
+        | inr came ↦ absurd (let is = comes.is in let same : op ≡ w = cc in let begins : op.begin.0 ≡ w.begin.0 = ap (λ (o : Op). o.begin.0) same in let lt : w.begin.0 < op.begin.0 = last.fits in omega (arith, begins, lt))
+      ]
+
+  in_front_already : InFrontAlready
+  in_front_already = let (found, is) = some_last op.begin.0 after in by_last found is
+
+  -- and to leave it is to make it anew
+  pub front_stays : (item left : Option Item) → IsCoverBefore claim after None old left → (second third last : List Item)
+      → IsExchanged (spot_in claim old) item items second → IsRenewed left second third → AreInOrder third → IsRenewed None third last
+      → (come : Option Item) × IsCoverBefore claim after old new come × IsRenewed come third last
+  front_stays item left left_is second third last one two order three =
+      let (x, x_is, front, stands) = in_front_already in
+      let in_second : Contains second x = one.kept x stands (subst (λ (o : Option Op). IsAway (spot_in claim o) x) (sym comes.none) tt) in
+      let in_third : Contains third x = elim (at_or_away left x) [
+        | inr away ↦ two.kept x in_second away
+        | inl at ↦
+            let (y, y_at, t) = at in
+            let e : place_of x ≡ place_of y = same_is (place_of x) (place_of y) t in
+            let equal : x ≡ y = items_told claim after after_apart x y x_is (left_is.is y y_at) e in
+            subst (Contains third) (sym equal) (two.put y x y_at in_second t)
+      ] in (
+        Some x,
+        record {
+          is = λ y e. subst (IsItem claim after) (same_in x y e) x_is;
+          there = λ o e write rows. inl (x, refl, let is = comes.is in let same : op ≡ o = cc in subst (λ (p : Op). IsInFront claim after p.begin.0 x) same front);
+        },
+        is_renewed_itself x third last order in_third three,
+      )

@@ -21,7 +21,7 @@ use Rattle.safe_regular.proofs.Next.{some_first, IsApartFrom, next_after, next_b
 use Rattle.safe_regular.proofs.Told.{same_is, same_itself, op_away, initial_away, of_which, items_told, place_of_cover, place_of_read, writes_apart}
 
 -- an item stands at the spot that there may be, or away from it
-at_or_away : (o : Option Item) (x : Item) → ((y : Item) × (o ≡ Some y) × (same_spot (place_of x) (place_of y) ≡ true)) ⊎ IsAway (place_of_some o) x
+pub at_or_away : (o : Option Item) (x : Item) → ((y : Item) × (o ≡ Some y) × (same_spot (place_of x) (place_of y) ≡ true)) ⊎ IsAway (place_of_some o) x
 at_or_away None x = inr tt
 at_or_away (Some y) x = elim (cases_Bool (same_spot (place_of x) (place_of y))) [ inl t ↦ inl (y, refl, t) | inr f ↦ inr f ]
 

@@ -13,12 +13,12 @@ use Rattle.read_tree.specs.declared.item.Item.{Item}
 use Rattle.read_tree.specs.Items.{AreInOrder, Contents}
 use Rattle.safe_regular.specs.declared.writes.Writes.{Writes}
 use Rattle.safe_regular.specs.Held.{AreOneWriters, CanJudge, HasRoomFor}
-use Rattle.safe_regular.specs.Line.{AreItems, IsChanged, IsCoverBefore, IsRenewed, MayBeChanged}
+use Rattle.safe_regular.specs.Line.{AreItems, IsChanged, IsCoverBefore, IsCoverBeforeNew, IsRenewed, MayBeChanged}
 use Rattle.safe_regular.specs.Writes.{AreWrites, HasPlaceIn, HoldsOnlyFor, IsAddedOf}
 use Rattle.safe_regular.proofs.Changed.{others_of, IsAmong, other_stands, other_apart, before_cases, other_after, new_stands, after_cases, goes, comes}
 use Rattle.intervals.proofs.Ids.{found_stands}
 use Rattle.safe_regular.proofs.Edited.{apart_kept}
-use Rattle.safe_regular.proofs.Kept.{own_cover_stands}
+use Rattle.safe_regular.proofs.Kept.{front_stays, own_cover_stands}
 use Rattle.safe_regular.proofs.Laid.{items_after, place_is_free, place_is_taken}
 use Rattle.safe_regular.proofs.Told.{writes_apart}
 
@@ -105,8 +105,19 @@ module _ (claim : Terms) (ops : List Op) (edit : Edit) (apart : AreOneWriters cl
       kept = own_cover_stands claim ops others listed old new apart later_listed was_among in_before is_among in_listed line.items are;
     }
 
-    pub laid_after : (left come : Option Item) → IsCoverBefore claim listed None old left → IsCoverBefore claim listed old new come
-        → (second third last : List Item) → IsChanged claim listed old new line.items second → IsRenewed left second third → IsRenewed come third last → AreInOrder last → AreItems claim listed last
-    laid_after left come left_is come_is second third last one two three order =
-        items_after claim ops others listed old new apart later_listed was_among in_before is_among in_listed not_old one.item left come one.is left_is come_is
-        line.items second third last are one.exchanged two three order
+    pub laid_after : (left come : Option Item) → IsCoverBefore claim listed None old left → IsCoverBeforeNew claim listed old new come
+        → (second third last : List Item) → IsChanged claim listed old new line.items second → IsRenewed left second third → AreInOrder third → IsRenewed come third last → AreInOrder last
+        → AreItems claim listed last
+    laid_after left come left_is come_is second third last one two third_order three order = elim come_is [
+      | inl is ↦ made come is three
+      | inr stays ↦
+          let (x, x_is, x_three) =
+          front_stays claim ops others listed old new apart later_listed was_among in_before is_among in_listed not_new line.items are stays.1 one.item left left_is second third last
+          one.exchanged two third_order (subst (λ (c : Option Item). IsRenewed c third last) stays.0 three) in
+          made x x_is x_three
+    ]
+      where
+        made : (c : Option Item) → IsCoverBefore claim listed old new c → IsRenewed c third last → AreItems claim listed last
+        made c is c_three =
+            items_after claim ops others listed old new apart later_listed was_among in_before is_among in_listed not_old one.item left c one.is left_is is
+            line.items second third last are one.exchanged two c_three order

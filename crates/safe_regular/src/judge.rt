@@ -11,7 +11,7 @@ ghost use Rattle.intervals.specs.Refusal.{write_refusal, reply_to, ok_unless};
 ghost use Rattle.intervals.specs.Judging.{first_wrong as first_wrong_of};
 ghost use Rattle.safe_regular.specs.Judge.{without_write, without_read};
 
-use crate::line::{change_item, cover_before, initial_item, renew};
+use crate::line::{change_item, cover_before, cover_before_new, initial_item, renew};
 use crate::writes::{Writes, check_write};
 use intervals::laws::{regular_without_wrong_reads, safe_without_wrong_reads};
 use intervals::{Claim, Edit, Kind, Memory, Op, OpId, OpTable, Refusal, Target};
@@ -152,7 +152,7 @@ impl<'t> SingleWriterJudge<'t> {
             new,
         );
         let left = cover_before(&self.claim, &self.writes, &self.table, &None, old);
-        let come = cover_before(&self.claim, &self.writes, &self.table, old, new);
+        let come = cover_before_new(&self.claim, &self.writes, &self.table, old, new);
         renew(&mut self.line, left);
         renew(&mut self.line, come);
     }

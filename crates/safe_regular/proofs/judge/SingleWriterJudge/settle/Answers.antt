@@ -77,8 +77,8 @@ invariant_of-self c =
       apart = later_listed claim ops c.args.edit.now held.apart accepted c.args.target.now.old c.args.target.now.new old_is new_is c.admit.new.self.ops listed;
       shelved = can.shelved;
       laid = laid_after claim ops c.args.edit.now held.apart accepted c.args.target.now.old c.args.target.now.new old_is new_is c.admit.new.self.ops listed c.self.inside.line held.laid
-          c.cover_before-left.result c.cover_before-come.result (c.cover_before-left.ensures can.shelved can.ids) (c.cover_before-come.ensures can.shelved can.ids)
-          c.change_item.new.line.items c.renew.new.line.items c.renew-2.new.line.items c.change_item.ensures.changed c.renew.ensures.renewed c.renew-2.ensures.renewed c.renew-2.ensures.order;
+          c.cover_before-left.result c.cover_before_new-come.result (c.cover_before-left.ensures can.shelved can.ids) (c.cover_before_new-come.ensures can.shelved can.ids)
+          c.change_item.new.line.items c.renew.new.line.items c.renew-2.new.line.items c.change_item.ensures.changed c.renew.ensures.renewed c.renew.ensures.order c.renew-2.ensures.renewed c.renew-2.ensures.order;
       room = room_after c.self.inside.writes c.change.new.self c.self.inside.line c.renew-2.new.line c.self.inside.table.prepared c.args.target.now.new c.admit.new.self.prepared held.room
           (subst (λ (o : Option Op). HasPlaceIn o c.change.new.self) c.prepared.ensures c.change.ensures.place) free
           (ap (λ (t : Tabled). t.prepared) c.admit.ensures ∙ ap (λ (o : Option Op). prepared_after o c.self.inside.table.prepared) (sym new_is));
