@@ -212,7 +212,7 @@ pub record AreOneCover (old new : Op) : Type 0 where
   pub alike : StandAlike old new
   pub value : value_of old.act ≡ value_of new.act
 
--- the same of two operations that there may be
+-- there are an old operation and a new one, and they are so
 abbrev pub AreOneCoverIn : Option Op → Option Op → Type 0
 AreOneCoverIn old new = (o n : Op) × (old ≡ Some o) × (new ≡ Some n) × AreOneCover o n
 
