@@ -1,7 +1,8 @@
 //! Ids by value and moment, with places held ahead.
 
-ghost use Rattle.std.specs.Prelude.{◌≡◌, ◌<◌, ◌≤◌, true, false, None, Some, MatchOption, IfOk, OnOk, OnErr, is_some, not, if◌then◌else◌};
+ghost use Rattle.std.specs.Prelude.{◌≡◌, ◌<◌, ◌≤◌, true, false, None, Some, MatchOption, IfOk, OnOk, OnErr, is_some, not, if◌then◌else◌, IsTrue, ◌↔◌};
 ghost use Rattle.std.proofs.Common.{rules};
+ghost use Rattle.std.specs.BTreeMap.Range.{IsLeBy, IsLtBy};
 ghost use Rattle.std.specs.Cmp.{partial_order_from_agreeing_total};
 ghost use Rattle.std.specs.Cmp.Rules.{comparing};
 ghost use Rattle.std.specs.Ordering.{as_partial_cmp};
@@ -64,6 +65,7 @@ pub struct Shelf {
 
 impl Shelf {
     ghost use Rattle.intervals.specs.declared.shelf.Spot.{Spot as ASpot};
+    ghost use Rattle.intervals.specs.Shelf.{spot_cmp};
 
     pub fn new(alloc: Global) -> Self
         ensures { (spot : ASpot) → place_at result spot ≡ None }
@@ -215,7 +217,11 @@ impl Shelf {
             (λ found. (found.0.0 ≤ up_to.0) × (place_at self.now (spot_of value found.0) ≡ Some found.1)
             × ((m : AMoment) → found.0.0 < m.0 → m.0 ≤ up_to.0 → place_at self.now (spot_of value m) ≡ None)) }
     {
-        let (spot, id) = self.places.range(spot_at(value, up_to)..).next()?;
+        let from = spot_at(value, up_to);
+        if self.has_none_from(from) {
+            return None;
+        }
+        let (spot, id) = self.places.range(from..).next()?;
         of_value(*spot, *id, value)
     }
 
@@ -238,8 +244,32 @@ impl Shelf {
             (λ found. (from.0 < found.0.0) × (place_at self.now (spot_of value found.0) ≡ Some found.1)
             × ((m : AMoment) → from.0 < m.0 → m.0 < found.0.0 → place_at self.now (spot_of value m) ≡ None)) }
     {
-        let (spot, id) = self.places.range(..spot_at(value, from)).next_back()?;
+        let to = spot_at(value, from);
+        if self.has_none_in_front(to) {
+            return None;
+        }
+        let (spot, id) = self.places.range(..to).next_back()?;
         of_value(*spot, *id, value)
+    }
+
+    /// Whether no place is at the spot or behind it: one comparison, with the last place.
+    fn has_none_from(&self, spot: Spot) -> bool
+        ensures { IsTrue result ↔ ((other : ASpot) → IsLeBy spot_cmp spot other → place_at self.now other ≡ None) }
+    {
+        match self.places.last_key_value() {
+            Some((last, _)) => spot > *last,
+            None => true,
+        }
+    }
+
+    /// Whether no place is in front of the spot: one comparison, with the first place.
+    fn has_none_in_front(&self, spot: Spot) -> bool
+        ensures { IsTrue result ↔ ((other : ASpot) → IsLtBy spot_cmp other spot → place_at self.now other ≡ None) }
+    {
+        match self.places.first_key_value() {
+            Some((first, _)) => spot <= *first,
+            None => true,
+        }
     }
 }
 

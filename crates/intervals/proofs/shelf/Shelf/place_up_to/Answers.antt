@@ -5,4 +5,4 @@ pub returns : goal.returns
 returns c =
     rw c.of_value.ensures
     (last_place_upto c.args.self.now.places c.args.value c.args.up_to c.in_ok-spot.spot.now c.in_ok-spot.id.now c.next.new.self
-    (range_from c.args.self.now.places _ _ _ _ c.spot_at.ensures c.in_ok-spot.ensures.steps (c.range.ensures.in_range tt)))
+    (range_from c.args.self.now.places _ _ _ _ c.spot_at-from.ensures c.in_ok-spot.ensures.steps (c.range.ensures.in_range tt)))
