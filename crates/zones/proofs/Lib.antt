@@ -26,6 +26,7 @@ mod Ends
 mod WriteHolder
 mod InTree
 mod Admitted
+mod Unjudged
 mod Verdict
 mod Refusals
 mod FirstReads

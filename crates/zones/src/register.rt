@@ -167,7 +167,8 @@ impl<'t> Clusters<'t> {
         Ok(())
     }
 
-    /// Carries out an edit whose new operation is prepared.
+    /// Carries out an edit whose new operation is prepared. Where neither the old operation nor the new one is
+    /// judged, the shelves and the trees stay as they are.
     fn settle(&mut self, edit: &Edit<'t>, target: &Target<'t>)
         requires accepted { reply_to self.old.claim self.old.ops edit.now ≡ None }
         requires target { IsTargetOf self.old.ops edit.now target.now }
@@ -176,11 +177,37 @@ impl<'t> Clusters<'t> {
         ensures steps { self.new.steps ≤ self.old.steps + 4 * (2 * digits (length (writes self.old.ops) + 1) + 1) }
         ensures rises { self.old.steps ≤ self.new.steps }
     {
-        // That the zones stand in order is known of what is gone over.
-        let _ = self.zones.iter();
         let none = None;
         let old = judged(&target.old, &none);
         let new = judged(&target.new, &none);
+        if old.is_some() || new.is_some() {
+            self.settle_judged(edit, target, old, new);
+            return;
+        }
+        self.table.admit(edit, target);
+    }
+
+    /// Carries out an edit whose new operation is prepared; the judged ones of the old and the new operation are
+    /// lent beside. It stands apart, so that no edges are looked up where neither is judged.
+    #[inline(never)]
+    fn settle_judged(
+        &mut self,
+        edit: &Edit<'t>,
+        target: &Target<'t>,
+        old: &Option<Op<'t>>,
+        new: &Option<Op<'t>>,
+    )
+        requires accepted { reply_to self.old.claim self.old.ops edit.now ≡ None }
+        requires target { IsTargetOf self.old.ops edit.now target.now }
+        requires prepared { IfSome target.now.new (λ op. self.old.prepared ≡ Some op) }
+        requires old { old.now ≡ judged_part target.now.old }
+        requires new { new.now ≡ judged_part target.now.new }
+        ensures edited { self.new ≡ record self.old { ops = edited self.old.ops edit.now; prepared = prepared_after target.now.new self.old.prepared; steps = self.new.steps } }
+        ensures steps { self.new.steps ≤ self.old.steps + 4 * (2 * digits (length (writes self.old.ops) + 1) + 1) }
+        ensures rises { self.old.steps ≤ self.new.steps }
+    {
+        // That the zones stand in order is known of what is gone over.
+        let _ = self.zones.iter();
         let first = value_in(old);
         let second = other_value(first, value_in(new));
         let edges = edges_in(&self.members, &self.table, old, first, second);

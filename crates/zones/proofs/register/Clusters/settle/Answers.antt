@@ -1,5 +1,5 @@
-use Rattle.std.proofs.Common.{◌≡◌, ◌+◌, ◌*◌, ◌≤◌, ℕ, length, None, Some, Option, ap, sym, subst, ◌∙◌, rules, arith}
-use Rattle.std.specs.Prelude.{IfSome, IsSome}
+use Rattle.std.proofs.Common.{◌≡◌, ◌+◌, ◌*◌, ◌≤◌, length, None, Some, Option, ap, sym, subst, ◌∙◌, arith}
+use Rattle.std.specs.Prelude.{IfSome}
 use Rattle.intervals.specs.declared.operation.Op.{Op}
 use Rattle.intervals.specs.Operation.{writes}
 use Rattle.intervals.specs.Edit.{new_op, edited, edit_id, found_by}
@@ -9,19 +9,10 @@ use Rattle.intervals.specs.Target.{IsTargetOf}
 use Rattle.intervals.specs.Terms.{terms_of}
 use Rattle.intervals.proofs.Accepted.{edit_accepted}
 use Rattle.zone_tree.specs.Digits.{digits}
-use Rattle.zones.specs.Index.{AreMembers, HasPlacesOf, HoldsOnlyFor}
-use Rattle.zones.specs.Together.{Clustered, HasRoomFor}
+use Rattle.zones.specs.Together.{Clustered, HoldTogether}
 use Rattle.zones.specs.Zoned.{judged_part}
-use Rattle.zones.proofs.Admitted.{apart_after, as_many_writes, can_exchange_stretches, can_exchange_zones, change_is, judged_prepared, room_after, room_for, room_left, spare_after, stretched_after, zoned_after, zones_need_no_room}
-use Rattle.zones.proofs.Held.{only_after}
-use Rattle.zones.proofs.Lengths.{more_length}
+use Rattle.zones.proofs.Unjudged.{not_there, together_unjudged}
 use Rattle.zones.proofs.register.Clusters.settle.Goals as goal
-
-pub change-requires-clause-prepared : goal.change-requires-clause-prepared
-change-requires-clause-prepared c =
-    let same : c.prepared.result ≡ c.args.self.now.prepared = c.prepared.ensures ∙ ap (λ (x : Clustered). x.prepared) c.self.view_is in
-    let is : IfSome c.args.target.now.new (λ op. c.prepared.result ≡ Some op) = subst (λ (p : Option Op). IfSome c.args.target.now.new (λ op. p ≡ Some op)) (sym same) c.requires.prepared in
-    subst (λ (n : Option Op). IfSome n (λ op. c.prepared.result ≡ Some op)) (sym c.judged-new.ensures) (judged_prepared c.args.target.now.new c.prepared.result is)
 
 pub admit-requires-clause-accepted : goal.admit-requires-clause-accepted
 admit-requires-clause-accepted c =
@@ -39,122 +30,27 @@ admit-requires-clause-room c =
     let held : IfSome c.args.target.now.new (λ op. prepared ≡ Some op) = subst (λ (x : Clustered). IfSome c.args.target.now.new (λ op. x.prepared ≡ Some op)) (sym c.self.view_is) c.requires.prepared in
     subst (λ (n : Option Op). IfSome n (λ op. prepared ≡ Some op)) asked held
 
-pub exchange-requires : goal.exchange-requires
-exchange-requires c =
-    let claim = terms_of c.self.inside.claim in
-    let ops = c.self.inside.table.ops in
-    let prepared = c.self.inside.table.prepared in
-    let accepted : reply_to claim ops c.args.edit.now ≡ None = subst (λ (x : Clustered). reply_to x.claim x.ops c.args.edit.now ≡ None) (sym c.self.view_is) c.requires.accepted in
-    let found : c.args.target.now.old ≡ found_by ops (edit_id c.args.edit.now) = subst (λ (x : Clustered). c.args.target.now.old ≡ found_by x.ops (edit_id c.args.edit.now)) (sym c.self.view_is) c.requires.target.old in
-    let old_is : c.judged-old.result.now ≡ judged_part (found_by ops (edit_id c.args.edit.now)) = c.judged-old.ensures ∙ ap judged_part found in
-    let asked : c.args.target.now.new ≡ new_op ops c.args.edit.now = subst (λ (x : Clustered). c.args.target.now.new ≡ new_op x.ops c.args.edit.now) (sym c.self.view_is) c.requires.target.new in
-    let new_is : c.judged-new.result.now ≡ judged_part (new_op ops c.args.edit.now) = c.judged-new.ensures ∙ ap judged_part asked in
-    let held : IfSome c.args.target.now.new (λ op. prepared ≡ Some op) = subst (λ (x : Clustered). IfSome c.args.target.now.new (λ op. x.prepared ≡ Some op)) (sym c.self.view_is) c.requires.prepared in
-    let after = c.admit.new.self.ops in
-    let after_is : after ≡ edited ops c.args.edit.now = ap (λ (t : Tabled). t.ops) c.admit.ensures in
-    let apart = c.self.invariant.apart in
-    let later = apart_after claim ops c.args.edit.now apart accepted c.judged-old.result.now c.judged-new.result.now old_is new_is after after_is in
-    let change = change_is claim ops c.args.edit.now apart accepted c.judged-old.result.now c.judged-new.result.now old_is new_is after after_is in
-    let members : AreMembers after c.change.new.self = c.change.ensures.members ops after c.self.invariant.members_of change in
-    let first = c.value_in-first.result in
-    let second = c.other_value-second.result in
-    let before_is = c.edges_in-edges.ensures c.self.invariant.members_of apart.kept.ids change.goes in
-    let later_is = c.edges_after-after.ensures ops first second before_is change members later.kept.ids in
-    can_exchange_zones claim ops c.args.edit.now apart accepted c.judged-old.result.now c.judged-new.result.now old_is new_is after after_is
-    c.value_in-first.result c.other_value-second.result (search rules) (search rules) c.zones_in-zones.result c.zones_in-zones_after.result c.self.inside.zones c.self.invariant.zoned
-    (c.zones_in-zones.ensures ops first second before_is) (c.zones_in-zones_after.ensures after first second later_is)
-    (λ some. (room_for c.self.inside.members c.self.inside.zones c.self.inside.stretches prepared c.self.invariant.room c.args.target.now.new held (subst (λ (n : Option Op). IsSome n) c.judged-new.ensures some)).0)
-
-pub exchange_stretches-requires-clause-room : goal.exchange_stretches-requires-clause-room
-exchange_stretches-requires-clause-room c = let a = c.self.invariant.spare in omega arith
-
-pub exchange_stretches-requires-clause-new : goal.exchange_stretches-requires-clause-new
-exchange_stretches-requires-clause-new c =
-    let claim = terms_of c.self.inside.claim in
-    let ops = c.self.inside.table.ops in
-    let accepted : reply_to claim ops c.args.edit.now ≡ None = subst (λ (x : Clustered). reply_to x.claim x.ops c.args.edit.now ≡ None) (sym c.self.view_is) c.requires.accepted in
-    let found : c.args.target.now.old ≡ found_by ops (edit_id c.args.edit.now) = subst (λ (x : Clustered). c.args.target.now.old ≡ found_by x.ops (edit_id c.args.edit.now)) (sym c.self.view_is) c.requires.target.old in
-    let old_is : c.judged-old.result.now ≡ judged_part (found_by ops (edit_id c.args.edit.now)) = c.judged-old.ensures ∙ ap judged_part found in
-    let asked : c.args.target.now.new ≡ new_op ops c.args.edit.now = subst (λ (x : Clustered). c.args.target.now.new ≡ new_op x.ops c.args.edit.now) (sym c.self.view_is) c.requires.target.new in
-    let new_is : c.judged-new.result.now ≡ judged_part (new_op ops c.args.edit.now) = c.judged-new.ensures ∙ ap judged_part asked in
-    let after = c.admit.new.self.ops in
-    let after_is : after ≡ edited ops c.args.edit.now = ap (λ (t : Tabled). t.ops) c.admit.ensures in
-    let apart = c.self.invariant.apart in
-    let later = apart_after claim ops c.args.edit.now apart accepted c.judged-old.result.now c.judged-new.result.now old_is new_is after after_is in
-    let change = change_is claim ops c.args.edit.now apart accepted c.judged-old.result.now c.judged-new.result.now old_is new_is after after_is in
-    let members : AreMembers after c.change.new.self = c.change.ensures.members ops after c.self.invariant.members_of change in
-    let first = c.value_in-first.result in
-    let second = c.other_value-second.result in
-    let before_is = c.edges_in-edges.ensures c.self.invariant.members_of apart.kept.ids change.goes in
-    let later_is = c.edges_after-after.ensures ops first second before_is change members later.kept.ids in
-    can_exchange_stretches claim ops c.args.edit.now apart accepted c.judged-old.result.now c.judged-new.result.now old_is new_is after after_is
-    c.value_in-first.result c.other_value-second.result (search rules) (search rules) c.stretches_in-stretches.result c.stretches_in-stretches_after.result c.self.inside.stretches c.self.invariant.stretched
-    (c.stretches_in-stretches.ensures ops first second before_is) (c.stretches_in-stretches_after.ensures after first second later_is)
-
 pub invariant_of-self : goal.invariant_of-self
 invariant_of-self c =
     let claim = terms_of c.self.inside.claim in
-    let ops = c.self.inside.table.ops in
-    let prepared = c.self.inside.table.prepared in
-    let zones = c.self.inside.zones in
-    let stretches = c.self.inside.stretches in
+    let table = c.self.inside.table in
+    let ops = table.ops in
     let accepted : reply_to claim ops c.args.edit.now ≡ None = subst (λ (x : Clustered). reply_to x.claim x.ops c.args.edit.now ≡ None) (sym c.self.view_is) c.requires.accepted in
     let found : c.args.target.now.old ≡ found_by ops (edit_id c.args.edit.now) = subst (λ (x : Clustered). c.args.target.now.old ≡ found_by x.ops (edit_id c.args.edit.now)) (sym c.self.view_is) c.requires.target.old in
-    let old_is : c.judged-old.result.now ≡ judged_part (found_by ops (edit_id c.args.edit.now)) = c.judged-old.ensures ∙ ap judged_part found in
     let asked : c.args.target.now.new ≡ new_op ops c.args.edit.now = subst (λ (x : Clustered). c.args.target.now.new ≡ new_op x.ops c.args.edit.now) (sym c.self.view_is) c.requires.target.new in
-    let new_is : c.judged-new.result.now ≡ judged_part (new_op ops c.args.edit.now) = c.judged-new.ensures ∙ ap judged_part asked in
-    let held : IfSome c.args.target.now.new (λ op. prepared ≡ Some op) = subst (λ (x : Clustered). IfSome c.args.target.now.new (λ op. x.prepared ≡ Some op)) (sym c.self.view_is) c.requires.prepared in
-    let after = c.admit.new.self.ops in
-    let after_is : after ≡ edited ops c.args.edit.now = ap (λ (t : Tabled). t.ops) c.admit.ensures in
-    let apart = c.self.invariant.apart in
-    let later = apart_after claim ops c.args.edit.now apart accepted c.judged-old.result.now c.judged-new.result.now old_is new_is after after_is in
-    let change = change_is claim ops c.args.edit.now apart accepted c.judged-old.result.now c.judged-new.result.now old_is new_is after after_is in
-    let members : AreMembers after c.change.new.self = c.change.ensures.members ops after c.self.invariant.members_of change in
-    let first = c.value_in-first.result in
-    let second = c.other_value-second.result in
-    let before_is = c.edges_in-edges.ensures c.self.invariant.members_of apart.kept.ids change.goes in
-    let later_is = c.edges_after-after.ensures ops first second before_is change members later.kept.ids in
-    let zones_before = c.zones_in-zones.ensures ops first second before_is in
-    let zones_later = c.zones_in-zones_after.ensures after first second later_is in
-    let stretches_before = c.stretches_in-stretches.ensures ops first second before_is in
-    let stretches_later = c.stretches_in-stretches_after.ensures after first second later_is in
-    let no_fewer : c.judged-new.result.now ≡ None → length c.exchange.new.tree.zones + stretches.free ≤ length zones.zones + c.exchange_stretches.new.tree.free =
-    λ none. room_left claim ops c.args.edit.now apart accepted c.judged-old.result.now c.judged-new.result.now old_is new_is after after_is
-    c.value_in-first.result c.other_value-second.result (search rules) (search rules) none
-    c.zones_in-zones.result c.zones_in-zones_after.result zones c.self.invariant.zoned zones_before zones_later c.exchange.new.tree.zones c.exchange.ensures.zones
-    c.stretches_in-stretches.result c.stretches_in-stretches_after.result stretches c.self.invariant.stretched stretches_before stretches_later
-    c.exchange_stretches.new.tree.free c.exchange_stretches.ensures.one c.exchange_stretches.ensures.kept
-    in
-    record {
-      apart = later;
-      members_of = members;
-      zoned = zoned_after claim ops c.args.edit.now apart accepted c.judged-old.result.now c.judged-new.result.now old_is new_is after after_is
-          c.value_in-first.result c.other_value-second.result (search rules) (search rules) c.zones_in-zones.result c.zones_in-zones_after.result zones c.self.invariant.zoned
-          zones_before zones_later c.exchange.new.tree.zones c.exchange.ensures.zones;
-      stretched = stretched_after claim ops c.args.edit.now apart accepted c.judged-old.result.now c.judged-new.result.now old_is new_is after after_is
-          c.value_in-first.result c.other_value-second.result (search rules) (search rules) c.stretches_in-stretches.result c.stretches_in-stretches_after.result stretches c.self.invariant.stretched
-          stretches_before stretches_later c.exchange_stretches.new.tree.stretches c.exchange_stretches.ensures.stretches;
-      spare = spare_after c.self.inside.members zones stretches prepared c.self.invariant.room c.self.invariant.spare c.args.target.now.new held c.exchange.new.tree.zones c.exchange_stretches.new.tree.free
-          (subst (λ (n : Option Op). n ≡ None → length c.exchange.new.tree.zones + stretches.free ≤ length zones.zones + c.exchange_stretches.new.tree.free) c.judged-new.ensures no_fewer)
-          (more_length c.exchange.ensures.zones.gone c.exchange.ensures.zones.come zones.zones c.exchange.new.tree.zones c.exchange.ensures.zones.moves) c.exchange_stretches.ensures.room;
-      room = subst (λ (p : Option Op). IfSome p (HasRoomFor c.change.new.self c.exchange.new.tree c.exchange_stretches.new.tree)) (sym (ap (λ (t : Tabled). t.prepared) c.admit.ensures))
-          (room_after c.self.inside.members zones stretches prepared c.self.invariant.room c.change.new.self c.exchange.new.tree c.exchange_stretches.new.tree (new_op ops c.args.edit.now)
-          (subst (λ (p : Option Op). HasPlacesOf p c.change.new.self) c.prepared.ensures c.change.ensures.places)
-          (λ none. c.exchange.ensures.room (zones_need_no_room claim ops c.args.edit.now apart accepted c.judged-old.result.now c.judged-new.result.now old_is new_is after after_is
-          c.value_in-first.result c.other_value-second.result (search rules) (search rules) c.zones_in-zones.result c.zones_in-zones_after.result zones c.self.invariant.zoned
-          zones_before zones_later (new_is ∙ none)))
-          (λ none. no_fewer (new_is ∙ none)));
-      only = subst (λ (p : Option Op). HoldsOnlyFor p c.change.new.self) (sym (ap (λ (t : Tabled). t.prepared) c.admit.ensures ∙ ap (λ (n : Option Op). prepared_after n prepared) (sym asked)))
-          (only_after c.args.target.now.new prepared c.change.new.self (subst (λ (x : Clustered). IfSome c.args.target.now.new (λ op. x.prepared ≡ Some op)) (sym c.self.view_is) c.requires.prepared)
-          (subst (λ (n : Option Op). HoldsOnlyFor (prepared_after n prepared) c.change.new.self) c.judged-new.ensures
-          (subst (λ (p : Option Op). HoldsOnlyFor p c.self.inside.members → HoldsOnlyFor (prepared_after c.judged-new.result.now p) c.change.new.self) c.prepared.ensures c.change.ensures.only c.self.invariant.only)));
-    }
+    let held : IfSome c.args.target.now.new (λ op. table.prepared ≡ Some op) = subst (λ (x : Clustered). IfSome c.args.target.now.new (λ op. x.prepared ≡ Some op)) (sym c.self.view_is) c.requires.prepared in
+    let no_old : c.judged-old.result.now ≡ None = not_there c.judged-old.result.now (sym c.is_some.ensures ∙ c.if-is_some.false) in
+    let no_new : c.judged-new.result.now ≡ None = not_there c.judged-new.result.now (sym c.is_some-else-is_some.ensures ∙ c.if-is_some-2.false) in
+    subst (λ (t : Tabled). HoldTogether claim t c.self.inside.members c.self.inside.zones c.self.inside.stretches) (sym c.admit.ensures)
+    (together_unjudged claim table c.self.inside.members c.self.inside.zones c.self.inside.stretches c.self.invariant c.args.edit.now accepted
+    (sym no_old ∙ (c.judged-old.ensures ∙ ap judged_part found)) (sym no_new ∙ (c.judged-new.ensures ∙ ap judged_part asked))
+    (subst (λ (n : Option Op). IfSome n (λ op. table.prepared ≡ Some op)) asked held))
 
 pub returns-clause-edited : goal.returns-clause-edited
 returns-clause-edited c =
     let claim = terms_of c.self.inside.claim in
     let table = c.self.inside.table in
-    let steps = c.exchange.new.tree.steps in
+    let steps = c.self.inside.zones.steps in
     let asked : c.args.target.now.new ≡ new_op table.ops c.args.edit.now = subst (λ (x : Clustered). c.args.target.now.new ≡ new_op x.ops c.args.edit.now) (sym c.self.view_is) c.requires.target.new in
     ap {B = Clustered} (λ (t : Tabled). record { claim = claim; ops = t.ops; prepared = t.prepared; steps = steps }) c.admit.ensures
     ∙ (ap {B = Clustered} (λ (n : Option Op). record { claim = claim; ops = edited table.ops c.args.edit.now; prepared = prepared_after n table.prepared; steps = steps }) (sym asked)
@@ -162,8 +58,5 @@ returns-clause-edited c =
 
 pub returns-clause-steps : goal.returns-clause-steps
 returns-clause-steps c =
-    let claim = terms_of c.self.inside.claim in
     let zones = c.self.inside.zones in
-    let many = as_many_writes claim c.self.inside.table.ops zones.zones c.self.invariant.apart c.iter.ensures.order c.self.invariant.zoned in
-    subst (λ (x : Clustered). c.exchange.new.tree.steps ≤ x.steps + 4 * (2 * digits (length (writes x.ops) + 1) + 1)) c.self.view_is
-    (subst (λ (n : ℕ). c.exchange.new.tree.steps ≤ zones.steps + 4 * (2 * digits (n + 1) + 1)) many c.exchange.ensures.steps)
+    subst (λ (x : Clustered). zones.steps ≤ x.steps + 4 * (2 * digits (length (writes x.ops) + 1) + 1)) c.self.view_is (omega arith)
