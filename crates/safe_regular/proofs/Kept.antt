@@ -19,7 +19,7 @@ use Rattle.read_tree.specs.declared.item.Item.{Item}
 use Rattle.read_tree.specs.Items.{AreInOrder, place_of}
 use Rattle.safe_regular.specs.Held.{AreOneWriters}
 use Rattle.safe_regular.specs.LookUp.{BeginsBefore, BeginsFrom, IsFirstOf, IsLastOf}
-use Rattle.safe_regular.specs.Line.{AreItems, AreOneCover, ComesLastUnended, IsAway, IsCoverBefore, IsExchanged, IsInFront, IsItem, IsLaid, IsLaidAlready, IsRenewed, KeepsItsCover, counted, cover_item, cover_reach, has_rows, initial_item, initial_reach, moment_of, place_in, reach_by, spot_in}
+use Rattle.safe_regular.specs.Line.{AreItems, AreOneCover, ComesLastUnfinished, IsAway, IsCoverBefore, IsExchanged, IsInFront, IsItem, IsLaid, IsLaidAlready, IsRenewed, KeepsItsCover, counted, cover_item, cover_reach, has_rows, initial_item, initial_reach, moment_of, place_in, reach_by, spot_in}
 use Rattle.safe_regular.proofs.Changed.{IsAmong}
 use Rattle.safe_regular.proofs.Exchanged.{is_renewed_itself}
 use Rattle.safe_regular.proofs.Laid.{at_or_away, laid}
@@ -123,7 +123,7 @@ module _ (claim : Terms) (ops others after : List Op) (old new : Option Op) (bef
     (before_cases : (x : Op) → Contains ops x → IsAmong others old x) (in_before : (x : Op) → IsAmong others old x → Contains ops x)
     (after_cases : (x : Op) → Contains after x → IsAmong others new x) (in_after : (x : Op) → IsAmong others new x → Contains after x)
     (new_other : (x y : Op) → Contains others x → new ≡ Some y → ¬ (x ≡ y))
-    (items : List Item) (are : AreItems claim ops items) (comes : ComesLastUnended after old new) where
+    (items : List Item) (are : AreItems claim ops items) (comes : ComesLastUnfinished after old new) where
   abbrev op : Op
   op = comes.write
 
@@ -166,13 +166,13 @@ module _ (claim : Terms) (ops others after : List Op) (old new : Option Op) (bef
   -- a cover reaches as far with that write behind it as with none
   same_reach : (kind : Kind) (end : Option Moment) → cover_reach kind end None ≡ cover_reach kind end (Some op)
   same_reach Safe end = refl
-  same_reach Regular end = ap reach_by (sym comes.unended)
-  same_reach Atomic end = ap reach_by (sym comes.unended)
+  same_reach Regular end = ap reach_by (sym comes.unfinished)
+  same_reach Atomic end = ap reach_by (sym comes.unfinished)
 
   same_initial : (kind : Kind) → initial_reach kind None ≡ initial_reach kind (Some op)
   same_initial Safe = refl
-  same_initial Regular = ap reach_by (sym comes.unended)
-  same_initial Atomic = ap reach_by (sym comes.unended)
+  same_initial Regular = ap reach_by (sym comes.unfinished)
+  same_initial Atomic = ap reach_by (sym comes.unfinished)
 
   -- so the cover in front of it stands already
   abbrev InFrontAlready : Type 0

@@ -242,15 +242,15 @@ pub record IsChanged (claim : Terms) (ops : List Op) (old new : Option Op) (befo
   pub is : IsItemOf claim ops new item
   pub exchanged : IsExchanged (spot_in claim old) item before after
 
--- a write without an end comes where none was, and no write begins behind it
-pub record ComesLastUnended (ops : List Op) (old new : Option Op) : Type 0 where
+-- an unfinished write comes, in the place of no operation, and no write begins behind it
+pub record ComesLastUnfinished (ops : List Op) (old new : Option Op) : Type 0 where
   pub none : old ≡ None
   pub write : Op
   pub is : new ≡ Some write
   pub writes : IsWrite write
-  pub unended : write.end ≡ None
+  pub unfinished : write.end ≡ None
   pub last : NoneFits (BeginsAfter write.begin.0) ops
 
 -- the cover in front of the write that comes, or none where that one stays
 abbrev pub IsCoverBeforeNew : Terms → List Op → Option Op → Option Op → Option Item → Type 0
-IsCoverBeforeNew claim ops old new item = IsCoverBefore claim ops old new item ⊎ ((item ≡ None) × ComesLastUnended ops old new)
+IsCoverBeforeNew claim ops old new item = IsCoverBefore claim ops old new item ⊎ ((item ≡ None) × ComesLastUnfinished ops old new)

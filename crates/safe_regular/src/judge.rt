@@ -132,7 +132,7 @@ impl<'t> SingleWriterJudge<'t> {
     }
 
     /// Carries out an edit whose new operation is prepared: the item of the old operation goes, that of the
-    /// new one comes, and the covers in front of both are made anew.
+    /// new one comes, and the covers in front of both are made anew. Those that stay as they are are left out.
     fn settle(&mut self, edit: &Edit<'t>, target: &Target<'t>)
         requires accepted { reply_to self.old.claim self.old.ops edit.now ≡ None }
         requires target { IsTargetOf self.old.ops edit.now target.now }

@@ -8,7 +8,7 @@ ghost use Rattle.intervals.specs.Standing.{HasDistinctIds};
 ghost use Rattle.intervals.specs.Terms.{terms_of};
 ghost use Rattle.read_tree.specs.declared.item.Item.{Item as AnItem};
 ghost use Rattle.read_tree.specs.Items.{AreInOrder, place_of, item_at};
-ghost use Rattle.safe_regular.specs.Line.{counted as counted_from_1, reach_by as reach_by_end, end_of as end_of_op, has_rows as rows_of, number_of as number_of_op, read_reach as reach_of_read, cover_reach as reach_of_cover, initial_reach as reach_of_initial, read_item as item_of_read, cover_item as item_of_write, initial_item as item_of_initial, spot_in, items_without, items_with, items_renewed, IsTaken, IsFreeFor, IsExchanged, IsRenewed, IsItem, IsItemOf, IsInFront, HasWriteAt, IsCoverBefore, AreOneCover, AreOneCoverIn, KeepsItsCover, MayBeChanged, IsChanged, ComesLastUnended, IsCoverBeforeNew};
+ghost use Rattle.safe_regular.specs.Line.{counted as counted_from_1, reach_by as reach_by_end, end_of as end_of_op, has_rows as rows_of, number_of as number_of_op, read_reach as reach_of_read, cover_reach as reach_of_cover, initial_reach as reach_of_initial, read_item as item_of_read, cover_item as item_of_write, initial_item as item_of_initial, spot_in, items_without, items_with, items_renewed, IsTaken, IsFreeFor, IsExchanged, IsRenewed, IsItem, IsItemOf, IsInFront, HasWriteAt, IsCoverBefore, AreOneCover, AreOneCoverIn, KeepsItsCover, MayBeChanged, IsChanged, ComesLastUnfinished, IsCoverBeforeNew};
 ghost use Rattle.safe_regular.specs.Held.{CanJudge};
 ghost use Rattle.safe_regular.specs.LookUp.{BeginsAfter, NoneFits};
 ghost use Rattle.safe_regular.specs.Writes.{AreWrites};
@@ -205,8 +205,9 @@ pub fn cover_before(
     Some(cover_in_front(claim, writes, table, op.begin))
 }
 
-/// The cover in front of the write that comes, where it is made anew. Where a write without an end comes behind
-/// all others it stays: no write was behind it, and the one that is now has no end, so it reaches as far.
+/// The cover in front of the write that comes, where it is made anew. In front of an unfinished write that comes
+/// behind all others it stays as it is: it had no write behind it, and the one that it has now has no end, so it
+/// reaches as far as before.
 pub fn cover_before_new(
     claim: &Claim,
     writes: &Writes,
@@ -217,37 +218,37 @@ pub fn cover_before_new(
     ensures { AreWrites table.now.ops writes.now → HasDistinctIds table.now.ops
         → IsCoverBeforeNew (terms_of claim.now) table.now.ops old.now new.now result }
 {
-    if comes_last_unended(claim, writes, table, old, new) {
+    if comes_last_unfinished(claim, writes, table, old, new) {
         None
     } else {
         cover_before(claim, writes, table, old, new)
     }
 }
 
-/// Whether a write without an end comes where none was, with no write behind it, and values have rows.
-fn comes_last_unended(
+/// Whether values have rows and an unfinished write comes, behind all others and in the place of none.
+fn comes_last_unfinished(
     claim: &Claim,
     writes: &Writes,
     table: &OpTable,
     old: &Option<Op>,
     new: &Option<Op>,
 ) -> bool
-    ensures { AreWrites table.now.ops writes.now → HasDistinctIds table.now.ops → result ≡ true → ComesLastUnended table.now.ops old.now new.now }
+    ensures { AreWrites table.now.ops writes.now → HasDistinctIds table.now.ops → result ≡ true → ComesLastUnfinished table.now.ops old.now new.now }
 {
     match (old, new) {
-        (None, Some(op)) => has_rows(claim.kind) && is_last_unended(writes, table, op),
+        (None, Some(op)) => has_rows(claim.kind) && is_last_unfinished(writes, table, op),
         _ => false,
     }
 }
 
-fn is_last_unended(writes: &Writes, table: &OpTable, op: &Op) -> bool
+fn is_last_unfinished(writes: &Writes, table: &OpTable, op: &Op) -> bool
     ensures { AreWrites table.now.ops writes.now → HasDistinctIds table.now.ops → result ≡ true
         → IsWrite op.now × (op.now.end ≡ None) × NoneFits (BeginsAfter op.now.begin.0) table.now.ops }
 {
-    is_unended_write(op) && has_none_behind(writes, table, op.begin)
+    is_unfinished_write(op) && has_none_behind(writes, table, op.begin)
 }
 
-fn is_unended_write(op: &Op) -> bool
+fn is_unfinished_write(op: &Op) -> bool
     ensures { result ≡ true → IsWrite op.now × (op.now.end ≡ None) }
 {
     op.is_write() && op.end.is_none()
