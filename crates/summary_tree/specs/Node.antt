@@ -57,17 +57,12 @@ pub record HasSidesInOrder {K T S : Type 0} (key : T → K) (before : K → K �
   pub left : AreInOrder key before n.left.items
   pub right : AreInOrder key before n.right.items
 
--- the items on each side of the top, where there is one, are in order
-abbrev pub HasTopInOrder : {K T S : Type 0} → (T → K) → (K → K → Bool) → Option (Box (Node T S) Global) → Type 0
-HasTopInOrder key before None = Unit {0}
-HasTopInOrder key before (Some top) = HasSidesInOrder key before top.value
-
 -- the node at the top of these items
 pub record IsTop {T S : Type 0} (IsOf : S → List T → Type 0) (n : Node T S) (items : List T) : Type 0 where
   pub all : items ≡ items_of n
   pub summary : IsOf n.summary items
 
--- the tree has the height and the summary of this node
-pub record KeepsTop {T S : Type 0} (n : Node T S) (tree : Layers T S) : Type 0 where
-  pub height : tree.height ≡ n.height
-  pub summary : tree.summary ≡ Some n.summary
+-- a node keeps its height and its summary
+pub record KeepsNode {T S : Type 0} (old new : Node T S) : Type 0 where
+  pub height : new.height ≡ old.height
+  pub summary : new.summary ≡ old.summary

@@ -2,65 +2,73 @@
 
 ghost use Rattle.std.specs.Prelude.{◌≡◌, ◌+◌, ◌<◌, max, IsTrue};
 ghost use Rattle.summary_tree.specs.Layers.{DifferByAtMost, IsSettled};
-ghost use Rattle.summary_tree.specs.Node.{items_of, IsRight, KeepsTop};
+ghost use Rattle.summary_tree.specs.Node.{items_of, IsRight, IsBalancedNode, KeepsNode};
 
-use crate::node::{Node, Tree, close, keep, renew};
+use crate::node::{Node, Tree, close};
 use crate::{Keyed, Summarizes};
 use std::mem;
 
-/// The tree of a node of which a side has changed, and whether it keeps its height and its summary. Where
-/// the side keeps its own, nothing is made anew, which is what comes most often: so that case stands where it
-/// is called.
+/// Settles a node of which a side has changed, where it stands. Says whether it keeps its height and its
+/// summary. Where the side keeps its own, nothing is made anew, which is what comes most often: so that case
+/// stands where it is called.
 #[inline(always)]
-pub fn settle<T: Keyed, S: Summarizes<T>>(node: Box<Node<T, S>>, stays: bool) -> (Tree<T, S>, bool)
-    requires near { DifferByAtMost 2 node.value.left.height node.value.right.height }
-    requires room { max node.value.left.height node.value.right.height < 255 }
-    requires stays { IsTrue stays → IsRight S.one S.join node.value }
-    ensures items { result.0.items ≡ items_of node.value }
-    ensures height { IsSettled node.value.left.height node.value.right.height result.0.height }
-    ensures stays { IsTrue result.1 → KeepsTop node.value result.0 }
+pub fn settle<T: Keyed, S: Summarizes<T>>(top: &mut Box<Node<T, S>>, stays: bool) -> bool
+    requires near { DifferByAtMost 2 top.old.value.left.height top.old.value.right.height }
+    requires room { max top.old.value.left.height top.old.value.right.height < 255 }
+    requires stays { IsTrue stays → IsRight S.one S.join top.old.value }
+    ensures balanced { IsBalancedNode S.one S.join S.IsOf top.new.value }
+    ensures items { items_of top.new.value ≡ items_of top.old.value }
+    ensures height { IsSettled top.old.value.left.height top.old.value.right.height top.new.value.height }
+    ensures stays { IsTrue result → KeepsNode top.old.value top.new.value }
 {
     if stays {
-        return (keep(node), true);
+        top.sides_are_balanced();
+        return true;
     }
-    settle_anew(node)
+    settle_anew(top)
 }
 
-/// The tree of a node of which a side has changed, with its height and its summary made anew. It stands apart
+/// Settles a node of which a side has changed, with its height and its summary made anew. It stands apart
 /// so that where the side keeps its own no more than a test is done.
 #[inline(never)]
-fn settle_anew<T: Keyed, S: Summarizes<T>>(node: Box<Node<T, S>>) -> (Tree<T, S>, bool)
-    requires near { DifferByAtMost 2 node.value.left.height node.value.right.height }
-    requires room { max node.value.left.height node.value.right.height < 255 }
-    ensures items { result.0.items ≡ items_of node.value }
-    ensures height { IsSettled node.value.left.height node.value.right.height result.0.height }
-    ensures stays { IsTrue result.1 → KeepsTop node.value result.0 }
+fn settle_anew<T: Keyed, S: Summarizes<T>>(top: &mut Box<Node<T, S>>) -> bool
+    requires near { DifferByAtMost 2 top.old.value.left.height top.old.value.right.height }
+    requires room { max top.old.value.left.height top.old.value.right.height < 255 }
+    ensures balanced { IsBalancedNode S.one S.join S.IsOf top.new.value }
+    ensures items { items_of top.new.value ≡ items_of top.old.value }
+    ensures height { IsSettled top.old.value.left.height top.old.value.right.height top.new.value.height }
+    ensures stays { IsTrue result → KeepsNode top.old.value top.new.value }
 {
-    let (left, right) = (node.left.height(), node.right.height());
+    let (left, right) = (top.left.height(), top.right.height());
     if left > right + 1 {
-        (lean_right(node), false)
+        lean_right(top);
+        false
     } else if right > left + 1 {
-        (lean_left(node), false)
+        lean_left(top);
+        false
     } else {
-        renew(node)
+        top.renew()
     }
 }
 
 /// Turns a node whose left side is two higher.
 #[inline(never)]
-fn lean_right<T: Keyed, S: Summarizes<T>>(mut top: Box<Node<T, S>>) -> Tree<T, S>
-    requires higher { top.value.left.height ≡ top.value.right.height + 2 }
-    requires room { top.value.left.height < 255 }
-    ensures items { result.items ≡ items_of top.value }
-    ensures height { IsSettled top.value.left.height top.value.right.height result.height }
+fn lean_right<T: Keyed, S: Summarizes<T>>(top: &mut Box<Node<T, S>>)
+    requires higher { top.old.value.left.height ≡ top.old.value.right.height + 2 }
+    requires room { top.old.value.left.height < 255 }
+    ensures balanced { IsBalancedNode S.one S.join S.IsOf top.new.value }
+    ensures items { items_of top.new.value ≡ items_of top.old.value }
+    ensures height { IsSettled top.old.value.left.height top.old.value.right.height top.new.value.height }
 {
     let Some(mut side) = top.left.take() else {
         unreachable!()
     };
     if side.right.height() <= side.left.height() {
         top.left = mem::replace(&mut side.right, Tree::new());
-        side.right = close(top);
-        return close(side);
+        let below = mem::replace(top, side);
+        top.right = close(below);
+        let _ = top.renew();
+        return;
     }
     let Some(mut inner) = side.right.take() else {
         unreachable!()
@@ -68,25 +76,29 @@ fn lean_right<T: Keyed, S: Summarizes<T>>(mut top: Box<Node<T, S>>) -> Tree<T, S
     side.right = mem::replace(&mut inner.left, Tree::new());
     top.left = mem::replace(&mut inner.right, Tree::new());
     inner.left = close(side);
-    inner.right = close(top);
-    close(inner)
+    let below = mem::replace(top, inner);
+    top.right = close(below);
+    let _ = top.renew();
 }
 
 /// Turns a node whose right side is two higher.
 #[inline(never)]
-fn lean_left<T: Keyed, S: Summarizes<T>>(mut top: Box<Node<T, S>>) -> Tree<T, S>
-    requires higher { top.value.right.height ≡ top.value.left.height + 2 }
-    requires room { top.value.right.height < 255 }
-    ensures items { result.items ≡ items_of top.value }
-    ensures height { IsSettled top.value.left.height top.value.right.height result.height }
+fn lean_left<T: Keyed, S: Summarizes<T>>(top: &mut Box<Node<T, S>>)
+    requires higher { top.old.value.right.height ≡ top.old.value.left.height + 2 }
+    requires room { top.old.value.right.height < 255 }
+    ensures balanced { IsBalancedNode S.one S.join S.IsOf top.new.value }
+    ensures items { items_of top.new.value ≡ items_of top.old.value }
+    ensures height { IsSettled top.old.value.left.height top.old.value.right.height top.new.value.height }
 {
     let Some(mut side) = top.right.take() else {
         unreachable!()
     };
     if side.left.height() <= side.right.height() {
         top.right = mem::replace(&mut side.left, Tree::new());
-        side.left = close(top);
-        return close(side);
+        let below = mem::replace(top, side);
+        top.left = close(below);
+        let _ = top.renew();
+        return;
     }
     let Some(mut inner) = side.left.take() else {
         unreachable!()
@@ -94,6 +106,7 @@ fn lean_left<T: Keyed, S: Summarizes<T>>(mut top: Box<Node<T, S>>) -> Tree<T, S>
     side.left = mem::replace(&mut inner.right, Tree::new());
     top.right = mem::replace(&mut inner.left, Tree::new());
     inner.right = close(side);
-    inner.left = close(top);
-    close(inner)
+    let below = mem::replace(top, inner);
+    top.left = close(below);
+    let _ = top.renew();
 }

@@ -1,5 +1,5 @@
-//! Insertions, removals and replacements: one way down, and settled on the way back up. Each descent goes
-//! through `go_left` or `go_right`, which count it.
+//! Insertions, removals and replacements: one way down, and settled on the way back up. Each node is edited
+//! where it stands, and each descent goes through `go_left` or `go_right`, which count it.
 
 ghost use Rattle.std.specs.Prelude.{◌≡◌, ◌+◌, ◌-◌, ◌^◌, ◌<◌, ◌≤◌, ◌++◌, None, min, max, IsTrue, MatchOption};
 ghost use Rattle.std.specs.Borrow.{Lends, sem};
@@ -7,10 +7,10 @@ ghost use Rattle.summary_tree.specs.contracts.node.Node.{the_row};
 ghost use Rattle.summary_tree.specs.contracts.node.Tree.{the_row as the_tree};
 ghost use Rattle.summary_tree.specs.Order.{AreInOrder, HasNoneAt, with_item, without_item, item_at, with_replaced};
 ghost use Rattle.summary_tree.specs.Layers.{no_layers, DifferByAtMost, KeepsLayers};
-ghost use Rattle.summary_tree.specs.Node.{IsAlone, IsFirst, IsTaken};
+ghost use Rattle.summary_tree.specs.Node.{items_of, HasSidesInOrder, IsAlone, IsFirst, IsTaken};
 
 use crate::balance::settle;
-use crate::node::{Node, Tree, close};
+use crate::node::{Node, Tree, close, keep};
 use crate::{Keyed, Summarizes};
 use std::mem;
 
@@ -36,6 +36,17 @@ impl<T: Copy, S: Summarizes<T>> Node<T, S> {
     }
 }
 
+impl<T: Keyed, S: Summarizes<T>> Node<T, S> {
+    /// The law of items in order: those of each side are. It does nothing: a proof that needs the law has it
+    /// by a call.
+    #[inline(always)]
+    #[tactic(auto, using(crate::proofs::Sides::sides_in_order))]
+    fn sides_are_in_order(&self)
+        requires { AreInOrder T.key T.comes_before (items_of self.now) }
+        ensures { HasSidesInOrder T.key T.comes_before self.now }
+    {}
+}
+
 impl<T: Keyed, S: Summarizes<T>> Tree<T, S> {
     /// Puts a node by itself to its place. Says whether the tree keeps its height and its summary, as
     /// then those above do.
@@ -53,20 +64,17 @@ impl<T: Keyed, S: Summarizes<T>> Tree<T, S> {
         ensures rises { steps.old ≤ steps.new }
     {
         T::keys_are_in_one_order();
-        let Some(mut top) = self.take() else {
+        let Some(top) = &mut self.top else {
             *self = close(place);
             return false;
         };
+        top.sides_are_in_order();
         if T::comes_before(place.item.key(), top.item.key()) {
             let stays = top.go_left(steps).insert(place, steps);
-            let (tree, stays) = settle(top, stays);
-            *self = tree;
-            stays
+            settle(top, stays)
         } else {
             let stays = top.go_right(steps).insert(place, steps);
-            let (tree, stays) = settle(top, stays);
-            *self = tree;
-            stays
+            settle(top, stays)
         }
     }
 
@@ -83,24 +91,24 @@ impl<T: Keyed, S: Summarizes<T>> Tree<T, S> {
         ensures rises { steps.old ≤ steps.new }
     {
         T::keys_are_in_one_order();
-        let Some(mut top) = self.take() else {
+        let Some(top) = &mut self.top else {
             return (None, true);
         };
+        top.sides_are_in_order();
         if T::comes_before(key, top.item.key()) {
             let (taken, stays) = top.go_left(steps).remove(key, steps);
-            let (tree, stays) = settle(top, stays);
-            *self = tree;
-            (taken, stays)
-        } else if T::comes_before(top.item.key(), key) {
-            let (taken, stays) = top.go_right(steps).remove(key, steps);
-            let (tree, stays) = settle(top, stays);
-            *self = tree;
-            (taken, stays)
-        } else {
-            let (others, alone) = join_sides(top, steps);
-            *self = others;
-            (Some(alone), false)
+            return (taken, settle(top, stays));
         }
+        if T::comes_before(top.item.key(), key) {
+            let (taken, stays) = top.go_right(steps).remove(key, steps);
+            return (taken, settle(top, stays));
+        }
+        let Some(top) = self.top.take() else {
+            unreachable!()
+        };
+        let (others, alone) = join_sides(top, steps);
+        *self = others;
+        (Some(alone), false)
     }
 
     /// Puts an item in the place of the one of its key, where there is one. Says whether the tree keeps
@@ -115,9 +123,10 @@ impl<T: Keyed, S: Summarizes<T>> Tree<T, S> {
         ensures rises { steps.old ≤ steps.new }
     {
         T::keys_are_in_one_order();
-        let Some(mut top) = self.take() else {
+        let Some(top) = &mut self.top else {
             return true;
         };
+        top.sides_are_in_order();
         let stays = if T::comes_before(item.key(), top.item.key()) {
             top.go_left(steps).replace(item, steps)
         } else if T::comes_before(top.item.key(), item.key()) {
@@ -126,9 +135,7 @@ impl<T: Keyed, S: Summarizes<T>> Tree<T, S> {
             top.item = *item;
             false
         };
-        let (tree, stays) = settle(top, stays);
-        *self = tree;
-        stays
+        settle(top, stays)
     }
 
     /// Takes the first node out.
@@ -139,14 +146,16 @@ impl<T: Keyed, S: Summarizes<T>> Tree<T, S> {
         ensures steps { steps.new ≤ steps.old + self.old.height }
         ensures rises { steps.old ≤ steps.new }
     {
-        let Some(mut top) = self.take() else {
+        let Some(top) = &mut self.top else {
             return None;
         };
         if let Some(first) = top.go_left(steps).take_first(steps) {
-            let (tree, _) = settle(top, false);
-            *self = tree;
+            let _ = settle(top, false);
             return Some(first);
         }
+        let Some(mut top) = self.top.take() else {
+            unreachable!()
+        };
         *self = mem::replace(&mut top.right, Tree::new());
         Some(top)
     }
@@ -173,6 +182,6 @@ fn join_sides<T: Keyed, S: Summarizes<T>>(
     };
     first.left = left;
     first.right = mem::replace(&mut top.right, Tree::new());
-    let (tree, _) = settle(first, false);
-    (tree, top)
+    let _ = settle(&mut first, false);
+    (keep(first), top)
 }

@@ -1,18 +1,17 @@
-//! The tree of boxes. `keep` alone makes trees of nodes, and only of those that are as
-//! `specs/Node.antt` says.
+//! The tree of boxes. `keep` alone makes trees of nodes, and `edit` changes them where they stand: each node is
+//! as `specs/Node.antt` says.
 
 ghost use Rattle.std.specs.Prelude.{◌≡◌, ◌+◌, ◌<◌, max, IsTrue, MatchOption};
-ghost use Rattle.summary_tree.specs.Order.{AreInOrder};
 ghost use Rattle.summary_tree.specs.Layers.{no_layers, DifferByAtMost, IsLow, IsSummed, with_first as summary_with_first, joined};
-ghost use Rattle.summary_tree.specs.Node.{items_of, summary_around, layers_of, IsRight, IsBalanced, HasTopInOrder, IsTop, KeepsTop};
+ghost use Rattle.summary_tree.specs.Node.{items_of, summary_around, layers_of, IsRight, IsBalanced, IsBalancedNode, IsTop, KeepsNode};
 
-use crate::{Keyed, Summarizes};
+use crate::Summarizes;
 use std::marker::Model;
 
 #[cycle(tree)]
 #[derive(Drop)]
 pub struct Tree<T: Copy, S: Summarizes<T>> {
-    top: Option<Box<Node<T, S>>>,
+    pub(crate) top: Option<Box<Node<T, S>>>,
 }
 
 /// An item between those of its sides, and the summary of all of them.
@@ -74,6 +73,15 @@ impl<T: Copy, S: Summarizes<T>> Tree<T, S> {
         }
     }
 
+    /// Takes the top out with all that is below it.
+    pub(crate) fn take(&mut self) -> Option<Box<Node<T, S>>>
+        ensures same { layers_of result ≡ self.old }
+        ensures balanced { IsBalanced S.one S.join S.IsOf result }
+        ensures empty { self.new ≡ no_layers }
+    {
+        self.top.take()
+    }
+
     /// The summary of the items of this tree and of those behind them.
     #[inline(always)]
     #[tactic(auto, unfolding(crate::specs::Layers::joined))]
@@ -99,19 +107,6 @@ impl<T: Copy, S: Summarizes<T>> Tree<T, S> {
     }
 }
 
-impl<T: Keyed, S: Summarizes<T>> Tree<T, S> {
-    /// Takes the top out with all that is below it.
-    #[tactic(auto, using(crate::proofs::Sides::sides_in_order))]
-    pub(crate) fn take(&mut self) -> Option<Box<Node<T, S>>>
-        ensures same { layers_of result ≡ self.old }
-        ensures balanced { IsBalanced S.one S.join S.IsOf result }
-        ensures order { AreInOrder T.key T.comes_before self.old.items → HasTopInOrder T.key T.comes_before result }
-        ensures empty { self.new ≡ no_layers }
-    {
-        self.top.take()
-    }
-}
-
 impl<T: Copy, S: Summarizes<T>> Node<T, S> {
     /// The summary of its items, by those of its sides.
     #[inline(always)]
@@ -120,44 +115,54 @@ impl<T: Copy, S: Summarizes<T>> Node<T, S> {
     {
         self.left.before(self.right.with_first(&self.item))
     }
+
+    /// Makes its height and its summary anew. Says whether both stay.
+    #[inline(always)]
+    pub(crate) fn renew(&mut self) -> bool
+        requires near { DifferByAtMost 1 self.old.left.height self.old.right.height }
+        requires room { max self.old.left.height self.old.right.height < 255 }
+        ensures balanced { IsBalancedNode S.one S.join S.IsOf self.new }
+        ensures items { items_of self.new ≡ items_of self.old }
+        ensures height { self.new.height ≡ max self.old.left.height self.old.right.height + 1 }
+        ensures stays { IsTrue result → KeepsNode self.old self.new }
+    {
+        let height = self.left.height().max(self.right.height()) + 1;
+        let summary = self.sum();
+        let stays = self.height == height && self.summary.is_same(&summary);
+        self.height = height;
+        self.summary = summary;
+        self.sides_are_balanced();
+        stays
+    }
+
+    /// The law of a node whose height and summary are right: it is balanced, since its sides are. It does
+    /// nothing: a proof that needs the law has it by a call.
+    #[inline(always)]
+    pub(crate) fn sides_are_balanced(&self)
+        requires { IsRight S.one S.join self.now }
+        ensures { IsBalancedNode S.one S.join S.IsOf self.now }
+    {
+        S::summaries_add_up();
+        let _ = (self.left.height(), self.right.height());
+    }
 }
 
-/// The tree of a node.
+/// The tree of a node, of which height and summary are made anew.
 pub(crate) fn close<T: Copy, S: Summarizes<T>>(mut node: Box<Node<T, S>>) -> Tree<T, S>
     requires near { DifferByAtMost 1 node.value.left.height node.value.right.height }
     requires room { max node.value.left.height node.value.right.height < 255 }
     ensures items { result.items ≡ items_of node.value }
     ensures height { result.height ≡ max node.value.left.height node.value.right.height + 1 }
 {
-    node.height = node.left.height().max(node.right.height()) + 1;
-    node.summary = node.sum();
+    let _ = node.renew();
     keep(node)
 }
 
-/// The tree of a node that is made anew, and whether it keeps its height and its summary.
-#[inline(always)]
-pub(crate) fn renew<T: Copy, S: Summarizes<T>>(mut node: Box<Node<T, S>>) -> (Tree<T, S>, bool)
-    requires near { DifferByAtMost 1 node.value.left.height node.value.right.height }
-    requires room { max node.value.left.height node.value.right.height < 255 }
-    ensures items { result.0.items ≡ items_of node.value }
-    ensures height { result.0.height ≡ max node.value.left.height node.value.right.height + 1 }
-    ensures stays { IsTrue result.1 → KeepsTop node.value result.0 }
-{
-    let height = node.left.height().max(node.right.height()) + 1;
-    let summary = node.sum();
-    let stays = node.height == height && node.summary.is_same(&summary);
-    node.height = height;
-    node.summary = summary;
-    (keep(node), stays)
-}
-
-/// The tree of a node whose height and summary are right.
+/// The tree of a node that is balanced.
 #[inline(always)]
 pub(crate) fn keep<T: Copy, S: Summarizes<T>>(node: Box<Node<T, S>>) -> Tree<T, S>
-    requires { IsRight S.one S.join node.value }
+    requires { IsBalancedNode S.one S.join S.IsOf node.value }
     ensures { result ≡ layers_of (Some node) }
 {
-    S::summaries_add_up();
-    let _ = (node.left.height(), node.right.height());
     Tree { top: Some(node) }
 }

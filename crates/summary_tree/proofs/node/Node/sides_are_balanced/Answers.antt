@@ -1,14 +1,14 @@
 use Rattle.summary_tree.proofs.Low.{low_node}
 use Rattle.summary_tree.proofs.Sums.{around_is}
-use Rattle.summary_tree.proofs.node.keep.Goals as goal
+use Rattle.summary_tree.proofs.node.Node.sides_are_balanced.Goals as goal
 
-pub invariant_of-result : goal.invariant_of-result
-invariant_of-result g c =
-    let n = c.args.node.value in
+pub returns : goal.returns
+returns g c =
+    let n = c.args.self.now in
     let m = g.S.Summarizes in
     let laws = c.summaries_add_up.ensures in
-    let left = rw c.deref.ensures at c.height.ensures in
-    let right = rw c.deref-2.ensures at c.height-2.ensures in
+    let left = c.height.ensures in
+    let right = c.height-2.ensures in
     record {
       right = c.requires;
       low = rw c.requires.height (low_node n.left.items n.item n.right.items n.left.height n.right.height left.low right.low c.requires.near);
