@@ -1,58 +1,30 @@
 -- The keys of a level and of a file, seen by the program and read further.
-use Rattle.std.proofs.Common.{◌≡◌, ◌↔◌, ℕ, List, [], ◌∷◌, ◌++◌, length, Option, Some, None, Ok, Err, refl, sym, ap, subst, ◌∙◌}
-use Rattle.std.specs.Prelude.{codes, Vec}
+use Rattle.std.proofs.Common.{◌≡◌, ◌↔◌, ℕ, List, [], ◌∷◌, ◌++◌, length, Option, Some, None, Ok, Err, refl, ap, ◌∙◌}
+use Rattle.std.specs.Prelude.{Vec}
 use Rattle.std.specs.declared.alloc.Global.{Global}
 use Rattle.std.proofs.lemmas.List.{length-map, map_push}
 use Rattle.edn_reader.specs.declared.element.ElementKind.TheVariants.{Map}
-use Rattle.edn_reader.specs.declared.field.Field.{Field}
 use Rattle.edn_reader.specs.declared.view.MapView.{MapView}
 use Rattle.edn_reader.specs.Grammar.{Piece}
-use Rattle.edn_reader.specs.Pairs.{values_of, HasPairs}
+use Rattle.edn_reader.specs.Pairs.{HasPairs}
 use Rattle.edn_reader.specs.Lent.{PairsLeft}
-use Rattle.edn_reader.specs.Given.{Given, given, seen}
+use Rattle.edn_reader.specs.Given.{Given}
 use Rattle.tower_file.specs.declared.fault.TowerField.TheVariants.{Name, Registers, Levels}
 use Rattle.tower_file.specs.declared.fault.TowerFault.{TowerFault}
-use Rattle.tower_file.specs.Form.{IsGiven, IsVectorOf, IsMapOf, RegisterForm, IsRegister, LevelForm, AreLevelFields, IsLevel, FileForm, AreFileFields}
+use Rattle.tower_file.specs.Form.{IsMapOf, RegisterForm, LevelForm, FileForm}
 use Rattle.tower_file.specs.Contents.{Register, Contents, empty}
 use Rattle.tower_file.specs.Reading.{name_in, vector_in, with_registers, with_level, level_after, levels_after, contents_of}
 use Rattle.tower_file.specs.Keeping.{IsKept, ReachesKept}
 use Rattle.tower_file.specs.Views.{contents_with}
+use Rattle.tower_file.specs.Form.{IsLevel}
 use Rattle.tower_file.proofs.Loops.{Reached}
 
 -- the pairs of a map that a view has left, read by a relation
 pub map_form : {Form : Type 0} (IsRead : List (Piece × Piece) → Form → Type 0) (piece : Piece) (view : MapView) → piece.core.kind ≡ Map
     → ((pairs : List (Piece × Piece)) → HasPairs piece pairs ↔ PairsLeft view pairs) → (form : Option Form) → IsMapOf IsRead piece form
-    → (read : Form) × (pairs : List (Piece × Piece)) × (form ≡ Some read) × PairsLeft view pairs × IsRead pairs read
+    → (read : Form) × (pairs : List (Piece × Piece)) × (form ≡ Some read) × PairsLeft view pairs × IsRead pairs read × HasPairs piece pairs
 map_form IsRead piece view k m None h = absurd (h k)
-map_form IsRead piece view k m (Some read) h = (read, h.0, refl, (m h.0).0 h.1, h.2)
-
--- what a view has under a key
-abbrev pub IsUnder : MapView → List ℕ → Field → Type 0
-IsUnder view key field = (pairs : List (Piece × Piece)) → PairsLeft view pairs → seen field ≡ given (values_of key pairs)
-
-pub level_name : (piece : Piece) (view : MapView) (name : Field) → piece.core.kind ≡ Map → ((pairs : List (Piece × Piece)) → HasPairs piece pairs ↔ PairsLeft view pairs)
-    → IsUnder view (codes ":name") name → (form : Option LevelForm) → IsLevel piece form → (level : LevelForm) × (form ≡ Some level) × (level.name ≡ seen name)
-level_name piece view name k m n form h =
-    let f = map_form AreLevelFields piece view k m form h in
-    (f.0, f.2, f.4.name ∙ sym (n f.1 f.3))
-
-pub level_found : (piece : Piece) (view : MapView) (name registers : Field) → piece.core.kind ≡ Map → ((pairs : List (Piece × Piece)) → HasPairs piece pairs ↔ PairsLeft view pairs)
-    → IsUnder view (codes ":name") name → IsUnder view (codes ":registers") registers → (form : Option LevelForm) → IsLevel piece form
-    → (level : LevelForm) × (form ≡ Some level) × (level.name ≡ seen name) × IsGiven (IsVectorOf IsRegister) (seen registers) level.registers
-level_found piece view name registers k m n r form h =
-    let f = map_form AreLevelFields piece view k m form h in (
-      f.0,
-      f.2,
-      f.4.name ∙ sym (n f.1 f.3),
-      subst (λ (given : Given Piece). IsGiven (IsVectorOf IsRegister) given f.0.registers) (sym (r f.1 f.3)) f.4.registers,
-    )
-
-pub file_found : (piece : Piece) (view : MapView) (levels : Field) → piece.core.kind ≡ Map → ((pairs : List (Piece × Piece)) → HasPairs piece pairs ↔ PairsLeft view pairs)
-    → IsUnder view (codes ":levels") levels → (form : Option FileForm) → IsMapOf AreFileFields piece form
-    → (file : FileForm) × (form ≡ Some file) × IsGiven (IsVectorOf IsLevel) (seen levels) file.levels
-file_found piece view levels k m l form h =
-    let f = map_form AreFileFields piece view k m form h in
-    (f.0, f.2, subst (λ (given : Given Piece). IsGiven (IsVectorOf IsLevel) given f.0.levels) (sym (l f.1 f.3)) f.4.levels)
+map_form IsRead piece view k m (Some read) h = (read, h.0, refl, (m h.0).0 h.1, h.2, h.1)
 
 -- the steps of a level
 pub no_name : (tower : Contents) (form : Option LevelForm) (level : LevelForm) (given : Given Piece) (fault : TowerFault) → form ≡ Some level → level.name ≡ given

@@ -5,6 +5,7 @@ pub mod Texts
 pub mod Levels
 pub mod Places
 pub mod Towers
+pub mod Locating
 pub mod Forms
 pub mod Unique
 pub mod Wanting

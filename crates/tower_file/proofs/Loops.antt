@@ -8,6 +8,7 @@ use Rattle.tower_file.specs.declared.fault.TowerFault.{TowerFault}
 use Rattle.tower_file.specs.Form.{Each}
 use Rattle.tower_file.specs.Reading.{each, through}
 use Rattle.tower_file.specs.Steps.{◌>>=◌}
+use Rattle.tower_file.specs.Located.{StopsAt}
 use Rattle.tower_file.specs.Stated.{FormsLeft}
 
 -- what a view gives next
@@ -78,27 +79,35 @@ module _ {Form State : Type 0} (IsRead : Piece → Form → Type 0) (step : Stat
 
   -- the state after the forms of a view that were gone over, and the forms that it has left
   abbrev pub After : VectorView → State → VectorView → State → Type 0
-  After first start view state = (forms : List Form) → FormsLeft IsRead first forms
-      → (done left : List Form) × (forms ≡ done ++ left) × (through step start done ≡ Ok state) × FormsLeft IsRead view left
+  After first start view state = (forms : List Form) (h : FormsLeft IsRead first forms)
+      → (done left : List Form) × (forms ≡ done ++ left) × (through step start done ≡ Ok state) × (rest : FormsLeft IsRead view left)
+      × (before : List Piece) × (h.0 ≡ before ++ rest.0) × Each IsRead before done
 
   pub after_begins : (view : VectorView) (state : State) → After view state view state
-  after_begins view state forms h = ([], forms, refl, refl, h)
+  after_begins view state forms h = ([], forms, refl, refl, h, [], refl, tt)
 
   -- what all give from what is left
   rest_of : (start state : State) (forms done left : List Form) → forms ≡ done ++ left → through step start done ≡ Ok state → through step start forms ≡ through step state left
   rest_of start state forms done left e d = ap (through step start) e ∙ through_both start done left ∙ rw d refl
 
-  -- what the next form is, and those behind it
-  abbrev First : Element → VectorView → List Form → Type 0
-  First element after left = (form : Form) × (forms : List Form) × (left ≡ form ∷ forms) × IsRead (piece_of element) form × FormsLeft IsRead after forms
+  each_push : (pieces : List Piece) (forms : List Form) (piece : Piece) (form : Form) → Each IsRead pieces forms → IsRead piece form → Each IsRead (pieces ++ piece ∷ []) (forms ++ form ∷ [])
+  each_push [] [] piece form h k = (k, tt)
+  each_push [] (f ∷ forms) piece form h k = absurd h
+  each_push (p ∷ pieces) [] piece form h k = absurd h
+  each_push (p ∷ pieces) (f ∷ forms) piece form h k = (h.0, each_push pieces forms piece form h.1 k)
 
-  first_by : (element : Element) (after : VectorView) (members : List Piece) (left : List Form) → NextMember (Some element) after members → Each IsRead members left → First element after left
+  -- what the next form is, and those behind it
+  abbrev First : Element → VectorView → List Piece → List Form → Type 0
+  First element after members left = (form : Form) × (forms : List Form) × (left ≡ form ∷ forms) × IsRead (piece_of element) form × (rest : FormsLeft IsRead after forms)
+      × (members ≡ piece_of element ∷ rest.0)
+
+  first_by : (element : Element) (after : VectorView) (members : List Piece) (left : List Form) → NextMember (Some element) after members → Each IsRead members left → First element after members left
   first_by element after [] left n h = absurd n
   first_by element after (piece ∷ members) [] n h = absurd h
   first_by element after (piece ∷ members) (form ∷ forms) n h =
-      (form, forms, refl, subst (λ (p : Piece). IsRead p form) (sym n.0) h.0, (members, n.1, h.1))
+      (form, forms, refl, subst (λ (p : Piece). IsRead p form) (sym n.0) h.0, (members, n.1, h.1), ap (λ (p : Piece). p ∷ members) (sym n.0))
 
-  first_of : (view after : VectorView) (element : Element) (left : List Form) → FormsLeft IsRead view left → Gives_next view (Some element) after → First element after left
+  first_of : (view after : VectorView) (element : Element) (left : List Form) (h : FormsLeft IsRead view left) → Gives_next view (Some element) after → First element after h.0 left
   first_of view after element left h n = first_by element after h.0 left (n h.0 h.1) h.2
 
   pub after_on : (first view after : VectorView) (element : Element) (start state next : State) → After first start view state → Gives_next view (Some element) after
@@ -111,6 +120,9 @@ module _ {Form State : Type 0} (IsRead : Piece → Form → Type 0) (step : Stat
         k.2 ∙ ap (λ (left : List Form). k.0 ++ left) f.2 ∙ sym (append_assoc k.0 (f.0 ∷ []) f.1),
         through_both start k.0 (f.0 ∷ []) ∙ rw (k.3, r f.0 f.3) refl,
         f.4,
+        k.5 ++ piece_of element ∷ [],
+        k.6 ∙ ap (λ (ms : List Piece). k.5 ++ ms) f.5 ∙ sym (append_assoc k.5 (piece_of element ∷ []) f.4.0),
+        each_push k.5 k.0 (piece_of element) f.0 k.7 f.3,
       )
 
   pub after_fails : (first view after : VectorView) (element : Element) (start state : State) (fault : TowerFault) → After first start view state → Gives_next view (Some element) after
@@ -119,6 +131,25 @@ module _ {Form State : Type 0} (IsRead : Piece → Form → Type 0) (step : Stat
       let k = s forms h in
       let f = first_of view after element k.1 k.4 n in
       rest_of start state forms k.0 k.1 k.2 k.3 ∙ ap (through step state) f.2 ∙ rw (r f.0 f.3) refl
+
+  -- the element at which it stops
+  pub after_stops : (first view after : VectorView) (element : Element) (start state : State) (fault : TowerFault) → After first start view state → Gives_next view (Some element) after
+      → ((form : Form) → IsRead (piece_of element) form → step state form ≡ Err fault) → (forms : List Form) (h : FormsLeft IsRead first forms)
+      → StopsAt IsRead step start h.0 fault state (piece_of element)
+  after_stops first view after element start state fault s n r forms h =
+      let k = s forms h in
+      let f = first_of view after element k.1 k.4 n in
+      record {
+        before = k.5;
+        later = f.4.0;
+        done = k.0;
+        form = f.0;
+        order = k.6 ∙ ap (λ (ms : List Piece). k.5 ++ ms) f.5;
+        are = k.7;
+        read = k.3;
+        is = f.3;
+        fails = r f.0 f.3;
+      }
 
   -- a form that was come to, of those of a view
   pub record Reached (start : State) (forms : List Form) (Holds : Form → Type 0) : Type 0 where

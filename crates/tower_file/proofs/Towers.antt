@@ -143,7 +143,7 @@ other_text bytes pieces division text h = record {
       ap contents_of (only_none pieces other h (subst (λ (ps : List Piece). IsFile ps other) (division written.0 pieces written.1 text) written.2));
 }
 
-only_one : (pieces : List Piece) (piece : Piece) → One piece ≡ given pieces → pieces ≡ piece ∷ []
+pub only_one : (pieces : List Piece) (piece : Piece) → One piece ≡ given pieces → pieces ≡ piece ∷ []
 only_one [] piece e = absurd cc
 only_one (first ∷ []) piece e = let same : piece ≡ first = cc in cc
 only_one (first ∷ second ∷ pieces) piece e = absurd cc
@@ -166,7 +166,7 @@ one_found bytes element found result division e text whole some says =
     let form = some (piece_of element) whole in
     one_element bytes (piece_of element) text.0 form.0 result division text.1 is form.1 says
 
-other_by : (bytes : List ℕ) (pieces : List Piece) (found : Field) → OneDivision bytes → IsText bytes pieces → seen found ≡ given pieces → (found ≡ Absent) ⊎ (found ≡ Twice) → IsNotOne pieces
+pub other_by : (bytes : List ℕ) (pieces : List Piece) (found : Field) → OneDivision bytes → IsText bytes pieces → seen found ≡ given pieces → (found ≡ Absent) ⊎ (found ≡ Twice) → IsNotOne pieces
 other_by bytes pieces found division text f (inl e) = none_of_nothing pieces (sym (ap seen e) ∙ f)
 other_by bytes pieces found division text f (inr e) = none_of_more pieces (sym (ap seen e) ∙ f)
 

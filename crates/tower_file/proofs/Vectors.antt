@@ -18,6 +18,12 @@ use Rattle.tower_file.specs.Form.{IsGiven, AreMembers, IsVectorOf, Sequence, IsS
 use Rattle.tower_file.specs.Reading.{needed, each, process_of, writers_listed, name_in, kind_in, writers_in, initial_in, domain_in, parts_in, said_by, vector_in, fixed_in}
 use Rattle.tower_file.specs.Stated.{FormsLeft}
 
+-- what is needed and there is there once
+pub needed_once : {X : Type 0} (field : TowerField) (given : Given X) (x : X) → needed field given ≡ Ok x → given ≡ One x
+needed_once field Missing x e = absurd cc
+needed_once field (One y) x e = cc
+needed_once field Many x e = absurd cc
+
 -- what is needed and not there once is not there once when it is read further
 pub not_needed : {Form : Type 0} (IsRead : Piece → Form → Type 0) (field : TowerField) (fault : TowerFault) (given : Given Piece) (read : Given (Option (List Form)))
     → needed field given ≡ Err fault → IsGiven (IsVectorOf IsRead) given read → vector_in field read ≡ Err fault

@@ -6,5 +6,6 @@ pub mod Reading
 pub mod Keeping
 pub mod Views
 pub mod Tower
+pub mod Located
 pub mod Alone
 pub mod Stated

@@ -1,13 +1,16 @@
 -- What a program holds of the keys of a register, of a vector that is left to go over, and of a text. No public clause
 -- speaks of it.
-use Rattle.std.specs.Prelude.{◌≡◌, ◌≢◌, ℕ, List, [], Option, Some, None, Result, Ok, Err, Vec}
+use Rattle.std.specs.Prelude.{◌≡◌, ◌≢◌, ℕ, List, [], ◌∷◌, Option, Some, None, Result, Ok, Err, Vec}
 use Rattle.std.specs.Option.{option_map}
 use Rattle.std.specs.declared.alloc.Global.{Global}
+use Rattle.edn_reader.specs.declared.element.Element.{Element}
+use Rattle.edn_reader.specs.declared.view.MapView.{MapView}
 use Rattle.edn_reader.specs.declared.view.VectorView.{VectorView}
 use Rattle.edn_reader.specs.Grammar.{Piece}
+use Rattle.edn_reader.specs.Pairs.{HasMembers}
 use Rattle.edn_reader.specs.Fault.{FaultOf}
 use Rattle.edn_reader.specs.Given.{seen}
-use Rattle.edn_reader.specs.Lent.{MembersLeft}
+use Rattle.edn_reader.specs.Lent.{piece_of, MembersLeft, PairsLeft}
 use Rattle.intervals.specs.declared.operation.Value.{Value}
 use Rattle.intervals.specs.Terms.{writers_of}
 use Rattle.tower_file.specs.declared.said.Fields.{Fields}
@@ -17,6 +20,7 @@ use Rattle.tower_file.specs.declared.fault.TowerFault.TheVariants.{Edn, Shape, N
 use Rattle.tower_file.specs.Form.{RegisterForm, IsGiven, IsSequence, AreMembers, Each}
 use Rattle.tower_file.specs.Reading.{Said}
 use Rattle.tower_file.specs.Tower.{NestsDeeply}
+use Rattle.tower_file.specs.Located.{Span, span_of, pairs_under}
 
 -- The program has looked up what stands under each key of a register.
 pub record AreFound (found : Fields) (form : RegisterForm) : Type 0 where
@@ -68,3 +72,17 @@ IsTextFault bytes InitialOutOfDomain = ⊥
 IsTextFault bytes TooMany = ⊥
 IsTextFault bytes Memory = NestsDeeply bytes
 IsTextFault bytes UnknownInitial = ⊥
+
+-- The span is that of an element of which this holds.
+abbrev pub IsSpanned : (Piece → Type 0) → Option Span → Type 0
+IsSpanned IsIt span = (wrong : Piece) × IsIt wrong × (span ≡ Some (span_of wrong))
+
+-- What is given next of the pairs under a key, and what a view has left then.
+abbrev pub NextUnder : List ℕ → Option (Element × Element) → MapView → List (Piece × Piece) → Type 0
+NextUnder key None view pairs = pairs_under key pairs ≡ []
+NextUnder key (Some pair) view pairs =
+    (left : List (Piece × Piece)) × PairsLeft view left × (pairs_under key pairs ≡ (piece_of pair.0, piece_of pair.1) ∷ pairs_under key left)
+
+-- There is one pair, and a view has left the elements of its value.
+abbrev pub IsVectorAt : List (Piece × Piece) → VectorView → Type 0
+IsVectorAt pairs view = (pair : Piece × Piece) × (pairs ≡ pair ∷ []) × ((members : List Piece) → MembersLeft view members → HasMembers pair.1 members)

@@ -29,6 +29,8 @@ mod fault;
 mod file;
 pub mod laws;
 mod level;
+mod locate;
+mod located;
 mod place;
 mod register;
 mod registers;
@@ -39,6 +41,7 @@ mod tower;
 pub use element::kind_of;
 pub use example::one_register;
 pub use fault::{TowerFault, TowerField};
+pub use located::LocatedFault;
 pub use tower::Tower;
 
 #[cfg(test)]

@@ -171,7 +171,7 @@ fn parts_of(
 }
 
 /// The register of an earlier level that an element names.
-fn part_of(element: &Element, first: usize, registers: &Registers) -> Result<RegId, TowerFault>
+pub fn part_of(element: &Element, first: usize, registers: &Registers) -> Result<RegId, TowerFault>
     ensures { result ≡ part_that first registers.now (piece_of element.now) }
 {
     match registers.find(name_of(element)) {

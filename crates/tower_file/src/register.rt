@@ -7,10 +7,13 @@ ghost use Rattle.tower_file.specs.Form.{RegisterForm, IsRegister};
 ghost use Rattle.tower_file.specs.Contents.{number_of};
 ghost use Rattle.tower_file.specs.Reading.{register_read, with_registers};
 ghost use Rattle.tower_file.specs.Views.{kept_register, GivesOrMemory};
-ghost use Rattle.tower_file.specs.Stated.{FormsLeft};
+ghost use Rattle.tower_file.specs.Located.{IsInRegister, IsAmongRegisters, fault_alone};
+ghost use Rattle.tower_file.specs.Stated.{FormsLeft, IsSpanned};
 ghost use Rattle.tower_file.specs.declared.fault.TowerFault.TheVariants.{Memory};
 
 use crate::fault::{TowerFault, TowerField};
+use crate::locate::in_register;
+use crate::located::{LocatedFault, located};
 use crate::place::place;
 use crate::registers::{Entry, Registers};
 use crate::said::{look_up, read_said};
@@ -23,19 +26,43 @@ pub fn read_registers(
     view: VectorView,
     level: usize,
     registers: &mut Registers,
-) -> Result<(), TowerFault>
+) -> Result<(), LocatedFault>
     ensures ok { OnOk result ((forms : List (Option RegisterForm)) → FormsLeft IsRegister view.entry forms
         → with_registers level registers.old forms ≡ Ok registers.new) }
-    ensures err { IfErr result (λ fault. fault ≢ Memory → (forms : List (Option RegisterForm)) → FormsLeft IsRegister view.entry forms
-        → with_registers level registers.old forms ≡ Err fault) }
+    ensures err { IfErr result (λ located. located.fault ≢ Memory → (forms : List (Option RegisterForm)) → FormsLeft IsRegister view.entry forms
+        → with_registers level registers.old forms ≡ Err located.fault) }
+    ensures span { IfErr result (λ located. located.fault ≢ Memory → (forms : List (Option RegisterForm)) (are : FormsLeft IsRegister view.entry forms)
+        → IsSpanned (IsAmongRegisters level (length registers.old) registers.old located.fault are.0) located.span) }
 {
     let first = registers.len();
     let mut left = view;
     while let Some(element) = left.next() {
-        let (name, entry) = read_register(alloc, &element, level, first, registers)?;
+        let (name, entry) = locate_register(alloc, &element, level, first, registers)?;
         registers.push(name, entry)?;
     }
     Ok(())
+}
+
+/// A register; where it has a fault, with the place of what that is about.
+fn locate_register(
+    alloc: Global,
+    element: &Element,
+    level: usize,
+    first: usize,
+    registers: &Registers,
+) -> Result<(Vec<u8>, Entry), LocatedFault>
+    ensures register { (form : Option RegisterForm) → IsRegister (piece_of element.now) form
+        → GivesOrMemory kept_register (fault_alone result) (register_read level first registers.now form) }
+    ensures new { IfOk result (λ entry. number_of registers.now entry.0.items ≡ None) }
+    ensures room { OnOk result (length registers.now < 65536) }
+    ensures known { IfOk result (λ entry. IsKnownUnlessAtomic (terms_of entry.1.claim)) }
+    ensures span { IfErr result (λ located. located.fault ≢ Memory
+        → IsSpanned (IsInRegister first registers.now located.fault (piece_of element.now)) located.span) }
+{
+    match read_register(alloc, element, level, first, registers) {
+        Ok(found) => Ok(found),
+        Err(fault) => Err(located(fault, &in_register(element, fault, first, registers))),
+    }
 }
 
 fn read_register(

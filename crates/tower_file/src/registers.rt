@@ -6,8 +6,9 @@ ghost use Rattle.std.specs.List.{slice_get};
 ghost use Rattle.intervals.specs.Terms.{terms_of, IsKnownUnlessAtomic};
 ghost use Rattle.tower_file.specs.Contents.{number_of};
 ghost use Rattle.tower_file.specs.Views.{kept_register};
+ghost use Rattle.tower_file.specs.declared.fault.TowerFault.TheVariants.{Memory};
 
-use crate::fault::TowerFault;
+use crate::located::LocatedFault;
 use indexmap::IndexMap;
 use intervals::{Claim, RegId};
 use std::alloc::Global;
@@ -74,13 +75,13 @@ impl Registers {
     }
 
     /// Adds a register of a new name.
-    pub fn push(&mut self, name: Vec<u8>, entry: Entry) -> Result<(), TowerFault>
+    pub fn push(&mut self, name: Vec<u8>, entry: Entry) -> Result<(), LocatedFault>
         requires new { number_of self.old name.items ≡ None }
         requires room { length self.old < 65536 }
         requires known { IsKnownUnlessAtomic (terms_of entry.claim) }
         ensures ok { OnOk result (self.new ≡ self.old ++ kept_register (name, entry) ∷ []) }
         ensures err { OnErr result (self.new ≡ self.old) }
-        ensures memory { IfErr result (λ fault. fault ≡ TowerFault.Memory) }
+        ensures memory { IfErr result (λ located. located.fault ≡ Memory) }
     {
         self.by_name.insert(name, entry)?;
         Ok(())

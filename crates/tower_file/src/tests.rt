@@ -156,6 +156,89 @@ fn each_is_told<R: AllocGlobal + Abort>(
     Ok(())
 }
 
+/// The first fault, and the bytes that are wrong; the place of a fault of the text, which has none.
+fn told_where(alloc: Global, text: &[u8]) -> Result<String, AllocError> {
+    let mut told = String::new(alloc);
+    let Err(located) = Tower::read_located(alloc, text) else {
+        return Ok(told);
+    };
+    if located.fault == TowerFault::Memory {
+        return Err(AllocError);
+    }
+    told.push_str(located.fault.code())?;
+    match located.span {
+        Some((start, end)) if start == end => write!(told, " at {start}")?,
+        Some((start, end)) => {
+            told.push_str(" ")?;
+            tell_name(&mut told, text.get(start..end).unwrap_or(b"(no text)"))?;
+        }
+        None => told.push_str(" nowhere")?,
+    }
+    Ok(told)
+}
+
+/// Each row is a text, between these two, and where its first fault is.
+fn each_is_told_where<R: AllocGlobal + Abort>(
+    rt: &R,
+    before: &str,
+    rows: &str,
+    after: &str,
+) -> Result<(), Fail> {
+    for row in rows.lines() {
+        let (text, want) = row.split_once(" => ").ok_or("a row")?;
+        let whole = format!(in rt.alloc(); "{before}{text}{after}")?;
+        let found = told_where(rt.alloc(), whole.as_str().as_bytes())?;
+        assert!(rt; found.as_str() == want, "{text} => {found}");
+    }
+    Ok(())
+}
+
+/// Whole files and the bytes that their first fault is about.
+const FILES_WHERE: &str = r##"{:levels [ => V1 at 10
+{:levels [}] => V1 at 10
+{} {} => V2 {} {}
+; no element => V2 ; no element
+ [:levels] => V2 [:levels]
+ {:level []} => V2 {:level []}
+{:levels [] #t :levels nil} => V2 #t :levels
+{:levels #t {}} => V2 #t {}
+{:levels [{:name a :registers []} b {}]} => V2 b
+{:levels [{:name a :registers []} {:registers []}]} => V2 {:registers []}
+{:levels [{:name a :registers [] :name a}]} => V2 :name
+{:levels [{:name [a b] :register []}]} => V2 {:name [a b] :register []}
+{:levels [{:name a :registers {}}]} => V2 {}
+{:levels [{:registers [] :name a :registers [x]}]} => V2 :registers
+{:levels [{:name a :registers [[:name x]]}]} => V2 [:name x]
+{:levels [{:name a :registers [{:name x :kind :atomic :writers :any} {:kind :safe}]}]} => V2 {:kind :safe}
+{:levels [{:name a :registers [{:name x :kind :atomic :writers :any}]} {:name b :registers [{:name y :kind :atomic :writers :any :of [x]} {:name #t x :kind :safe :writers [0]}]}]} => V3 #t x
+{:levels [{:name a :registers [{:name x :kind :atomic :writers :any}]} {:name b :registers [{:name y :kind :atomic :writers :any :of [x x z y]}]}]} => V5 z
+{:levels [{:name a :registers [{:name x :kind :atomic :writers :any} {:name y :kind :atomic :writers :any :of [x]}]}]} => V5 x"##;
+
+/// What stands beside the name of the one register `x`, and the bytes that its first fault is about.
+const FIELDS_WHERE: &str = r##":kind :reguler :writers [0] => V2 :reguler
+:kind :safe :writers [0] :kind :safe => V2 :kind
+:kind :atomic :writers 0 => V2 0
+:kind :atomic :writers [0 nil 1 x] => V2 nil
+:kind :atomic :writers :any :initial x => V2 x
+:kind :atomic :writers :any :domain {} => V2 {}
+:kind :atomic :writers :any :domain [1 nil 01 x] => V2 01
+:kind :atomic :writers :any :of #t x => V2 #t x
+:kind :atomic :writers :any :fixed 1 => V2 1
+:kind :atomic :writers :any :of [] :of [] => V2 :of
+:kind :safe :writers [0 1] => V4 [0 1]
+:kind :regular :writers :any => V4 :any
+:kind :safe :writers [0] :initial #t :unknown => V10 #t :unknown
+:kind :atomic :writers :any :of [y] => V5 y
+:kind :atomic :writers :any :domain [ ] => V6 [ ]
+:kind :atomic :writers :any :initial 3 :domain [1 2] => V7 3"##;
+
+#[test]
+fn faults_are_told_with_their_places(rt: HostRuntime) -> Result<(), Fail> {
+    each_is_told_where(&rt, "", FILES_WHERE, "")?;
+    let before = "{:levels [{:name top :registers [{:name x ";
+    each_is_told_where(&rt, before, FIELDS_WHERE, "}]}]}")
+}
+
 /// Whole files: towers, the shape of files and levels, and the first of two faults.
 const FILES: &str =
     r##"{:levels [{:name "bits" :registers [{:name 0 :kind :regular :writers [1] :initial 0}]} {:name "top" :registers [{:name :x :kind :atomic :writers :any :of [0]}]}]} => 2 "bits" "top"; 0 0 0 regular by 1 from 0 of; 1 :x 1 atomic by any from nil of 0
@@ -297,6 +380,8 @@ fn at_most_65536_registers(rt: HostRuntime) -> Result<(), Fail> {
     assert!(rt; !has_more(&tower, RegId(65_536), 1));
     let next = many(&rt, "{:name next :kind :atomic :writers :any}")?;
     assert!(rt; told(rt.alloc(), next.as_slice())?.as_str() == "V8 TooMany");
+    let want = "V8 {:name next :kind :atomic :writers :any}";
+    assert!(rt; told_where(rt.alloc(), next.as_slice())?.as_str() == want);
     Ok(())
 }
 

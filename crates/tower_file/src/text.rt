@@ -5,14 +5,16 @@ ghost use Rattle.edn_reader.specs.Grammar.{Piece};
 ghost use Rattle.edn_reader.specs.Text.{IsText};
 ghost use Rattle.edn_reader.specs.Fault.{IsMemory};
 ghost use Rattle.edn_reader.specs.Given.{given, seen};
+ghost use Rattle.tower_file.specs.Located.{text_span, place_of as place_that};
 ghost use Rattle.tower_file.specs.Stated.{IsTextFault};
 
 use crate::fault::TowerFault;
+use crate::located::LocatedFault;
 use edn_reader::{EdnFault, Field, Reader};
 use std::alloc::Global;
 
 /// What the text is made of: nothing, one element, or more.
-pub fn read_text(alloc: Global, bytes: &[u8]) -> Result<Field<'_>, TowerFault>
+fn read_text(alloc: Global, bytes: &[u8]) -> Result<Field<'_>, TowerFault>
     ensures text { IfOk result (λ found. (pieces : List Piece) × IsText bytes.now pieces × (seen found ≡ given pieces)) }
     ensures fault { IfErr result (IsTextFault bytes.now) }
 {
@@ -24,6 +26,48 @@ pub fn read_text(alloc: Global, bytes: &[u8]) -> Result<Field<'_>, TowerFault>
             Ok(None) => return Ok(found),
             Err(fault) => return Err(fault_of(fault)),
         }
+    }
+}
+
+/// The same; where there is a fault, with its place.
+pub fn locate_text(alloc: Global, bytes: &[u8]) -> Result<Field<'_>, LocatedFault>
+    ensures text { IfOk result (λ found. (pieces : List Piece) × IsText bytes.now pieces × (seen found ≡ given pieces)) }
+    ensures fault { IfErr result (λ located. IsTextFault bytes.now located.fault) }
+    ensures span { IfErr result (λ located. located.span ≡ text_span located.fault) }
+{
+    match read_text(alloc, bytes) {
+        Ok(found) => Ok(found),
+        Err(fault) => Err(LocatedFault {
+            fault,
+            span: span_of(fault),
+        }),
+    }
+}
+
+/// The place of a fault of the text.
+fn span_of(fault: TowerFault) -> Option<(usize, usize)>
+    ensures { result ≡ text_span fault }
+{
+    match fault {
+        TowerFault::Edn(fault) => {
+            let place = place_of(fault);
+            Some((place, place))
+        }
+        _ => None,
+    }
+}
+
+fn place_of(fault: EdnFault) -> usize
+    ensures { result ≡ place_that fault }
+{
+    match fault {
+        EdnFault::Truncated(place) => place,
+        EdnFault::StrayClose(place) => place,
+        EdnFault::WrongClose(place) => place,
+        EdnFault::TooDeep(place) => place,
+        EdnFault::OddMap(place) => place,
+        EdnFault::TagWithoutElement(place) => place,
+        EdnFault::Memory(place) => place,
     }
 }
 

@@ -1,17 +1,19 @@
 //! A tower: its levels and its registers.
 
-ghost use Rattle.std.specs.Prelude.{◌≡◌, ◌≢◌, ◌≤◌, ◌⊎◌, length, Ok, Err, IfOk, IfErr, IfSome};
+ghost use Rattle.std.specs.Prelude.{◌≡◌, ◌≢◌, ◌≤◌, ◌⊎◌, length, Some, Ok, Err, IfOk, IfErr, IfSome};
 ghost use Rattle.std.specs.Option.{option_map};
 ghost use Rattle.std.specs.List.{slice_get};
 ghost use Rattle.intervals.specs.Terms.{terms_of, IsKnownUnlessAtomic};
 ghost use Rattle.tower_file.specs.Contents.{Contents, number_of};
 ghost use Rattle.tower_file.specs.Tower.{IsTowerOf, HasTowerFault, MayWantMemory};
+ghost use Rattle.tower_file.specs.Located.{Span, HasFaultAt, fault_alone};
 ghost use Rattle.tower_file.specs.declared.fault.TowerFault.{TowerFault as Fault};
 
 use crate::fault::{TowerFault, TowerField};
 use crate::file::read_file;
+use crate::located::LocatedFault;
 use crate::registers::Registers;
-use crate::text::read_text;
+use crate::text::locate_text;
 use edn_reader::Field;
 use edn_reader::laws::{
     each_lent_is_element, members_of_vector, one_division, one_fault, pairs_of_map, text_or_fault,
@@ -45,18 +47,37 @@ impl Tower {
         ensures refuses { (fault : Fault) → HasTowerFault bytes.now fault → (result ≡ Err fault) ⊎ (result ≡ Err TowerFault.Memory) }
         ensures memory { IfErr result (λ fault. fault ≡ TowerFault.Memory → MayWantMemory bytes.now) }
     {
+        match Tower::read_located(alloc, bytes) {
+            Ok(tower) => Ok(tower),
+            Err(located) => Err(located.fault),
+        }
+    }
+
+    /// Reads a tower file; where it has a fault, with its place.
+    pub fn read_located(alloc: Global, bytes: &[u8]) -> Result<Tower, LocatedFault>
+        ensures tower { IfOk result (λ tower. IsTowerOf bytes.now tower) }
+        ensures fault { IfErr result (λ located. located.fault ≢ TowerFault.Memory → HasTowerFault bytes.now located.fault) }
+        ensures span { IfErr result (λ located. located.fault ≢ TowerFault.Memory
+            → (span : Span) × (located.span ≡ Some span) × HasFaultAt bytes.now located.fault span) }
+        ensures reads { (tower : Contents) → IsTowerOf bytes.now tower → (fault_alone result ≡ Ok tower) ⊎ (fault_alone result ≡ Err TowerFault.Memory) }
+        ensures refuses { (fault : Fault) → HasTowerFault bytes.now fault → (fault_alone result ≡ Err fault) ⊎ (fault_alone result ≡ Err TowerFault.Memory) }
+        ensures memory { IfErr result (λ located. located.fault ≡ TowerFault.Memory → MayWantMemory bytes.now) }
+    {
         each_lent_is_element();
         one_division();
         one_fault();
         text_or_fault();
         pairs_of_map();
         members_of_vector();
-        match read_text(alloc, bytes)? {
+        match locate_text(alloc, bytes)? {
             Field::Once(element) => {
                 let (levels, registers) = read_file(alloc, &element)?;
                 Ok(Tower { levels, registers })
             }
-            Field::Absent | Field::Twice => Err(TowerFault::Shape(TowerField::File)),
+            Field::Absent | Field::Twice => Err(LocatedFault {
+                fault: TowerFault::Shape(TowerField::File),
+                span: Some((0, bytes.len())),
+            }),
         }
     }
 

@@ -7,38 +7,54 @@ use Rattle.tower_file.specs.Contents.{Contents}
 use Rattle.tower_file.specs.Views.{contents_with}
 use Rattle.tower_file.proofs.Forms.{file_some}
 use Rattle.tower_file.proofs.Towers.{refused_text_reads, refused_text_refuses, answered_tower, answered_fault, answered_reads, answered_refuses, one_found, other_found, kept_file}
-use Rattle.tower_file.proofs.tower.Tower.read.Goals as goal
+use Rattle.edn_reader.specs.Lent.{piece_of}
+use Rattle.tower_file.proofs.Locating.{at_text, at_file, at_whole}
+use Rattle.tower_file.proofs.tower.Tower.read_located.Goals as goal
 
 pub returns-in_err-element-clause-reads : goal.returns-in_err-element-clause-reads
 returns-in_err-element-clause-reads c =
     let p = err_from_is_err_and c.from_residual.result c.from_residual.ensures.1 in
-    rw (p.1, p.2) (refused_text_reads c.args.bytes.now c.in_err-element.field-0.0 (c.text_or_fault.ensures.not_both c.args.bytes.now) c.in_err-element.ensures.fault)
+    rw (p.1, p.2) (refused_text_reads c.args.bytes.now c.in_err-element.field-0.0.fault (c.text_or_fault.ensures.not_both c.args.bytes.now) c.in_err-element.ensures.fault)
 
 pub returns-in_err-element-clause-refuses : goal.returns-in_err-element-clause-refuses
 returns-in_err-element-clause-refuses c =
     let p = err_from_is_err_and c.from_residual.result c.from_residual.ensures.1 in
-    rw (p.1, p.2) (refused_text_refuses c.args.bytes.now c.in_err-element.field-0.0 (c.text_or_fault.ensures.not_both c.args.bytes.now) (c.one_fault.ensures c.args.bytes.now) c.in_err-element.ensures.fault)
+    rw (p.1, p.2) (refused_text_refuses c.args.bytes.now c.in_err-element.field-0.0.fault (c.text_or_fault.ensures.not_both c.args.bytes.now) (c.one_fault.ensures c.args.bytes.now) c.in_err-element.ensures.fault)
+
+pub returns-in_err-element-clause-span : goal.returns-in_err-element-clause-span
+returns-in_err-element-clause-span c =
+    let p = err_from_is_err_and c.from_residual.result c.from_residual.ensures.1 in
+    rw (p.1, p.2) (at_text c.args.bytes.now c.in_err-element.field-0.0.fault c.in_err-element.field-0.0.span c.in_err-element.ensures.fault c.in_err-element.ensures.span)
+
+pub returns-in_err-levels-in-Once-clause-span : goal.returns-in_err-levels-in-Once-clause-span
+returns-in_err-levels-in-Once-clause-span c =
+    let p = err_from_is_err_and c.from_residual-in_err-levels-in-Once.result c.from_residual-in_err-levels-in-Once.ensures.1 in
+    let some = file_some c.pairs_of_map.ensures.some c.pairs_of_map.ensures.elements c.members_of_vector.ensures.some c.members_of_vector.ensures.elements in
+    rw (p.1, p.2) (λ other.
+    let form = some (piece_of c.in-Once.element) (c.each_lent_is_element.ensures c.in-Once.element) in
+    at_file c.args.bytes.now c.in-Once.element c.in_ok-element.field-0 c.in_err-levels-in-Once.field-0.0.fault c.in_err-levels-in-Once.field-0.0.span c.in-Once.is c.in_ok-element.ensures.text
+    (c.in_err-levels-in-Once.ensures.span other form.0 form.1))
 
 pub returns-in_err-levels-in-Once-clause-fault : goal.returns-in_err-levels-in-Once-clause-fault
 returns-in_err-levels-in-Once-clause-fault c =
     let p = err_from_is_err_and c.from_residual-in_err-levels-in-Once.result c.from_residual-in_err-levels-in-Once.ensures.1 in
     let some = file_some c.pairs_of_map.ensures.some c.pairs_of_map.ensures.elements c.members_of_vector.ensures.some c.members_of_vector.ensures.elements in
-    let answered = one_found c.args.bytes.now c.in-Once.element c.in_ok-element.field-0 (Err c.in_err-levels-in-Once.field-0.0) (c.one_division.ensures c.args.bytes.now) c.in-Once.is c.in_ok-element.ensures.text (c.each_lent_is_element.ensures c.in-Once.element) some c.in_err-levels-in-Once.ensures.says in
-    rw (p.1, p.2) (answered_fault c.args.bytes.now (Err c.in_err-levels-in-Once.field-0.0) answered)
+    let answered = one_found c.args.bytes.now c.in-Once.element c.in_ok-element.field-0 (Err c.in_err-levels-in-Once.field-0.0.fault) (c.one_division.ensures c.args.bytes.now) c.in-Once.is c.in_ok-element.ensures.text (c.each_lent_is_element.ensures c.in-Once.element) some c.in_err-levels-in-Once.ensures.says in
+    rw (p.1, p.2) (answered_fault c.args.bytes.now (Err c.in_err-levels-in-Once.field-0.0.fault) answered)
 
 pub returns-in_err-levels-in-Once-clause-reads : goal.returns-in_err-levels-in-Once-clause-reads
 returns-in_err-levels-in-Once-clause-reads c =
     let p = err_from_is_err_and c.from_residual-in_err-levels-in-Once.result c.from_residual-in_err-levels-in-Once.ensures.1 in
     let some = file_some c.pairs_of_map.ensures.some c.pairs_of_map.ensures.elements c.members_of_vector.ensures.some c.members_of_vector.ensures.elements in
-    let answered = one_found c.args.bytes.now c.in-Once.element c.in_ok-element.field-0 (Err c.in_err-levels-in-Once.field-0.0) (c.one_division.ensures c.args.bytes.now) c.in-Once.is c.in_ok-element.ensures.text (c.each_lent_is_element.ensures c.in-Once.element) some c.in_err-levels-in-Once.ensures.says in
-    rw (p.1, p.2) (answered_reads c.args.bytes.now (Err c.in_err-levels-in-Once.field-0.0) answered)
+    let answered = one_found c.args.bytes.now c.in-Once.element c.in_ok-element.field-0 (Err c.in_err-levels-in-Once.field-0.0.fault) (c.one_division.ensures c.args.bytes.now) c.in-Once.is c.in_ok-element.ensures.text (c.each_lent_is_element.ensures c.in-Once.element) some c.in_err-levels-in-Once.ensures.says in
+    rw (p.1, p.2) (answered_reads c.args.bytes.now (Err c.in_err-levels-in-Once.field-0.0.fault) answered)
 
 pub returns-in_err-levels-in-Once-clause-refuses : goal.returns-in_err-levels-in-Once-clause-refuses
 returns-in_err-levels-in-Once-clause-refuses c =
     let p = err_from_is_err_and c.from_residual-in_err-levels-in-Once.result c.from_residual-in_err-levels-in-Once.ensures.1 in
     let some = file_some c.pairs_of_map.ensures.some c.pairs_of_map.ensures.elements c.members_of_vector.ensures.some c.members_of_vector.ensures.elements in
-    let answered = one_found c.args.bytes.now c.in-Once.element c.in_ok-element.field-0 (Err c.in_err-levels-in-Once.field-0.0) (c.one_division.ensures c.args.bytes.now) c.in-Once.is c.in_ok-element.ensures.text (c.each_lent_is_element.ensures c.in-Once.element) some c.in_err-levels-in-Once.ensures.says in
-    rw (p.1, p.2) (answered_refuses c.args.bytes.now (Err c.in_err-levels-in-Once.field-0.0) (c.text_or_fault.ensures.not_both c.args.bytes.now) answered)
+    let answered = one_found c.args.bytes.now c.in-Once.element c.in_ok-element.field-0 (Err c.in_err-levels-in-Once.field-0.0.fault) (c.one_division.ensures c.args.bytes.now) c.in-Once.is c.in_ok-element.ensures.text (c.each_lent_is_element.ensures c.in-Once.element) some c.in_err-levels-in-Once.ensures.says in
+    rw (p.1, p.2) (answered_refuses c.args.bytes.now (Err c.in_err-levels-in-Once.field-0.0.fault) (c.text_or_fault.ensures.not_both c.args.bytes.now) answered)
 
 pub returns-in_ok-levels-in-Once-clause-tower : goal.returns-in_ok-levels-in-Once-clause-tower
 returns-in_ok-levels-in-Once-clause-tower c =
@@ -70,6 +86,7 @@ returns-in-Absent c =
       fault = answered_fault c.args.bytes.now refused answered;
       reads = answered_reads c.args.bytes.now refused answered;
       refuses = answered_refuses c.args.bytes.now refused (c.text_or_fault.ensures.not_both c.args.bytes.now) answered;
+      span = λ other. at_whole c.args.bytes.now c.in_ok-element.field-0 (c.one_division.ensures c.args.bytes.now) c.in_ok-element.ensures.text c.in-Absent.is;
       memory = λ wanted. absurd cc;
     }
 

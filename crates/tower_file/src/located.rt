@@ -1,0 +1,57 @@
+//! A fault of a tower file with its place in the text.
+
+ghost use Rattle.std.specs.Prelude.{◌≡◌, ◌≢◌, Some, None};
+ghost use Rattle.edn_reader.specs.Lent.{piece_of};
+ghost use Rattle.tower_file.specs.Located.{span_of, wanting};
+ghost use Rattle.tower_file.specs.declared.fault.TowerFault.TheVariants.{Memory};
+
+use crate::fault::TowerFault;
+use edn_reader::Element;
+use std::alloc::{AllocError, AllocFailed};
+
+/// A fault, and the bytes that are wrong: the place of the first one, and the place behind the last one. Both are the
+/// place of the fault where it is one of the text (V1). Want of memory (V9) has no place.
+#[derive(Clone, Copy)]
+pub struct LocatedFault {
+    pub fault: TowerFault,
+    pub span: Option<(usize, usize)>,
+}
+
+impl From<AllocError> for LocatedFault {
+    ghost from_gives = { λ _ located. located ≡ wanting };
+
+    fn from(_e: AllocError) -> LocatedFault {
+        wanting()
+    }
+}
+
+impl<T: Drop> From<AllocFailed<T>> for LocatedFault {
+    ghost from_gives = { λ _ located. located ≡ wanting };
+
+    fn from(_e: AllocFailed<T>) -> LocatedFault {
+        wanting()
+    }
+}
+
+fn wanting() -> LocatedFault
+    ensures { result ≡ wanting }
+{
+    LocatedFault {
+        fault: TowerFault::Memory,
+        span: None,
+    }
+}
+
+/// A fault whose place is an element.
+pub fn located(fault: TowerFault, element: &Element) -> LocatedFault
+    ensures fault { result.fault ≡ fault }
+    ensures span { fault ≢ Memory → result.span ≡ Some (span_of (piece_of element.now)) }
+{
+    match fault {
+        TowerFault::Memory => wanting(),
+        _ => LocatedFault {
+            fault,
+            span: Some(element.span()),
+        },
+    }
+}
