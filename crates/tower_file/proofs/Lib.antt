@@ -6,6 +6,7 @@ pub mod Levels
 pub mod Places
 pub mod Towers
 pub mod Locating
+pub mod OnePlace
 pub mod Forms
 pub mod Unique
 pub mod Wanting

@@ -56,7 +56,7 @@ same_file first second levels = cc
 
 module _ (one_pairs : (piece : Piece) (firsts seconds : List (Piece × Piece)) → HasPairs piece firsts → HasPairs piece seconds → firsts ≡ seconds)
     (one_members : (piece : Piece) (firsts seconds : List Piece) → HasMembers piece firsts → HasMembers piece seconds → firsts ≡ seconds) where
-  one_map : {Form : Type 0} (IsRead : List (Piece × Piece) → Form → Type 0) → One_form IsRead → One_form (IsMapOf IsRead)
+  pub one_map : {Form : Type 0} (IsRead : List (Piece × Piece) → Form → Type 0) → One_form IsRead → One_form (IsMapOf IsRead)
   one_map IsRead one piece None None h k = refl
   one_map IsRead one piece None (Some g) h k = absurd (h k.1.kind)
   one_map IsRead one piece (Some f) None h k = absurd (k h.1.kind)
@@ -79,14 +79,14 @@ module _ (one_pairs : (piece : Piece) (firsts seconds : List (Piece × Piece)) �
   one_sequence : One_form IsSequence
   one_sequence piece first second h k = same_sequence first.element second.element first.members second.members (h.0 ∙ sym k.0) (one_list piece first.members second.members h.1 k.1)
 
-  one_register : One_form AreRegisterFields
+  pub one_register : One_form AreRegisterFields
   one_register pairs first second h k =
       let writers = one_given IsSequence one_sequence _ first.writers second.writers h.writers k.writers in
       let domain = one_given AreMembers one_list _ first.domain second.domain h.domain k.domain in
       let parts = one_given AreMembers one_list _ first.parts second.parts h.parts k.parts in
       same_register first second (h.name ∙ sym k.name) (h.kind ∙ sym k.kind) writers (h.initial ∙ sym k.initial) domain parts (h.fixed ∙ sym k.fixed)
 
-  one_level : One_form AreLevelFields
+  pub one_level : One_form AreLevelFields
   one_level pairs first second h k =
       let registers = one_given (IsVectorOf IsRegister) (one_vector IsRegister (one_map AreRegisterFields one_register)) _ first.registers second.registers h.registers k.registers in
       same_level first second (h.name ∙ sym k.name) registers

@@ -4,6 +4,7 @@ ghost use Rattle.std.specs.Prelude.{◌≡◌, ◌⊎◌, ℕ, List};
 ghost use Rattle.tower_file.specs.Alone.{alone_text, alone_tower};
 ghost use Rattle.tower_file.specs.Contents.{Contents, AreKnownUnlessAtomic};
 ghost use Rattle.tower_file.specs.Tower.{IsTowerOf, HasTowerFault};
+ghost use Rattle.tower_file.specs.Located.{Span, HasFaultAt};
 ghost use Rattle.tower_file.specs.declared.fault.TowerFault.{TowerFault};
 ghost use Rattle.tower_file.specs.declared.fault.TowerFault.TheVariants.{Memory};
 
@@ -37,6 +38,16 @@ pub fn tower_or_fault()
     ensures not_both { (bytes : List ℕ) (tower : Contents) (fault : TowerFault) → IsTowerOf bytes tower → HasTowerFault bytes fault → ⊥ }
 {
     each_is_element();
+    one_division();
+    text_or_fault();
+    pairs_of_map();
+    members_of_vector();
+}
+
+/// A fault has one place in a text at most.
+pub fn one_place()
+    ensures { (bytes : List ℕ) (fault : TowerFault) (first second : Span) → HasFaultAt bytes fault first → HasFaultAt bytes fault second → first ≡ second }
+{
     one_division();
     text_or_fault();
     pairs_of_map();
