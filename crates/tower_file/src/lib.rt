@@ -16,11 +16,18 @@
 //! let claim = tower.claim(RegId(1));            // Some: atomic, any process writes it, nil at first
 //! ```
 //!
-//! The first row of `tests.rt` is this tower; its other rows have each fault and each field. Begin with
+//! `Tower::read_located` gives the same, and beside a fault the bytes of the text that are wrong:
+//!
+//! ```text
+//! // {:levels [{:name top :registers [{:name x :kind :reguler :writers [0]}]}]}
+//! let read = Tower::read_located(alloc, text);  // Err: V2 of the Kind, with the span of :reguler, (48, 56)
+//! ```
+//!
+//! The first row of `tests.rt` is this tower; its other rows have each fault, its place, and each field. Begin with
 //! `Tower::read`: its clauses name the file as it is written (specs/Form.antt), what it says
-//! (specs/Reading.antt) and what a text says (specs/Tower.antt). `laws` has what follows: one tower, one fault,
-//! one of the two, a known initial value unless a register is atomic, and what the text of `one_register` says,
-//! worked out token by token.
+//! (specs/Reading.antt), what a text says (specs/Tower.antt) and where its fault is (specs/Located.antt). `laws` has
+//! what follows: one tower, one fault, one place of it, one of tower and fault, a known initial value unless a
+//! register is atomic, and what the text of `one_register` says, worked out token by token.
 #![tactic(auto)]
 
 mod element;

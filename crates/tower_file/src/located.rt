@@ -10,7 +10,7 @@ use edn_reader::Element;
 use std::alloc::{AllocError, AllocFailed};
 
 /// A fault, and the bytes that are wrong: the place of the first one, and the place behind the last one. Both are the
-/// place of the fault where it is one of the text (V1). Want of memory (V9) has no place.
+/// place of the fault where it is one of the text (V1). Of want of memory (V9) the span says nothing.
 #[derive(Clone, Copy)]
 pub struct LocatedFault {
     pub fault: TowerFault,
