@@ -204,3 +204,7 @@ wanting = record { fault = Memory; span = None }
 abbrev pub fault_alone : {X : Type 0} → Result X LocatedFault → Result X TowerFault
 fault_alone (Ok x) = Ok x
 fault_alone (Err located) = Err located.fault
+
+-- Want of memory has no place. Of any other fault this says nothing.
+abbrev pub NoneForMemory : LocatedFault → Type 0
+NoneForMemory located = located.fault ≡ Memory → located.span ≡ None

@@ -6,7 +6,7 @@ ghost use Rattle.tower_file.specs.Form.{FileForm, IsMapOf, AreFileFields};
 ghost use Rattle.tower_file.specs.Reading.{contents_of};
 ghost use Rattle.tower_file.specs.Keeping.{KeepsALevel};
 ghost use Rattle.tower_file.specs.Views.{contents_with, GivesOrMemory};
-ghost use Rattle.tower_file.specs.Located.{IsInFile, fault_alone};
+ghost use Rattle.tower_file.specs.Located.{IsInFile, fault_alone, NoneForMemory};
 ghost use Rattle.tower_file.specs.Stated.{IsSpanned};
 
 use crate::fault::{TowerFault, TowerField};
@@ -25,6 +25,7 @@ pub fn read_file(
         → GivesOrMemory (λ read. contents_with read.0 read.1) (fault_alone result) (contents_of form) }
     ensures span { IfErr result (λ located. located.fault ≢ TowerFault.Memory → (form : Option FileForm) → IsMapOf AreFileFields (piece_of element.now) form
         → IsSpanned (IsInFile located.fault (piece_of element.now)) located.span) }
+    ensures nowhere { IfErr result (λ located. NoneForMemory located) }
     ensures memory { IfErr result (λ located. located.fault ≡ TowerFault.Memory → (form : Option FileForm) → IsMapOf AreFileFields (piece_of element.now) form → KeepsALevel form) }
 {
     let Some(map) = element.as_map() else {

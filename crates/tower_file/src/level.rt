@@ -7,7 +7,7 @@ ghost use Rattle.edn_reader.specs.Lent.{piece_of, PairsLeft, MembersLeft};
 ghost use Rattle.edn_reader.specs.Given.{Given, One, seen};
 ghost use Rattle.tower_file.specs.Form.{under, RegisterForm, LevelForm, IsGiven, IsVectorOf, IsRegister, IsLevel};
 ghost use Rattle.tower_file.specs.Steps.{GivesSeen};
-ghost use Rattle.tower_file.specs.Located.{at_key as key_or_map, pairs_under, span_of, fault_alone, IsInLevel, IsAmongLevels};
+ghost use Rattle.tower_file.specs.Located.{at_key as key_or_map, pairs_under, span_of, fault_alone, NoneForMemory, IsInLevel, IsAmongLevels};
 ghost use Rattle.tower_file.specs.Reading.{name_in, vector_in, level_after, levels_after};
 ghost use Rattle.tower_file.specs.Keeping.{IsKept, ReachesKept};
 ghost use Rattle.tower_file.specs.Views.{contents_with};
@@ -36,6 +36,7 @@ pub fn read_levels(
         → levels_after (contents_with levels.old registers.old) forms ≡ Err located.fault) }
     ensures span { IfErr result (λ located. located.fault ≢ Memory → (forms : List (Option LevelForm)) (are : FormsLeft IsLevel view.entry forms)
         → IsSpanned (IsAmongLevels (contents_with levels.old registers.old) located.fault are.0) located.span) }
+    ensures nowhere { IfErr result (λ located. NoneForMemory located) }
     ensures memory { IfErr result (λ located. located.fault ≡ Memory → (forms : List (Option LevelForm)) → FormsLeft IsLevel view.entry forms
         → ReachesKept (contents_with levels.old registers.old) forms) }
 {
@@ -58,6 +59,7 @@ fn read_level(
         → level_after (contents_with levels.old registers.old) form ≡ Err located.fault) }
     ensures span { IfErr result (λ located. located.fault ≢ Memory → (form : Option LevelForm) → IsLevel (piece_of element.now) form
         → IsSpanned (IsInLevel (contents_with levels.old registers.old) located.fault (piece_of element.now)) located.span) }
+    ensures nowhere { IfErr result (λ located. NoneForMemory located) }
     ensures memory { IfErr result (λ located. located.fault ≡ Memory → (form : Option LevelForm) → IsLevel (piece_of element.now) form → IsKept form) }
 {
     let Some(map) = element.as_map() else {

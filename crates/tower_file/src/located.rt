@@ -2,7 +2,7 @@
 
 ghost use Rattle.std.specs.Prelude.{◌≡◌, ◌≢◌, Some, None};
 ghost use Rattle.edn_reader.specs.Lent.{piece_of};
-ghost use Rattle.tower_file.specs.Located.{span_of, wanting};
+ghost use Rattle.tower_file.specs.Located.{span_of, wanting, NoneForMemory};
 ghost use Rattle.tower_file.specs.declared.fault.TowerFault.TheVariants.{Memory};
 
 use crate::fault::TowerFault;
@@ -10,7 +10,7 @@ use edn_reader::Element;
 use std::alloc::{AllocError, AllocFailed};
 
 /// A fault, and the bytes that are wrong: the place of the first one, and the place behind the last one. Both are the
-/// place of the fault where it is one of the text (V1). Of want of memory (V9) the span says nothing.
+/// place of the fault where it is one of the text (V1). Want of memory (V9) has no place.
 #[derive(Clone, Copy)]
 pub struct LocatedFault {
     pub fault: TowerFault,
@@ -45,6 +45,7 @@ fn wanting() -> LocatedFault
 /// A fault whose place is an element.
 pub fn located(fault: TowerFault, element: &Element) -> LocatedFault
     ensures fault { result.fault ≡ fault }
+    ensures nowhere { NoneForMemory result }
     ensures span { fault ≢ Memory → result.span ≡ Some (span_of (piece_of element.now)) }
 {
     match fault {

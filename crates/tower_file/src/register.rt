@@ -7,7 +7,7 @@ ghost use Rattle.tower_file.specs.Form.{RegisterForm, IsRegister};
 ghost use Rattle.tower_file.specs.Contents.{number_of};
 ghost use Rattle.tower_file.specs.Reading.{register_read, with_registers};
 ghost use Rattle.tower_file.specs.Views.{kept_register, GivesOrMemory};
-ghost use Rattle.tower_file.specs.Located.{IsInRegister, IsAmongRegisters, fault_alone};
+ghost use Rattle.tower_file.specs.Located.{IsInRegister, IsAmongRegisters, fault_alone, NoneForMemory};
 ghost use Rattle.tower_file.specs.Stated.{FormsLeft, IsSpanned};
 ghost use Rattle.tower_file.specs.declared.fault.TowerFault.TheVariants.{Memory};
 
@@ -33,6 +33,7 @@ pub fn read_registers(
         → with_registers level registers.old forms ≡ Err located.fault) }
     ensures span { IfErr result (λ located. located.fault ≢ Memory → (forms : List (Option RegisterForm)) (are : FormsLeft IsRegister view.entry forms)
         → IsSpanned (IsAmongRegisters level (length registers.old) registers.old located.fault are.0) located.span) }
+    ensures nowhere { IfErr result (λ located. NoneForMemory located) }
 {
     let first = registers.len();
     let mut left = view;
@@ -58,6 +59,7 @@ fn locate_register(
     ensures known { IfOk result (λ entry. IsKnownUnlessAtomic (terms_of entry.1.claim)) }
     ensures span { IfErr result (λ located. located.fault ≢ Memory
         → IsSpanned (IsInRegister first registers.now located.fault (piece_of element.now)) located.span) }
+    ensures nowhere { IfErr result (λ located. NoneForMemory located) }
 {
     match read_register(alloc, element, level, first, registers) {
         Ok(found) => Ok(found),

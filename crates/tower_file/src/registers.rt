@@ -6,6 +6,7 @@ ghost use Rattle.std.specs.List.{slice_get};
 ghost use Rattle.intervals.specs.Terms.{terms_of, IsKnownUnlessAtomic};
 ghost use Rattle.tower_file.specs.Contents.{number_of};
 ghost use Rattle.tower_file.specs.Views.{kept_register};
+ghost use Rattle.tower_file.specs.Located.{NoneForMemory};
 ghost use Rattle.tower_file.specs.declared.fault.TowerFault.TheVariants.{Memory};
 
 use crate::located::LocatedFault;
@@ -82,6 +83,7 @@ impl Registers {
         ensures ok { OnOk result (self.new ≡ self.old ++ kept_register (name, entry) ∷ []) }
         ensures err { OnErr result (self.new ≡ self.old) }
         ensures memory { IfErr result (λ located. located.fault ≡ Memory) }
+        ensures nowhere { IfErr result (λ located. NoneForMemory located) }
     {
         self.by_name.insert(name, entry)?;
         Ok(())

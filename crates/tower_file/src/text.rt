@@ -5,7 +5,7 @@ ghost use Rattle.edn_reader.specs.Grammar.{Piece};
 ghost use Rattle.edn_reader.specs.Text.{IsText};
 ghost use Rattle.edn_reader.specs.Fault.{IsMemory};
 ghost use Rattle.edn_reader.specs.Given.{given, seen};
-ghost use Rattle.tower_file.specs.Located.{text_span, place_of as place_that};
+ghost use Rattle.tower_file.specs.Located.{text_span, NoneForMemory, place_of as place_that};
 ghost use Rattle.tower_file.specs.Stated.{IsTextFault};
 
 use crate::fault::TowerFault;
@@ -34,6 +34,7 @@ pub fn locate_text(alloc: Global, bytes: &[u8]) -> Result<Field<'_>, LocatedFaul
     ensures text { IfOk result (λ found. (pieces : List Piece) × IsText bytes.now pieces × (seen found ≡ given pieces)) }
     ensures fault { IfErr result (λ located. IsTextFault bytes.now located.fault) }
     ensures span { IfErr result (λ located. located.span ≡ text_span located.fault) }
+    ensures nowhere { IfErr result (λ located. NoneForMemory located) }
 {
     match read_text(alloc, bytes) {
         Ok(found) => Ok(found),

@@ -6,7 +6,7 @@ ghost use Rattle.std.specs.List.{slice_get};
 ghost use Rattle.intervals.specs.Terms.{terms_of, IsKnownUnlessAtomic};
 ghost use Rattle.tower_file.specs.Contents.{Contents, number_of};
 ghost use Rattle.tower_file.specs.Tower.{IsTowerOf, HasTowerFault, MayWantMemory};
-ghost use Rattle.tower_file.specs.Located.{Span, HasFaultAt, fault_alone};
+ghost use Rattle.tower_file.specs.Located.{Span, HasFaultAt, fault_alone, NoneForMemory};
 ghost use Rattle.tower_file.specs.declared.fault.TowerFault.{TowerFault as Fault};
 
 use crate::fault::{TowerFault, TowerField};
@@ -59,6 +59,7 @@ impl Tower {
         ensures fault { IfErr result (λ located. located.fault ≢ TowerFault.Memory → HasTowerFault bytes.now located.fault) }
         ensures span { IfErr result (λ located. located.fault ≢ TowerFault.Memory
             → (span : Span) × (located.span ≡ Some span) × HasFaultAt bytes.now located.fault span) }
+        ensures nowhere { IfErr result (λ located. NoneForMemory located) }
         ensures reads { (tower : Contents) → IsTowerOf bytes.now tower → (fault_alone result ≡ Ok tower) ⊎ (fault_alone result ≡ Err TowerFault.Memory) }
         ensures refuses { (fault : Fault) → HasTowerFault bytes.now fault → (fault_alone result ≡ Err fault) ⊎ (fault_alone result ≡ Err TowerFault.Memory) }
         ensures memory { IfErr result (λ located. located.fault ≡ TowerFault.Memory → MayWantMemory bytes.now) }

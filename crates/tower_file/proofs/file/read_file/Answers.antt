@@ -1,4 +1,4 @@
-use Rattle.std.proofs.Common.{◌≡◌, Ok, Err, refl, inl, subst, ◌∙◌}
+use Rattle.std.proofs.Common.{◌≡◌, Ok, Err, refl, inl, sym, subst, ◌∙◌}
 use Rattle.std.specs.Prelude.{codes}
 use Rattle.std.proofs.lemmas.Result.{err_from_is_err_and}
 use Rattle.edn_reader.specs.Lent.{piece_of}
@@ -77,3 +77,13 @@ returns-in_err-read_levels-clause-memory c =
       reaches = subst (λ (tower : Contents). ReachesKept tower v.0) (begins_empty c.new-levels.result c.new-registers.result c.new-levels.ensures.items c.new-registers.ensures)
           (c.in_err-read_levels.ensures.memory wanted v.0 v.2);
     })
+
+pub returns-in_err-view-clause-nowhere : goal.returns-in_err-view-clause-nowhere
+returns-in_err-view-clause-nowhere c =
+    let p = err_from_is_err_and c.from_residual.result c.from_residual.ensures.1 in
+    rw (p.1, p.2) (λ e. absurd (let k = sym c.in_err-view.ensures.shape ∙ e in cc))
+
+pub returns-in_err-read_levels-clause-nowhere : goal.returns-in_err-read_levels-clause-nowhere
+returns-in_err-read_levels-clause-nowhere c =
+    let p = err_from_is_err_and c.from_residual-in_err-read_levels.result c.from_residual-in_err-read_levels.ensures.1 in
+    rw (p.1, p.2) (c.in_err-read_levels.ensures.nowhere)

@@ -114,3 +114,28 @@ returns-in_err-push-clause-memory c =
     let f = map_form AreLevelFields (piece_of c.args.element.now) c.in-Some.map c.in-Some.ensures.pairs.0 c.in-Some.ensures.pairs.1 form h in
     let v = c.in_ok-view.ensures.registers f.1 f.0.registers f.3 f.4.registers in
     level_kept form f.0 (under (codes ":name") f.1) c.in_ok-name.name.now v.0 f.2 f.4.name (c.in_ok-name.ensures.name f.1 f.3) v.1)
+
+pub returns-in_err-name-clause-nowhere : goal.returns-in_err-name-clause-nowhere
+returns-in_err-name-clause-nowhere c =
+    let p = err_from_is_err_and c.from_residual.result c.from_residual.ensures.1 in
+    rw (p.1, p.2) (λ e. absurd (c.in_err-name.ensures.shape e))
+
+pub returns-in_err-view-clause-nowhere : goal.returns-in_err-view-clause-nowhere
+returns-in_err-view-clause-nowhere c =
+    let p = err_from_is_err_and c.from_residual-in_err-view.result c.from_residual-in_err-view.ensures.1 in
+    rw (p.1, p.2) (λ e. absurd (let k = sym c.in_err-view.ensures.shape ∙ e in cc))
+
+pub returns-in_err-read_registers-clause-nowhere : goal.returns-in_err-read_registers-clause-nowhere
+returns-in_err-read_registers-clause-nowhere c =
+    let p = err_from_is_err_and c.from_residual-in_err-read_registers.result c.from_residual-in_err-read_registers.ensures.1 in
+    rw (p.1, p.2) (c.in_err-read_registers.ensures.nowhere)
+
+pub returns-in_err-from_slice-clause-nowhere : goal.returns-in_err-from_slice-clause-nowhere
+returns-in_err-from_slice-clause-nowhere c =
+    let p = err_from_is_err_and c.from_residual-in_err-from_slice.result c.from_residual-in_err-from_slice.ensures.1 in
+    rw (p.1, p.2) (λ e. refl)
+
+pub returns-in_err-push-clause-nowhere : goal.returns-in_err-push-clause-nowhere
+returns-in_err-push-clause-nowhere c =
+    let p = err_from_is_err_and c.from_residual-in_err-push.result c.from_residual-in_err-push.ensures.1 in
+    rw (p.1, p.2) (λ e. refl)

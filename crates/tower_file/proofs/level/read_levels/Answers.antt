@@ -45,3 +45,8 @@ returns-in_err-read_level-clause-memory c =
     reached_kept (contents_with c.args.levels.now c.args.registers.now) forms
     (after_reaches IsLevel level_after IsKept c.args.view c.loop-element.left c.next.new.self c.in-Some.element (contents_with c.args.levels.now c.args.registers.now)
     (contents_with c.loop-element.levels c.loop-element.registers) c.loop-element.invariant c.in-Some.ensures.member (c.in_err-read_level.ensures.memory wanted) forms h))
+
+pub returns-in_err-read_level-clause-nowhere : goal.returns-in_err-read_level-clause-nowhere
+returns-in_err-read_level-clause-nowhere c =
+    let p = err_from_is_err_and c.from_residual.result c.from_residual.ensures.1 in
+    rw (p.1, p.2) (c.in_err-read_level.ensures.nowhere)

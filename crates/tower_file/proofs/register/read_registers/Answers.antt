@@ -54,3 +54,13 @@ pub returns-clause-ok : goal.returns-clause-ok
 returns-clause-ok c forms h =
     subst (λ (first : ℕ). through (with_register c.args.level first) c.args.registers.now forms ≡ Ok c.loop-element.registers) c.len-first.ensures.length
     (after_ends IsRegister (with_register c.args.level c.len-first.result) c.args.view c.loop-element.left c.next.new.self c.args.registers.now c.loop-element.registers c.loop-element.invariant c.in_default.ensures.member forms h)
+
+pub returns-in_err-name-clause-nowhere : goal.returns-in_err-name-clause-nowhere
+returns-in_err-name-clause-nowhere c =
+    let p = err_from_is_err_and c.from_residual.result c.from_residual.ensures.1 in
+    rw (p.1, p.2) (c.in_err-name.ensures.nowhere)
+
+pub returns-in_err-push-clause-nowhere : goal.returns-in_err-push-clause-nowhere
+returns-in_err-push-clause-nowhere c =
+    let p = err_from_is_err_and c.from_residual-in_err-push.result c.from_residual-in_err-push.ensures.1 in
+    rw (p.1, p.2) (c.in_err-push.ensures.nowhere)

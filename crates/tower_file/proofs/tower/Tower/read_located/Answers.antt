@@ -87,6 +87,7 @@ returns-in-Absent c =
       reads = answered_reads c.args.bytes.now refused answered;
       refuses = answered_refuses c.args.bytes.now refused (c.text_or_fault.ensures.not_both c.args.bytes.now) answered;
       span = λ other. at_whole c.args.bytes.now c.in_ok-element.field-0 (c.one_division.ensures c.args.bytes.now) c.in_ok-element.ensures.text c.in-Absent.is;
+      nowhere = λ wanted. absurd cc;
       memory = λ wanted. absurd cc;
     }
 
@@ -95,3 +96,13 @@ returns-in_err-levels-in-Once-clause-memory c =
     let p = err_from_is_err_and c.from_residual-in_err-levels-in-Once.result c.from_residual-in_err-levels-in-Once.ensures.1 in
     let some = file_some c.pairs_of_map.ensures.some c.pairs_of_map.ensures.elements c.members_of_vector.ensures.some c.members_of_vector.ensures.elements in
     rw (p.1, p.2) (λ wanted. inr (kept_file c.args.bytes.now c.in-Once.element c.in_ok-element.field-0 c.in-Once.is c.in_ok-element.ensures.text (c.each_lent_is_element.ensures c.in-Once.element) some (c.in_err-levels-in-Once.ensures.memory wanted)))
+
+pub returns-in_err-element-clause-nowhere : goal.returns-in_err-element-clause-nowhere
+returns-in_err-element-clause-nowhere c =
+    let p = err_from_is_err_and c.from_residual.result c.from_residual.ensures.1 in
+    rw (p.1, p.2) (c.in_err-element.ensures.nowhere)
+
+pub returns-in_err-levels-in-Once-clause-nowhere : goal.returns-in_err-levels-in-Once-clause-nowhere
+returns-in_err-levels-in-Once-clause-nowhere c =
+    let p = err_from_is_err_and c.from_residual-in_err-levels-in-Once.result c.from_residual-in_err-levels-in-Once.ensures.1 in
+    rw (p.1, p.2) (c.in_err-levels-in-Once.ensures.nowhere)
