@@ -1,4 +1,4 @@
-//! Feeders in threads, by halves.
+//! Feeders by halves, in threads or in turn.
 
 ghost use Rattle.std.specs.Prelude.{◌≡◌, ◌≤◌, ◌<◌, ◌++◌, All, Err, IfErr, IfOk, OnOk, length, map, take, drop, vec_len};
 ghost use Rattle.feeders.specs.declared.fault.RunFault.TheVariants.{Memory};
@@ -59,6 +59,30 @@ pub fn feed_all<'t, O: Opening + Send + Sync, R: Threads + Wait + Sync, G: Gate>
             ensures fault { IfErr result MayEnd }
         { feed_all(site, rest, back) },
     );
+    joined(first, second)
+}
+
+/// The same on this thread alone, the first half before the rest.
+pub fn feed_in_turn<'t, O: Opening, R: Wait, G: Gate>(
+    site: Site<'_, '_, 't, O, R, G>,
+    mut passes: Vec<Pass<'t>>,
+    traces: &[&'t [u8]],
+) -> Result<Vec<Fed<'t>>, RunFault>
+    requires some { 0 < O.plan.shards }
+    requires of_tower { O.plan.claims ≡ claims_of site.tower.now }
+    requires fresh { AreFresh O.plan passes.items }
+    requires each { vec_len passes ≡ length traces.now }
+    ensures fed { IfOk result (λ feds. AreFed O.plan site.entry.tower.now site.entry.field passes.entry.items traces.entry.now feds.items) }
+    ensures by_text { IfOk result (λ feds. All (λ fed. IsNotOfReading fed.log) feds.items) }
+    ensures fault { IfErr result MayEnd }
+{
+    if traces.len() < 2 {
+        return feed_alone(site, passes, traces);
+    }
+    let (front, back) = traces.split_at(traces.len() / 2);
+    let rest = passes_from::<O>(&mut passes, front.len())?;
+    let first = feed_in_turn(site, passes, front);
+    let second = feed_in_turn(site, rest, back);
     joined(first, second)
 }
 

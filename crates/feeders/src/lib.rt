@@ -32,4 +32,4 @@ pub use fault::{FeedFault, RunFault};
 pub use feeder::Feeder;
 pub use log::{BreakCode, Broken, Code, Line, Log, What};
 pub use pages::Pages;
-pub use run::{Run, run_readers, run_traces};
+pub use run::{Run, run_in_turn, run_readers, run_traces};

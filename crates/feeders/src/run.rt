@@ -7,7 +7,7 @@ ghost use Rattle.feeders.specs.Readers.{AreReadOf, IsNotOfReading};
 ghost use Rattle.feeders.specs.Run.{IsRun};
 
 use crate::fault::RunFault;
-use crate::halves::{feed_all, read_all, taken_apart};
+use crate::halves::{feed_all, feed_in_turn, read_all, taken_apart};
 use crate::log::Log;
 use crate::pages::Pages;
 use crate::site::Site;
@@ -45,6 +45,25 @@ pub fn run_traces<'t, R: Threads + Wait + Sync, G: Gate>(
     ensures fault { IfErr result MayEnd }
 {
     run_in::<Brand, R, G>(rt, alloc, tower, traces, field, shards, gate)
+}
+
+/// The same on this thread alone, one trace after another: what meets on a register is always refused alike.
+pub fn run_in_turn<'t, R: Wait, G: Gate>(
+    rt: &R,
+    alloc: Global,
+    tower: &Tower,
+    traces: &[&'t [u8]],
+    field: MomentField,
+    shards: u32,
+    gate: &G,
+) -> Result<Run<'t>, RunFault>
+    requires traces { (1 ≤ length traces.now) × (length traces.now ≤ 256) }
+    requires shards { (1 ≤ shards) × (shards ≤ 64) }
+    ensures run { IfOk result (λ run. IsRun tower.now field shards (map (λ trace. trace.now) traces.entry.now) run.closed run.logs.items) }
+    ensures by_text { IfOk result (λ run. All IsNotOfReading run.logs.items) }
+    ensures fault { IfErr result MayEnd }
+{
+    turn_in::<Brand, R, G>(rt, alloc, tower, traces, field, shards, gate)
 }
 
 /// Feeds what each reader gives, in pieces as they come, each by a thread of its own, this one among them: feeder `i` has
@@ -124,6 +143,40 @@ fn run_in<'t, O: Opening + Send + Sync, R: Threads + Wait + Sync, G: Gate>(
         field,
     };
     let feds = feed_all(site, passes, traces)?;
+    let (passes, logs) = taken_apart(alloc, feds)?;
+    match auditor.finish(passes) {
+        Ok(closed) => Ok(Run { closed, logs }),
+        Err(unfinished) => Err(RunFault::from(unfinished.fault)),
+    }
+}
+
+/// The same in an opening.
+fn turn_in<'t, O: Opening, R: Wait, G: Gate>(
+    rt: &R,
+    alloc: Global,
+    tower: &Tower,
+    traces: &[&'t [u8]],
+    field: MomentField,
+    shards: u32,
+    gate: &G,
+) -> Result<Run<'t>, RunFault>
+    requires opening { O.plan ≡ plan_of 0 tower.now shards (length traces.now) }
+    requires traces { (1 ≤ length traces.now) × (length traces.now ≤ 256) }
+    requires shards { (1 ≤ shards) × (shards ≤ 64) }
+    ensures run { IfOk result (λ run. IsRun tower.now field shards (map (λ trace. trace.now) traces.entry.now) run.closed run.logs.items) }
+    ensures by_text { IfOk result (λ run. All IsNotOfReading run.logs.items) }
+    ensures fault { IfErr result MayEnd }
+{
+    let (auditor, passes) = Auditor::<O>::open(alloc, 0, tower, shards, traces.len() as u32)?;
+    let site = Site {
+        rt,
+        alloc,
+        auditor: &auditor,
+        gate,
+        tower,
+        field,
+    };
+    let feds = feed_in_turn(site, passes, traces)?;
     let (passes, logs) = taken_apart(alloc, feds)?;
     match auditor.finish(passes) {
         Ok(closed) => Ok(Run { closed, logs }),
