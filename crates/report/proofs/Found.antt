@@ -76,9 +76,9 @@ failing_joined closed first middle last fails more are rest = record {
 }
 
 -- one register more
-pub failing_more : (closed : List Ended) (number : ℕ) (finding : Finding) (old new : List Bool) → IsFindingOf (book_of closed number) finding → new ≡ old ++ is_some finding.witness ∷ [] → AreFailing closed 0 number old → AreFailing closed 0 (number + 1) new
-failing_more closed number finding old new is more so_far =
-    subst (λ (fails : List Bool). AreFailing closed 0 (number + 1) fails) (sym more) (failing_joined closed 0 number (number + 1) old (is_some finding.witness ∷ []) so_far (one_failing closed number finding is))
+pub found_more : (closed : List Ended) (number : ℕ) (finding : Finding) (old new : List Finding) → IsFindingOf (book_of closed number) finding → new ≡ old ++ finding ∷ [] → length old ≡ number → AreFindings closed 0 old → AreFindings closed 0 new
+found_more closed number finding old new is more many so_far =
+    subst (λ (findings : List Finding). AreFindings closed 0 findings) (sym more) (found_joined closed 0 number old (finding ∷ []) (omega (arith, many)) so_far (is, tt))
 
 -- what a finding says of its book
 

@@ -5,3 +5,4 @@ pub mod Blamed
 pub mod Orders
 pub mod Crosses
 pub mod Pieces
+pub mod Refusals

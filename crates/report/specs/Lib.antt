@@ -8,3 +8,7 @@ pub mod Piece
 pub mod Notes
 pub mod Order
 pub mod Report
+pub mod Counts
+pub mod Failing
+pub mod Refused
+pub mod Summary

@@ -43,7 +43,7 @@ pub fn culprits_in(alloc: Global, tower: &Tower, failing: &[bool]) -> Result<Vec
 }
 
 /// Whether the register fails while all its parts hold.
-fn is_culprit(tower: &Tower, failing: &[bool], id: RegId) -> bool
+pub fn is_culprit(tower: &Tower, failing: &[bool], id: RegId) -> bool
     ensures { result ≡ option_map_or (is_a_culprit failing.now id.0) (slice_get tower.now.registers id.0) false }
 {
     match tower.parts_of(id) {

@@ -3,7 +3,7 @@
 ghost use Rattle.std.specs.Prelude.{◌≡◌, IfOk, IsSome, length};
 ghost use Rattle.register_book.specs.Kept.{claimed_of};
 ghost use Rattle.shards.specs.Closing.{book_of};
-ghost use Rattle.report.specs.Finding.{AreFailing, IsFinding, IsFindingOf, IsOfTower, fails_in, holds_in};
+ghost use Rattle.report.specs.Finding.{AreFailing, AreFindings, IsFinding, IsFindingOf, IsOfTower, fails_in, fails_of, holds_in};
 
 use intervals::{Kind, RegId};
 use register_book::{RegisterBook, Witness};
@@ -26,12 +26,36 @@ pub fn find_failing(alloc: Global, tower: &Tower, closed: &Closed) -> Result<Vec
     requires of_tower { IsOfTower tower.now closed.now }
     ensures { IfOk result (λ failing. AreFailing closed.now 0 (length tower.now.registers) failing.items) }
 {
-    let mut failing = Vec::new(alloc);
-    for number in 0..tower.len() {
-        let finding = finding_of(closed, RegId(number as u32));
-        failing.push(finding.witness.is_some())?;
-    }
+    let findings = find_all(alloc, tower, closed)?;
+    let failing = failing_of(alloc, &findings)?;
     Ok(failing)
+}
+
+/// Which fail, by what is found of them.
+pub fn failing_of(alloc: Global, findings: &[Finding]) -> Result<Vec<bool>, AllocError>
+    ensures { IfOk result (λ failing. failing.items ≡ fails_of findings.now) }
+{
+    findings
+        .iter()
+        .map(|finding| finding.witness.is_some())
+        .collect(alloc)
+}
+
+/// What is found of each register, by number.
+pub fn find_all<'t>(
+    alloc: Global,
+    tower: &Tower,
+    closed: &Closed<'t>,
+) -> Result<Vec<Finding<'t>>, AllocError>
+    requires of_tower { IsOfTower tower.now closed.now }
+    ensures many { IfOk result (λ findings. length findings.items ≡ length tower.now.registers) }
+    ensures found { IfOk result (λ findings. AreFindings closed.now 0 findings.items) }
+{
+    let mut findings = Vec::new(alloc);
+    for number in 0..tower.len() {
+        findings.push(finding_of(closed, RegId(number as u32)))?;
+    }
+    Ok(findings)
 }
 
 /// What is found of a register that is there.

@@ -1,6 +1,6 @@
 //! What the words of this crate come to.
 
-ghost use Rattle.std.specs.Prelude.{◌≡◌, ℕ, List, length};
+ghost use Rattle.std.specs.Prelude.{◌≡◌, ℕ, List, length, sum_by};
 ghost use Rattle.tower_file.specs.Contents.{Contents};
 ghost use Rattle.jepsen_form.specs.declared.item.MomentField.{MomentField};
 ghost use Rattle.shards.specs.Closing.{Ended};
@@ -9,6 +9,7 @@ ghost use Rattle.feeders.specs.Run.{IsRun};
 ghost use Rattle.report.specs.declared.finding.Finding.{Finding};
 ghost use Rattle.report.specs.Finding.{AreFindings, IsOfTower};
 ghost use Rattle.report.specs.Culprit.{AreCulprits, culprits_of};
+ghost use Rattle.report.specs.Refused.{refusal_codes, refused, refused_by};
 
 /// A run leaves a book for each register of its tower.
 pub fn a_run_is_of_its_tower()
@@ -20,4 +21,9 @@ pub fn a_run_is_of_its_tower()
 pub fn the_culprits_are_those()
     ensures { (tower : Contents) (closed : List Ended) (findings : List Finding) → IsOfTower tower closed
         → length findings ≡ length tower.registers → AreFindings closed 0 findings → AreCulprits tower closed (culprits_of tower findings) }
+{}
+
+/// Each refusal is counted under one code: the numbers by code come to the number of all.
+pub fn refusals_by_code_are_all()
+    ensures { (logs : List Log) → sum_by (λ code. refused_by code logs) refusal_codes ≡ refused logs }
 {}

@@ -41,7 +41,8 @@ fn push_register(text: &mut String, tower: &Tower, id: RegId) -> Result<(), Allo
     text.push_str("\n")
 }
 
-fn level_name(tower: &Tower, level: usize) -> &[u8]
+/// The name of a level, empty where there is none of that number.
+pub fn level_name(tower: &Tower, level: usize) -> &[u8]
     ensures { result.now ≡ name_of_level tower.now.levels level }
 {
     match tower.level_name(level) {

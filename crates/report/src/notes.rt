@@ -46,7 +46,12 @@ fn push_line(text: &mut String, tower: &Tower, feeder: usize, line: &Line) -> Re
     }
 }
 
-fn push_broken(text: &mut String, feeder: usize, broken: Option<Broken>) -> Result<(), AllocError>
+/// The line of where a trace broke, where it did.
+pub fn push_broken(
+    text: &mut String,
+    feeder: usize,
+    broken: Option<Broken>,
+) -> Result<(), AllocError>
     ensures { OnOk result (string_bytes text.new ≡ string_bytes text.old ++ broken_line feeder broken) }
 {
     let Some(broken) = broken else {

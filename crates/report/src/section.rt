@@ -130,7 +130,8 @@ fn push_side(text: &mut String, side: &Side) -> Result<(), AllocError>
     }
 }
 
-fn push_fault(text: &mut String, fault: Fault) -> Result<(), AllocError>
+/// The line of a fault.
+pub fn push_fault(text: &mut String, fault: Fault) -> Result<(), AllocError>
     ensures { OnOk result (string_bytes text.new ≡ string_bytes text.old ++ fault_line fault) }
 {
     match fault {

@@ -37,6 +37,14 @@ pub fn report<R: Threads + Sync, W: Write>(
     ensures memory { result ≡ Err ReportFault.Memory → out.new ≡ out.old }
 {
     let text = report_text(rt, alloc, tower, run, order)?;
+    write_whole(&text, out)
+}
+
+/// Writes a text in one write and one flush.
+pub fn write_whole<W: Write>(text: &String, out: &mut W) -> Result<(), ReportFault>
+    ensures text { OnOk result (Appends (W.contents out.old) (W.contents out.new) (string_bytes text.now)) }
+    ensures write { IfErr result (λ fault. fault ≡ ReportFault.Write) }
+{
     out.write_all(text.as_bytes())?;
     out.flush()?;
     Ok(())

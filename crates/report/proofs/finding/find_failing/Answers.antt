@@ -1,10 +1,11 @@
-use Rattle.std.proofs.Common.{◌∙◌, ◌++◌, ◌∷◌, [], Bool, ap, arith}
-use Rattle.report.proofs.Found.{failing_more}
+use Rattle.std.proofs.Common.{◌∙◌, ap, arith}
+use Rattle.report.specs.Finding.{fails_of}
 use Rattle.report.proofs.finding.find_failing.Goals as goal
 
-pub loop-number-preserved : goal.loop-number-preserved
-loop-number-preserved c = record {
-  within = omega (arith, c.loop-number-test.true, c.len-number-end.ensures.length);
-  failing = failing_more c.args.closed.now c.loop-number.number c.finding_of-finding.result c.loop-number.failing.items c.push.new.self.items c.finding_of-finding.ensures
-      (c.in_ok-push.ensures.items ∙ ap (λ (failed : Bool). c.loop-number.failing.items ++ failed ∷ []) c.is_some.ensures) c.loop-number.invariant.failing;
+pub returns : goal.returns
+returns c = record {
+  findings = c.in_ok-findings.findings.items;
+  many = omega (arith, c.in_ok-findings.ensures.many);
+  found = c.in_ok-findings.ensures.found;
+  fails_are = c.in_ok-failing.ensures ∙ ap fails_of c.deref.ensures.value;
 }

@@ -1,0 +1,68 @@
+-- Each refusal is counted under the one code that it has.
+use Rattle.std.proofs.Common.{◌≡◌, ◌∙◌, ℕ, ◌+◌, List, [], ◌∷◌, refl, sym, ap, arith}
+use Rattle.std.proofs.lemmas.List.Sums.{sum_by-cons}
+use Rattle.std.specs.Prelude.{cond, count_by, sum_by}
+use Rattle.std.specs.Str.{bytes_eq}
+use Rattle.intervals.specs.declared.refusal.Refusal.TheVariants.{UnknownOp, OpTaken, EndNotAfterBegin, MomentTaken, MomentTooLarge, NotAWriter, WritesOverlap, ValueTaken, OutOfDomain, ClaimFixed, ClaimWriters, ClaimOverlap, ClaimRepeats, ClaimInitial}
+use Rattle.jepsen_form.specs.declared.fault.FormFault.TheVariants.{NotAMap, MissingField, DuplicateField, BadType, UnsupportedF, BadValue, BadMoment, NoRegister}
+use Rattle.pairing.specs.declared.fault.PairFault.TheVariants.{ProcessBusy, NoInvocation, AnswerMismatch, Memory}
+use Rattle.feeders.specs.Code.{code_of}
+use Rattle.feeders.specs.declared.log.Code.{Code}
+use Rattle.feeders.specs.declared.log.Code.TheVariants.{Form, Pair, Register}
+use Rattle.feeders.specs.declared.log.Line.{Line}
+use Rattle.feeders.specs.declared.log.Log.{Log}
+use Rattle.feeders.specs.declared.log.What.{What}
+use Rattle.feeders.specs.declared.log.What.TheVariants.{Refused, Answered}
+use Rattle.report.specs.Refused.{is_refusal, is_refusal_by, is_refused_by, is_refused_line, refusal_codes, refused, refused_by}
+
+both : {X : Type 0} (f g : X → ℕ) (xs : List X) → sum_by (λ x. f x + g x) xs ≡ sum_by f xs + sum_by g xs
+both f g [] = refl
+both f g (x ∷ xs) = omega (arith, sum_by-cons (λ y. f y + g y) x xs, sum_by-cons f x xs, sum_by-cons g x xs, both f g xs)
+
+one_code : (code : Code) → sum_by (λ known. cond (bytes_eq (code_of code) known) 1 0) refusal_codes ≡ 1
+one_code (Form NotAMap) = refl
+one_code (Form (MissingField field)) = refl
+one_code (Form (DuplicateField field)) = refl
+one_code (Form BadType) = refl
+one_code (Form UnsupportedF) = refl
+one_code (Form BadValue) = refl
+one_code (Form BadMoment) = refl
+one_code (Form NoRegister) = refl
+one_code (Pair ProcessBusy) = refl
+one_code (Pair NoInvocation) = refl
+one_code (Pair AnswerMismatch) = refl
+one_code (Pair Memory) = refl
+one_code (Register UnknownOp) = refl
+one_code (Register OpTaken) = refl
+one_code (Register EndNotAfterBegin) = refl
+one_code (Register (MomentTaken moment id)) = refl
+one_code (Register MomentTooLarge) = refl
+one_code (Register NotAWriter) = refl
+one_code (Register (WritesOverlap id)) = refl
+one_code (Register (ValueTaken holder)) = refl
+one_code (Register OutOfDomain) = refl
+one_code (Register ClaimFixed) = refl
+one_code (Register ClaimWriters) = refl
+one_code (Register (ClaimOverlap id other)) = refl
+one_code (Register (ClaimRepeats id holder)) = refl
+one_code (Register ClaimInitial) = refl
+
+one_line : (what : What) → sum_by (λ known. cond (is_refusal_by known what) 1 0) refusal_codes ≡ cond (is_refusal what) 1 0
+one_line (Refused code) = one_code code
+one_line (Answered register answer) = refl
+
+in_lines : (lines : List Line) → sum_by (λ known. count_by (is_refused_by known) lines) refusal_codes ≡ count_by is_refused_line lines
+in_lines [] = refl
+in_lines (line ∷ lines) =
+    ap (λ (f : List ℕ → ℕ). sum_by f refusal_codes) (λ i known. sum_by-cons (λ x. cond (is_refused_by known x) 1 0) line lines i)
+    ∙ both (λ known. cond (is_refused_by known line) 1 0) (λ known. count_by (is_refused_by known) lines) refusal_codes
+    ∙ (λ i. one_line line.what i + in_lines lines i)
+    ∙ sym (sum_by-cons (λ x. cond (is_refused_line x) 1 0) line lines)
+
+pub by_code : (logs : List Log) → sum_by (λ known. refused_by known logs) refusal_codes ≡ refused logs
+by_code [] = refl
+by_code (log ∷ logs) =
+    ap (λ (f : List ℕ → ℕ). sum_by f refusal_codes) (λ i known. sum_by-cons (λ x. count_by (is_refused_by known) x.lines.items) log logs i)
+    ∙ both (λ known. count_by (is_refused_by known) log.lines.items) (λ known. refused_by known logs) refusal_codes
+    ∙ (λ i. in_lines log.lines.items i + by_code logs i)
+    ∙ sym (sum_by-cons (λ x. count_by is_refused_line x.lines.items) log logs)

@@ -1,0 +1,160 @@
+-- The text of a summary.
+use Rattle.std.specs.Prelude.{◌≡◌, ℕ, Bool, true, false, List, [], ◌∷◌, ◌++◌, ◌&&◌, flat_map, filter, length, take, is_some, is_none, codes, nat_eq, if◌then◌else◌, count_by, sum_by}
+use Rattle.std.specs.Option.{option_map_or}
+use Rattle.std.specs.List.{range_with_len, slice_get}
+use Rattle.std.specs.Fmt.{decimal}
+use Rattle.intervals.specs.declared.claim.Kind.{Kind}
+use Rattle.intervals.specs.declared.claim.Kind.TheVariants.{Safe, Regular, Atomic}
+use Rattle.intervals.specs.declared.operation.RegId.{RegId}
+use Rattle.tower_file.specs.Contents.{Contents, Register}
+use Rattle.shards.specs.Closing.{Ended}
+use Rattle.feeders.specs.declared.log.Log.{Log}
+use Rattle.report.specs.declared.finding.Finding.{Finding}
+use Rattle.report.specs.Names.{printed, name_of, kind_word}
+use Rattle.report.specs.Finding.{AreFindings, fails_of}
+use Rattle.report.specs.Culprit.{culprits_of}
+use Rattle.report.specs.Notes.{broken_line}
+use Rattle.report.specs.Failing.{blamed_line, ids_of_tower, lines_text, more_text, other_line, others_of}
+use Rattle.report.specs.Refused.{refused, refused_text}
+
+-- so many of a word
+abbrev pub counted : ℕ → List ℕ → List ℕ
+counted many word = decimal many ++ codes " " ++ word ++ (if nat_eq many 1 then [] else codes "s")
+
+-- a register that fails
+abbrev pub is_failing : Finding → Bool
+is_failing finding = is_some finding.witness
+
+-- how many operations stand in all registers together
+abbrev pub operations : List Finding → ℕ
+operations findings = sum_by (λ finding. finding.operations) findings
+
+-- the trace broke
+abbrev pub is_broken : Log → Bool
+is_broken log = is_some log.broken
+
+-- how many elements were refused
+abbrev pub refusals_text : ℕ → List ℕ
+refusals_text many = if nat_eq many 0 then codes ", none refused" else codes ", " ++ decimal many ++ codes " refused"
+
+-- how many traces broke, where any did
+abbrev pub breaks_text : ℕ → List ℕ
+breaks_text many = if nat_eq many 0 then [] else codes ", " ++ counted many (codes "trace") ++ codes " broken"
+
+-- how many registers fail, of so many
+abbrev pub failed_text : ℕ → ℕ → List ℕ
+failed_text failing many = decimal failing ++ codes " of " ++ decimal many ++ codes " registers fail, "
+
+-- how many are to blame
+abbrev pub blamed_text : ℕ → List ℕ
+blamed_text blamed = decimal blamed ++ codes " to blame; "
+
+-- what the run was over
+abbrev pub over_text : List Finding → List Log → List ℕ
+over_text findings logs = counted (operations findings) (codes "operation") ++ codes " in " ++ counted (length logs) (codes "trace")
+
+-- what was refused, and what broke
+abbrev pub amiss_text : List Log → List ℕ
+amiss_text logs = refusals_text (refused logs) ++ breaks_text (count_by is_broken logs) ++ 10 ∷ []
+
+-- the first line
+abbrev pub first_line : Contents → List Finding → ℕ → List Log → List ℕ
+first_line tower findings blamed logs = failed_text (count_by is_failing findings) (length tower.registers) ++ blamed_text blamed ++ over_text findings logs ++ amiss_text logs
+
+-- the lines of these culprits, and of the others of the registers that fail
+abbrev pub failing_lines : Contents → List Finding → List Bool → List RegId → List ℕ
+failing_lines tower findings fails culprits =
+    lines_text (blamed_line tower findings) culprits ++ lines_text (other_line tower findings fails) (others_of tower fails)
+
+-- the lines of the registers that fail
+abbrev pub failing_text : Contents → List Finding → List ℕ
+failing_text tower findings = failing_lines tower findings (fails_of findings) (culprits_of tower findings)
+
+-- a kind is the other
+abbrev pub same_kind : Kind → Kind → Bool
+same_kind Safe Safe = true
+same_kind Safe Regular = false
+same_kind Safe Atomic = false
+same_kind Regular Safe = false
+same_kind Regular Regular = true
+same_kind Regular Atomic = false
+same_kind Atomic Safe = false
+same_kind Atomic Regular = false
+same_kind Atomic Atomic = true
+
+-- a register of this kind that holds
+abbrev pub holds_as : Kind → Finding → Bool
+holds_as kind finding = is_none finding.witness && same_kind finding.kind kind
+
+-- how many of a kind hold
+abbrev pub kind_text : List Finding → Kind → List ℕ
+kind_text findings kind = decimal (count_by (holds_as kind) findings) ++ codes " " ++ kind_word kind
+
+-- a register without any operation
+abbrev pub is_idle : List Finding → RegId → Bool
+is_idle findings id = option_map_or (λ finding. nat_eq finding.operations 0) (slice_get findings id.0) false
+
+-- all of them, by number
+abbrev pub idle_of : Contents → List Finding → List RegId
+idle_of tower findings = filter (is_idle findings) (ids_of_tower tower)
+
+-- a name after a space
+abbrev pub name_text : List Register → RegId → List ℕ
+name_text registers id = codes " " ++ printed (name_of registers id)
+
+-- the names of the first 10 of some registers, and how many more there are
+abbrev pub names_text : Contents → List RegId → List ℕ
+names_text tower ids = flat_map (name_text tower.registers) (take 10 ids) ++ more_text (codes " and ") 10 (length ids) (codes " more")
+
+-- how many have no operation
+abbrev pub idle_count_text : ℕ → List ℕ
+idle_count_text many = codes "; " ++ decimal many ++ codes " without any operation:"
+
+-- how many have no operation, and which, where there are any
+abbrev pub idle_text : Contents → List RegId → List ℕ
+idle_text tower idle = if nat_eq (length idle) 0 then [] else idle_count_text (length idle) ++ names_text tower idle
+
+-- how many of each kind hold
+abbrev pub kinds_text : List Finding → List ℕ
+kinds_text findings = kind_text findings Safe ++ codes ", " ++ kind_text findings Regular ++ codes ", " ++ kind_text findings Atomic
+
+-- a register that holds
+abbrev pub is_holding : Finding → Bool
+is_holding finding = is_none finding.witness
+
+-- how many hold
+abbrev pub held_text : List Finding → List ℕ
+held_text findings = decimal (count_by is_holding findings) ++ codes " hold: "
+
+-- the line of the registers that hold
+abbrev pub holding_text : Contents → List Finding → List ℕ
+holding_text tower findings = held_text findings ++ kinds_text findings ++ idle_text tower (idle_of tower findings) ++ 10 ∷ []
+
+-- the trace of this number broke
+abbrev pub breaks_at : List Log → ℕ → Bool
+breaks_at logs feeder = option_map_or is_broken (slice_get logs feeder) false
+
+-- all that broke
+abbrev pub broken_of : List Log → List ℕ
+broken_of logs = filter (breaks_at logs) (range_with_len 0 (length logs))
+
+-- where it broke
+abbrev pub break_line : List Log → ℕ → List ℕ
+break_line logs feeder = option_map_or (λ log. broken_line feeder log.broken) (slice_get logs feeder) []
+
+-- the lines of the first 10 traces that broke
+abbrev pub broken_text : List Log → List ℕ
+broken_text logs =
+    flat_map (break_line logs) (take 10 (broken_of logs)) ++ more_text (codes "and ") 10 (length (broken_of logs)) (codes " more" ++ 10 ∷ [])
+
+-- the text: the first line, the registers that fail, those that hold, the refusals by code, and what broke
+abbrev pub summary_text : Contents → List Finding → List Log → List ℕ
+summary_text tower findings logs =
+    first_line tower findings (length (culprits_of tower findings)) logs ++ failing_text tower findings ++ holding_text tower findings ++ refused_text logs ++ broken_text logs
+
+-- the text is that of what is found of each register, and of these logs
+pub record IsSummary (tower : Contents) (closed : List Ended) (logs : List Log) (text : List ℕ) : Type 0 where
+  pub findings : List Finding
+  pub many : length findings ≡ length tower.registers
+  pub found : AreFindings closed 0 findings
+  pub text_is : text ≡ summary_text tower findings logs

@@ -1,0 +1,359 @@
+//! The summary of a run.
+
+ghost use Rattle.std.specs.Prelude.{◌≡◌, ◌++◌, Err, IfOk, OnOk, List, ℕ, count_by, flat_map, length, string_bytes};
+ghost use Rattle.std.specs.Io.KnownBytes.{Appends};
+ghost use Rattle.report.specs.Culprit.{culprits_of};
+ghost use Rattle.report.specs.Finding.{IsOfTower};
+ghost use Rattle.report.specs.Summary.{IsSummary, amiss_text, blamed_text, breaks_text, break_line, breaks_at, broken_of, broken_text, counted, failed_text, failing_lines, failing_text, first_line, held_text, holding_text, holds_as as holds_as_kind, idle_count_text, idle_of, idle_text, is_broken as is_broken_log, is_failing, is_idle as is_idle_register, kind_text, kinds_text, name_text, names_text, operations, over_text, refusals_text, same_kind};
+
+use crate::culprit::culprits_in;
+use crate::failing::{at_most, others_in, push_blamed, push_more, push_others};
+use crate::fault::ReportFault;
+use crate::finding::{Finding, failing_of, find_all};
+use crate::names::{kind_word, name_of, push_printed};
+use crate::notes::push_broken;
+use crate::refused::{count_refused, push_refused};
+use crate::text::write_whole;
+use feeders::{Log, Run};
+use intervals::{Kind, RegId};
+use std::alloc::{AllocError, Global};
+use std::io::Write;
+use tower_file::Tower;
+
+/// How many registers without operations, and how many broken traces, are named.
+const NAMED: usize = 10;
+
+/// Writes the summary of a run over the registers of a tower, in one write and one flush: at most 56 lines, however
+/// many registers fail and traces break. The run has to be of the tower.
+pub fn summary<W: Write>(
+    alloc: Global,
+    tower: &Tower,
+    run: &Run,
+    out: &mut W,
+) -> Result<(), ReportFault>
+    requires of_tower { IsOfTower tower.now run.now.closed }
+    ensures summary { OnOk result ((text : List ℕ) × IsSummary tower.now run.now.closed run.now.logs.items text × Appends (W.contents out.old) (W.contents out.new) text) }
+    ensures memory { result ≡ Err ReportFault.Memory → out.new ≡ out.old }
+{
+    let text = summary_text(alloc, tower, run)?;
+    write_whole(&text, out)
+}
+
+fn summary_text(alloc: Global, tower: &Tower, run: &Run) -> Result<String, AllocError>
+    requires of_tower { IsOfTower tower.now run.now.closed }
+    ensures { IfOk result (λ text. IsSummary tower.now run.now.closed run.now.logs.items (string_bytes text)) }
+{
+    let findings = find_all(alloc, tower, &run.closed)?;
+    let mut text = String::new(alloc);
+    push_registers(&mut text, alloc, tower, &findings, &run.logs)?;
+    push_refused(&mut text, &run.logs)?;
+    push_breaks(&mut text, alloc, &run.logs)?;
+    Ok(text)
+}
+
+/// The first line, and what is told of the registers.
+fn push_registers(
+    text: &mut String,
+    alloc: Global,
+    tower: &Tower,
+    findings: &[Finding],
+    logs: &[Log],
+) -> Result<(), AllocError>
+    ensures { OnOk result (string_bytes text.new ≡ string_bytes text.old ++ first_line tower.now findings.now (length (culprits_of tower.now findings.now)) logs.now ++ failing_text tower.now findings.now ++ holding_text tower.now findings.now) }
+{
+    let failing = failing_of(alloc, findings)?;
+    let culprits = culprits_in(alloc, tower, &failing)?;
+    push_first(text, tower, findings, culprits.len(), logs)?;
+    push_failing(text, alloc, tower, findings, &failing, &culprits)?;
+    push_holding(text, alloc, tower, findings)
+}
+
+/// The lines of the registers that fail: the culprits, and then the others.
+fn push_failing(
+    text: &mut String,
+    alloc: Global,
+    tower: &Tower,
+    findings: &[Finding],
+    failing: &[bool],
+    culprits: &[RegId],
+) -> Result<(), AllocError>
+    ensures { OnOk result (string_bytes text.new ≡ string_bytes text.old ++ failing_lines tower.now findings.now failing.now culprits.now) }
+{
+    push_blamed(text, tower, findings, culprits)?;
+    let others = others_in(alloc, tower, failing)?;
+    push_others(text, tower, findings, failing, &others)
+}
+
+fn push_first(
+    text: &mut String,
+    tower: &Tower,
+    findings: &[Finding],
+    blamed: usize,
+    logs: &[Log],
+) -> Result<(), AllocError>
+    ensures { OnOk result (string_bytes text.new ≡ string_bytes text.old ++ first_line tower.now findings.now blamed logs.now) }
+{
+    push_failed(text, count_failing(findings), tower.len())?;
+    push_blamed_count(text, blamed)?;
+    push_over(text, findings, logs)?;
+    push_amiss(text, logs)
+}
+
+/// How many registers fail, of so many.
+fn push_failed(text: &mut String, failing: usize, many: usize) -> Result<(), AllocError>
+    ensures { OnOk result (string_bytes text.new ≡ string_bytes text.old ++ failed_text failing many) }
+{
+    write!(text, "{failing} of {many} registers fail, ")
+}
+
+/// How many are to blame.
+fn push_blamed_count(text: &mut String, blamed: usize) -> Result<(), AllocError>
+    ensures { OnOk result (string_bytes text.new ≡ string_bytes text.old ++ blamed_text blamed) }
+{
+    write!(text, "{blamed} to blame; ")
+}
+
+fn count_failing(findings: &[Finding]) -> usize
+    ensures { result ≡ count_by is_failing findings.now }
+{
+    findings
+        .iter()
+        .filter(|finding| finding.witness.is_some())
+        .count()
+}
+
+/// What the run was over.
+fn push_over(text: &mut String, findings: &[Finding], logs: &[Log]) -> Result<(), AllocError>
+    ensures { OnOk result (string_bytes text.new ≡ string_bytes text.old ++ over_text findings.now logs.now) }
+{
+    push_counted(text, count_operations(findings), "operation")?;
+    text.push_str(" in ")?;
+    push_counted(text, logs.len() as u128, "trace")
+}
+
+/// What was refused, and what broke.
+fn push_amiss(text: &mut String, logs: &[Log]) -> Result<(), AllocError>
+    ensures { OnOk result (string_bytes text.new ≡ string_bytes text.old ++ amiss_text logs.now) }
+{
+    push_refusals(text, count_refused(logs))?;
+    push_breaks_count(text, count_broken(logs))?;
+    text.push_str("\n")
+}
+
+/// So many of a word.
+fn push_counted(text: &mut String, many: u128, word: &str) -> Result<(), AllocError>
+    ensures { OnOk result (string_bytes text.new ≡ string_bytes text.old ++ counted many word.now) }
+{
+    write!(text, "{many} ")?;
+    text.push_str(word)?;
+    if many == 1 {
+        return Ok(());
+    }
+    text.push_str("s")
+}
+
+fn count_operations(findings: &[Finding]) -> u128
+    ensures { result ≡ operations findings.now }
+{
+    findings
+        .iter()
+        .map(|finding| u128::from(finding.operations))
+        .sum()
+}
+
+fn push_refusals(text: &mut String, many: u128) -> Result<(), AllocError>
+    ensures { OnOk result (string_bytes text.new ≡ string_bytes text.old ++ refusals_text many) }
+{
+    if many == 0 {
+        return text.push_str(", none refused");
+    }
+    write!(text, ", {many} refused")
+}
+
+fn push_breaks_count(text: &mut String, many: usize) -> Result<(), AllocError>
+    ensures { OnOk result (string_bytes text.new ≡ string_bytes text.old ++ breaks_text many) }
+{
+    if many == 0 {
+        return Ok(());
+    }
+    text.push_str(", ")?;
+    push_counted(text, many as u128, "trace")?;
+    text.push_str(" broken")
+}
+
+fn count_broken(logs: &[Log]) -> usize
+    ensures { result ≡ count_by is_broken_log logs.now }
+{
+    logs.iter().filter(|log| log.broken.is_some()).count()
+}
+
+/// The line of the registers that hold.
+fn push_holding(
+    text: &mut String,
+    alloc: Global,
+    tower: &Tower,
+    findings: &[Finding],
+) -> Result<(), AllocError>
+    ensures { OnOk result (string_bytes text.new ≡ string_bytes text.old ++ holding_text tower.now findings.now) }
+{
+    push_held(text, findings)?;
+    push_kinds(text, findings)?;
+    let idle = idle_in(alloc, tower, findings)?;
+    push_idle(text, tower, &idle)?;
+    text.push_str("\n")
+}
+
+/// How many hold.
+fn push_held(text: &mut String, findings: &[Finding]) -> Result<(), AllocError>
+    ensures { OnOk result (string_bytes text.new ≡ string_bytes text.old ++ held_text findings.now) }
+{
+    let holding = findings
+        .iter()
+        .filter(|finding| finding.witness.is_none())
+        .count();
+    write!(text, "{holding} hold: ")
+}
+
+/// How many of each kind.
+fn push_kinds(text: &mut String, findings: &[Finding]) -> Result<(), AllocError>
+    ensures { OnOk result (string_bytes text.new ≡ string_bytes text.old ++ kinds_text findings.now) }
+{
+    push_kind(text, findings, Kind::Safe)?;
+    text.push_str(", ")?;
+    push_kind(text, findings, Kind::Regular)?;
+    text.push_str(", ")?;
+    push_kind(text, findings, Kind::Atomic)
+}
+
+fn push_kind(text: &mut String, findings: &[Finding], kind: Kind) -> Result<(), AllocError>
+    ensures { OnOk result (string_bytes text.new ≡ string_bytes text.old ++ kind_text findings.now kind) }
+{
+    let many = findings
+        .iter()
+        .filter(|finding| holds_as(finding, kind))
+        .count();
+    write!(text, "{many} ")?;
+    text.push_str(kind_word(kind))
+}
+
+fn holds_as(finding: &Finding, kind: Kind) -> bool
+    ensures { result ≡ holds_as_kind kind finding.now }
+{
+    finding.witness.is_none() && is_kind(finding.kind, kind)
+}
+
+fn is_kind(kind: Kind, other: Kind) -> bool
+    ensures { result ≡ same_kind kind other }
+{
+    match (kind, other) {
+        (Kind::Safe, Kind::Safe) => true,
+        (Kind::Regular, Kind::Regular) => true,
+        (Kind::Atomic, Kind::Atomic) => true,
+        _ => false,
+    }
+}
+
+/// The registers without any operation, by number.
+fn idle_in(alloc: Global, tower: &Tower, findings: &[Finding]) -> Result<Vec<RegId>, AllocError>
+    ensures { IfOk result (λ idle. idle.items ≡ idle_of tower.now findings.now) }
+{
+    (0..tower.len() as u32)
+        .map(|number| RegId(number))
+        .filter(|id| is_idle(findings, *id))
+        .collect(alloc)
+}
+
+fn is_idle(findings: &[Finding], id: RegId) -> bool
+    ensures { result ≡ is_idle_register findings.now id }
+{
+    match findings.get(id.0 as usize) {
+        Some(finding) => finding.operations == 0,
+        None => false,
+    }
+}
+
+/// How many registers have no operation, and which.
+fn push_idle(text: &mut String, tower: &Tower, idle: &[RegId]) -> Result<(), AllocError>
+    ensures { OnOk result (string_bytes text.new ≡ string_bytes text.old ++ idle_text tower.now idle.now) }
+{
+    if idle.len() == 0 {
+        return Ok(());
+    }
+    push_idle_names(text, tower, idle)
+}
+
+fn push_idle_names(text: &mut String, tower: &Tower, idle: &[RegId]) -> Result<(), AllocError>
+    ensures { OnOk result (string_bytes text.new ≡ string_bytes text.old ++ idle_count_text (length idle.now) ++ names_text tower.now idle.now) }
+{
+    push_idle_count(text, idle.len())?;
+    push_first_names(text, tower, idle)
+}
+
+fn push_idle_count(text: &mut String, many: usize) -> Result<(), AllocError>
+    ensures { OnOk result (string_bytes text.new ≡ string_bytes text.old ++ idle_count_text many) }
+{
+    write!(text, "; {many} without any operation:")
+}
+
+/// The names of the first registers, and how many more there are.
+fn push_first_names(text: &mut String, tower: &Tower, ids: &[RegId]) -> Result<(), AllocError>
+    ensures { OnOk result (string_bytes text.new ≡ string_bytes text.old ++ names_text tower.now ids.now) }
+{
+    push_names(text, tower, at_most(ids, NAMED))?;
+    push_more(text, " and ", NAMED, ids.len(), " more")
+}
+
+fn push_names(text: &mut String, tower: &Tower, ids: &[RegId]) -> Result<(), AllocError>
+    ensures { OnOk result (string_bytes text.new ≡ string_bytes text.old ++ flat_map (name_text tower.now.registers) ids.now) }
+{
+    for id in ids {
+        text.push_str(" ")?;
+        push_printed(text, name_of(tower, *id))?;
+    }
+    Ok(())
+}
+
+/// The lines of the traces that broke.
+fn push_breaks(text: &mut String, alloc: Global, logs: &[Log]) -> Result<(), AllocError>
+    ensures { OnOk result (string_bytes text.new ≡ string_bytes text.old ++ broken_text logs.now) }
+{
+    let broken = broken_in(alloc, logs)?;
+    push_break_lines(text, logs, at_most(&broken, NAMED))?;
+    push_more(text, "and ", NAMED, broken.len(), " more\n")
+}
+
+/// The traces that broke, by number.
+fn broken_in(alloc: Global, logs: &[Log]) -> Result<Vec<usize>, AllocError>
+    ensures { IfOk result (λ broken. broken.items ≡ broken_of logs.now) }
+{
+    (0..logs.len())
+        .filter(|feeder| is_broken(logs, *feeder))
+        .collect(alloc)
+}
+
+fn is_broken(logs: &[Log], feeder: usize) -> bool
+    ensures { result ≡ breaks_at logs.now feeder }
+{
+    match logs.get(feeder) {
+        Some(log) => log.broken.is_some(),
+        None => false,
+    }
+}
+
+fn push_break_lines(text: &mut String, logs: &[Log], feeders: &[usize]) -> Result<(), AllocError>
+    ensures { OnOk result (string_bytes text.new ≡ string_bytes text.old ++ flat_map (break_line logs.now) feeders.now) }
+{
+    for feeder in feeders {
+        push_break(text, logs, *feeder)?;
+    }
+    Ok(())
+}
+
+fn push_break(text: &mut String, logs: &[Log], feeder: usize) -> Result<(), AllocError>
+    ensures { OnOk result (string_bytes text.new ≡ string_bytes text.old ++ break_line logs.now feeder) }
+{
+    match logs.get(feeder) {
+        Some(log) => push_broken(text, feeder, log.broken),
+        None => Ok(()),
+    }
+}

@@ -1,0 +1,119 @@
+//! What is told of refusals in a summary.
+
+ghost use Rattle.std.specs.Prelude.{◌≡◌, ◌++◌, OnOk, count_by, flat_map, string_bytes};
+ghost use Rattle.report.specs.Refused.{code_text, first_in as first_in_log, first_refused as first_by, is_refused_by as is_line_by, is_refused_line, refused, refused_by, refused_text, refusal_codes};
+
+use feeders::{Line, Log, What};
+use std::alloc::AllocError;
+
+/// All codes of refused elements: of their form, of the pairing, and of a register.
+const CODES: [&str; 26] = [
+    "F1", "F2", "F3", "F4", "F5", "F6", "F7", "F8", "P1", "P2", "P3", "P4", "X1", "X2", "X3", "X4",
+    "X5", "X6", "X7", "X8", "X9", "X10", "X11", "X12", "X13", "X14",
+];
+
+/// The line of the refusals: how many, and by code how many and where the first stands.
+pub fn push_refused(text: &mut String, logs: &[Log]) -> Result<(), AllocError>
+    ensures { OnOk result (string_bytes text.new ≡ string_bytes text.old ++ refused_text logs.now) }
+{
+    let many = count_refused(logs);
+    if many == 0 {
+        return Ok(());
+    }
+    write!(text, "refused {many}:")?;
+    push_all(text, logs)?;
+    text.push_str("\n")
+}
+
+fn push_all(text: &mut String, logs: &[Log]) -> Result<(), AllocError>
+    ensures { OnOk result (string_bytes text.new ≡ string_bytes text.old ++ flat_map (code_text logs.now) refusal_codes) }
+{
+    let codes: [&str; 26] = CODES;
+    push_codes(text, logs, codes.as_slice())
+}
+
+fn push_codes(text: &mut String, logs: &[Log], codes: &[&str]) -> Result<(), AllocError>
+    ensures { OnOk result (string_bytes text.new ≡ string_bytes text.old ++ flat_map (λ code. code_text logs.now code.now) codes.now) }
+{
+    for code in codes {
+        push_code(text, logs, *code)?;
+    }
+    Ok(())
+}
+
+fn push_code(text: &mut String, logs: &[Log], code: &str) -> Result<(), AllocError>
+    ensures { OnOk result (string_bytes text.new ≡ string_bytes text.old ++ code_text logs.now code.now) }
+{
+    let Some((feeder, event)) = first_refused(logs, code) else {
+        return Ok(());
+    };
+    text.push_str(" ")?;
+    text.push_str(code)?;
+    let many = count_refused_by(logs, code);
+    write!(text, " {many} (first {feeder}:{event})")
+}
+
+/// How many elements were refused.
+pub fn count_refused(logs: &[Log]) -> u128
+    ensures { result ≡ refused logs.now }
+{
+    logs.iter().map(|log| count_in(log) as u128).sum()
+}
+
+fn count_in(log: &Log) -> usize
+    ensures { result ≡ count_by is_refused_line log.now.lines.items }
+{
+    log.lines.iter().filter(|line| is_refused(line)).count()
+}
+
+fn is_refused(line: &Line) -> bool
+    ensures { result ≡ is_refused_line line.now }
+{
+    match line.what {
+        What::Refused(_) => true,
+        What::Answered(..) => false,
+    }
+}
+
+fn count_refused_by(logs: &[Log], code: &str) -> u128
+    ensures { result ≡ refused_by code.now logs.now }
+{
+    logs.iter().map(|log| count_by_in(log, code) as u128).sum()
+}
+
+fn count_by_in(log: &Log, code: &str) -> usize
+    ensures { result ≡ count_by (is_line_by code.now) log.now.lines.items }
+{
+    log.lines
+        .iter()
+        .filter(|line| is_refused_by(line, code))
+        .count()
+}
+
+/// Where the first element stands that was refused by this code: the number of its trace and its place there.
+fn first_refused(logs: &[Log], code: &str) -> Option<(usize, u64)>
+    ensures { result ≡ first_by code.now 0 logs.now }
+{
+    for feeder in 0..logs.len() {
+        if let Some(event) = first_in(&logs[feeder], code) {
+            return Some((feeder, event));
+        }
+    }
+    None
+}
+
+fn first_in(log: &Log, code: &str) -> Option<u64>
+    ensures { result ≡ first_in_log code.now log.now }
+{
+    let line = log.lines.iter().find(|line| is_refused_by(line, code))?;
+    Some(line.event)
+}
+
+fn is_refused_by(line: &Line, code: &str) -> bool
+    ensures { result ≡ is_line_by code.now line.now }
+{
+    match &line.what {
+        What::Refused(found) => found.code() == code,
+        What::Answered(..) => false,
+    }
+}
