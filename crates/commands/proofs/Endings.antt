@@ -1,5 +1,5 @@
 -- What a command that was not broken off has written, and its status.
-use Rattle.std.proofs.Common.{◌≡◌, ℕ, List, map, not, Option, Some, None, rules, subst}
+use Rattle.std.proofs.Common.{◌≡◌, ℕ, false, List, map, not, Option, Some, None, rules, subst}
 use Rattle.std.specs.Prelude.{IfSome, is_some}
 use Rattle.std.specs.Io.KnownBytes.{Appends}
 use Rattle.intervals.specs.declared.operation.RegId.{RegId}
@@ -10,13 +10,12 @@ use Rattle.shards.specs.Closing.{Ended}
 use Rattle.feeders.specs.declared.log.Log.{Log}
 use Rattle.feeders.specs.Readers.{AreReadOf}
 use Rattle.feeders.specs.Run.{IsRun}
-use Rattle.report.specs.Report.{IsReport}
 use Rattle.words.specs.Words.{AskedCheck}
 use Rattle.commands.specs.declared.safe.Audit.{Audit}
 use Rattle.commands.specs.Audit.{IsAudit}
 use Rattle.commands.specs.Status.{status_of}
 use Rattle.commands.specs.Verdict.{IsAudited, verdict_line}
-use Rattle.commands.specs.Checked.{IsChecked, IsNamed, IsStatus, field_of}
+use Rattle.commands.specs.Checked.{IsChecked, IsNamed, IsPrinted, IsStatus, field_of}
 
 -- `AreTheir known` says that the files hold these texts
 pub checked : (held : Option (List ℕ)) (asked : AskedCheck) (tower : Contents) (order : Option RegId) (closed : List Ended) (logs : List Log) (chosen : MomentField) (lefts : List (Option (List ℕ))) (AreTheir : List (List ℕ) → Type 0) (status : ℕ) (old new : Option (List ℕ))
@@ -25,8 +24,8 @@ pub checked : (held : Option (List ℕ)) (asked : AskedCheck) (tower : Contents)
     → ((known : List (List ℕ)) → AreTheir known → lefts ≡ map (λ text. Some text) known)
     → chosen ≡ field_of asked.moments
     → ((read : List (List ℕ)) × AreReadOf lefts logs read × IsRun tower chosen asked.shards read closed logs)
-    → ((text : List ℕ) × IsReport tower closed logs order text × Appends old new text)
-    → IsStatus tower closed logs status
+    → ((text : List ℕ) × IsPrinted asked.form tower closed logs order text × Appends old new text)
+    → IsStatus tower closed logs asked.least asked.least_each status
     → IfSome held (λ file. (traces : List (List ℕ)) → AreTheir traces → IsChecked asked file traces status old new)
 checked None asked tower order closed logs chosen lefts AreTheir status old new says named opened field run report is = search rules
 checked (Some file) asked tower order closed logs chosen lefts AreTheir status old new says named opened field run report is =
@@ -41,7 +40,7 @@ checked (Some file) asked tower order closed logs chosen lefts AreTheir status o
       are_read = subst (λ (l : List (Option (List ℕ))). AreReadOf l logs run.0) (opened traces are) run.1;
       run = subst (λ (f : MomentField). IsRun tower f asked.shards run.0 closed logs) field run.2;
       text = report.0;
-      report = report.1;
+      printed = report.1;
       written = report.2;
       status_is = is;
     }
@@ -49,7 +48,7 @@ checked (Some file) asked tower order closed logs chosen lefts AreTheir status o
 pub audited : (left : Option (List ℕ)) (audit : Audit) (status : ℕ) (old new : Option (List ℕ))
     → IsAudit left audit
     → Appends old new (verdict_line audit.kind audit.holds audit.operations)
-    → status ≡ status_of (is_some audit.broken) (not audit.holds) audit.refused
+    → status ≡ status_of (is_some audit.broken) (not audit.holds) audit.refused false
     → IfSome left (λ bytes. IsAudited bytes status old new)
 audited None audit status old new is written status_is = search rules
 audited (Some input) audit status old new is written status_is = record {

@@ -6,3 +6,4 @@ mod AloneJournal
 mod Alone
 mod Behind
 mod Whole
+mod Looking

@@ -1,5 +1,5 @@
 -- What was read of files whose bytes are known.
-use Rattle.std.proofs.Common.{◌≡◌, ◌∙◌, ◌<◌, ℕ, zero, suc, ◌+◌, List, [], ◌∷◌, ◌++◌, map, length, get_or, take, Option, Some, None, sym, ap, subst, rules, arith}
+use Rattle.std.proofs.Common.{◌≡◌, ◌∙◌, ◌<◌, ℕ, zero, suc, ◌+◌, List, [], ◌∷◌, ◌++◌, map, length, get_or, take, Option, Some, None, sym, ap, subst, rules, arith, refl, Vec, Global}
 use Rattle.std.proofs.lemmas.List.{length-map, map_more, take_all}
 use Rattle.std.specs.Prelude.{IfSome}
 use Rattle.std.specs.Borrow.{Bor}
@@ -29,6 +29,11 @@ as_many files names known held =
 is_known : (found left : Option (List ℕ)) (known : List ℕ) → found ≡ Some known → IfSome found (λ bytes. left ≡ Some bytes) → left ≡ Some known
 is_known found left known is opened = let P : Option (List ℕ) → Type 0 = λ o. IfSome o (λ bytes. left ≡ Some bytes) in subst P is opened
 
+-- what was read of a file whose bytes are known, as what is known
+pub as_some : (held : Option (List ℕ)) (bytes : List ℕ) → IfSome held (λ known. bytes ≡ known) → IfSome held (λ known. Some bytes ≡ Some known)
+as_some None bytes is = search rules
+as_some (Some known) bytes is = ap Some is
+
 -- one more file, behind those that were opened
 pub open_more : (files later : List ℕ → Option (List ℕ)) (names : List (Bor (List ℕ))) (lefts : List (Option (List ℕ))) (known : List (List ℕ)) (left : Option (List ℕ)) (i : ℕ) (d : Bor (List ℕ)) → i < length names → later ≡ files → IfSome (later (get_or names i d).now) (λ bytes. left ≡ Some bytes) → (AreHeld files (map (λ name. name.now) names) known → lefts ≡ map (λ text. Some text) (take i known)) → AreHeld files (map (λ name. name.now) names) known → lefts ++ left ∷ [] ≡ map (λ text. Some text) (take (i + 1) known)
 open_more files later names lefts known left i d within stays opened so_far held =
@@ -44,3 +49,13 @@ all_opened files names known held = subst (λ (n : ℕ). take n known ≡ known)
 -- the same files hold the same
 pub held_later : (files later : List ℕ → Option (List ℕ)) (names others : List (Bor (List ℕ))) (known : List (List ℕ)) → later ≡ files → others ≡ names → AreHeld files (map (λ name. name.now) names) known → AreHeld later (map (λ name. name.now) others) known
 held_later files later names others known stays same held = rw (stays, same) held
+
+-- texts that were read are those that are known to be there
+pub read_known : (texts : List (Vec ℕ Global)) (known : List (List ℕ)) → map (λ text. Some text.items) texts ≡ map (λ text. Some text) known → map (λ text. text.items) texts ≡ known
+read_known [] [] same = refl
+read_known [] (text ∷ known) same = absurd (cc)
+read_known (text ∷ texts) [] same = absurd (cc)
+read_known (text ∷ texts) (one ∷ known) same =
+    let head : text.items ≡ one = cc in
+    let rest : map (λ text. Some text.items) texts ≡ map (λ text. Some text) known = ap tail same in
+    rw (head, read_known texts known rest) refl

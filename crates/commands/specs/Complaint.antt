@@ -7,7 +7,7 @@ use Rattle.feeders.specs.declared.fault.RunFault.TheVariants as runs
 use Rattle.report.specs.declared.fault.ReportFault.{ReportFault}
 use Rattle.report.specs.declared.fault.ReportFault.TheVariants as reports
 use Rattle.commands.specs.declared.fault.CommandFault.{CommandFault}
-use Rattle.commands.specs.declared.fault.CommandFault.TheVariants.{Usage, TooManyTraces, Unreadable, Tower, NoRegister, Shard, Memory, Unwritable}
+use Rattle.commands.specs.declared.fault.CommandFault.TheVariants.{Usage, TooManyTraces, Unreadable, Tower, NoRegister, NoCode, Shard, Memory, Unwritable}
 use Rattle.commands.specs.declared.input.InputFault.{InputFault}
 use Rattle.commands.specs.declared.input.InputFault.TheVariants as inputs
 use Rattle.report.specs.Names.{printed}
@@ -19,6 +19,7 @@ complaint_of TooManyTraces = Some (codes "regaudit: too many traces" ++ 10 ∷ [
 complaint_of (Unreadable name) = Some (codes "regaudit: cannot read " ++ printed name.now ++ 10 ∷ [])
 complaint_of (Tower code) = Some (codes "regaudit: tower " ++ code.now ++ 10 ∷ [])
 complaint_of (NoRegister name) = Some (codes "regaudit: no register " ++ printed name.now ++ 10 ∷ [])
+complaint_of (NoCode name) = Some (codes "regaudit: no code " ++ printed name.now ++ codes "; regaudit explain lists them" ++ 10 ∷ [])
 complaint_of (Shard fault) = Some (codes "regaudit: " ++ code_of fault ++ 10 ∷ [])
 complaint_of Memory = Some (codes "regaudit: out of memory" ++ 10 ∷ [])
 complaint_of Unwritable = Some (codes "regaudit: cannot write" ++ 10 ∷ [])

@@ -4,4 +4,6 @@ pub mod Status
 pub mod Verdict
 pub mod Audit
 pub mod Checked
+pub mod Looked
+pub mod Printed
 pub mod Run

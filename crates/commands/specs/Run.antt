@@ -1,14 +1,17 @@
 -- What a run of the program did.
-use Rattle.std.specs.Prelude.{◌≡◌, ℕ, List, [], map, Option, Some, None, IfSome}
+use Rattle.std.specs.Prelude.{◌≡◌, ℕ, List, map, Option, Some, None, IfSome}
 use Rattle.std.specs.Io.KnownBytes.{Appends}
-use Rattle.clap.specs.Faults.{fault_of}
 use Rattle.clap.specs.Words.{Text}
 use Rattle.tower_file.specs.Contents.{Contents}
 use Rattle.tower_file.specs.Tower.{IsTowerOf}
 use Rattle.report.specs.Listing.{tower_lines}
-use Rattle.words.specs.Words.{Asked, Safe, Check, Tower, asked, command_line}
+use Rattle.texts.specs.declared.version.TheConstants.{VERSION}
+use Rattle.words.specs.Completion.{script_for}
+use Rattle.words.specs.Words.{Asked, Safe, Check, Lint, Tower, Explain, Version, Manual, Completion, IsFaultless, asked}
+use Rattle.commands.specs.Printed.{IsExplained, IsManual, IsPrintedText}
 use Rattle.commands.specs.Verdict.{IsAudited}
 use Rattle.commands.specs.Checked.{IsChecked}
+use Rattle.commands.specs.Looked.{IsLooked}
 
 -- a tower file was listed: the lines of the tower that it says were written
 pub record IsListed (file : List ℕ) (status : ℕ) (old new : Option (List ℕ)) : Type 0 where
@@ -27,15 +30,21 @@ IsCarriedOut (Safe None) files input status old new = IfSome input (λ bytes. Is
 IsCarriedOut (Safe (Some name)) files input status old new = IfSome (files name) (λ bytes. IsAudited bytes status old new)
 IsCarriedOut (Check check) files input status old new =
     IfSome (files check.tower) (λ file. (traces : List (List ℕ)) → AreHeld files check.traces traces → IsChecked check file traces status old new)
+IsCarriedOut (Lint lint) files input status old new =
+    (traces : List (List ℕ)) → AreHeld files lint.traces traces → IsLooked lint files traces status old new
+IsCarriedOut (Explain code) files input status old new = IsExplained code status old new
+IsCarriedOut Version files input status old new = IsPrintedText VERSION.now status old new
+IsCarriedOut Manual files input status old new = IsManual status old new
+IsCarriedOut (Completion shell) files input status old new = IsPrintedText (script_for shell) status old new
 IsCarriedOut (Tower name) files input status old new = IfSome (files name) (λ bytes. IsListed bytes status old new)
 
 -- these words ask for the command `safe` on standard input, and have no fault
 abbrev pub WantInput : List Text → Type 0
-WantInput words = (asked words ≡ Some (Safe None)) × (fault_of command_line words ≡ [])
+WantInput words = (asked words ≡ Some (Safe None)) × IsFaultless words
 
 -- these words have no fault and ask for a command, and it was carried out
 pub record IsDone (words : List Text) (files : Text → Option (List ℕ)) (input : Option (List ℕ)) (status : ℕ) (old new : Option (List ℕ)) : Type 0 where
   pub command : Asked
-  pub faultless : fault_of command_line words ≡ []
+  pub faultless : IsFaultless words
   pub asks : asked words ≡ Some command
   pub carried_out : IsCarriedOut command files input status old new

@@ -1,5 +1,5 @@
 -- What the command `safe` prints of a trace, and its status.
-use Rattle.std.specs.Prelude.{◌≡◌, ◌↔◌, ◌==◌, ℕ, Bool, not, List, [], ◌∷◌, ◌++◌, length, filter_map, Option, Some, None, Result, Ok, Err, IsSome, IsTrue, is_some, codes, if◌then◌else◌}
+use Rattle.std.specs.Prelude.{◌≡◌, ◌↔◌, ◌==◌, ℕ, Bool, false, not, List, [], ◌∷◌, ◌++◌, length, filter_map, Option, Some, None, Result, Ok, Err, IsSome, IsTrue, is_some, codes, if◌then◌else◌}
 use Rattle.std.specs.Io.KnownBytes.{Appends}
 use Rattle.intervals.specs.declared.claim.Kind.{Kind}
 use Rattle.intervals.specs.declared.edit.Edit.{Edit}
@@ -69,4 +69,4 @@ pub record IsAudited (input : List ℕ) (status : ℕ) (old new : Option (List �
   pub operations : ℕ
   pub verdict : IsVerdict items kind holds refused operations
   pub written : Appends old new (verdict_line kind holds operations)
-  pub status_is : status ≡ status_of (is_some broken) (not holds) refused
+  pub status_is : status ≡ status_of (is_some broken) (not holds) refused false

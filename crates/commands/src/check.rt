@@ -1,30 +1,32 @@
 //! The command `check`.
 
-ghost use Rattle.std.specs.Prelude.{◌≡◌, ◌≢◌, ◌≤◌, ◌<◌, ◌∷◌, [], ℕ, List, IfOk, IfErr, IfSome, length, map, option_map};
+ghost use Rattle.std.specs.Prelude.{◌≡◌, ◌≢◌, ◌≤◌, ◌<◌, ◌∷◌, [], ℕ, List, Err, IfOk, IfErr, IfSome, OnOk, length, map, option_map};
+ghost use Rattle.std.specs.Io.KnownBytes.{Appends};
+ghost use Rattle.report.specs.Finding.{IsOfTower};
 ghost use Rattle.tower_file.specs.Tower.{IsTowerOf};
 ghost use Rattle.words.specs.Words.{asked_check};
-ghost use Rattle.commands.specs.Checked.{IsChecked, IsNamed, IsStatus, field_of as field_of_moments};
+ghost use Rattle.commands.specs.Checked.{IsChecked, IsNamed, IsPrinted, IsStatus, field_of as field_of_moments};
 ghost use Rattle.commands.specs.Run.{AreHeld};
 
 use crate::fault::CommandFault;
 use crate::files::{Files, open_files, read_file};
-use crate::status::{any_broken, any_fails, any_refused, status};
+use crate::status::{any_broken, any_fails, any_refused, has_too_few, status};
 use feeders::{Pages, Run, run_readers};
 use intervals::RegId;
 use jepsen_form::MomentField;
 use report::laws::a_run_is_of_its_tower;
-use report::report;
+use report::{ReportFault, report, summary};
 use shards::NoGate;
-use std::alloc::Global;
+use std::alloc::{AllocError, Global};
 use std::io::Write;
 use std::mem::forget;
 use std::sync::Wait;
 use std::thread::Threads;
 use tower_file::Tower;
-use words::{Check, Moments};
+use words::{Check, Form, Moments};
 
 /// The most traces that a run may have.
-const TRACE_LIMIT: usize = 256;
+pub const TRACE_LIMIT: usize = 256;
 
 /// Audits the registers of a tower by traces as they are read, and writes the report, also where a trace or its
 /// reading breaks off. The faults come in this order: too many traces, the tower file, the register whose order is
@@ -66,9 +68,11 @@ pub fn check<'a, A: AllocGlobal + Threads + Wait + Sync, F: Files, W: Write>(
         Ok(run) => run,
         Err(fault) => return Err(CommandFault::of_run(fault)),
     };
-    match report(rt, alloc, &tower, &run, order, out) {
+    let Ok(status) = status_after(alloc, asked, &tower, &run) else {
+        return Err(CommandFault::Memory);
+    };
+    match print(rt, asked.form, &tower, &run, order, out) {
         Ok(()) => {
-            let status = status_after(&tower, &run);
             // The command is over: to take the run down, node by node, would cost a tenth of its time.
             forget(run);
             forget(pages);
@@ -110,7 +114,7 @@ fn named<'a>(tower: &Tower, name: Option<&'a str>) -> Result<Option<RegId>, Comm
     }
 }
 
-fn field_of(moments: Moments) -> MomentField
+pub fn field_of(moments: Moments) -> MomentField
     ensures { result ≡ field_of_moments moments }
 {
     match moments {
@@ -119,12 +123,34 @@ fn field_of(moments: Moments) -> MomentField
     }
 }
 
-fn status_after(tower: &Tower, run: &Run) -> u8
-    ensures { IsStatus tower.now run.now.closed run.now.logs.items result }
+/// Writes what is asked for of a run.
+fn print<A: AllocGlobal + Threads + Wait + Sync, W: Write>(
+    rt: &A,
+    form: Form,
+    tower: &Tower,
+    run: &Run,
+    order: Option<RegId>,
+    out: &mut W,
+) -> Result<(), ReportFault>
+    requires of_tower { IsOfTower tower.now run.now.closed }
+    requires order { IfSome order (λ id. id.0 < length tower.now.registers) }
+    ensures printed { OnOk result ((text : List ℕ) × IsPrinted form tower.now run.now.closed run.now.logs.items order text × Appends (W.contents out.old) (W.contents out.new) text) }
+    ensures memory { result ≡ Err ReportFault.Memory → out.new ≡ out.old }
 {
-    status(
+    match form {
+        Form::Report => report(rt, rt.alloc(), tower, run, order, out),
+        Form::Summary => summary(rt.alloc(), tower, run, out),
+    }
+}
+
+fn status_after(alloc: Global, asked: &Check, tower: &Tower, run: &Run) -> Result<u8, AllocError>
+    ensures { IfOk result (IsStatus tower.now run.now.closed run.now.logs.items asked.now.least asked.now.least_each) }
+{
+    let few = has_too_few(alloc, tower, &run.closed, asked.least, asked.least_each)?;
+    Ok(status(
         any_broken(&run.logs),
         any_fails(tower, &run.closed),
         any_refused(&run.logs),
-    )
+        few,
+    ))
 }

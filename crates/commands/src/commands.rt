@@ -10,9 +10,10 @@ ghost use Rattle.commands.specs.Run.{IsListed, IsCarriedOut, IsDone, WantInput};
 use crate::check::{check, read_tower};
 use crate::fault::{CommandFault, say};
 use crate::files::{Files, open_file};
+use crate::look::look;
+use crate::print::{explain, print, print_manual};
 use crate::safe::judge;
 use crate::status::BROKEN;
-use crate::write::write_text;
 use report::tower_text;
 use std::convert::AsStr;
 use std::io::{Read, Write};
@@ -20,6 +21,7 @@ use std::rt::Env;
 use std::sync::Wait;
 use std::thread::Threads;
 use std::{env, io};
+use texts::VERSION;
 use words::{Command, read_words};
 
 /// Carries out the command that the words ask for, as the system hands them over, of which the
@@ -118,7 +120,12 @@ fn carry_out<'a, A: AllocGlobal + Threads + Wait + Sync, F: Files, R: Read + Sen
         Command::Safe(None) => judge(rt, input, out),
         Command::Safe(Some(name)) => judge(rt, open_file(files, name)?, out),
         Command::Check(asked) => check(rt, &asked, files, out),
+        Command::Lint(asked) => look(rt, &asked, files, out),
         Command::Tower(name) => list(rt, name, files, out),
+        Command::Explain(code) => explain(rt.alloc(), code, out),
+        Command::Version => print(VERSION, out),
+        Command::Manual => print_manual(rt.alloc(), out),
+        Command::Completion(shell) => print(shell.script(), out),
     }
 }
 
@@ -136,10 +143,7 @@ fn list<'a, A: AllocGlobal, F: Files, W: Write>(
     let Ok(text) = tower_text(rt.alloc(), &tower) else {
         return Err(CommandFault::Memory);
     };
-    match write_text(out, text.as_str()) {
-        Ok(()) => Ok(0),
-        Err(_) => Err(CommandFault::Unwritable),
-    }
+    print(text.as_str(), out)
 }
 
 /// The words of the command line, the program's name among them.

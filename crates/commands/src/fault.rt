@@ -25,6 +25,8 @@ pub enum CommandFault<'a> {
     Tower(&'static str),
     /// The tower has no register of the name whose order is asked for.
     NoRegister(&'a str),
+    /// No code and no word of a report has the name that is to be explained.
+    NoCode(&'a str),
     /// A shard refused an edit, a question or the end.
     Shard(ShardFault),
     Memory,
@@ -122,6 +124,12 @@ fn complaint(alloc: Global, fault: &CommandFault<'_>) -> Result<String, AllocErr
         CommandFault::NoRegister(name) => {
             text.push_str("regaudit: no register ")?;
             push_printed(&mut text, name.as_bytes())?;
+            text.push_str("\n")?;
+        }
+        CommandFault::NoCode(name) => {
+            text.push_str("regaudit: no code ")?;
+            push_printed(&mut text, name.as_bytes())?;
+            text.push_str("; regaudit explain lists them")?;
             text.push_str("\n")?;
         }
         CommandFault::Shard(fault) => {

@@ -99,3 +99,23 @@ pub fn read_file<'a, F: Files>(
         Err(fault) => Err(CommandFault::of_input(fault, name)),
     }
 }
+
+/// All the bytes of each file, in order.
+pub fn read_files<'a, F: Files>(
+    alloc: Global,
+    files: &mut F,
+    names: &[&'a str],
+) -> Result<Vec<Vec<u8>>, CommandFault<'a>>
+    ensures held { IfOk result (λ texts. (known : List (List ℕ)) → AreHeld (F.held files.old) (map (λ name. name.now) names.entry.now) known → map (λ text. Some text.items) texts.items ≡ map (λ text. Some text) known) }
+    ensures many { IfOk result (λ texts. vec_len texts ≡ length names.entry.now) }
+    ensures stays { F.held files.new ≡ F.held files.old }
+    ensures quiet { IfErr result (λ fault. fault ≢ CommandFault.Unwritable) }
+{
+    let Ok(mut texts) = Vec::with_capacity(alloc, names.len()) else {
+        return Err(CommandFault::Memory);
+    };
+    for name in names {
+        texts.push_reserved(read_file(alloc, files, name)?);
+    }
+    Ok(texts)
+}

@@ -16,6 +16,8 @@ mod fault;
 mod files;
 mod input;
 pub mod laws;
+mod look;
+mod print;
 mod safe;
 mod status;
 mod write;

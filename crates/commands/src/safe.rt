@@ -54,7 +54,7 @@ pub fn judge<'a, A: AllocGlobal + Threads + Wait + Sync, S: Read + Drop + Send, 
         return Err(CommandFault::Memory);
     };
     match write_text(out, line.as_str()) {
-        Ok(()) => Ok(status(audit.broken.is_some(), !audit.holds, audit.refused)),
+        Ok(()) => Ok(status(audit.broken.is_some(), !audit.holds, audit.refused, false)),
         Err(_) => Err(CommandFault::Unwritable),
     }
 }
@@ -102,7 +102,7 @@ fn audit_trace<'a, A: AllocGlobal + Threads + Wait + Sync, S: Read + Drop + Send
 }
 
 /// The tower of the register, read from its text; none where memory is refused.
-fn the_tower(alloc: Global) -> Option<Tower>
+pub fn the_tower(alloc: Global) -> Option<Tower>
     ensures { IfSome result (λ tower. tower ≡ alone_tower) }
 {
     text_of_one_register();

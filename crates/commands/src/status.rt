@@ -1,20 +1,23 @@
 //! The status of a run.
 
-ghost use Rattle.std.specs.Prelude.{◌≡◌, ◌↔◌, IsTrue};
+ghost use Rattle.std.specs.Prelude.{◌≡◌, ◌↔◌, IfOk, IsTrue, false, nat_lt};
 ghost use Rattle.std.specs.List.{list_any};
+ghost use Rattle.std.specs.Option.{option_map_or};
 ghost use Rattle.report.specs.Culprit.{Fails};
-ghost use Rattle.commands.specs.Status.{HasFailing, has_refused, is_broken, is_refused_line, status_of};
+ghost use Rattle.commands.specs.Status.{HasFailing, HasTooFew, has_refused, is_broken, is_refused_line, status_of};
 
 use feeders::{Line, Log, What};
 use intervals::RegId;
+use report::standing_counts;
 use shards::Closed;
+use std::alloc::{AllocError, Global};
 use tower_file::Tower;
 
 /// The status of a run whose trace broke, or that could not read, write or go on.
 pub const BROKEN: u8 = 2;
 
-pub fn status(broken: bool, fails: bool, refused: bool) -> u8
-    ensures { result ≡ status_of broken fails refused }
+pub fn status(broken: bool, fails: bool, refused: bool, few: bool) -> u8
+    ensures { result ≡ status_of broken fails refused few }
 {
     if broken {
         BROKEN
@@ -22,6 +25,8 @@ pub fn status(broken: bool, fails: bool, refused: bool) -> u8
         1
     } else if refused {
         3
+    } else if few {
+        4
     } else {
         0
     }
@@ -54,6 +59,32 @@ fn is_refused_in(line: &Line) -> bool
     match line.what {
         What::Refused(_) => true,
         What::Answered(..) => false,
+    }
+}
+
+/// Whether fewer operations stand in all registers together, or in some register, than is asked for.
+pub fn has_too_few(
+    alloc: Global,
+    tower: &Tower,
+    closed: &Closed,
+    least: u64,
+    least_each: u64,
+) -> Result<bool, AllocError>
+    ensures { IfOk result (λ few. IsTrue few ↔ HasTooFew tower.now closed.now least least_each) }
+{
+    if least == 0 && least_each == 0 {
+        return Ok(false);
+    }
+    let counts = standing_counts(alloc, tower, closed)?;
+    Ok(counts.all < u128::from(least) || is_below(counts.least, least_each))
+}
+
+fn is_below(least: Option<u64>, least_each: u64) -> bool
+    ensures { result ≡ option_map_or (λ least. nat_lt least least_each) least false }
+{
+    match least {
+        Some(least) => least < least_each,
+        None => false,
     }
 }
 

@@ -19,9 +19,10 @@
 //! ```
 //!
 //! `= word WORD` is a word, the program's name left out; `= file NAME` a file, which stands before
-//! those of the folder, and `= times N` makes the last one N times as long; `= input` standard input,
-//! and `= inputs` several, one a line, with a run for each; `= out` and `= err` what the two outputs are
-//! to get; `= room N` an output that takes N bytes alone. What is left out is empty. `= status N` is the
+//! those of the folder, and `= times N` makes the last one N times as long; `= example CODE` the files
+//! `tower` and `example` that `regaudit explain CODE` shows; `= input` standard input, and `= inputs`
+//! several, one a line, with a run for each; `= out` and `= err` what the two outputs are to get;
+//! `= room N` an output that takes N bytes alone. What is left out is empty. `= status N` is the
 //! last section, since a line behind it is none of a text. `%` and two hexadecimal digits are a byte,
 //! and a `%` at the end of a text takes its last line end away.
 //!
@@ -30,16 +31,22 @@
 //! line `= filled`, there is a run for each output that takes fewer bytes than the text, from none on: it is to take
 //! what it can, and the run says that it cannot write.
 //!
+//! Where a row has a line `= names PREFIX`, what it prints has to name each command and each option of the manual, the
+//! options behind PREFIX in place of their two hyphens; `= page NAME` is a file of the folder in place of what is
+//! printed. Its `= out` is what is missing, a line each.
+//!
 //! Where a row ends with a line `= front`, or with `= byte BYTES`, its `= out` is a picture of the last file, cut short at
 //! each place or with each byte replaced by each of these: a letter for each place (`spoilt.rt`).
 #![tactic(auto)]
 
+mod complete;
 mod outcome;
 mod pieces;
 mod row;
 mod shelf;
 mod spoilt;
 
+use crate::complete::missing;
 use crate::outcome::carried_out;
 use crate::pieces::Cut;
 use crate::row::{Row, row_of};
@@ -131,12 +138,27 @@ where
         let found = picture(rt, row)?;
         return is_same(row, "picture", &row.out, &found, err);
     }
+    if let Some(prefix) = &row.prefix {
+        let text = text_of(rt, row)?;
+        return is_same(row, "names", &row.out, &missing(rt, &text, prefix)?, err);
+    }
     for input in &row.inputs {
         if !is_input_as_said(rt, row, input, err)? {
             return Ok(false);
         }
     }
     Ok(true)
+}
+
+/// What is to name each command and option: a file of the folder, or what the run prints.
+fn text_of<R: Files + AllocGlobal + Threads + Wait + Sync>(rt: &R, row: &Row) -> io::Result<Vec<u8>>
+where
+    R::File: Send,
+{
+    match &row.page {
+        Some(page) => fs::read(rt, page.as_str()),
+        None => Ok(carried_out(rt, row, &[], Cut::WHOLE, row.room)?.out),
+    }
 }
 
 /// A run of texts that come whole, one of texts that come byte by byte, for a row that is cut one for each place, and

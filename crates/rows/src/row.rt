@@ -4,6 +4,7 @@ use percent_encoding::percent_decode;
 use std::alloc::{AllocError, Global};
 use std::io;
 use std::io::{Error, ErrorKind};
+use texts::Topic;
 
 /// A row of a file: a run for each input.
 #[derive(Drop)]
@@ -21,6 +22,10 @@ pub struct Row {
     pub is_cut: bool,
     /// Whether its output takes each number of bytes, and no more, too.
     pub is_filled: bool,
+    /// What options stand behind in what is printed, which then has to name each command and option.
+    pub prefix: Option<String>,
+    /// The file of the folder that stands for what is printed.
+    pub page: Option<String>,
     /// What its last file is spoilt by.
     pub spoils: Vec<Spoil>,
 }
@@ -52,6 +57,8 @@ pub fn row_of(alloc: Global, text: &str) -> io::Result<Row> {
         room: 65_536,
         is_cut: false,
         is_filled: false,
+        prefix: None,
+        page: None,
         spoils: Vec::new(alloc),
     };
     row.words.push(decoded(alloc, "regaudit")?)?;
@@ -72,6 +79,7 @@ fn take_section(alloc: Global, row: &mut Row, section: &str) -> io::Result<()> {
             name: decoded(alloc, name)?,
             bytes: text_of(alloc, body)?,
         })?,
+        ("example", code) => take_example(alloc, &mut row.files, code)?,
         ("input", _) => row.inputs.push(text_of(alloc, body)?)?,
         ("inputs", _) => take_inputs(alloc, row, body)?,
         ("out", _) => row.out = text_of(alloc, body)?,
@@ -81,6 +89,8 @@ fn take_section(alloc: Global, row: &mut Row, section: &str) -> io::Result<()> {
         ("times", number) => lengthen(alloc, &mut row.files, number.parse().unwrap_or(0))?,
         ("cut", _) => row.is_cut = true,
         ("filled", _) => row.is_filled = true,
+        ("names", prefix) => row.prefix = Some(String::from_str(alloc, prefix)?),
+        ("page", name) => row.page = Some(String::from_str(alloc, name)?),
         ("front", _) => row.spoils.push(Spoil::Front)?,
         ("byte", byte) => {
             for byte in decoded(alloc, byte)? {
@@ -90,6 +100,24 @@ fn take_section(alloc: Global, row: &mut Row, section: &str) -> io::Result<()> {
         _ => return Err(Error::from(ErrorKind::InvalidData)),
     }
     Ok(())
+}
+
+/// The two files of what `regaudit explain` shows of a code: `tower` and `example`.
+fn take_example(alloc: Global, files: &mut Vec<Named>, code: &str) -> io::Result<()> {
+    let Some(topic) = Topic::named(code) else {
+        return Err(Error::from(ErrorKind::InvalidData));
+    };
+    let entry = topic.entry();
+    files.push(named(alloc, "tower", entry.tower)?)?;
+    files.push(named(alloc, "example", entry.example)?)?;
+    Ok(())
+}
+
+fn named(alloc: Global, name: &str, text: &str) -> Result<Named, AllocError> {
+    Ok(Named {
+        name: name.as_bytes().to_vec(alloc)?,
+        bytes: text.as_bytes().to_vec(alloc)?,
+    })
 }
 
 /// The last file so many times.

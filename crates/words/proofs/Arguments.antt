@@ -1,5 +1,5 @@
 -- What the getters give of an argument, by the rows, and what a text says of shards.
-use Rattle.std.proofs.Common.{◌≡◌, ◌≤◌, ◌&&◌, ◌^◌, ℕ, Bool, true, false, List, [], ◌∷◌, length, Option, Some, None, Err, ◌∙◌, refl, sym, ap, arith, nat_lt, lt-ltb, ltb-true}
+use Rattle.std.proofs.Common.{◌≡◌, ◌≤◌, ◌<◌, ◌-◌, ◌&&◌, ◌^◌, ℕ, Bool, true, false, List, [], ◌∷◌, length, Option, Some, None, Err, ◌∙◌, refl, sym, ap, arith, nat_lt, lt-ltb, ltb-true}
 use Rattle.std.specs.Prelude.{nat_le, option_map}
 use Rattle.std.specs.List.{list_all}
 use Rattle.std.specs.Char.{digit_value}
@@ -9,7 +9,7 @@ use Rattle.clap.specs.Words.{Text, all_of, first_of, first_value, found_of, matc
 use Rattle.clap.specs.ValueTests.{is_numeral, is_unsigned_in}
 use Rattle.clap.specs.declared.ArgMatches.{ArgMatches}
 use Rattle.clap.proofs.WalkLemmas.{both, first_value-rows, raw_values-rows}
-use Rattle.words.specs.Words.{shards_in}
+use Rattle.words.specs.Words.{count_in, shards_in}
 
 -- what a value that was asked for is among the rows
 pub value_in : (found : ArgMatches) (id : Text) (value : Option Text) → value ≡ first_value (found_of found) id → first_of id (rows_of (found_of found)) ≡ value
@@ -57,4 +57,26 @@ no_shards text error fails = go (is_unsigned_in 1 64 text) refl
     go true is =
         let parts = both _ _ is in
         let small = from_bounds (digits_value 10 (without_leading_plus text)) parts.1 in
+        absurd (fails (numeral_from (without_leading_plus text) parts.0, omega arith))
+
+within_64_bits : (n : ℕ) → n < 2 ^ 64 → (nat_lt n (2 ^ 64) && (nat_le 0 n && nat_le n (2 ^ 64 - 1))) ≡ true
+within_64_bits n below = grind (arith, nat_tests)
+
+from_64_bits : (n : ℕ) → (nat_lt n (2 ^ 64) && (nat_le 0 n && nat_le n (2 ^ 64 - 1))) ≡ true → n < 2 ^ 64
+from_64_bits n passes = grind (arith, nat_tests)
+
+pub some_count : (text : Text) (n : ℕ) → IsNumeral 10 (without_leading_plus text) → n ≡ digits_value 10 (without_leading_plus text) → n < 2 ^ 64 → Some n ≡ count_in text
+some_count text n numeral is below =
+    let digits = without_leading_plus text in
+    let passes = within_64_bits (digits_value 10 digits) (rw (← is) below) in
+    rw (numeral_passes digits numeral, passes) (ap Some is)
+
+pub no_count : {E : Type 0} (text : Text) (error : E) → ParsesUnsigned 64 10 text (Err error) → None ≡ count_in text
+no_count text error fails = go (is_unsigned_in 0 (2 ^ 64 - 1) text) refl
+  where
+    go : (passes : Bool) → is_unsigned_in 0 (2 ^ 64 - 1) text ≡ passes → None ≡ count_in text
+    go false is = rw is refl
+    go true is =
+        let parts = both _ _ is in
+        let small = from_64_bits (digits_value 10 (without_leading_plus text)) parts.1 in
         absurd (fails (numeral_from (without_leading_plus text) parts.0, omega arith))

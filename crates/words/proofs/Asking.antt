@@ -4,7 +4,10 @@ use Rattle.std.proofs.lemmas.Bool.{eqb-true}
 use Rattle.clap.proofs.OnLiterals.{clap_on_literals}
 use Rattle.clap.specs.Words.{Text, takes}
 use Rattle.words.specs.declared.check.Moments.TheVariants.{Index, Time}
-use Rattle.words.specs.Words.{Check, Safe, Tower, asked, command_line, is_plain}
+use Rattle.words.specs.declared.check.Form.TheVariants.{Report, Summary}
+use Rattle.words.specs.declared.completion.Shell.TheVariants.{Bash, Zsh, Fish}
+use Rattle.words.specs.declared.lint.LintForm.TheVariants.{Human, Json}
+use Rattle.words.specs.Words.{Check, Completion, Explain, Lint, Manual, Safe, Tower, Version, asked, command_line, is_plain}
 
 pub input : (program : Text) → asked (program ∷ codes "safe" ∷ []) ≡ Some (Safe None)
 unfolding clap_on_literals
@@ -34,6 +37,38 @@ pub no_file : (program : Text) → asked (program ∷ codes "tower" ∷ []) ≡ 
 unfolding clap_on_literals
 no_file program = refl
 
+pub list : (program : Text) → asked (program ∷ codes "explain" ∷ []) ≡ Some (Explain None)
+unfolding clap_on_literals
+list program = refl
+
+pub version : (program : Text) → asked (program ∷ codes "version" ∷ []) ≡ Some Version
+unfolding clap_on_literals
+version program = refl
+
+pub version_option : (program : Text) → asked (program ∷ codes "--version" ∷ []) ≡ Some Version
+unfolding clap_on_literals
+version_option program = refl
+
+pub version_letter : (program : Text) → asked (program ∷ codes "-V" ∷ []) ≡ Some Version
+unfolding clap_on_literals
+version_letter program = refl
+
+pub manual : (program : Text) → asked (program ∷ codes "manual" ∷ []) ≡ Some Manual
+unfolding clap_on_literals
+manual program = refl
+
+pub bash : (program : Text) → asked (program ∷ codes "completion" ∷ codes "bash" ∷ []) ≡ Some (Completion Bash)
+unfolding clap_on_literals
+bash program = refl
+
+pub zsh : (program : Text) → asked (program ∷ codes "completion" ∷ codes "zsh" ∷ []) ≡ Some (Completion Zsh)
+unfolding clap_on_literals
+zsh program = refl
+
+pub fish : (program : Text) → asked (program ∷ codes "completion" ∷ codes "fish" ∷ []) ≡ Some (Completion Fish)
+unfolding clap_on_literals
+fish program = refl
+
 pub nothing : asked [] ≡ None
 unfolding clap_on_literals
 nothing = refl
@@ -52,27 +87,27 @@ unfolding clap_on_literals
 taken = (refl, refl, refl, refl, refl)
 
 pub plain_check : (program : Text) → asked (program ∷ codes "check" ∷ codes "--tower" ∷ codes "t" ∷ codes "a" ∷ [])
-    ≡ Some (Check (record { tower = codes "t"; shards = 1; moments = Index; order = None; traces = codes "a" ∷ [] }))
+    ≡ Some (Check (record { tower = codes "t"; shards = 1; moments = Index; order = None; form = Report; least = 0; least_each = 0; traces = codes "a" ∷ [] }))
 unfolding clap_on_literals
 plain_check program = refl
 
-pub whole_check : (program : Text) → asked (program ∷ codes "check" ∷ codes "--tower" ∷ codes "t" ∷ codes "--shards" ∷ codes "64" ∷ codes "--moment" ∷ codes "time" ∷ codes "--order" ∷ codes "x" ∷ codes "a" ∷ [])
-    ≡ Some (Check (record { tower = codes "t"; shards = 64; moments = Time; order = Some (codes "x"); traces = codes "a" ∷ [] }))
+pub whole_check : (program : Text) → asked (program ∷ codes "check" ∷ codes "--tower" ∷ codes "t" ∷ codes "--shards" ∷ codes "64" ∷ codes "--moment" ∷ codes "time" ∷ codes "--order" ∷ codes "x" ∷ codes "--as" ∷ codes "summary" ∷ codes "--least" ∷ codes "7" ∷ codes "--least-each" ∷ codes "1" ∷ codes "a" ∷ [])
+    ≡ Some (Check (record { tower = codes "t"; shards = 64; moments = Time; order = Some (codes "x"); form = Summary; least = 7; least_each = 1; traces = codes "a" ∷ [] }))
 unfolding clap_on_literals
 whole_check program = refl
 
 pub two_traces : (program : Text) → asked (program ∷ codes "check" ∷ codes "--tower" ∷ codes "t" ∷ codes "a" ∷ codes "b" ∷ [])
-    ≡ Some (Check (record { tower = codes "t"; shards = 1; moments = Index; order = None; traces = codes "a" ∷ codes "b" ∷ [] }))
+    ≡ Some (Check (record { tower = codes "t"; shards = 1; moments = Index; order = None; form = Report; least = 0; least_each = 0; traces = codes "a" ∷ codes "b" ∷ [] }))
 unfolding clap_on_literals
 two_traces program = refl
 
 pub between_traces : (program : Text) → asked (program ∷ codes "check" ∷ codes "a" ∷ codes "--shards=+2" ∷ codes "b" ∷ codes "--tower=t" ∷ codes "--moment=index" ∷ codes "a" ∷ [])
-    ≡ Some (Check (record { tower = codes "t"; shards = 2; moments = Index; order = None; traces = codes "a" ∷ codes "b" ∷ codes "a" ∷ [] }))
+    ≡ Some (Check (record { tower = codes "t"; shards = 2; moments = Index; order = None; form = Report; least = 0; least_each = 0; traces = codes "a" ∷ codes "b" ∷ codes "a" ∷ [] }))
 unfolding clap_on_literals
 between_traces program = refl
 
 pub any_names : (program tower order trace : Text) → asked (program ∷ codes "check" ∷ (codes "--tower=" ++ tower) ∷ (codes "--order=" ++ order) ∷ codes "--" ∷ trace ∷ [])
-    ≡ Some (Check (record { tower = tower; shards = 1; moments = Index; order = Some order; traces = trace ∷ [] }))
+    ≡ Some (Check (record { tower = tower; shards = 1; moments = Index; order = Some order; form = Report; least = 0; least_each = 0; traces = trace ∷ [] }))
 unfolding clap_on_literals
 any_names program tower order trace = refl
 
@@ -92,6 +127,37 @@ pub no_moment : (program : Text) → asked (program ∷ codes "check" ∷ codes 
 unfolding clap_on_literals
 no_moment program = refl
 
+pub no_form : (program : Text) → asked (program ∷ codes "check" ∷ codes "--tower" ∷ codes "t" ∷ codes "--as" ∷ codes "html" ∷ codes "a" ∷ []) ≡ None
+unfolding clap_on_literals
+no_form program = refl
+
+pub no_shell : (program : Text) → asked (program ∷ codes "completion" ∷ codes "csh" ∷ []) ≡ None
+unfolding clap_on_literals
+no_shell program = refl
+
+pub tower_alone : (program : Text) → asked (program ∷ codes "lint" ∷ codes "--tower" ∷ codes "t" ∷ [])
+    ≡ Some (Lint (record { tower = Some (codes "t"); moments = Index; form = Human; most = 3; traces = [] }))
+unfolding clap_on_literals
+tower_alone program = refl
+
+pub traces_alone : (program : Text) → asked (program ∷ codes "lint" ∷ codes "a" ∷ codes "b" ∷ [])
+    ≡ Some (Lint (record { tower = None; moments = Index; form = Human; most = 3; traces = codes "a" ∷ codes "b" ∷ [] }))
+unfolding clap_on_literals
+traces_alone program = refl
+
+pub whole_lint : (program : Text) → asked (program ∷ codes "lint" ∷ codes "--tower=t" ∷ codes "--moment" ∷ codes "time" ∷ codes "--as" ∷ codes "json" ∷ codes "--max" ∷ codes "0" ∷ codes "a" ∷ [])
+    ≡ Some (Lint (record { tower = Some (codes "t"); moments = Time; form = Json; most = 0; traces = codes "a" ∷ [] }))
+unfolding clap_on_literals
+whole_lint program = refl
+
+pub nothing_to_read : (program : Text) → asked (program ∷ codes "lint" ∷ []) ≡ None
+unfolding clap_on_literals
+nothing_to_read program = refl
+
+pub no_lint_form : (program : Text) → asked (program ∷ codes "lint" ∷ codes "--as" ∷ codes "text" ∷ codes "a" ∷ []) ≡ None
+unfolding clap_on_literals
+no_lint_form program = refl
+
 pub refused_checks : (takes command_line (codes "regaudit" ∷ codes "check" ∷ []) ≡ false)
     × (takes command_line (codes "regaudit" ∷ codes "check" ∷ codes "a" ∷ []) ≡ false)
     × (takes command_line (codes "regaudit" ∷ codes "check" ∷ codes "--tower" ∷ codes "t" ∷ []) ≡ false)
@@ -110,6 +176,9 @@ AsksSafe program name = asked (program ∷ codes "safe" ∷ name ∷ []) ≡ Som
 abbrev AsksTower : Text → Text → Type 0
 AsksTower program name = asked (program ∷ codes "tower" ∷ name ∷ []) ≡ Some (Tower name)
 
+abbrev AsksCode : Text → Text → Type 0
+AsksCode program name = asked (program ∷ codes "explain" ∷ name ∷ []) ≡ Some (Explain (Some name))
+
 safe_begins : (program : Text) (byte : ℕ) (bytes : Text) → (byte == 45) ≡ false → AsksSafe program (byte ∷ bytes)
 unfolding clap_on_literals
 safe_begins program byte bytes h = simp h
@@ -117,6 +186,18 @@ safe_begins program byte bytes h = simp h
 tower_begins : (program : Text) (byte : ℕ) (bytes : Text) → (byte == 45) ≡ false → AsksTower program (byte ∷ bytes)
 unfolding clap_on_literals
 tower_begins program byte bytes h = simp h
+
+code_begins : (program : Text) (byte : ℕ) (bytes : Text) → (byte == 45) ≡ false → AsksCode program (byte ∷ bytes)
+unfolding clap_on_literals
+code_begins program byte bytes h = simp h
+
+code_hyphen : (program : Text) → AsksCode program (45 ∷ [])
+unfolding clap_on_literals
+code_hyphen program = refl
+
+code_empty : (program : Text) → AsksCode program []
+unfolding clap_on_literals
+code_empty program = refl
 
 safe_hyphen : (program : Text) → AsksSafe program (45 ∷ [])
 unfolding clap_on_literals
@@ -149,3 +230,6 @@ trace program = plain (AsksSafe program) (safe_empty program) (safe_hyphen progr
 
 pub tower : (program name : Text) → is_plain name ≡ true → AsksTower program name
 tower program = plain (AsksTower program) (tower_empty program) (tower_hyphen program) (tower_begins program)
+
+pub code : (program name : Text) → is_plain name ≡ true → AsksCode program name
+code program = plain (AsksCode program) (code_empty program) (code_hyphen program) (code_begins program)

@@ -1,9 +1,9 @@
 //! What `check` asks for.
 
-ghost use Rattle.std.specs.Prelude.{◌≡◌, ◌<◌, ◌≤◌, IfOk, IfSome, codes, length, map, option_and_then};
+ghost use Rattle.std.specs.Prelude.{◌≡◌, ◌<◌, ◌≤◌, IfOk, IfSome, codes, length, map};
 ghost use Rattle.std.specs.Option.{option_map};
-ghost use Rattle.clap.specs.Words.{first_of, found_of, rows_of};
-ghost use Rattle.words.specs.Words.{asked_check, check_by, moments_in, shards_in, traces_in};
+ghost use Rattle.clap.specs.Words.{found_of, rows_of};
+ghost use Rattle.words.specs.Words.{asked_check, check_by, count_in, form_in, moments_in, said_in, shards_in, traces_in};
 
 use clap::ArgMatches;
 use std::alloc::{AllocError, Global};
@@ -13,6 +13,15 @@ use std::alloc::{AllocError, Global};
 pub enum Moments {
     Index,
     Time,
+}
+
+/// What is printed of a check.
+#[derive(Clone, Copy, Debug, PartialEq, Eq)]
+pub enum Form {
+    /// The report, line by line.
+    Report,
+    /// Counts, and what fails.
+    Summary,
 }
 
 /// What `check` asks for.
@@ -25,6 +34,11 @@ pub struct Check<'a> {
     pub moments: Moments,
     /// The name of the register whose order is asked for.
     pub order: Option<&'a str>,
+    pub form: Form,
+    /// How many operations are to stand in all registers together.
+    pub least: u64,
+    /// How many operations are to stand in each register.
+    pub least_each: u64,
     /// One or more.
     pub traces: Vec<&'a str>,
 }
@@ -47,6 +61,15 @@ pub(crate) fn check_of<'a>(
     let Some(moments) = moments_of(found) else {
         return Ok(None);
     };
+    let Some(form) = form_of(found) else {
+        return Ok(None);
+    };
+    let Some(least) = count_of(found, "least") else {
+        return Ok(None);
+    };
+    let Some(least_each) = count_of(found, "least-each") else {
+        return Ok(None);
+    };
     let traces = traces_of(alloc, found)?;
     if traces.is_empty() {
         return Ok(None);
@@ -56,12 +79,15 @@ pub(crate) fn check_of<'a>(
         shards,
         moments,
         order: found.get_str("order"),
+        form,
+        least,
+        least_each,
         traces,
     }))
 }
 
 fn shards_of(found: &ArgMatches<'_>) -> Option<u32>
-    ensures asks { result ≡ option_and_then shards_in (first_of (codes "shards") (rows_of (found_of found.now))) }
+    ensures asks { result ≡ said_in shards_in (codes "shards") (rows_of (found_of found.now)) }
     ensures range { IfSome result (λ shards. (1 ≤ shards) × (shards ≤ 64)) }
 {
     shards_in(found.get_str("shards")?)
@@ -83,8 +109,8 @@ fn shards_in(text: &str) -> Option<u32>
     }
 }
 
-fn moments_of(found: &ArgMatches<'_>) -> Option<Moments>
-    ensures { result ≡ option_and_then moments_in (first_of (codes "moment") (rows_of (found_of found.now))) }
+pub(crate) fn moments_of(found: &ArgMatches<'_>) -> Option<Moments>
+    ensures { result ≡ said_in moments_in (codes "moment") (rows_of (found_of found.now)) }
 {
     moments_in(found.get_str("moment")?)
 }
@@ -101,7 +127,41 @@ fn moments_in(text: &str) -> Option<Moments>
     }
 }
 
-fn traces_of<'a>(alloc: Global, found: &ArgMatches<'a>) -> Result<Vec<&'a str>, AllocError>
+fn form_of(found: &ArgMatches<'_>) -> Option<Form>
+    ensures { result ≡ said_in form_in (codes "as") (rows_of (found_of found.now)) }
+{
+    form_in(found.get_str("as")?)
+}
+
+fn form_in(text: &str) -> Option<Form>
+    ensures { result ≡ form_in text.now }
+{
+    if text == "text" {
+        Some(Form::Report)
+    } else if text == "summary" {
+        Some(Form::Summary)
+    } else {
+        None
+    }
+}
+
+/// The number under that name.
+pub(crate) fn count_of(found: &ArgMatches<'_>, name: &str) -> Option<u64>
+    ensures { result ≡ said_in count_in name.now (rows_of (found_of found.now)) }
+{
+    count_in(found.get_str(name)?)
+}
+
+fn count_in(text: &str) -> Option<u64>
+    ensures { result ≡ count_in text.now }
+{
+    match text.parse::<u64>() {
+        Ok(count) => Some(count),
+        Err(_) => None,
+    }
+}
+
+pub(crate) fn traces_of<'a>(alloc: Global, found: &ArgMatches<'a>) -> Result<Vec<&'a str>, AllocError>
     ensures { IfOk result (λ traces. map (λ name. name.now) traces.items ≡ traces_in (rows_of (found_of found.now))) }
 {
     match found.get_strs("TRACE") {

@@ -3,7 +3,10 @@
 ghost use Rattle.std.specs.Prelude.{◌≡◌, ◌++◌, ℕ, true, false, List, [], ◌∷◌, Some, None, codes};
 ghost use Rattle.clap.specs.Words.{Text, takes};
 ghost use Rattle.words.specs.declared.check.Moments.TheVariants.{Index, Time};
-ghost use Rattle.words.specs.Words.{Check, Safe, Tower, asked, command_line, is_plain};
+ghost use Rattle.words.specs.declared.check.Form.TheVariants.{Report, Summary};
+ghost use Rattle.words.specs.declared.completion.Shell.TheVariants.{Bash, Zsh, Fish};
+ghost use Rattle.words.specs.declared.lint.LintForm.TheVariants.{Human, Json};
+ghost use Rattle.words.specs.Words.{Check, Completion, Explain, Lint, Manual, Safe, Tower, Version, asked, command_line, is_plain};
 
 /// What words ask for, whatever the program's name: the command is named behind it, and then its
 /// file. A file whose name begins with a hyphen stands behind `--`.
@@ -13,24 +16,46 @@ pub fn words_in_turn()
     ensures tower { (program name : Text) → is_plain name ≡ true → asked (program ∷ codes "tower" ∷ name ∷ []) ≡ Some (Tower name) }
     ensures any_trace { (program name : Text) → asked (program ∷ codes "safe" ∷ codes "--" ∷ name ∷ []) ≡ Some (Safe (Some name)) }
     ensures any_tower { (program name : Text) → asked (program ∷ codes "tower" ∷ codes "--" ∷ name ∷ []) ≡ Some (Tower name) }
+    ensures list { (program : Text) → asked (program ∷ codes "explain" ∷ []) ≡ Some (Explain None) }
+    ensures code { (program name : Text) → is_plain name ≡ true → asked (program ∷ codes "explain" ∷ name ∷ []) ≡ Some (Explain (Some name)) }
+    ensures version { (program : Text) → asked (program ∷ codes "version" ∷ []) ≡ Some Version }
+    ensures version_option { (program : Text) → asked (program ∷ codes "--version" ∷ []) ≡ Some Version }
+    ensures version_letter { (program : Text) → asked (program ∷ codes "-V" ∷ []) ≡ Some Version }
+    ensures manual { (program : Text) → asked (program ∷ codes "manual" ∷ []) ≡ Some Manual }
+    ensures bash { (program : Text) → asked (program ∷ codes "completion" ∷ codes "bash" ∷ []) ≡ Some (Completion Bash) }
+    ensures zsh { (program : Text) → asked (program ∷ codes "completion" ∷ codes "zsh" ∷ []) ≡ Some (Completion Zsh) }
+    ensures fish { (program : Text) → asked (program ∷ codes "completion" ∷ codes "fish" ∷ []) ≡ Some (Completion Fish) }
 {}
 
 /// What `check` asks for: one shard and `index` where nothing else is said, and every trace, in
 /// turn, wherever the options stand. Names that begin with a hyphen stand behind `=` and `--`.
 pub fn checks_in_turn()
     ensures plain { (program : Text) → asked (program ∷ codes "check" ∷ codes "--tower" ∷ codes "t" ∷ codes "a" ∷ [])
-        ≡ Some (Check (record { tower = codes "t"; shards = 1; moments = Index; order = None; traces = codes "a" ∷ [] })) }
-    ensures whole { (program : Text) → asked (program ∷ codes "check" ∷ codes "--tower" ∷ codes "t" ∷ codes "--shards" ∷ codes "64" ∷ codes "--moment" ∷ codes "time" ∷ codes "--order" ∷ codes "x" ∷ codes "a" ∷ [])
-        ≡ Some (Check (record { tower = codes "t"; shards = 64; moments = Time; order = Some (codes "x"); traces = codes "a" ∷ [] })) }
+        ≡ Some (Check (record { tower = codes "t"; shards = 1; moments = Index; order = None; form = Report; least = 0; least_each = 0; traces = codes "a" ∷ [] })) }
+    ensures whole { (program : Text) → asked (program ∷ codes "check" ∷ codes "--tower" ∷ codes "t" ∷ codes "--shards" ∷ codes "64" ∷ codes "--moment" ∷ codes "time" ∷ codes "--order" ∷ codes "x" ∷ codes "--as" ∷ codes "summary" ∷ codes "--least" ∷ codes "7" ∷ codes "--least-each" ∷ codes "1" ∷ codes "a" ∷ [])
+        ≡ Some (Check (record { tower = codes "t"; shards = 64; moments = Time; order = Some (codes "x"); form = Summary; least = 7; least_each = 1; traces = codes "a" ∷ [] })) }
     ensures two { (program : Text) → asked (program ∷ codes "check" ∷ codes "--tower" ∷ codes "t" ∷ codes "a" ∷ codes "b" ∷ [])
-        ≡ Some (Check (record { tower = codes "t"; shards = 1; moments = Index; order = None; traces = codes "a" ∷ codes "b" ∷ [] })) }
+        ≡ Some (Check (record { tower = codes "t"; shards = 1; moments = Index; order = None; form = Report; least = 0; least_each = 0; traces = codes "a" ∷ codes "b" ∷ [] })) }
     ensures between { (program : Text) → asked (program ∷ codes "check" ∷ codes "a" ∷ codes "--shards=+2" ∷ codes "b" ∷ codes "--tower=t" ∷ codes "--moment=index" ∷ codes "a" ∷ [])
-        ≡ Some (Check (record { tower = codes "t"; shards = 2; moments = Index; order = None; traces = codes "a" ∷ codes "b" ∷ codes "a" ∷ [] })) }
+        ≡ Some (Check (record { tower = codes "t"; shards = 2; moments = Index; order = None; form = Report; least = 0; least_each = 0; traces = codes "a" ∷ codes "b" ∷ codes "a" ∷ [] })) }
     ensures any_names { (program tower order trace : Text) → asked (program ∷ codes "check" ∷ (codes "--tower=" ++ tower) ∷ (codes "--order=" ++ order) ∷ codes "--" ∷ trace ∷ [])
-        ≡ Some (Check (record { tower = tower; shards = 1; moments = Index; order = Some order; traces = trace ∷ [] })) }
+        ≡ Some (Check (record { tower = tower; shards = 1; moments = Index; order = Some order; form = Report; least = 0; least_each = 0; traces = trace ∷ [] })) }
 {}
 
-/// Words that ask for nothing: no command, another one, no file, no tower or no trace. Words that
+/// What `lint` asks for: a tower file, traces, or both; three of each code, for people, where nothing
+/// else is said.
+pub fn looks_in_turn()
+    ensures tower { (program : Text) → asked (program ∷ codes "lint" ∷ codes "--tower" ∷ codes "t" ∷ [])
+        ≡ Some (Lint (record { tower = Some (codes "t"); moments = Index; form = Human; most = 3; traces = [] })) }
+    ensures traces { (program : Text) → asked (program ∷ codes "lint" ∷ codes "a" ∷ codes "b" ∷ [])
+        ≡ Some (Lint (record { tower = None; moments = Index; form = Human; most = 3; traces = codes "a" ∷ codes "b" ∷ [] })) }
+    ensures whole { (program : Text) → asked (program ∷ codes "lint" ∷ codes "--tower=t" ∷ codes "--moment" ∷ codes "time" ∷ codes "--as" ∷ codes "json" ∷ codes "--max" ∷ codes "0" ∷ codes "a" ∷ [])
+        ≡ Some (Lint (record { tower = Some (codes "t"); moments = Time; form = Json; most = 0; traces = codes "a" ∷ [] })) }
+    ensures nothing { (program : Text) → asked (program ∷ codes "lint" ∷ []) ≡ None }
+    ensures no_form { (program : Text) → asked (program ∷ codes "lint" ∷ codes "--as" ∷ codes "text" ∷ codes "a" ∷ []) ≡ None }
+{}
+
+/// Words that ask for nothing: no command, another one, no file, no tower, no trace or no such form. Words that
 /// `clap` takes only in part are refused by it.
 pub fn words_that_ask_for_nothing()
     ensures alone { (program : Text) → asked (program ∷ []) ≡ None }
@@ -41,6 +66,8 @@ pub fn words_that_ask_for_nothing()
     ensures no_tower { (program : Text) → asked (program ∷ codes "check" ∷ codes "a" ∷ []) ≡ None }
     ensures no_trace { (program : Text) → asked (program ∷ codes "check" ∷ codes "--tower" ∷ codes "t" ∷ []) ≡ None }
     ensures no_moment { (program : Text) → asked (program ∷ codes "check" ∷ codes "--tower" ∷ codes "t" ∷ codes "--moment" ∷ codes "now" ∷ codes "a" ∷ []) ≡ None }
+    ensures no_form { (program : Text) → asked (program ∷ codes "check" ∷ codes "--tower" ∷ codes "t" ∷ codes "--as" ∷ codes "html" ∷ codes "a" ∷ []) ≡ None }
+    ensures no_shell { (program : Text) → asked (program ∷ codes "completion" ∷ codes "csh" ∷ []) ≡ None }
     ensures none { asked [] ≡ None }
     ensures refused { (takes command_line (codes "regaudit" ∷ codes "safe" ∷ codes "a" ∷ codes "b" ∷ []) ≡ false)
         × (takes command_line (codes "regaudit" ∷ codes "safe" ∷ codes "-x" ∷ []) ≡ false)

@@ -1,9 +1,15 @@
-//! The words of the command line: which command they ask for, of `check`, `safe` and `tower`.
+//! The words of the command line: which command they ask for.
 //!
 //! ```text
-//! regaudit check --tower FILE [--shards N] [--moment index|time] [--order NAME] TRACE..
+//! regaudit check --tower FILE [--shards N] [--moment index|time] [--order NAME] [--as text|summary]
+//!     [--least N] [--least-each N] TRACE..
+//! regaudit lint [--tower FILE] [--moment index|time] [--as human|short|github|json] [--max N] [TRACE..]
 //! regaudit safe [TRACE]
 //! regaudit tower FILE
+//! regaudit explain [CODE]
+//! regaudit version
+//! regaudit manual
+//! regaudit completion bash|zsh|fish
 //! ```
 //!
 //! ```text
@@ -13,6 +19,9 @@
 //!         shards: 1,
 //!         moments: Moments::Index,
 //!         order: None,
+//!         form: Form::Report,
+//!         least: 0,
+//!         least_each: 0,
 //!         traces: ["a.edn", "b.edn"],
 //!     }))
 //! read_words(alloc, &["regaudit", "safe"])                 Ok(Command::Safe(None))
@@ -24,9 +33,15 @@
 #![tactic(auto)]
 
 mod check;
+mod completion;
 pub mod laws;
 mod line;
+mod lint;
+mod manual;
 mod words;
 
-pub use check::{Check, Moments};
+pub use check::{Check, Form, Moments};
+pub use completion::Shell;
+pub use lint::{Lint, LintForm};
+pub use manual::help_of_all;
 pub use words::{Command, no_text, read_words};

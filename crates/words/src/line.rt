@@ -1,8 +1,8 @@
 //! The command line as `clap` is told of it.
 
 ghost use Rattle.std.specs.Prelude.{◌≡◌, false, IfOk};
-ghost use Rattle.clap.specs.Words.{app_of, rule_of};
-ghost use Rattle.words.specs.Words.{IsLine, check_with, line_with, moment_rule, order_rule, safe_line, shards_rule, tower_line, tower_rule, traces_rule};
+ghost use Rattle.clap.specs.Words.{App, app_of, rule_of};
+ghost use Rattle.words.specs.Words.{AreLocal, IsLine, amiss_rule, any_tower_rule, any_traces_rule, check_with, completion_with, count_rule, explain_line, form_rule, line_with, lint_with, manual_line, moment_rule, order_rule, safe_line, shards_rule, shell_rule, tower_line, tower_rule, traces_rule, version_line, with_audits, with_counts, with_lint_options, with_texts};
 
 use clap::builder::ValueParser;
 use clap::{Arg, Command};
@@ -14,6 +14,7 @@ const STATUSES: &str = "Exit status:
   1  a register fails
   2  a trace is broken, or nothing could be read, judged or written
   3  no register fails, and an element was refused
+  4  no register fails, and fewer operations stand than --least or --least-each says
 
 docs/FORMATS.md describes traces, tower files and what is printed.";
 
@@ -36,26 +37,97 @@ The lines of the report:
 
 An ID is TRACE:PLACE, the number of a trace and of an element in it, each from 0.";
 
+/// What stands at the end of the help of `lint`.
+const LINT_STATUSES: &str = "Exit status:
+  0  nothing is amiss
+  2  the tower file or a trace has a fault, or something could not be read or written
+  3  no fault, and an element was refused";
+
 const TOWER: &str = "The tower file, in EDN, such as examples/tower.edn";
 
-/// The line with this argument for `--moment`.
-pub(crate) fn command_line<'a>(alloc: Global, moment: Arg<'a>) -> Result<Command<'a>, AllocError>
-    ensures { moment.entry.global ≡ false → IfOk result (λ line. app_of line ≡ line_with (rule_of moment.entry)) }
-{
-    let check = check_line(alloc, moment)?;
-    let safe = safe_line(alloc)?;
-    let tower = tower_line(alloc)?;
-    Command::new(alloc, "regaudit")
-        .about("Audits the histories of registers")
-        .after_help(STATUSES)
-        .subcommand_required(true)
-        .subcommand(check)?
-        .subcommand(safe)?
-        .subcommand(tower)
+const MANUAL: &str = "Prints the help of all commands, and what each code means in a line";
+
+/// The arguments that have one of a few words, each of which takes any word here.
+pub(crate) struct Choices<'a> {
+    pub moment: Arg<'a>,
+    pub form: Arg<'a>,
+    pub lint_moment: Arg<'a>,
+    pub lint_form: Arg<'a>,
+    pub shell: Arg<'a>,
 }
 
-/// `--moment`, which takes any word.
-pub(crate) fn moment<'a>(alloc: Global) -> Arg<'a>
+/// The line with these arguments.
+pub(crate) fn command_line<'a>(
+    alloc: Global,
+    choices: Choices<'a>,
+) -> Result<Command<'a>, AllocError>
+    ensures { AreLocal choices.entry → IfOk result (λ line. app_of line ≡ line_with (rule_of choices.entry.moment) (rule_of choices.entry.form) (rule_of choices.entry.lint_moment) (rule_of choices.entry.lint_form) (rule_of choices.entry.shell)) }
+{
+    let Choices {
+        moment,
+        form,
+        lint_moment,
+        lint_form,
+        shell,
+    } = choices;
+    let line = Command::new(alloc, "regaudit")
+        .about("Audits the histories of registers")
+        .after_help(STATUSES)
+        .subcommand_required(true);
+    let line = add_audits(alloc, line, moment, form)?;
+    let lint = lint_line(alloc, lint_moment, lint_form)?;
+    let line = line.subcommand(lint)?;
+    let line = add_texts(alloc, line)?;
+    let completion = completion_line(alloc, shell)?;
+    line.subcommand(completion)
+}
+
+/// Adds the commands that read traces or a tower.
+fn add_audits<'a>(
+    alloc: Global,
+    line: Command<'a>,
+    moment: Arg<'a>,
+    form: Arg<'a>,
+) -> Result<Command<'a>, AllocError>
+    ensures { moment.entry.global ≡ false → form.entry.global ≡ false → IfOk result (λ new. app_of new ≡ with_audits (app_of line.entry) (rule_of moment.entry) (rule_of form.entry)) }
+{
+    let check = check_line(alloc, moment, form)?;
+    let line = line.subcommand(check)?;
+    let safe = safe_line(alloc)?;
+    let line = line.subcommand(safe)?;
+    let tower = tower_line(alloc)?;
+    line.subcommand(tower)
+}
+
+/// Adds the commands that print a text.
+fn add_texts<'a>(alloc: Global, line: Command<'a>) -> Result<Command<'a>, AllocError>
+    ensures { IfOk result (λ new. app_of new ≡ with_texts (app_of line.entry)) }
+{
+    let explain = explain_line(alloc)?;
+    let line = line.subcommand(explain)?;
+    let line = line.subcommand(version_line(alloc))?;
+    line.subcommand(manual_line(alloc))
+}
+
+/// `--moment` and `--as` of `check` and of `lint`, and `SHELL`, each of which takes any word.
+pub(crate) fn few_words<'a>(alloc: Global) -> Choices<'a>
+    ensures moment { rule_of result.moment ≡ moment_rule }
+    ensures form { rule_of result.form ≡ form_rule }
+    ensures lint_moment { rule_of result.lint_moment ≡ moment_rule }
+    ensures lint_form { rule_of result.lint_form ≡ amiss_rule }
+    ensures shell { rule_of result.shell ≡ shell_rule }
+    ensures local { AreLocal result }
+{
+    Choices {
+        moment: moment(alloc),
+        form: form(alloc),
+        lint_moment: moment(alloc),
+        lint_form: lint_form(alloc),
+        shell: shell(alloc),
+    }
+}
+
+fn moment<'a>(alloc: Global) -> Arg<'a>
     ensures rule { rule_of result ≡ moment_rule }
     ensures local { result.global ≡ false }
 {
@@ -66,10 +138,45 @@ pub(crate) fn moment<'a>(alloc: Global) -> Arg<'a>
         .help("The field that moments stand under: index or time")
 }
 
-fn check_line<'a>(alloc: Global, moment: Arg<'a>) -> Result<Command<'a>, AllocError>
-    ensures { moment.entry.global ≡ false → IfOk result (λ line. IsLine (check_with (rule_of moment.entry)) line) }
+fn form<'a>(alloc: Global) -> Arg<'a>
+    ensures rule { rule_of result ≡ form_rule }
+    ensures local { result.global ≡ false }
 {
-    Command::new(alloc, "check")
+    Arg::new(alloc, "as")
+        .long("as")
+        .value_name("FORM")
+        .default_value("text")
+        .help("What is printed: the report as text, or a summary of it")
+}
+
+fn lint_form<'a>(alloc: Global) -> Arg<'a>
+    ensures rule { rule_of result ≡ amiss_rule }
+    ensures local { result.global ≡ false }
+{
+    Arg::new(alloc, "as")
+        .long("as")
+        .value_name("FORM")
+        .default_value("human")
+        .help("How it is printed: human, short, github or json")
+}
+
+fn shell<'a>(alloc: Global) -> Arg<'a>
+    ensures rule { rule_of result ≡ shell_rule }
+    ensures local { result.global ≡ false }
+{
+    Arg::new(alloc, "SHELL")
+        .required(true)
+        .help("The shell: bash, zsh or fish")
+}
+
+fn check_line<'a>(
+    alloc: Global,
+    moment: Arg<'a>,
+    form: Arg<'a>,
+) -> Result<Command<'a>, AllocError>
+    ensures { moment.entry.global ≡ false → form.entry.global ≡ false → IfOk result (λ line. IsLine (check_with (rule_of moment.entry) (rule_of form.entry)) line) }
+{
+    let line = Command::new(alloc, "check")
         .about("Judges the registers of a tower by the operations that traces tell of them")
         .long_about(CHECK)
         .after_help(STATUSES)
@@ -77,7 +184,74 @@ fn check_line<'a>(alloc: Global, moment: Arg<'a>) -> Result<Command<'a>, AllocEr
         .arg(shards(alloc))?
         .arg(moment)?
         .arg(order(alloc))?
-        .arg(traces(alloc))
+        .arg(form)?;
+    add_counts(alloc, line)
+}
+
+/// Adds the numbers of operations and the traces.
+fn add_counts<'a>(alloc: Global, line: Command<'a>) -> Result<Command<'a>, AllocError>
+    ensures { (app : App) → IsLine app line.entry → IfOk result (IsLine (with_counts app)) }
+{
+    let least = count(
+        alloc,
+        "least",
+        "0",
+        "Ends with status 4 where fewer operations stand in all registers",
+    );
+    let line = line.arg(least)?;
+    let least_each = count(
+        alloc,
+        "least-each",
+        "0",
+        "Ends with status 4 where fewer operations stand in some register",
+    );
+    let line = line.arg(least_each)?;
+    line.arg(traces(alloc))
+}
+
+fn lint_line<'a>(
+    alloc: Global,
+    moment: Arg<'a>,
+    form: Arg<'a>,
+) -> Result<Command<'a>, AllocError>
+    ensures { moment.entry.global ≡ false → form.entry.global ≡ false → IfOk result (λ line. IsLine (lint_with (rule_of moment.entry) (rule_of form.entry)) line) }
+{
+    let line = Command::new(alloc, "lint")
+        .about("Says what is amiss in traces, with file, line and column")
+        .after_help(LINT_STATUSES)
+        .arg(any_tower(alloc))?
+        .arg(moment)?
+        .arg(form)?;
+    add_lint_options(alloc, line)
+}
+
+/// Adds how much is shown, and the traces.
+fn add_lint_options<'a>(alloc: Global, line: Command<'a>) -> Result<Command<'a>, AllocError>
+    ensures { (app : App) → IsLine app line.entry → IfOk result (IsLine (with_lint_options app)) }
+{
+    let most = count(alloc, "max", "3", "How many of each code are shown; 0 for all");
+    let line = line.arg(most)?;
+    line.arg(any_traces(alloc))
+}
+
+/// `TRACE..`, any number.
+fn any_traces<'a>(alloc: Global) -> Arg<'a>
+    ensures rule { rule_of result ≡ any_traces_rule }
+    ensures local { result.global ≡ false }
+{
+    Arg::new(alloc, "TRACE")
+        .num_args(1..)
+        .help("The traces, in EDN, which are read in turn")
+}
+
+/// `--tower FILE`, which may be left out.
+fn any_tower<'a>(alloc: Global) -> Arg<'a>
+    ensures rule { rule_of result ≡ any_tower_rule }
+    ensures local { result.global ≡ false }
+{
+    Arg::new(alloc, "tower").long("tower").value_name("FILE").help(
+        "The tower file; where none is named, the one register of `safe` is taken",
+    )
 }
 
 fn safe_line<'a>(alloc: Global) -> Result<Command<'a>, AllocError>
@@ -100,6 +274,37 @@ fn tower_line<'a>(alloc: Global) -> Result<Command<'a>, AllocError>
         .about("Lists the registers of a tower: number, level, name and kind")
         .after_help(STATUSES)
         .arg(file)
+}
+
+fn explain_line<'a>(alloc: Global) -> Result<Command<'a>, AllocError>
+    ensures { IfOk result (IsLine explain_line) }
+{
+    let code = Arg::new(alloc, "CODE").help(
+        "A code, such as X7, or a word of the report; all are listed where none is named",
+    );
+    Command::new(alloc, "explain")
+        .about("Says what a code or a word of the report means, and how to mend it")
+        .arg(code)
+}
+
+fn version_line<'a>(alloc: Global) -> Command<'a>
+    ensures { IsLine version_line result }
+{
+    Command::new(alloc, "version").about("Prints the version, as --version does")
+}
+
+fn manual_line<'a>(alloc: Global) -> Command<'a>
+    ensures { IsLine manual_line result }
+{
+    Command::new(alloc, "manual").about(MANUAL)
+}
+
+fn completion_line<'a>(alloc: Global, shell: Arg<'a>) -> Result<Command<'a>, AllocError>
+    ensures { shell.entry.global ≡ false → IfOk result (IsLine (completion_with (rule_of shell.entry))) }
+{
+    Command::new(alloc, "completion")
+        .about("Prints the script by which a shell completes the words of this program")
+        .arg(shell)
 }
 
 fn tower<'a>(alloc: Global) -> Arg<'a>
@@ -133,6 +338,19 @@ fn order<'a>(alloc: Global) -> Arg<'a>
         .long("order")
         .value_name("NAME")
         .help("Prints an order of this atomic register's operations too")
+}
+
+/// `--NAME N`, a number.
+fn count<'a>(alloc: Global, name: &'a str, default: &'a str, help: &'a str) -> Arg<'a>
+    ensures rule { rule_of result ≡ count_rule name.entry.now default.entry.now }
+    ensures local { result.global ≡ false }
+{
+    Arg::new(alloc, name)
+        .long(name)
+        .value_name("N")
+        .default_value(default)
+        .value_parser(ValueParser::unsigned(0, u64::MAX))
+        .help(help)
 }
 
 fn traces<'a>(alloc: Global) -> Arg<'a>

@@ -1,15 +1,19 @@
 //! The words of the command line.
 
-ghost use Rattle.std.specs.Prelude.{◌≡◌, ◌⊎◌, [], true, None, Some, IfOk, IfErr, IfSome, map};
+ghost use Rattle.std.specs.Prelude.{◌≡◌, ◌⊎◌, [], true, false, None, Some, IfOk, IfErr, IfSome, codes, map};
 ghost use Rattle.std.specs.Option.{option_map};
-ghost use Rattle.clap.specs.Words.{subcommand_rows_of, takes};
+ghost use Rattle.std.specs.Str.{bytes_eq};
+ghost use Rattle.clap.specs.Words.{found_of, rows_of, subcommand_of, subcommand_rows_of, takes};
 ghost use Rattle.clap.specs.Values.{kind_of};
 ghost use Rattle.clap.specs.Faults.{fault_of};
 ghost use Rattle.clap.specs.declared.error.kind.ErrorKind.TheVariants.{OutOfMemory};
-ghost use Rattle.words.specs.Words.{HasShards, HasTraces, asked, asked_of, asked_by, command_line as line_of_commands};
+ghost use Rattle.words.specs.Completion.{shell_named};
+ghost use Rattle.words.specs.Words.{HasShards, HasTraces, IsFaultless, ask_version, asked, asked_of, asked_by, command_by, command_line as line_of_commands, is_version_word, said_in};
 
 use crate::check::{Check, check_of};
-use crate::line::{command_line, moment};
+use crate::completion::Shell;
+use crate::line::{Choices, command_line, few_words};
+use crate::lint::{Lint, lint_of};
 use clap::error::ErrorKind;
 use clap::{ArgMatches, Error};
 use std::alloc::{AllocError, Global};
@@ -22,8 +26,16 @@ pub enum Command<'a> {
     Safe(Option<&'a str>),
     /// Traces against a tower.
     Check(Check<'a>),
+    /// What is amiss in a tower file and in traces.
+    Lint(Lint<'a>),
     /// The tower file that is named.
     Tower(&'a str),
+    /// What a code or a word of the report means, or a list of all.
+    Explain(Option<&'a str>),
+    Version,
+    /// The help of all commands.
+    Manual,
+    Completion(Shell),
 }
 
 /// The command that words ask for, of which the first is the program's name. The error's text is
@@ -31,11 +43,41 @@ pub enum Command<'a> {
 pub fn read_words<'a, S: AsStr>(alloc: Global, words: &'a [S]) -> Result<Command<'a>, Error>
     ensures asks { IfOk result (λ command. asked (map S.text words.entry.now) ≡ Some (asked_of command)) }
     ensures passes { IfErr result (λ error. takes line_of_commands (map S.text words.entry.now) ≡ true → (asked (map S.text words.entry.now) ≡ None) ⊎ (kind_of error ≡ OutOfMemory)) }
+    ensures refuses { IfOk result (λ command. IsFaultless (map S.text words.entry.now)) }
+    ensures shards { IfOk result HasShards }
+    ensures traces { IfOk result HasTraces }
+{
+    if is_for_version(words) {
+        return Ok(Command::Version);
+    }
+    read_command(alloc, words)
+}
+
+/// Whether the word behind the program's name asks for the version, and is the last.
+fn is_for_version<S: AsStr>(words: &[S]) -> bool
+    ensures { result ≡ ask_version (map S.text words.now) }
+{
+    match words {
+        [_, word] => is_version_word(word.as_str()),
+        _ => false,
+    }
+}
+
+fn is_version_word(word: &str) -> bool
+    ensures { result ≡ is_version_word word.now }
+{
+    word == "--version" || word == "-V"
+}
+
+/// The command that `clap` finds in words.
+fn read_command<'a, S: AsStr>(alloc: Global, words: &'a [S]) -> Result<Command<'a>, Error>
+    ensures asks { IfOk result (λ command. asked_by (subcommand_of line_of_commands (map S.text words.entry.now)) ≡ Some (asked_of command)) }
+    ensures passes { IfErr result (λ error. takes line_of_commands (map S.text words.entry.now) ≡ true → (asked_by (subcommand_of line_of_commands (map S.text words.entry.now)) ≡ None) ⊎ (kind_of error ≡ OutOfMemory)) }
     ensures refuses { IfOk result (λ command. fault_of line_of_commands (map S.text words.entry.now) ≡ []) }
     ensures shards { IfOk result HasShards }
     ensures traces { IfOk result HasTraces }
 {
-    let mut line = command_line(alloc, moment(alloc))?;
+    let mut line = command_line(alloc, few_words(alloc))?;
     let matches = match line.try_get_matches_from_mut(words) {
         Ok(matches) => matches,
         Err(error) => return Err(error),
@@ -55,20 +97,47 @@ pub fn no_text(alloc: Global) -> Error {
 }
 
 fn usage_fault(alloc: Global, message: &str) -> Result<Error, AllocError> {
-    command_line(alloc, moment(alloc))?.error(ErrorKind::InvalidValue, message)
+    command_line(alloc, few_words(alloc))?.error(ErrorKind::InvalidValue, message)
 }
 
 static MOMENTS: [&str; 2] = ["index", "time"];
 
-/// The fault of words that `clap` takes and that ask for nothing: `--moment` has another word than
-/// its two. `clap` tells it in its own text, on a line that takes these two alone. That line holds
-/// them as it was lent them, so no line of `specs/` is equal to it, and words are not read by it.
+static FORMS: [&str; 2] = ["text", "summary"];
+
+static LINT_FORMS: [&str; 4] = ["human", "short", "github", "json"];
+
+static SHELLS: [&str; 3] = ["bash", "zsh", "fish"];
+
+/// The fault of words that `clap` takes and that ask for nothing: an argument that has one of a few words has
+/// another, which `clap` tells in its own text, on a line that takes these alone; or `lint` is given nothing to
+/// read. That line holds the words as it was lent them, so no line of `specs/` is equal to it, and words are not
+/// read by it.
 fn refused<'a, S: AsStr>(alloc: Global, words: &'a [S]) -> Result<Error, AllocError> {
-    let moment = moment(alloc).value_parser(MOMENTS.as_slice());
-    let mut line = command_line(alloc, moment)?;
+    let mut line = command_line(alloc, narrow(few_words(alloc)))?;
     match line.try_get_matches_from_mut(words) {
         Err(error) => Ok(error),
-        Ok(_) => line.error(ErrorKind::MissingSubcommand, "a command is required"),
+        Ok(_) => line.error(
+            ErrorKind::MissingRequiredArgument,
+            "a tower file or a trace is required",
+        ),
+    }
+}
+
+/// The arguments, each of which takes its few words alone.
+fn narrow(choices: Choices<'_>) -> Choices<'_> {
+    let Choices {
+        moment,
+        form,
+        lint_moment,
+        lint_form,
+        shell,
+    } = choices;
+    Choices {
+        moment: moment.value_parser(MOMENTS.as_slice()),
+        form: form.value_parser(FORMS.as_slice()),
+        lint_moment: lint_moment.value_parser(MOMENTS.as_slice()),
+        lint_form: lint_form.value_parser(LINT_FORMS.as_slice()),
+        shell: shell.value_parser(SHELLS.as_slice()),
     }
 }
 
@@ -89,11 +158,35 @@ fn command_of<'a>(
             None => None,
         });
     }
-    if name == "safe" {
-        return Ok(Some(Command::Safe(found.get_str("TRACE"))));
+    if name == "lint" {
+        return Ok(match lint_of(alloc, found)? {
+            Some(lint) => Some(Command::Lint(lint)),
+            None => None,
+        });
     }
-    match found.get_str("FILE") {
-        Some(file) => Ok(Some(Command::Tower(file))),
-        None => Ok(None),
+    Ok(other_command(name, found))
+}
+
+/// A command of that name other than `check` and `lint`.
+fn other_command<'a>(name: &str, found: &ArgMatches<'a>) -> Option<Command<'a>>
+    requires check { bytes_eq name.now (codes "check") ≡ false }
+    requires lint { bytes_eq name.now (codes "lint") ≡ false }
+    ensures asks { option_map asked_of result ≡ command_by name.now (rows_of (found_of found.now)) }
+    ensures shards { IfSome result HasShards }
+    ensures traces { IfSome result HasTraces }
+{
+    match name {
+        "safe" => Some(Command::Safe(found.get_str("TRACE"))),
+        "tower" => Some(Command::Tower(found.get_str("FILE")?)),
+        "explain" => Some(Command::Explain(found.get_str("CODE"))),
+        "version" => Some(Command::Version),
+        "manual" => Some(Command::Manual),
+        _ => Some(Command::Completion(shell_of(found)?)),
     }
+}
+
+fn shell_of(found: &ArgMatches<'_>) -> Option<Shell>
+    ensures { result ≡ said_in shell_named (codes "SHELL") (rows_of (found_of found.now)) }
+{
+    Shell::named(found.get_str("SHELL")?)
 }

@@ -5,13 +5,13 @@ use Rattle.commands.proofs.Endings.{checked}
 use Rattle.commands.proofs.Readings.{held_later}
 use Rattle.commands.proofs.check.check.Goals as goal
 
-pub report-requires-clause-of_tower : goal.report-requires-clause-of_tower
-report-requires-clause-of_tower g c κs within =
+pub print-requires-clause-of_tower : goal.print-requires-clause-of_tower
+print-requires-clause-of_tower g c κs within =
     let run = c.in-Ok-run_readers.run' in
     c.a_run_is_of_its_tower.ensures c.in_ok-tower.tower _ _ _ run.closed run.logs.items c.in-Ok-run_readers.ensures.run.2
 
-pub returns-in-Ok-report-clause-checked : goal.returns-in-Ok-report-clause-checked
-returns-in-Ok-report-clause-checked g c =
+pub returns-in-Ok-print-clause-checked : goal.returns-in-Ok-print-clause-checked
+returns-in-Ok-print-clause-checked g c =
     let asked = c.args.asked.now in
     let files = g.F.Files.held c.args.files.now in
     let run = c.in-Ok-run_readers.run' in
@@ -21,5 +21,5 @@ returns-in-Ok-report-clause-checked g c =
     (λ known held. c.in_ok-readers.ensures.held known (held_later files (g.F.Files.held c.read_tower.new.files) asked.traces.items c.deref.result.now known c.read_tower.ensures.stays c.deref.ensures.value held))
     c.field_of.ensures
     c.in-Ok-run_readers.ensures.run
-    c.in-Ok-report.ensures.report
-    c.status_after-status.ensures
+    c.in-Ok-print.ensures.printed
+    c.in-Ok-status_after.ensures

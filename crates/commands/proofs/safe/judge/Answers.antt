@@ -1,4 +1,4 @@
-use Rattle.std.proofs.Common.{◌≡◌, not, rules}
+use Rattle.std.proofs.Common.{◌≡◌, false, not, rules}
 use Rattle.std.specs.Prelude.{is_some}
 use Rattle.std.specs.Io.KnownBytes.{Appends}
 use Rattle.commands.specs.Status.{status_of}
@@ -12,5 +12,5 @@ returns-in-Ok-write_text-clause-audited g c =
     let old = g.W.Write.contents c.args.out.now in
     let new = g.W.Write.contents c.write_text.new.out in
     let written : Appends old new (verdict_line audit.kind audit.holds audit.operations) = search rules in
-    let status_is : c.status.result ≡ status_of (is_some audit.broken) (not audit.holds) audit.refused = search rules in
+    let status_is : c.status.result ≡ status_of (is_some audit.broken) (not audit.holds) audit.refused false = search rules in
     audited (g.S.Read.remaining c.args.reader) audit c.status.result old new c.in_ok-audit.ensures.audit written status_is

@@ -1,4 +1,4 @@
-use Rattle.words.proofs.Asking.{alone, other, help, no_file, no_check, no_tower, no_trace, no_moment, nothing, refused, refused_checks, refused_shards, taken}
+use Rattle.words.proofs.Asking.{alone, other, help, no_file, no_check, no_tower, no_trace, no_moment, no_form, no_shell, nothing, refused, refused_checks, refused_shards, taken}
 use Rattle.words.proofs.laws.words_that_ask_for_nothing.Goals as goal
 
 pub returns-clause-alone : goal.returns-clause-alone
@@ -39,3 +39,9 @@ returns-clause-refused_shards c = refused_shards
 
 pub returns-clause-taken : goal.returns-clause-taken
 returns-clause-taken c = taken
+
+pub returns-clause-no_form : goal.returns-clause-no_form
+returns-clause-no_form c = no_form
+
+pub returns-clause-no_shell : goal.returns-clause-no_shell
+returns-clause-no_shell c = no_shell

@@ -1,15 +1,15 @@
 use Rattle.std.proofs.Common.{rules, codes, refl}
-use Rattle.std.proofs.lemmas.Result.{IfOk-weaker}
 use Rattle.clap.specs.Words.{new_app}
 use Rattle.words.specs.Words.{IsLine}
 use Rattle.words.proofs.Lines.{with_argument}
 use Rattle.words.proofs.line.check_line.Goals as goal
 
 pub returns : goal.returns
-returns c = λ local.
+returns c = λ local form_local.
     let alone : IsLine (new_app (codes "check")) c.after_help.result = (search rules, search rules) in
     let tower = with_argument _ _ _ _ _ alone c.tower.ensures.rule c.tower.ensures.local c.in_ok-arg.ensures in
     let shards = with_argument _ _ _ _ _ tower c.shards.ensures.rule c.shards.ensures.local c.in_ok-arg-2.ensures in
     let moment = with_argument _ _ _ _ _ shards refl local c.in_ok-arg-3.ensures in
     let order = with_argument _ _ _ _ _ moment c.order.ensures.rule c.order.ensures.local c.in_ok-arg-4.ensures in
-    IfOk-weaker c.arg-5.result _ _ (λ line h. with_argument _ _ _ _ _ order c.traces.ensures.rule c.traces.ensures.local h) c.arg-5.ensures
+    let form = with_argument _ _ _ _ _ order refl form_local c.in_ok-line.ensures in
+    c.add_counts.ensures _ form

@@ -1,0 +1,11 @@
+-- the place behind the bytes so far
+use Rattle.std.proofs.Common.{◌≡◌, ◌≤◌, ◌+◌, take}
+use Rattle.lint.specs.Place.{place_of}
+use Rattle.lint.proofs.place.place_on.Given as goal
+
+abbrev pub invariant-loop-byte : goal.invariant-loop-byte
+invariant-loop-byte l = record {
+  place : l.place ≡ place_of l.fn.text (l.fn.from + l.byte-index);
+  line : l.place.line ≤ l.fn.from + l.byte-index + 1;
+  column : l.place.column ≤ l.fn.from + l.byte-index + 1;
+}

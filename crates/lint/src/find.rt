@@ -1,0 +1,109 @@
+//! The findings of traces, by the logs of a run over them.
+
+ghost use Rattle.std.specs.Prelude.{◌≡◌, ◌≤◌, ◌<◌, ◌++◌, List, All, IfErr, IfOk, OnOk, length, map};
+ghost use Rattle.std.specs.List.{AllZip, flat_map};
+ghost use Rattle.std.specs.Option.{option_to_list};
+ghost use Rattle.shards.specs.Closing.{Ended};
+ghost use Rattle.feeders.specs.declared.log.Log.{Log as ALog};
+ghost use Rattle.feeders.specs.Ending.{MayEnd};
+ghost use Rattle.feeders.specs.Run.{IsRun};
+ghost use Rattle.lint.specs.Found.{AreFound, IsFoundIn, NamesElements, found_of_break, found_of_line};
+
+use crate::finding::{Amiss, Finding, Findings, TraceFindings};
+use crate::spot::{Spot, spot_of_one, spots_of};
+use edn_reader::laws::elements_of_a_prefix;
+use feeders::{Broken, Line, Log, RunFault, What, run_in_turn};
+use jepsen_form::MomentField;
+use shards::NoGate;
+use std::alloc::{AllocError, Global};
+use std::sync::Wait;
+use tower_file::Tower;
+
+/// What is amiss in traces that are fed in turn to the registers of a tower. A moment stands under `:index` or under
+/// `:time`, as the field says.
+pub fn lint<R: Wait>(
+    rt: &R,
+    alloc: Global,
+    tower: &Tower,
+    texts: &[&[u8]],
+    field: MomentField,
+) -> Result<Findings, RunFault>
+    requires traces { (1 ≤ length texts.now) × (length texts.now ≤ 256) }
+    ensures found { IfOk result (λ found. (closed : List Ended) × (logs : List ALog) × IsRun tower.now field 1 (map (λ text. text.now) texts.entry.now) closed logs
+        × AreFound (map (λ text. text.now) texts.entry.now) logs found.traces.items) }
+    ensures fault { IfErr result MayEnd }
+{
+    elements_of_a_prefix();
+    let run = run_in_turn(rt, alloc, tower, texts, field, 1, &NoGate)?;
+    let traces = find_all(alloc, texts, run.logs.as_slice())?;
+    Ok(Findings { traces })
+}
+
+/// The findings of each trace by its log.
+fn find_all(alloc: Global, texts: &[&[u8]], logs: &[Log]) -> Result<Vec<TraceFindings>, RunFault>
+    requires each { length logs.now ≡ length texts.now }
+    requires named { AllZip NamesElements (map (λ text. text.now) texts.now) logs.now }
+    ensures found { IfOk result (λ traces. AreFound (map (λ text. text.now) texts.entry.now) logs.now traces.items) }
+    ensures memory { IfErr result (λ fault. fault ≡ RunFault.Memory) }
+{
+    let mut traces = Vec::new(alloc);
+    for number in 0..texts.len() {
+        traces.push(find_in(alloc, texts[number], &logs[number])?)?;
+    }
+    Ok(traces)
+}
+
+/// The findings of one trace: its refusals in the order of its elements, and where it broke.
+fn find_in(alloc: Global, text: &[u8], log: &Log) -> Result<TraceFindings, RunFault>
+    requires named { NamesElements text.now log.now }
+    ensures found { IfOk result (IsFoundIn text.now log.now) }
+    ensures memory { IfErr result (λ fault. fault ≡ RunFault.Memory) }
+{
+    let spots = spots_of(alloc, text)?;
+    let mut findings = Vec::new(alloc);
+    push_lines(&mut findings, spots.as_slice(), log.lines.as_slice())?;
+    push_break(&mut findings, text, log.broken)?;
+    Ok(TraceFindings { spots, findings })
+}
+
+fn push_lines(findings: &mut Vec<Finding>, spots: &[Spot], lines: &[Line]) -> Result<(), AllocError>
+    requires named { All (λ line. line.event < length spots.now) lines.now }
+    ensures { OnOk result (findings.new.items ≡ findings.old.items ++ flat_map (found_of_line spots.now) lines.now) }
+{
+    for line in lines {
+        if let Some(finding) = finding_of_line(spots, line) {
+            findings.push(finding)?;
+        }
+    }
+    Ok(())
+}
+
+/// What a line says is amiss: an answer is nothing amiss.
+fn finding_of_line(spots: &[Spot], line: &Line) -> Option<Finding>
+    requires named { line.now.event < length spots.now }
+    ensures { option_to_list result ≡ found_of_line spots.now line.now }
+{
+    match line.what {
+        What::Refused(code) => Some(Finding {
+            what: Amiss::Refused(line.event, code),
+            spot: spots[line.event as usize],
+        }),
+        What::Answered(..) => None,
+    }
+}
+
+fn push_break(
+    findings: &mut Vec<Finding>,
+    text: &[u8],
+    broken: Option<Broken>,
+) -> Result<(), AllocError>
+    ensures { OnOk result (findings.new.items ≡ findings.old.items ++ found_of_break text.now broken) }
+{
+    if let Some(broken) = broken {
+        findings.push(Finding {
+            what: Amiss::Broken(broken.code),
+            spot: spot_of_one(text, broken.place as usize),
+        })?;
+    }
+    Ok(())
+}

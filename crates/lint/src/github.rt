@@ -1,0 +1,62 @@
+//! Findings as workflow commands, which annotate files.
+
+use crate::finding::{Finding, Findings, Grade};
+use crate::message::push_message;
+use crate::source::Source;
+use std::alloc::AllocError;
+
+/// A command for each finding, by trace and place: `::warning file=run.edn,line=3,col=1,title=X7::..`.
+pub fn push_github(
+    text: &mut String,
+    sources: &[Source],
+    found: &Findings,
+) -> Result<(), AllocError> {
+    let traces = found.traces.as_slice();
+    for trace in 0..traces.len() {
+        let Some(source) = sources.get(trace) else {
+            return Ok(());
+        };
+        for finding in &traces[trace].findings {
+            push_command(text, source, finding)?;
+        }
+    }
+    Ok(())
+}
+
+fn push_command(text: &mut String, source: &Source, finding: &Finding) -> Result<(), AllocError> {
+    text.push_str("::")?;
+    text.push_str(command_of(finding.what.grade()))?;
+    text.push_str(" file=")?;
+    push_property(text, source.name)?;
+    write!(
+        text,
+        ",line={},col={},title=",
+        finding.spot.place.line, finding.spot.place.column
+    )?;
+    text.push_str(finding.what.code())?;
+    text.push_str("::")?;
+    push_message(text, &finding.what)?;
+    text.push_str("\n")
+}
+
+fn command_of(grade: Grade) -> &'static str {
+    match grade {
+        Grade::Error => "error",
+        Grade::Warning => "warning",
+    }
+}
+
+/// A property, with what would end it behind a percent sign.
+fn push_property(text: &mut String, property: &str) -> Result<(), AllocError> {
+    for character in property.chars() {
+        match character {
+            '%' => text.push_str("%25")?,
+            '\r' => text.push_str("%0D")?,
+            '\n' => text.push_str("%0A")?,
+            ':' => text.push_str("%3A")?,
+            ',' => text.push_str("%2C")?,
+            other => text.push(other)?,
+        }
+    }
+    Ok(())
+}

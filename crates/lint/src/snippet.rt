@@ -1,0 +1,153 @@
+//! A line of a file, with a mark under a byte of it.
+
+use crate::source::Source;
+use crate::spot::Spot;
+use bstr::ByteSlice;
+use memchr::memchr;
+use std::alloc::AllocError;
+
+/// How many bytes of a line are shown.
+const WIDTH: usize = 160;
+
+/// How many bytes before the marked one are shown of a line that is cut at its front.
+const BEFORE: usize = 40;
+
+/// The longest that a mark under several bytes is.
+const LONGEST: usize = 24;
+
+/// What is marked in a file, and with which sign.
+#[derive(Clone, Copy)]
+pub struct Mark<'t> {
+    pub source: Source<'t>,
+    pub spot: Spot,
+    pub sign: char,
+}
+
+/// The part of a line that is shown, and the byte that is marked.
+#[derive(Clone, Copy)]
+struct Window {
+    start: usize,
+    from: usize,
+    at: usize,
+    to: usize,
+    end: usize,
+}
+
+/// How many digits a line number has.
+pub fn width_of(line: usize) -> usize {
+    let mut width: usize = 1;
+    let mut rest = line / 10;
+    while rest > 0 {
+        rest /= 10;
+        width = width.saturating_add(1);
+    }
+    width
+}
+
+/// Blanks where a line number would stand, and the bar.
+pub fn push_margin(text: &mut String, width: usize) -> Result<(), AllocError> {
+    push_blanks(text, width)?;
+    text.push_str(" |")
+}
+
+pub fn push_blanks(text: &mut String, count: usize) -> Result<(), AllocError> {
+    for _ in 0..count {
+        text.push_str(" ")?;
+    }
+    Ok(())
+}
+
+/// The line of a mark, and the mark under it, without the end of the line.
+pub fn push_mark(text: &mut String, width: usize, mark: Mark) -> Result<(), AllocError> {
+    let bytes = mark.source.text;
+    let window = window_of(bytes, &mark.spot);
+    let line = mark.spot.place.line;
+    push_blanks(text, width.saturating_sub(width_of(line)))?;
+    write!(text, "{line} | ")?;
+    push_shown(text, bytes, window)?;
+    text.push_str("\n")?;
+    push_margin(text, width)?;
+    text.push_str(" ")?;
+    if window.start < window.from {
+        text.push_str("  ")?;
+    }
+    push_under(text, part_of(bytes, window.from, window.at))?;
+    for _ in 0..length_of(window, &mark.spot) {
+        text.push(mark.sign)?;
+    }
+    Ok(())
+}
+
+/// Which part of its line is shown: as much as there is room for, with some bytes before the marked one.
+fn window_of(text: &[u8], spot: &Spot) -> Window {
+    let at = spot.start.min(text.len());
+    let start = at - at.min(spot.place.column.saturating_sub(1));
+    let end = match memchr(b'\n', &text[at..]) {
+        Some(found) => at + found,
+        None => text.len(),
+    };
+    let from = if at - start < WIDTH - BEFORE {
+        start
+    } else {
+        at - BEFORE
+    };
+    Window {
+        start,
+        from,
+        at,
+        to: end.min(from.saturating_add(WIDTH)),
+        end,
+    }
+}
+
+/// A whole element that is long is marked at its first byte, and a short one under each.
+fn length_of(window: Window, spot: &Spot) -> usize {
+    let length = spot.end.saturating_sub(spot.start);
+    let room = window.to.saturating_sub(window.at);
+    if length <= LONGEST && length <= room {
+        length.max(1)
+    } else {
+        1
+    }
+}
+
+fn part_of(text: &[u8], from: usize, to: usize) -> &[u8] {
+    match text.get(from..to) {
+        Some(part) => part,
+        None => b"",
+    }
+}
+
+fn push_shown(text: &mut String, bytes: &[u8], window: Window) -> Result<(), AllocError> {
+    if window.start < window.from {
+        text.push_str("..")?;
+    }
+    for character in part_of(bytes, window.from, window.to).chars() {
+        push_character(text, character)?;
+    }
+    if window.to < window.end {
+        text.push_str("..")?;
+    }
+    Ok(())
+}
+
+/// A control character but a tab is a blank.
+fn push_character(text: &mut String, character: char) -> Result<(), AllocError> {
+    if character < ' ' && character != '\t' {
+        text.push_str(" ")
+    } else {
+        text.push(character)
+    }
+}
+
+/// As many columns as the bytes take: a tab is a tab, any other character a blank.
+fn push_under(text: &mut String, bytes: &[u8]) -> Result<(), AllocError> {
+    for character in bytes.chars() {
+        if character == '\t' {
+            text.push(character)?;
+        } else {
+            text.push_str(" ")?;
+        }
+    }
+    Ok(())
+}

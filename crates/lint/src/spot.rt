@@ -1,0 +1,82 @@
+//! Where the elements of a text stand.
+
+ghost use Rattle.std.specs.Prelude.{◌≡◌, ◌++◌, ◌∷◌, ◌+◌, [], List, IfErr, IfOk, IsTrue, ◌↔◌, length, map};
+ghost use Rattle.edn_reader.specs.Fault.{IsMemory, AreElementsBefore};
+ghost use Rattle.edn_reader.specs.Grammar.{Piece};
+ghost use Rattle.edn_reader.specs.Lent.{piece_of};
+ghost use Rattle.lint.specs.Spot.{spot_of, spot_of_byte};
+
+use crate::place::{Cursor, Place};
+use edn_reader::laws::elements_of_a_prefix;
+use edn_reader::{EdnFault, Element, Reader};
+use feeders::RunFault;
+use std::alloc::Global;
+
+/// The places of a first byte and behind a last one, and the line and column of the first.
+#[derive(Clone, Copy, Debug, PartialEq, Eq)]
+pub struct Spot {
+    pub start: usize,
+    pub end: usize,
+    pub place: Place,
+}
+
+/// The spots of the elements of a text, or of those before its fault, by number.
+pub fn spots_of(alloc: Global, text: &[u8]) -> Result<Vec<Spot>, RunFault>
+    ensures spots { IfOk result (λ spots. (pieces : List Piece) × AreElementsBefore text.now pieces × (spots.items ≡ map (spot_of text.now) pieces)) }
+    ensures memory { IfErr result (λ fault. fault ≡ RunFault.Memory) }
+{
+    elements_of_a_prefix();
+    let mut reader = Reader::new(alloc, text);
+    let mut cursor = Cursor::new(text);
+    let mut spots = Vec::new(alloc);
+    loop {
+        match reader.next() {
+            Ok(Some(element)) => spots.push(spot_in(&mut cursor, &element))?,
+            Ok(None) => return Ok(spots),
+            Err(fault) => {
+                if is_memory(fault) {
+                    return Err(RunFault::Memory);
+                }
+                return Ok(spots);
+            }
+        }
+    }
+}
+
+fn spot_in(cursor: &mut Cursor, element: &Element) -> Spot
+    ensures spot { result ≡ spot_of cursor.old.text.now (piece_of element.now) }
+    ensures text { cursor.new.text ≡ cursor.old.text }
+{
+    let (start, end) = element.span();
+    Spot {
+        start,
+        end,
+        place: cursor.go_to(start),
+    }
+}
+
+/// The spot of one byte; an empty one at the end of the text.
+pub fn spot_of_one(text: &[u8], at: usize) -> Spot
+    ensures { result ≡ spot_of_byte text.now at }
+{
+    let start = at.min(text.len());
+    Spot {
+        start,
+        end: (start + 1).min(text.len()),
+        place: Cursor::new(text).go_to(at),
+    }
+}
+
+fn is_memory(fault: EdnFault) -> bool
+    ensures { IsTrue result ↔ IsMemory fault }
+{
+    match fault {
+        EdnFault::Memory(_) => true,
+        EdnFault::Truncated(_)
+        | EdnFault::StrayClose(_)
+        | EdnFault::WrongClose(_)
+        | EdnFault::TooDeep(_)
+        | EdnFault::OddMap(_)
+        | EdnFault::TagWithoutElement(_) => false,
+    }
+}

@@ -1,0 +1,254 @@
+//! What a shell is told, to complete the words of the command line.
+
+ghost use Rattle.std.specs.Prelude.{◌≡◌};
+ghost use Rattle.words.specs.Completion.{script_for, shell_named};
+
+/// A shell that completes words.
+#[derive(Clone, Copy, Debug, PartialEq, Eq)]
+pub enum Shell {
+    Bash,
+    Zsh,
+    Fish,
+}
+
+impl Shell {
+    /// The shell of that name.
+    pub fn named(name: &str) -> Option<Shell>
+        ensures { result ≡ shell_named name.now }
+    {
+        if name == "bash" {
+            Some(Shell::Bash)
+        } else if name == "zsh" {
+            Some(Shell::Zsh)
+        } else if name == "fish" {
+            Some(Shell::Fish)
+        } else {
+            None
+        }
+    }
+
+    /// The script that completes the words of the command line in this shell.
+    pub fn script(self) -> &'static str
+        ensures { result.now ≡ script_for self }
+    {
+        match self {
+            Shell::Bash => BASH,
+            Shell::Zsh => ZSH,
+            Shell::Fish => FISH,
+        }
+    }
+}
+
+pub const BASH: &str = r##"# Completes the words of regaudit in bash. In ~/.bashrc: source <(regaudit completion bash)
+
+# The tower file that the line names.
+_regaudit_tower() {
+    local i tower=
+    for ((i = 2; i + 1 < ${#COMP_WORDS[@]}; i++)); do
+        if [[ ${COMP_WORDS[i]} == --tower ]]; then
+            tower=${COMP_WORDS[i + 1]}
+            if [[ $tower == = ]]; then
+                tower=${COMP_WORDS[i + 2]}
+            fi
+        fi
+    done
+    printf %s "${tower/#\~\//$HOME/}"
+}
+
+# The names of its registers. A name with a blank is left out, since blanks part the columns.
+_regaudit_registers() {
+    local program=$1 begun=$2 number level name kind more tower
+    tower=$(_regaudit_tower)
+    if [[ -n $tower ]]; then
+        while read -r number level name kind more; do
+            if [[ -z $more && $name == "$begun"* ]]; then
+                COMPREPLY+=("$(printf %q "$name")")
+            fi
+        done < <("$program" tower -- "$tower" 2> /dev/null)
+    fi
+}
+
+_regaudit() {
+    local begun=${COMP_WORDS[COMP_CWORD]} before=${COMP_WORDS[COMP_CWORD - 1]} words=
+    COMPREPLY=()
+    if [[ $begun == = ]]; then
+        begun=
+    elif [[ $before == = ]]; then
+        before=${COMP_WORDS[COMP_CWORD - 2]}
+    fi
+    if ((COMP_CWORD == 1)); then
+        words='check lint safe tower explain version manual completion --help --version'
+    else
+        case ${COMP_WORDS[1]}:$before in
+            check:--order)
+                _regaudit_registers "$1" "$begun"
+                return
+                ;;
+            check:--tower | lint:--tower) ;;
+            check:--shards) words='1 2 4 8 16 32 64' ;;
+            check:--moment | lint:--moment) words='index time' ;;
+            check:--as) words='text summary' ;;
+            lint:--as) words='human short github json' ;;
+            explain:explain) words=$("$1" explain 2> /dev/null | cut -d ' ' -f 1) ;;
+            completion:completion) words='bash zsh fish' ;;
+            check:*)
+                if [[ $begun == -* ]]; then
+                    words='--tower --shards --moment --order --as --least --least-each --help'
+                fi
+                ;;
+            lint:*)
+                if [[ $begun == -* ]]; then
+                    words='--tower --moment --as --max --help'
+                fi
+                ;;
+            *)
+                if [[ $begun == -* ]]; then
+                    words=--help
+                fi
+                ;;
+        esac
+    fi
+    if [[ -n $words ]]; then
+        COMPREPLY=($(compgen -W "$words" -- "$begun"))
+    fi
+}
+
+complete -o default -F _regaudit regaudit
+"##;
+
+pub const ZSH: &str = r##"#compdef regaudit
+# Completes the words of regaudit in zsh. As a file _regaudit in a folder of $fpath; or in ~/.zshrc, behind
+# compinit: source <(regaudit completion zsh)
+
+# The names of the registers of the tower file that the line names. A name with a blank is left out.
+_regaudit_registers() {
+    local tower=${(Q)opt_args[--tower]} number level name kind more
+    local -a names
+    if [[ -n $tower ]]; then
+        while read -r number level name kind more; do
+            if [[ -z $more ]]; then
+                names+=("$name")
+            fi
+        done < <(_call_program registers regaudit tower -- ${(q)${tower/#\~\//$HOME/}} 2> /dev/null)
+    fi
+    compadd -a names
+}
+
+_regaudit_codes() {
+    local -a codes
+    codes=(${(f)"$(_call_program codes regaudit explain 2> /dev/null)"})
+    compadd -- ${codes%% *}
+}
+
+_regaudit() {
+    local curcontext=$curcontext context state line
+    local -A opt_args
+    local -a commands
+    commands=(
+        'check:judges the registers of a tower by traces'
+        'lint:says what is amiss in traces'
+        'safe:judges a trace of one safe register'
+        'tower:lists the registers of a tower'
+        'explain:says what a code or a word of a report means'
+        'version:says which build this is'
+        'manual:prints all helps and the tables of codes'
+        'completion:prints a script that completes the words'
+    )
+    _arguments -C '(- *)'{-h,--help}'[prints help]' '(- *)'{-V,--version}'[prints the version]' '1:command:->command' '*::argument:->argument'
+    case $state in
+        command) _describe command commands ;;
+        argument)
+            case $words[1] in
+                check)
+                    _arguments \
+                        '--tower=[the tower file]:tower file:_files' \
+                        '--shards=[over how many shards the registers are spread]:number:(1 2 4 8 16 32 64)' \
+                        '--moment=[the field that moments stand under]:field:(index time)' \
+                        '--order=[prints an order of this register]:register:_regaudit_registers' \
+                        '--as=[how the report is printed]:form:(text summary)' \
+                        '--least=[status 4 where fewer operations stand]:number: ' \
+                        '--least-each=[status 4 where fewer stand in a register]:number: ' \
+                        '(- *)'{-h,--help}'[prints help]' \
+                        '*:trace:_files'
+                    ;;
+                lint)
+                    _arguments \
+                        '--tower=[the tower file]:tower file:_files' \
+                        '--moment=[the field that moments stand under]:field:(index time)' \
+                        '--as=[how it is printed]:form:(human short github json)' \
+                        '--max=[how many of each code are shown]:number: ' \
+                        '(- *)'{-h,--help}'[prints help]' \
+                        '*:trace:_files'
+                    ;;
+                safe) _arguments '(- *)'{-h,--help}'[prints help]' '1:trace:_files' ;;
+                tower) _arguments '(- *)'{-h,--help}'[prints help]' '1:tower file:_files' ;;
+                explain) _arguments '(- *)'{-h,--help}'[prints help]' '1:code:_regaudit_codes' ;;
+                completion) _arguments '(- *)'{-h,--help}'[prints help]' '1:shell:(bash zsh fish)' ;;
+                *) _arguments '(- *)'{-h,--help}'[prints help]' ;;
+            esac
+            ;;
+    esac
+}
+
+if [[ $funcstack[1] == _regaudit ]]; then
+    _regaudit "$@"
+else
+    compdef _regaudit regaudit
+fi
+"##;
+
+pub const FISH: &str = r##"# Completes the words of regaudit in fish. In ~/.config/fish/config.fish: regaudit completion fish | source
+
+# The names of the registers of the tower file that the line names. A name with a blank is left out.
+function __regaudit_registers
+    set -l words (commandline -opc)
+    set -l tower
+    for place in (seq (count $words))
+        switch $words[$place]
+            case --tower
+                set tower $words[(math $place + 1)]
+            case '--tower=*'
+                set tower (string replace -- --tower= '' $words[$place])
+        end
+    end
+    if test -n "$tower"
+        regaudit tower -- $tower 2>/dev/null | string replace -rf '^\d+ \S+ (\S+) \S+$' '$1'
+    end
+end
+
+function __regaudit_codes
+    regaudit explain 2>/dev/null | string replace -r ' +' \t
+end
+
+function __regaudit_is
+    __fish_seen_subcommand_from $argv
+end
+
+complete -c regaudit -f
+complete -c regaudit -s h -l help -d 'prints help'
+complete -c regaudit -n __fish_use_subcommand -s V -l version -d 'prints the version'
+
+complete -c regaudit -n __fish_use_subcommand -a check -d 'judges the registers of a tower by traces'
+complete -c regaudit -n __fish_use_subcommand -a lint -d 'says what is amiss in traces'
+complete -c regaudit -n __fish_use_subcommand -a safe -d 'judges a trace of one safe register'
+complete -c regaudit -n __fish_use_subcommand -a tower -d 'lists the registers of a tower'
+complete -c regaudit -n __fish_use_subcommand -a explain -d 'says what a code or a word of a report means'
+complete -c regaudit -n __fish_use_subcommand -a version -d 'says which build this is'
+complete -c regaudit -n __fish_use_subcommand -a manual -d 'prints all helps and the tables of codes'
+complete -c regaudit -n __fish_use_subcommand -a completion -d 'prints a script that completes the words'
+
+complete -c regaudit -n '__regaudit_is check lint safe tower' -F
+complete -c regaudit -n '__regaudit_is check' -l tower -rF -d 'the tower file'
+complete -c regaudit -n '__regaudit_is check' -l shards -x -a '1 2 4 8 16 32 64' -d 'over how many shards the registers are spread'
+complete -c regaudit -n '__regaudit_is check' -l moment -x -a 'index time' -d 'the field that moments stand under'
+complete -c regaudit -n '__regaudit_is check' -l order -x -a '(__regaudit_registers)' -d 'prints an order of this register'
+complete -c regaudit -n '__regaudit_is check' -l as -x -a 'text summary' -d 'how the report is printed'
+complete -c regaudit -n '__regaudit_is check' -l least -x -d 'status 4 where fewer operations stand'
+complete -c regaudit -n '__regaudit_is check' -l least-each -x -d 'status 4 where fewer stand in a register'
+complete -c regaudit -n '__regaudit_is lint' -l tower -rF -d 'the tower file'
+complete -c regaudit -n '__regaudit_is lint' -l moment -x -a 'index time' -d 'the field that moments stand under'
+complete -c regaudit -n '__regaudit_is lint' -l as -x -a 'human short github json' -d 'how it is printed'
+complete -c regaudit -n '__regaudit_is lint' -l max -x -d 'how many of each code are shown'
+complete -c regaudit -n '__regaudit_is explain' -a '(__regaudit_codes)'
+complete -c regaudit -n '__regaudit_is completion' -a 'bash zsh fish'
+"##;

@@ -1,0 +1,94 @@
+//! What `lint` asks for.
+
+ghost use Rattle.std.specs.Prelude.{◌≡◌, ◌&&◌, ◌==◌, IfOk, codes, is_none, length};
+ghost use Rattle.std.specs.Option.{option_map};
+ghost use Rattle.clap.specs.Words.{found_of, rows_of};
+ghost use Rattle.words.specs.Words.{asked_lint, lint_by, lint_form_in, said_in};
+
+use crate::check::{Moments, count_of, moments_of, traces_of};
+use clap::ArgMatches;
+use std::alloc::{AllocError, Global};
+
+/// How what is amiss is printed.
+#[derive(Clone, Copy, Debug, PartialEq, Eq)]
+pub enum LintForm {
+    /// With the lines that it is about.
+    Human,
+    /// A line each.
+    Short,
+    /// As annotations of GitHub's actions.
+    GitHub,
+    /// A record each.
+    Json,
+}
+
+/// What `lint` asks for: a tower file, traces, or both.
+#[derive(Debug, Drop)]
+pub struct Lint<'a> {
+    /// The tower file; the one register of `safe` where there is none.
+    pub tower: Option<&'a str>,
+    pub moments: Moments,
+    pub form: LintForm,
+    /// How many of each code are shown, or 0 for all.
+    pub most: u64,
+    pub traces: Vec<&'a str>,
+}
+
+/// The look through traces and a tower file with the arguments that `clap` found, where they make one.
+pub(crate) fn lint_of<'a>(
+    alloc: Global,
+    found: &ArgMatches<'a>,
+) -> Result<Option<Lint<'a>>, AllocError>
+    ensures { IfOk result (λ lint. option_map asked_lint lint ≡ lint_by (rows_of (found_of found.now))) }
+{
+    let Some(moments) = moments_of(found) else {
+        return Ok(None);
+    };
+    let Some(form) = lint_form_of(found) else {
+        return Ok(None);
+    };
+    let Some(most) = count_of(found, "max") else {
+        return Ok(None);
+    };
+    let tower = found.get_str("tower");
+    let traces = traces_of(alloc, found)?;
+    if is_empty(tower, &traces) {
+        return Ok(None);
+    }
+    Ok(Some(Lint {
+        tower,
+        moments,
+        form,
+        most,
+        traces,
+    }))
+}
+
+/// Whether neither a tower file nor a trace is named.
+fn is_empty(tower: Option<&str>, traces: &[&str]) -> bool
+    ensures { result ≡ (is_none tower.entry && length traces.now == 0) }
+{
+    tower.is_none() && traces.is_empty()
+}
+
+fn lint_form_of(found: &ArgMatches<'_>) -> Option<LintForm>
+    ensures { result ≡ said_in lint_form_in (codes "as") (rows_of (found_of found.now)) }
+{
+    lint_form_in(found.get_str("as")?)
+}
+
+fn lint_form_in(text: &str) -> Option<LintForm>
+    ensures { result ≡ lint_form_in text.now }
+{
+    if text == "human" {
+        Some(LintForm::Human)
+    } else if text == "short" {
+        Some(LintForm::Short)
+    } else if text == "github" {
+        Some(LintForm::GitHub)
+    } else if text == "json" {
+        Some(LintForm::Json)
+    } else {
+        None
+    }
+}

@@ -1,0 +1,34 @@
+//! The help of the program and of each of its commands.
+
+use crate::line::{command_line, few_words};
+use std::alloc::{AllocError, Global};
+
+static COMMANDS: [&str; 8] = [
+    "check",
+    "lint",
+    "safe",
+    "tower",
+    "explain",
+    "version",
+    "manual",
+    "completion",
+];
+
+/// The long help of the program and of each command, in turn, as `clap` words it.
+pub fn help_of_all(alloc: Global) -> Result<String, AllocError> {
+    let mut text = String::new(alloc);
+    push_help(alloc, &mut text, &["regaudit", "--help"])?;
+    for name in COMMANDS {
+        text.push_str("\n")?;
+        push_help(alloc, &mut text, &["regaudit", name, "--help"])?;
+    }
+    Ok(text)
+}
+
+fn push_help(alloc: Global, text: &mut String, words: &[&str]) -> Result<(), AllocError> {
+    let mut line = command_line(alloc, few_words(alloc))?;
+    if let Err(help) = line.try_get_matches_from_mut(words) {
+        write!(text, "{help}")?;
+    }
+    Ok(())
+}
