@@ -161,7 +161,10 @@ fn count_in(text: &str) -> Option<u64>
     }
 }
 
-pub(crate) fn traces_of<'a>(alloc: Global, found: &ArgMatches<'a>) -> Result<Vec<&'a str>, AllocError>
+pub(crate) fn traces_of<'a>(
+    alloc: Global,
+    found: &ArgMatches<'a>,
+) -> Result<Vec<&'a str>, AllocError>
     ensures { IfOk result (λ traces. map (λ name. name.now) traces.items ≡ traces_in (rows_of (found_of found.now))) }
 {
     match found.get_strs("TRACE") {

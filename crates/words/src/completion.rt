@@ -39,7 +39,8 @@ impl Shell {
     }
 }
 
-pub const BASH: &str = r##"# Completes the words of regaudit in bash. In ~/.bashrc: source <(regaudit completion bash)
+pub const BASH: &str =
+    r##"# Completes the words of regaudit in bash. In ~/.bashrc: source <(regaudit completion bash)
 
 # The tower file that the line names.
 _regaudit_tower() {
@@ -197,7 +198,8 @@ else
 fi
 "##;
 
-pub const FISH: &str = r##"# Completes the words of regaudit in fish. In ~/.config/fish/config.fish: regaudit completion fish | source
+pub const FISH: &str =
+    r##"# Completes the words of regaudit in fish. In ~/.config/fish/config.fish: regaudit completion fish | source
 
 # The names of the registers of the tower file that the line names. A name with a blank is left out.
 function __regaudit_registers

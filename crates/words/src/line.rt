@@ -169,11 +169,7 @@ fn shell<'a>(alloc: Global) -> Arg<'a>
         .help("The shell: bash, zsh or fish")
 }
 
-fn check_line<'a>(
-    alloc: Global,
-    moment: Arg<'a>,
-    form: Arg<'a>,
-) -> Result<Command<'a>, AllocError>
+fn check_line<'a>(alloc: Global, moment: Arg<'a>, form: Arg<'a>) -> Result<Command<'a>, AllocError>
     ensures { moment.entry.global ≡ false → form.entry.global ≡ false → IfOk result (λ line. IsLine (check_with (rule_of moment.entry) (rule_of form.entry)) line) }
 {
     let line = Command::new(alloc, "check")
@@ -209,11 +205,7 @@ fn add_counts<'a>(alloc: Global, line: Command<'a>) -> Result<Command<'a>, Alloc
     line.arg(traces(alloc))
 }
 
-fn lint_line<'a>(
-    alloc: Global,
-    moment: Arg<'a>,
-    form: Arg<'a>,
-) -> Result<Command<'a>, AllocError>
+fn lint_line<'a>(alloc: Global, moment: Arg<'a>, form: Arg<'a>) -> Result<Command<'a>, AllocError>
     ensures { moment.entry.global ≡ false → form.entry.global ≡ false → IfOk result (λ line. IsLine (lint_with (rule_of moment.entry) (rule_of form.entry)) line) }
 {
     let line = Command::new(alloc, "lint")
@@ -229,7 +221,12 @@ fn lint_line<'a>(
 fn add_lint_options<'a>(alloc: Global, line: Command<'a>) -> Result<Command<'a>, AllocError>
     ensures { (app : App) → IsLine app line.entry → IfOk result (IsLine (with_lint_options app)) }
 {
-    let most = count(alloc, "max", "3", "How many of each code are shown; 0 for all");
+    let most = count(
+        alloc,
+        "max",
+        "3",
+        "How many of each code are shown; 0 for all",
+    );
     let line = line.arg(most)?;
     line.arg(any_traces(alloc))
 }
@@ -249,9 +246,10 @@ fn any_tower<'a>(alloc: Global) -> Arg<'a>
     ensures rule { rule_of result ≡ any_tower_rule }
     ensures local { result.global ≡ false }
 {
-    Arg::new(alloc, "tower").long("tower").value_name("FILE").help(
-        "The tower file; where none is named, the one register of `safe` is taken",
-    )
+    Arg::new(alloc, "tower")
+        .long("tower")
+        .value_name("FILE")
+        .help("The tower file; where none is named, the one register of `safe` is taken")
 }
 
 fn safe_line<'a>(alloc: Global) -> Result<Command<'a>, AllocError>

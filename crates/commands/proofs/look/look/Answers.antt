@@ -25,7 +25,7 @@ returns-in-Ok-write_text-clause-looked g c = λ traces held.
     let later = held_later files (g.F.Files.held c.tower_of.new.files) asked.traces.items c.deref.result.now traces c.tower_of.ensures.stays c.deref.ensures.value held in
     let are_read = read_known c.in_ok-texts.texts.items traces (c.in_ok-texts.ensures.held traces later) in
     let are : map (λ slice. slice.now) c.deref-3.result.now ≡ traces =
-        rw (c.deref-3.ensures.value, c.in-Ok.ensures, c.deref-2.ensures.value) are_read in
+    rw (c.deref-3.ensures.value, c.in-Ok.ensures, c.deref-2.ensures.value) are_read in
     record {
       tower = tower;
       tower_is = c.in_ok-tower.ensures.tower;
