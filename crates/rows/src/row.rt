@@ -108,12 +108,12 @@ fn take_example(alloc: Global, files: &mut Vec<Named>, code: &str) -> io::Result
         return Err(Error::from(ErrorKind::InvalidData));
     };
     let entry = topic.entry();
-    files.push(named(alloc, "tower", entry.tower)?)?;
-    files.push(named(alloc, "example", entry.example)?)?;
+    files.push(example_file(alloc, "tower", entry.tower)?)?;
+    files.push(example_file(alloc, "example", entry.example)?)?;
     Ok(())
 }
 
-fn named(alloc: Global, name: &str, text: &str) -> Result<Named, AllocError> {
+fn example_file(alloc: Global, name: &str, text: &str) -> Result<Named, AllocError> {
     Ok(Named {
         name: name.as_bytes().to_vec(alloc)?,
         bytes: text.as_bytes().to_vec(alloc)?,
