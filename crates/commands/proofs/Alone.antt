@@ -22,7 +22,8 @@ use Rattle.feeders.specs.Doings.{taken_of, lines_from}
 use Rattle.feeders.specs.Readers.{AreReadOf, IsReadOf}
 use Rattle.feeders.specs.Run.{IsTraced, IsRun}
 use Rattle.commands.specs.declared.safe.Audit.{Audit}
-use Rattle.commands.specs.Status.{has_refused, is_refused_line}
+use Rattle.report.specs.Refused.{is_refused_line}
+use Rattle.commands.specs.Status.{has_refused}
 use Rattle.commands.specs.Verdict.{HasRefused, standing_after}
 use Rattle.commands.specs.Audit.{IsAudit, IsAuditOf}
 use Rattle.commands.proofs.AloneRefusals.{refusals}

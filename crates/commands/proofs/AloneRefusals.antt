@@ -8,7 +8,7 @@ use Rattle.register_book.specs.declared.reply.Reply.TheVariants.{Accepted, Refus
 use Rattle.shards.specs.Journal.{is_accepted}
 use Rattle.feeders.specs.Steps.{Taken}
 use Rattle.feeders.specs.Doings.{Doing, refused, nothing, entered, answered, taken_of, what_of, what_of_reply, lines_at, lines_from}
-use Rattle.commands.specs.Status.{is_refused_line}
+use Rattle.report.specs.Refused.{is_refused_line}
 use Rattle.commands.specs.Verdict.{IsRefused, HasRefused}
 use Rattle.commands.proofs.AloneReplies.{either_true, true_either}
 

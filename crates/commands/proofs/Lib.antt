@@ -1,4 +1,5 @@
 pub mod Readings
+mod Denying
 pub mod Endings
 mod AloneReplies
 mod AloneRefusals

@@ -6,7 +6,8 @@ use Rattle.feeders.specs.declared.log.Broken.{Broken}
 use Rattle.feeders.specs.declared.log.Log.{Log}
 use Rattle.feeders.specs.Readers.{AreReadOf, IsReadOf}
 use Rattle.words.specs.Words.{AskedCheck}
-use Rattle.commands.specs.Status.{has_refused, is_broken, status_of}
+use Rattle.report.specs.Summary.{is_broken}
+use Rattle.commands.specs.Status.{has_refused, status_of}
 use Rattle.commands.specs.Checked.{IsChecked}
 use Rattle.commands.specs.Verdict.{IsAudited}
 

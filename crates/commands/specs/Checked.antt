@@ -19,7 +19,8 @@ use Rattle.words.specs.declared.check.Form.TheVariants.{Report, Summary}
 use Rattle.words.specs.declared.check.Moments.{Moments}
 use Rattle.words.specs.declared.check.Moments.TheVariants.{Index, Time}
 use Rattle.words.specs.Words.{AskedCheck}
-use Rattle.commands.specs.Status.{HasFailing, HasTooFew, has_refused, is_broken, status_of}
+use Rattle.report.specs.Summary.{is_broken}
+use Rattle.commands.specs.Status.{HasFailing, HasTooFew, has_refused, status_of}
 
 -- the field that moments stand under
 abbrev pub field_of : Moments → MomentField

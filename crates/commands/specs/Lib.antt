@@ -4,6 +4,7 @@ pub mod Status
 pub mod Verdict
 pub mod Audit
 pub mod Checked
+pub mod Denied
 pub mod Looked
 pub mod Printed
 pub mod Run

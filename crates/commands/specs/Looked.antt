@@ -1,48 +1,78 @@
--- What the command `lint` found in traces, and printed.
-use Rattle.std.specs.Prelude.{◌≡◌, ◌<◌, ℕ, List, length, map, Option, Some, None, IfSome}
+-- What the command `lint` found in a tower file and in traces, and printed.
+use Rattle.std.specs.Prelude.{◌≡◌, ◌<◌, ◌⊎◌, ◌++◌, ◌∷◌, [], ℕ, List, All, length, map, Option, Some, None, IfSome}
+use Rattle.std.specs.Borrow.{Bor}
 use Rattle.std.specs.Io.KnownBytes.{Appends}
 use Rattle.clap.specs.Words.{Text}
 use Rattle.jepsen_form.specs.declared.item.MomentField.{MomentField}
 use Rattle.tower_file.specs.Alone.{alone_tower}
 use Rattle.tower_file.specs.Contents.{Contents}
-use Rattle.tower_file.specs.Tower.{IsTowerOf}
+use Rattle.tower_file.specs.Located.{HasFaultAt, Span}
+use Rattle.tower_file.specs.Tower.{HasTowerFault, IsTowerOf}
+use Rattle.tower_file.specs.declared.fault.TowerFault.{TowerFault}
 use Rattle.shards.specs.Closing.{Ended}
 use Rattle.feeders.specs.declared.log.Log.{Log}
+use Rattle.feeders.specs.Readers.{AreReadOf}
 use Rattle.feeders.specs.Run.{IsRun}
 use Rattle.lint.specs.declared.finding.TraceFindings.{TraceFindings}
 use Rattle.lint.specs.declared.source.Source.{Source}
 use Rattle.lint.specs.Found.{AreFound}
 use Rattle.lint.specs.Grade.{status_of}
 use Rattle.lint.specs.Short.{short_text}
+use Rattle.lint.specs.Tower.{HasNotesAlone, IsOneFault}
 use Rattle.words.specs.declared.lint.LintForm.TheVariants.{Short}
 use Rattle.words.specs.Words.{AskedLint}
 use Rattle.commands.specs.Checked.{field_of}
-
--- the tower is that of the file that is named, or that of the one register of `safe`
-abbrev pub IsTowerAsked : (Text → Option (List ℕ)) → Option Text → Contents → Type 0
-IsTowerAsked files None tower = tower ≡ alone_tower
-IsTowerAsked files (Some name) tower = IfSome (files name) (λ file. IsTowerOf file tower)
+use Rattle.commands.specs.Denied.{AreDenied}
 
 -- the findings are those of the logs of a run over the traces, in one shard; of none there are none
 pub record AreFindings (tower : Contents) (field : MomentField) (traces : List (List ℕ)) (found : List TraceFindings) : Type 0 where
   pub closed : List Ended
   pub logs : List Log
-  pub run : 0 < length traces → IsRun tower field 1 traces closed logs
+  pub read : List (List ℕ)
+  pub read_is : AreReadOf (map (λ trace. Some trace) traces) logs read
+  pub run : 0 < length traces → IsRun tower field 1 read closed logs
   pub are : AreFound traces logs found
 
--- the text has the findings as they are asked for, of files by the names that are asked for
-pub record IsTextOf (asked : AskedLint) (found : List TraceFindings) (text : List ℕ) : Type 0 where
-  pub sources : List Source
-  pub names : map (λ source. source.name.now) sources ≡ asked.traces
-  pub short : asked.form ≡ Short → text ≡ short_text sources found
-
--- what was found in the traces by the tower was written, and the status says how grave it is
-pub record IsLooked (asked : AskedLint) (files : Text → Option (List ℕ)) (traces : List (List ℕ)) (status : ℕ) (old new : Option (List ℕ)) : Type 0 where
+-- the tower file says a tower: what is found in the traces by it, and notes alone in the file itself
+pub record AreOfTower (asked : AskedLint) (name file : List ℕ) (traces : List (List ℕ)) (names : List Text) (found : List TraceFindings) : Type 0 where
   pub tower : Contents
-  pub tower_is : IsTowerAsked files asked.tower tower
+  pub says : IsTowerOf file tower
+  pub in_traces : List TraceFindings
+  pub are : AreFindings tower (field_of asked.moments) traces in_traces
+  pub in_file : List TraceFindings
+  pub notes : HasNotesAlone in_file
+  pub found_is : found ≡ in_traces ++ in_file
+  pub names_are : names ≡ asked.traces ++ name ∷ []
+
+-- it says none: its fault alone, at the bytes that are wrong
+pub record IsOfFault (name file : List ℕ) (names : List Text) (found : List TraceFindings) : Type 0 where
+  pub fault : TowerFault
+  pub span : Span
+  pub has : HasTowerFault file fault
+  pub at : HasFaultAt file fault span
+  pub one : IsOneFault file fault (Some span) found
+  pub names_are : names ≡ name ∷ []
+
+-- what is found by the tower file that is named, or by the one register of `safe`, in the files of these names
+abbrev pub AreFoundBy : Option Text → AskedLint → (Text → Option (List ℕ)) → List (List ℕ) → List Text → List TraceFindings → Type 0
+AreFoundBy None asked files traces names found = AreFindings alone_tower (field_of asked.moments) traces found × (names ≡ asked.traces)
+AreFoundBy (Some name) asked files traces names found =
+    IfSome (files name) (λ file. AreOfTower asked name file traces names found ⊎ IsOfFault name file names found)
+
+-- the text has the findings as they are asked for, of the files of these names, and the status says how grave they are
+pub record IsTold (asked : AskedLint) (denied : List (Bor Text)) (names : List Text) (found : List TraceFindings) (text : List ℕ) (status : ℕ) : Type 0 where
+  pub sources : List Source
+  pub named : map (λ source. source.name.now) sources ≡ names
+  pub short : asked.form ≡ Short → text ≡ short_text sources found
+  pub status_is : status ≡ status_of denied found
+
+-- what was found was written
+pub record IsLooked (asked : AskedLint) (files : Text → Option (List ℕ)) (traces : List (List ℕ)) (status : ℕ) (old new : Option (List ℕ)) : Type 0 where
+  pub names : List Text
   pub found : List TraceFindings
-  pub findings : AreFindings tower (field_of asked.moments) traces found
+  pub findings : AreFoundBy asked.tower asked files traces names found
+  pub denied : List (Bor Text)
+  pub denied_are : AreDenied asked.denied (map (λ code. code.now) denied)
   pub text : List ℕ
-  pub text_is : IsTextOf asked found text
+  pub told : IsTold asked denied names found text status
   pub written : Appends old new text
-  pub status_is : status ≡ status_of found

@@ -1,14 +1,12 @@
 -- The status of a run.
-use Rattle.std.specs.Prelude.{◌<◌, ◌⊎◌, Contains, sum, ℕ, Bool, true, false, List, is_some, if◌then◌else◌, length}
+use Rattle.std.specs.Prelude.{◌<◌, ◌⊎◌, Contains, sum, ℕ, Bool, List, if◌then◌else◌, length}
 use Rattle.std.specs.List.{list_any}
 use Rattle.tower_file.specs.Contents.{Contents}
 use Rattle.shards.specs.Closing.{Ended}
-use Rattle.feeders.specs.declared.log.Line.{Line}
 use Rattle.feeders.specs.declared.log.Log.{Log}
-use Rattle.feeders.specs.declared.log.What.{What}
-use Rattle.feeders.specs.declared.log.What.TheVariants.{Refused, Answered}
 use Rattle.report.specs.Counts.{standing}
 use Rattle.report.specs.Culprit.{Fails}
+use Rattle.report.specs.Refused.{is_refused_line}
 
 -- 2 where a trace broke, else 1 where a register fails, else 3 where an element was refused, else 4 where too few
 -- operations stand, else 0
@@ -18,19 +16,6 @@ status_of broken fails refused few = if broken then 2 else if fails then 1 else 
 -- a register of the tower fails
 abbrev pub HasFailing : Contents → List Ended → Type 0
 HasFailing tower closed = (number : ℕ) × (number < length tower.registers) × Fails closed number
-
--- the trace broke
-abbrev pub is_broken : Log → Bool
-is_broken log = is_some log.broken
-
--- it is noted that an element was refused
-abbrev pub is_refusal : What → Bool
-is_refusal (Refused code) = true
-is_refusal (Answered register answer) = false
-
--- the same of a line
-abbrev pub is_refused_line : Line → Bool
-is_refused_line line = is_refusal line.what
 
 -- an element of the trace was refused
 abbrev pub has_refused : Log → Bool

@@ -12,6 +12,7 @@
 
 mod check;
 mod commands;
+mod deny;
 mod fault;
 mod files;
 mod input;

@@ -1,25 +1,38 @@
 //! The command `lint`.
 
-ghost use Rattle.std.specs.Prelude.{◌≡◌, ◌≢◌, ◌≤◌, ℕ, List, IfOk, IfErr, length, map, option_map, string_bytes};
+ghost use Rattle.std.specs.Prelude.{◌≡◌, ◌≢◌, ◌≤◌, ◌⊎◌, ◌+◌, ◌++◌, ◌∷◌, [], ℕ, List, IfOk, IfErr, IfSome, length, map, option_map, string_bytes};
+ghost use Rattle.clap.specs.Words.{Text};
+ghost use Rattle.tower_file.specs.Alone.{alone_tower};
 ghost use Rattle.words.specs.Words.{asked_lint};
 ghost use Rattle.commands.specs.Checked.{field_of as field_of_moments};
-ghost use Rattle.commands.specs.Looked.{AreFindings, IsLooked, IsTextOf, IsTowerAsked};
+ghost use Rattle.commands.specs.Looked.{AreFindings, AreOfTower, IsLooked, IsOfFault, IsTold};
+ghost use Rattle.lint.specs.Tower.{HasNotesAlone, IsOneFault};
+ghost use Rattle.lint.specs.declared.finding.TraceFindings.{TraceFindings};
 ghost use Rattle.commands.specs.Run.{AreHeld};
 
-use crate::check::{TRACE_LIMIT, field_of, read_tower};
+use crate::check::{TRACE_LIMIT, field_of};
+use crate::deny::denied_codes;
 use crate::fault::CommandFault;
-use crate::files::{Files, read_files};
+use crate::files::{Files, read_file, read_files};
 use crate::safe::the_tower;
 use crate::write::write_text;
-use lint::{Findings, Form, Source, lint, push_findings};
+use lint::{Findings, Form, Source, lint, lint_fault, lint_tower, push_findings};
 use std::alloc::{AllocError, Global};
 use std::io::Write;
 use std::sync::Wait;
-use tower_file::Tower;
+use tower_file::{LocatedFault, Tower, TowerFault};
 use words::{Lint, LintForm};
 
-/// Says what is amiss in traces, which are read in turn. The faults come in this order: too many traces, the tower file,
-/// the traces that cannot be read in turn, the run, the writing.
+/// What is printed, and the status.
+#[derive(Drop)]
+struct Told {
+    text: String,
+    status: u8,
+}
+
+/// Says what is amiss in a tower file and in traces, which are read in turn. Where the tower file has a fault, no trace is
+/// looked at. The faults come in this order: too many traces, a code that is no note's, a tower file or a trace that
+/// cannot be read in turn, the run, the writing.
 pub fn look<'a, A: AllocGlobal + Wait, F: Files, W: Write>(
     rt: &A,
     asked: &Lint<'a>,
@@ -34,48 +47,164 @@ pub fn look<'a, A: AllocGlobal + Wait, F: Files, W: Write>(
         return Err(CommandFault::TooManyTraces);
     }
     let alloc = rt.alloc();
-    let tower = tower_of(alloc, asked.tower, files)?;
+    let denied = denied_codes(alloc, asked.denied)?;
+    let file = read_named(alloc, files, asked.tower)?;
     let texts = read_files(alloc, files, &asked.traces)?;
     let Ok(slices) = slices_of(alloc, &texts) else {
         return Err(CommandFault::Memory);
     };
-    let found = findings(rt, asked, &tower, &slices)?;
-    let Ok(text) = text_of(alloc, asked, &slices, &found) else {
-        return Err(CommandFault::Memory);
+    let told = match asked.tower {
+        None => tell_alone(rt, asked, &slices, &denied)?,
+        Some(name) => tell_by(rt, asked, name, &file, &slices, &denied)?,
     };
-    match write_text(out, text.as_str()) {
-        Ok(()) => Ok(found.status()),
+    match write_text(out, told.text.as_str()) {
+        Ok(()) => Ok(told.status),
         Err(_) => Err(CommandFault::Unwritable),
     }
 }
 
-/// The tower of the file that is named, or that of the one register of `safe`.
-fn tower_of<'a, F: Files>(
+/// The bytes of a file that is named; none where none is.
+fn read_named<'a, F: Files>(
     alloc: Global,
-    name: Option<&'a str>,
     files: &mut F,
-) -> Result<Tower, CommandFault<'a>>
-    ensures tower { IfOk result (IsTowerAsked (F.held files.old) (option_map (λ name. name.now) name.entry)) }
+    name: Option<&'a str>,
+) -> Result<Vec<u8>, CommandFault<'a>>
+    ensures held { IfOk result (λ bytes. IfSome name.entry (λ name. IfSome (F.held files.old name.now) (λ known. bytes.items ≡ known))) }
     ensures stays { F.held files.new ≡ F.held files.old }
     ensures quiet { IfErr result (λ fault. fault ≢ CommandFault.Unwritable) }
 {
-    let Some(name) = name else {
-        return match the_tower(alloc) {
-            Some(tower) => Ok(tower),
-            None => Err(CommandFault::Memory),
-        };
-    };
-    read_tower(alloc, files, name)
+    match name {
+        Some(name) => read_file(alloc, files, name),
+        None => Ok(Vec::new(alloc)),
+    }
 }
 
-fn slices_of(alloc: Global, texts: &[Vec<u8>]) -> Result<Vec<&[u8]>, AllocError>
-    ensures { IfOk result (λ slices. map (λ slice. slice.now) slices.items ≡ map (λ text. text.items) texts.now) }
+/// What is found in the traces by the tower of the one register of `safe`.
+fn tell_alone<'a, A: AllocGlobal + Wait>(
+    rt: &A,
+    asked: &Lint<'a>,
+    slices: &[&[u8]],
+    denied: &[&str],
+) -> Result<Told, CommandFault<'a>>
+    requires most { length slices.now ≤ 256 }
+    requires names { length asked.now.traces.items ≡ length slices.now }
+    ensures told { IfOk result (λ told. (found : List TraceFindings)
+        × AreFindings alone_tower (field_of_moments asked.now.moments) (map (λ slice. slice.now) slices.entry.now) found
+        × IsTold (asked_lint asked.now) denied.entry.now (asked_lint asked.now).traces found (string_bytes told.text) told.status) }
+    ensures quiet { IfErr result (λ fault. fault ≢ CommandFault.Unwritable) }
 {
-    let mut slices = Vec::new(alloc);
-    for number in 0..texts.len() {
-        slices.push(texts[number].as_slice())?;
+    let alloc = rt.alloc();
+    let Some(tower) = the_tower(alloc) else {
+        return Err(CommandFault::Memory);
+    };
+    let found = findings(rt, asked, &tower, slices)?;
+    let Ok(sources) = sources_of(alloc, &asked.traces, slices) else {
+        return Err(CommandFault::Memory);
+    };
+    tell(alloc, asked, &sources, &found, denied)
+}
+
+/// What is found in the traces by the tower that a file says, and in that file.
+fn tell_by<'a, A: AllocGlobal + Wait>(
+    rt: &A,
+    asked: &Lint<'a>,
+    name: &str,
+    file: &[u8],
+    slices: &[&[u8]],
+    denied: &[&str],
+) -> Result<Told, CommandFault<'a>>
+    requires most { length slices.now ≤ 256 }
+    requires names { length asked.now.traces.items ≡ length slices.now }
+    ensures told { IfOk result (λ told. (names : List Text) × (found : List TraceFindings)
+        × (AreOfTower (asked_lint asked.now) name.now file.now (map (λ slice. slice.now) slices.entry.now) names found ⊎ IsOfFault name.now file.now names found)
+        × IsTold (asked_lint asked.now) denied.entry.now names found (string_bytes told.text) told.status) }
+    ensures quiet { IfErr result (λ fault. fault ≢ CommandFault.Unwritable) }
+{
+    match Tower::read_located(rt.alloc(), file) {
+        Ok(tower) => tell_tower(rt, asked, &tower, name, file, slices, denied),
+        Err(located) => tell_fault(rt.alloc(), asked, located, name, file, denied),
     }
-    Ok(slices)
+}
+
+/// What is found in the traces by a tower, and notes on its file.
+fn tell_tower<'a, A: AllocGlobal + Wait>(
+    rt: &A,
+    asked: &Lint<'a>,
+    tower: &Tower,
+    name: &str,
+    file: &[u8],
+    slices: &[&[u8]],
+    denied: &[&str],
+) -> Result<Told, CommandFault<'a>>
+    requires most { length slices.now ≤ 256 }
+    requires names { length asked.now.traces.items ≡ length slices.now }
+    ensures told { IfOk result (λ told. (in_traces : List TraceFindings) × (in_file : List TraceFindings)
+        × AreFindings tower.now (field_of_moments asked.now.moments) (map (λ slice. slice.now) slices.entry.now) in_traces × HasNotesAlone in_file
+        × IsTold (asked_lint asked.now) denied.entry.now ((asked_lint asked.now).traces ++ name.now ∷ []) (in_traces ++ in_file) (string_bytes told.text) told.status) }
+    ensures quiet { IfErr result (λ fault. fault ≢ CommandFault.Unwritable) }
+{
+    let alloc = rt.alloc();
+    let mut found = findings(rt, asked, tower, slices)?;
+    let in_file = match lint_tower(alloc, file, &found) {
+        Ok(in_file) => in_file,
+        Err(fault) => return Err(CommandFault::of_run(fault)),
+    };
+    let Ok(()) = found.append(in_file) else {
+        return Err(CommandFault::Memory);
+    };
+    let Ok(sources) = with_file(alloc, &asked.traces, slices, name, file) else {
+        return Err(CommandFault::Memory);
+    };
+    tell(alloc, asked, &sources, &found, denied)
+}
+
+/// The fault of a tower file alone.
+fn tell_fault<'a>(
+    alloc: Global,
+    asked: &Lint<'a>,
+    located: LocatedFault,
+    name: &str,
+    file: &[u8],
+    denied: &[&str],
+) -> Result<Told, CommandFault<'a>>
+    ensures told { IfOk result (λ told. (found : List TraceFindings) × (located.fault ≢ TowerFault.Memory) × IsOneFault file.now located.fault located.span found
+        × IsTold (asked_lint asked.now) denied.entry.now (name.now ∷ []) found (string_bytes told.text) told.status) }
+    ensures quiet { IfErr result (λ fault. fault ≢ CommandFault.Unwritable) }
+{
+    if located.fault == TowerFault::Memory {
+        return Err(CommandFault::Memory);
+    }
+    let found = match lint_fault(alloc, file, located.fault, located.span) {
+        Ok(found) => found,
+        Err(fault) => return Err(CommandFault::of_run(fault)),
+    };
+    let Ok(sources) = sources_of(alloc, &[name], &[file]) else {
+        return Err(CommandFault::Memory);
+    };
+    tell(alloc, asked, &sources, &found, denied)
+}
+
+/// The findings in these files as they are asked for.
+fn tell<'a>(
+    alloc: Global,
+    asked: &Lint<'a>,
+    sources: &[Source],
+    found: &Findings,
+    denied: &[&str],
+) -> Result<Told, CommandFault<'a>>
+    requires each { length sources.now ≡ length found.now.traces.items }
+    ensures told { IfOk result (λ told. IsTold (asked_lint asked.now) denied.entry.now (map (λ source. source.name.now) sources.now) found.now.traces.items (string_bytes told.text) told.status) }
+    ensures quiet { IfErr result (λ fault. fault ≢ CommandFault.Unwritable) }
+{
+    let mut text = String::new(alloc);
+    let (form, most) = (form_of(asked.form), asked.most as usize);
+    match push_findings(&mut text, alloc, sources, found, form, most) {
+        Ok(()) => Ok(Told {
+            text,
+            status: found.status(denied),
+        }),
+        Err(_) => Err(CommandFault::Memory),
+    }
 }
 
 /// What is found in the traces, of which there may be none.
@@ -93,6 +222,7 @@ fn findings<'a, A: AllocGlobal + Wait>(
     if slices.is_empty() {
         return Ok(Findings {
             traces: Vec::new(alloc),
+            unused: Vec::new(alloc),
         });
     }
     match lint(rt, alloc, tower, slices, field_of(asked.moments)) {
@@ -101,28 +231,31 @@ fn findings<'a, A: AllocGlobal + Wait>(
     }
 }
 
-/// The findings as they are asked for.
-fn text_of(
-    alloc: Global,
-    asked: &Lint,
-    slices: &[&[u8]],
-    found: &Findings,
-) -> Result<String, AllocError>
-    requires names { length asked.now.traces.items ≡ length slices.now }
-    requires each { length slices.now ≡ length found.now.traces.items }
-    ensures { IfOk result (λ text. IsTextOf (asked_lint asked.now) found.now.traces.items (string_bytes text)) }
+fn slices_of(alloc: Global, texts: &[Vec<u8>]) -> Result<Vec<&[u8]>, AllocError>
+    ensures { IfOk result (λ slices. map (λ slice. slice.now) slices.items ≡ map (λ text. text.items) texts.now) }
 {
-    let sources = sources_of(alloc, &asked.traces, slices)?;
-    let mut text = String::new(alloc);
-    push_findings(
-        &mut text,
-        alloc,
-        &sources,
-        found,
-        form_of(asked.form),
-        asked.most as usize,
-    )?;
-    Ok(text)
+    let mut slices = Vec::new(alloc);
+    for number in 0..texts.len() {
+        slices.push(texts[number].as_slice())?;
+    }
+    Ok(slices)
+}
+
+/// The files with their names, and one more.
+fn with_file<'t>(
+    alloc: Global,
+    names: &[&'t str],
+    slices: &[&'t [u8]],
+    name: &'t str,
+    file: &'t [u8],
+) -> Result<Vec<Source<'t>>, AllocError>
+    requires { length names.now ≡ length slices.now }
+    ensures many { IfOk result (λ sources. length sources.items ≡ length slices.entry.now + 1) }
+    ensures names { IfOk result (λ sources. map (λ source. source.name.now) sources.items ≡ map (λ name. name.now) names.entry.now ++ name.entry.now ∷ []) }
+{
+    let mut sources = sources_of(alloc, names, slices)?;
+    sources.push(Source { name, text: file })?;
+    Ok(sources)
 }
 
 /// The files with their names.

@@ -4,7 +4,9 @@ ghost use Rattle.std.specs.Prelude.{◌≡◌, ◌↔◌, IfOk, IsTrue, false, n
 ghost use Rattle.std.specs.List.{list_any};
 ghost use Rattle.std.specs.Option.{option_map_or};
 ghost use Rattle.report.specs.Culprit.{Fails};
-ghost use Rattle.commands.specs.Status.{HasFailing, HasTooFew, has_refused, is_broken, is_refused_line, status_of};
+ghost use Rattle.report.specs.Refused.{is_refused_line};
+ghost use Rattle.report.specs.Summary.{is_broken};
+ghost use Rattle.commands.specs.Status.{HasFailing, HasTooFew, has_refused, status_of};
 
 use feeders::{Line, Log, What};
 use intervals::RegId;

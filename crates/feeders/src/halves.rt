@@ -62,30 +62,6 @@ pub fn feed_all<'t, O: Opening + Send + Sync, R: Threads + Wait + Sync, G: Gate>
     joined(first, second)
 }
 
-/// The same on this thread alone, the first half before the rest.
-pub fn feed_in_turn<'t, O: Opening, R: Wait, G: Gate>(
-    site: Site<'_, '_, 't, O, R, G>,
-    mut passes: Vec<Pass<'t>>,
-    traces: &[&'t [u8]],
-) -> Result<Vec<Fed<'t>>, RunFault>
-    requires some { 0 < O.plan.shards }
-    requires of_tower { O.plan.claims ≡ claims_of site.tower.now }
-    requires fresh { AreFresh O.plan passes.items }
-    requires each { vec_len passes ≡ length traces.now }
-    ensures fed { IfOk result (λ feds. AreFed O.plan site.entry.tower.now site.entry.field passes.entry.items traces.entry.now feds.items) }
-    ensures by_text { IfOk result (λ feds. All (λ fed. IsNotOfReading fed.log) feds.items) }
-    ensures fault { IfErr result MayEnd }
-{
-    if traces.len() < 2 {
-        return feed_alone(site, passes, traces);
-    }
-    let (front, back) = traces.split_at(traces.len() / 2);
-    let rest = passes_from::<O>(&mut passes, front.len())?;
-    let first = feed_in_turn(site, passes, front);
-    let second = feed_in_turn(site, rest, back);
-    joined(first, second)
-}
-
 /// One trace with its pass, or none.
 fn feed_alone<'t, O: Opening, R: Wait, G: Gate>(
     site: Site<'_, '_, 't, O, R, G>,
@@ -168,6 +144,31 @@ pub fn read_all<
             ensures fault { IfErr result MayEnd }
         { read_all(rt, alloc, auditor, gate, tower, field, pages, rest, back) },
     );
+    joined(first, second)
+}
+
+/// The same on this thread alone, the first half before the rest.
+pub fn read_in_turn<'t, O: Opening, R: Wait, G: Gate, S: Read + Drop>(
+    site: Site<'_, 't, 't, O, R, G>,
+    pages: &'t Pages,
+    mut passes: Vec<Pass<'t>>,
+    mut readers: Vec<S>,
+) -> Result<Vec<Fed<'t>>, RunFault>
+    requires some { 0 < O.plan.shards }
+    requires of_tower { O.plan.claims ≡ claims_of site.tower.now }
+    requires fresh { AreFresh O.plan passes.items }
+    requires each { vec_len passes ≡ vec_len readers }
+    ensures fed { IfOk result (λ feds. AreReadAndFed O.plan site.entry.tower.now site.entry.field passes.entry.items (map S.remaining readers.items) feds.items) }
+    ensures fault { IfErr result MayEnd }
+{
+    let half = readers.len() / 2;
+    if half == 0 {
+        return read_alone(site, pages, passes, readers);
+    }
+    let back = readers.split_off(half)?;
+    let rest = passes_from::<O>(&mut passes, half)?;
+    let first = read_in_turn(site, pages, passes, readers);
+    let second = read_in_turn(site, pages, rest, back);
     joined(first, second)
 }
 

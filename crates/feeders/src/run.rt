@@ -7,7 +7,7 @@ ghost use Rattle.feeders.specs.Readers.{AreReadOf, IsNotOfReading};
 ghost use Rattle.feeders.specs.Run.{IsRun};
 
 use crate::fault::RunFault;
-use crate::halves::{feed_all, feed_in_turn, read_all, taken_apart};
+use crate::halves::{feed_all, read_all, read_in_turn, taken_apart};
 use crate::log::Log;
 use crate::pages::Pages;
 use crate::site::Site;
@@ -47,25 +47,6 @@ pub fn run_traces<'t, R: Threads + Wait + Sync, G: Gate>(
     run_in::<Brand, R, G>(rt, alloc, tower, traces, field, shards, gate)
 }
 
-/// The same on this thread alone, one trace after another: what meets on a register is always refused alike.
-pub fn run_in_turn<'t, R: Wait, G: Gate>(
-    rt: &R,
-    alloc: Global,
-    tower: &Tower,
-    traces: &[&'t [u8]],
-    field: MomentField,
-    shards: u32,
-    gate: &G,
-) -> Result<Run<'t>, RunFault>
-    requires traces { (1 ≤ length traces.now) × (length traces.now ≤ 256) }
-    requires shards { (1 ≤ shards) × (shards ≤ 64) }
-    ensures run { IfOk result (λ run. IsRun tower.now field shards (map (λ trace. trace.now) traces.entry.now) run.closed run.logs.items) }
-    ensures by_text { IfOk result (λ run. All IsNotOfReading run.logs.items) }
-    ensures fault { IfErr result MayEnd }
-{
-    turn_in::<Brand, R, G>(rt, alloc, tower, traces, field, shards, gate)
-}
-
 /// Feeds what each reader gives, in pieces as they come, each by a thread of its own, this one among them: feeder `i` has
 /// reader `i`. The texts that steps lend go to the pages. A trace whose reading fails (N1), or takes more than
 /// 1,073,741,824 bytes or 16,777,216 read calls (N2), ends with the bytes that were read. A call that is interrupted is made
@@ -86,6 +67,25 @@ pub fn run_readers<'t, R: Threads + Wait + Sync, S: Read + Drop + Send, G: Gate>
     ensures fault { IfErr result MayEnd }
 {
     read_in::<Brand, R, S, G>(rt, alloc, tower, readers, pages, field, shards, gate)
+}
+
+/// The same on this thread alone, one reader after another: what meets on a register is always refused alike.
+pub fn run_in_turn<'t, R: Wait, S: Read + Drop, G: Gate>(
+    rt: &R,
+    alloc: Global,
+    tower: &'t Tower,
+    readers: Vec<S>,
+    pages: &'t Pages,
+    field: MomentField,
+    shards: u32,
+    gate: &G,
+) -> Result<Run<'t>, RunFault>
+    requires readers { (1 ≤ vec_len readers) × (vec_len readers ≤ 256) }
+    requires shards { (1 ≤ shards) × (shards ≤ 64) }
+    ensures run { IfOk result (λ run. (traces : List (List ℕ)) × AreReadOf (map S.remaining readers.items) run.logs.items traces × IsRun tower.now field shards traces run.closed run.logs.items) }
+    ensures fault { IfErr result MayEnd }
+{
+    turn_in::<Brand, R, S, G>(rt, alloc, tower, readers, pages, field, shards, gate)
 }
 
 /// The same in an opening.
@@ -150,24 +150,24 @@ fn run_in<'t, O: Opening + Send + Sync, R: Threads + Wait + Sync, G: Gate>(
     }
 }
 
-/// The same in an opening.
-fn turn_in<'t, O: Opening, R: Wait, G: Gate>(
+/// The same in an opening, in turn.
+fn turn_in<'t, O: Opening, R: Wait, S: Read + Drop, G: Gate>(
     rt: &R,
     alloc: Global,
-    tower: &Tower,
-    traces: &[&'t [u8]],
+    tower: &'t Tower,
+    readers: Vec<S>,
+    pages: &'t Pages,
     field: MomentField,
     shards: u32,
     gate: &G,
 ) -> Result<Run<'t>, RunFault>
-    requires opening { O.plan ≡ plan_of 0 tower.now shards (length traces.now) }
-    requires traces { (1 ≤ length traces.now) × (length traces.now ≤ 256) }
+    requires opening { O.plan ≡ plan_of 0 tower.now shards (vec_len readers) }
+    requires readers { (1 ≤ vec_len readers) × (vec_len readers ≤ 256) }
     requires shards { (1 ≤ shards) × (shards ≤ 64) }
-    ensures run { IfOk result (λ run. IsRun tower.now field shards (map (λ trace. trace.now) traces.entry.now) run.closed run.logs.items) }
-    ensures by_text { IfOk result (λ run. All IsNotOfReading run.logs.items) }
+    ensures run { IfOk result (λ run. (traces : List (List ℕ)) × AreReadOf (map S.remaining readers.items) run.logs.items traces × IsRun tower.now field shards traces run.closed run.logs.items) }
     ensures fault { IfErr result MayEnd }
 {
-    let (auditor, passes) = Auditor::<O>::open(alloc, 0, tower, shards, traces.len() as u32)?;
+    let (auditor, passes) = Auditor::<O>::open(alloc, 0, tower, shards, readers.len() as u32)?;
     let site = Site {
         rt,
         alloc,
@@ -176,7 +176,7 @@ fn turn_in<'t, O: Opening, R: Wait, G: Gate>(
         tower,
         field,
     };
-    let feds = feed_in_turn(site, passes, traces)?;
+    let feds = read_in_turn(site, pages, passes, readers)?;
     let (passes, logs) = taken_apart(alloc, feds)?;
     match auditor.finish(passes) {
         Ok(closed) => Ok(Run { closed, logs }),

@@ -1,3 +1,4 @@
 pub mod Places
 pub mod Named
 pub mod Found
+mod Results

@@ -6,3 +6,4 @@ pub mod Message
 pub mod Head
 pub mod Quoted
 pub mod Short
+pub mod Tower

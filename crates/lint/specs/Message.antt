@@ -1,11 +1,18 @@
 -- What is amiss, in a few words.
-use Rattle.std.specs.Prelude.{ℕ, List, [], ◌++◌, codes}
-use Rattle.std.specs.Fmt.{decimal}
+use Rattle.std.specs.Prelude.{ℕ, List, [], ◌++◌, Option, Some, None, codes}
+use Rattle.std.specs.Option.{option_map_or}
+use Rattle.std.specs.Fmt.{decimal, signed_decimal}
+use Rattle.edn_reader.specs.declared.fault.EdnFault.{EdnFault}
+use Rattle.edn_reader.specs.declared.fault.EdnFault.TheVariants as edn
 use Rattle.intervals.specs.declared.claim.Holder.{Holder}
 use Rattle.intervals.specs.declared.claim.Holder.TheVariants as holders
 use Rattle.intervals.specs.declared.operation.OpId.{OpId}
 use Rattle.intervals.specs.declared.refusal.Refusal.{Refusal}
 use Rattle.intervals.specs.declared.refusal.Refusal.TheVariants as refusals
+use Rattle.tower_file.specs.declared.fault.TowerFault.{TowerFault}
+use Rattle.tower_file.specs.declared.fault.TowerFault.TheVariants as towers
+use Rattle.tower_file.specs.declared.fault.TowerField.{TowerField}
+use Rattle.tower_file.specs.declared.fault.TowerField.TheVariants as parts
 use Rattle.jepsen_form.specs.declared.fault.FormFault.{FormFault}
 use Rattle.jepsen_form.specs.declared.fault.FormFault.TheVariants as forms
 use Rattle.jepsen_form.specs.declared.fault.FormField.{FormField}
@@ -18,6 +25,12 @@ use Rattle.feeders.specs.declared.log.Code.{Code}
 use Rattle.feeders.specs.declared.log.Code.TheVariants as codings
 use Rattle.lint.specs.declared.finding.Amiss.{Amiss}
 use Rattle.lint.specs.declared.finding.Amiss.TheVariants as amiss
+use Rattle.lint.specs.declared.finding.Note.{Note}
+use Rattle.lint.specs.declared.finding.Note.TheVariants as notes
+
+-- an operation
+abbrev pub id_text : OpId → List ℕ
+id_text id = decimal id.feeder ++ codes ":" ++ decimal id.event
 
 -- of an element that is no item
 abbrev pub form_words : FormFault → List ℕ
@@ -80,9 +93,89 @@ field_word fields.Ask = codes ":ask"
 field_word fields.Register = codes ":register"
 field_word fields.Claimed = codes ":kind"
 
--- an operation
-abbrev pub id_text : OpId → List ℕ
-id_text id = decimal id.feeder ++ codes ":" ++ decimal id.event
+-- of a fault of a tower file
+abbrev pub tower_words : TowerFault → List ℕ
+tower_words (towers.Edn what) = codes "the text breaks: "
+tower_words (towers.Shape what) = codes "a part is missing, stands twice or has another form: "
+tower_words towers.NameTaken = codes "an earlier register has this name"
+tower_words towers.WriterCount = codes "a safe or regular register has not exactly one writer"
+tower_words towers.UnknownPart = codes "a part is no register of an earlier level"
+tower_words towers.EmptyDomain = codes "a domain without a value"
+tower_words towers.InitialOutOfDomain = codes "the initial value is not in the domain"
+tower_words towers.TooMany = codes "65536 registers come before this one"
+tower_words towers.Memory = codes "out of memory"
+tower_words towers.UnknownInitial = codes "the initial value of a safe or regular register is unknown"
+
+-- of a text that breaks
+abbrev pub edn_words : EdnFault → List ℕ
+edn_words (edn.Truncated at) = codes "E1, it ends inside an element"
+edn_words (edn.StrayClose at) = codes "E2, a closing bracket, and none is open"
+edn_words (edn.WrongClose at) = codes "E3, a closing bracket that does not fit the open one"
+edn_words (edn.TooDeep at) = codes "E4, more than 64 brackets, tags and discards are open"
+edn_words (edn.OddMap at) = codes "E5, a map closes after an odd number of elements"
+edn_words (edn.TagWithoutElement at) = codes "E6, a tag or discard has no element"
+edn_words (edn.Memory at) = codes "E7, out of memory"
+
+-- a part of a tower file
+abbrev pub tower_word : TowerField → List ℕ
+tower_word parts.File = codes "the file"
+tower_word parts.Levels = codes ":levels"
+tower_word parts.Name = codes ":name"
+tower_word parts.Registers = codes ":registers"
+tower_word parts.Kind = codes ":kind"
+tower_word parts.Writers = codes ":writers"
+tower_word parts.Initial = codes ":initial"
+tower_word parts.Domain = codes ":domain"
+tower_word parts.Parts = codes ":of"
+tower_word parts.Fixed = codes ":fixed"
+
+-- what a fault of a tower file speaks of
+abbrev pub tower_text : TowerFault → List ℕ
+tower_text (towers.Edn fault) = edn_words fault
+tower_text (towers.Shape field) = tower_word field
+tower_text towers.NameTaken = []
+tower_text towers.WriterCount = []
+tower_text towers.UnknownPart = []
+tower_text towers.EmptyDomain = []
+tower_text towers.InitialOutOfDomain = []
+tower_text towers.TooMany = []
+tower_text towers.Memory = []
+tower_text towers.UnknownInitial = []
+
+-- of a field of a tower file that is not read
+abbrev pub unread_words : Option TowerField → List ℕ
+unread_words (Some field) = codes "a field is not read, and this one is absent: "
+unread_words None = codes "a field is not read"
+
+-- of what is noted
+abbrev pub note_words : Note → List ℕ
+note_words notes.Skipped = codes "an event is skipped: its :process is no integer"
+note_words notes.NoOperation = codes "no element invokes an operation"
+note_words notes.Unused = codes "a register that has no operation"
+note_words notes.NoValue = codes "an event without a :value, which is taken as nil"
+note_words (notes.NearField field) = codes "a field is not read, and this one is absent: "
+note_words (notes.Unread meant) = unread_words meant
+note_words notes.Unanswered = codes "an invocation that has no answer"
+note_words (notes.SilentWriter process) = codes "a writer of an atomic register that has no event: process "
+note_words (notes.SameMoment event) = codes "a moment that another event of the trace has: number "
+note_words notes.OutOfProportion = codes "a moment at least 1000 times the ones before and behind it"
+note_words (notes.Rests read) = codes "a refused write of the value for which its register fails: read by "
+note_words (notes.RestsOnEdit operation) = codes "a refused edit of a register that fails: shown by "
+
+-- the field, the process or the event that a note speaks of
+abbrev pub noted_text : Note → List ℕ
+noted_text notes.Skipped = []
+noted_text notes.NoOperation = []
+noted_text notes.Unused = []
+noted_text notes.NoValue = []
+noted_text (notes.NearField field) = field_word field
+noted_text (notes.Unread meant) = option_map_or tower_word meant []
+noted_text notes.Unanswered = []
+noted_text (notes.SilentWriter process) = signed_decimal process
+noted_text (notes.SameMoment event) = decimal event
+noted_text notes.OutOfProportion = []
+noted_text (notes.Rests read) = id_text read
+noted_text (notes.RestsOnEdit operation) = id_text operation
 
 -- what has a value
 abbrev pub holder_text : Holder → List ℕ
@@ -127,6 +220,8 @@ words_of_code (codings.Register refusal) = refusal_words refusal
 abbrev pub words_of : Amiss → List ℕ
 words_of (amiss.Refused event code) = words_of_code code
 words_of (amiss.Broken code) = break_words code
+words_of (amiss.Tower fault) = tower_words fault
+words_of (amiss.Noted event note) = note_words note
 
 -- what the words for a refusal speak of
 abbrev pub details_of_code : Code → List ℕ
@@ -138,6 +233,8 @@ details_of_code (codings.Register refusal) = operations_text refusal
 abbrev pub details_of : Amiss → List ℕ
 details_of (amiss.Refused event code) = details_of_code code
 details_of (amiss.Broken code) = []
+details_of (amiss.Tower fault) = tower_text fault
+details_of (amiss.Noted event note) = noted_text note
 
 -- the message
 abbrev pub message_of : Amiss → List ℕ

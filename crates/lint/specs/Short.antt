@@ -14,8 +14,8 @@ short_line name finding = place_text name finding.spot ++ codes ": " ++ head_tex
 abbrev pub short_lines : List ℕ → List Finding → List ℕ
 short_lines name findings = flat_map (short_line name) findings
 
--- the lines of each file, in order
+-- the lines of each file, in order: of its findings, and then of its notes
 abbrev pub short_text : List Source → List TraceFindings → List ℕ
 short_text [] traces = []
 short_text (source ∷ sources) [] = []
-short_text (source ∷ sources) (trace ∷ traces) = short_lines source.name.now trace.findings.items ++ short_text sources traces
+short_text (source ∷ sources) (trace ∷ traces) = short_lines source.name.now trace.findings.items ++ short_lines source.name.now trace.notes.items ++ short_text sources traces

@@ -1,20 +1,24 @@
 //! The findings of traces, by the logs of a run over them.
 
-ghost use Rattle.std.specs.Prelude.{◌≡◌, ◌≤◌, ◌<◌, ◌++◌, List, All, IfErr, IfOk, OnOk, length, map};
+ghost use Rattle.std.specs.Prelude.{◌≡◌, ◌≤◌, ◌<◌, ◌++◌, ℕ, List, Some, All, IfErr, IfOk, OnOk, length, map};
 ghost use Rattle.std.specs.List.{AllZip, flat_map};
 ghost use Rattle.std.specs.Option.{option_to_list};
 ghost use Rattle.shards.specs.Closing.{Ended};
 ghost use Rattle.feeders.specs.declared.log.Log.{Log as ALog};
 ghost use Rattle.feeders.specs.Ending.{MayEnd};
+ghost use Rattle.feeders.specs.Readers.{AreReadOf};
 ghost use Rattle.feeders.specs.Run.{IsRun};
 ghost use Rattle.lint.specs.Found.{AreFound, IsFoundIn, NamesElements, found_of_break, found_of_line};
 
 use crate::finding::{Amiss, Finding, Findings, TraceFindings};
-use crate::spot::{Spot, spot_of_one, spots_of};
+use crate::notes::{Look, Noted, notes_of};
+use crate::spot::{Spot, elements_of, spot_of_one};
+use crate::suspect::Suspects;
 use edn_reader::laws::elements_of_a_prefix;
-use feeders::{Broken, Line, Log, RunFault, What, run_in_turn};
+use feeders::{Broken, Line, Log, Pages, RunFault, What, run_in_turn};
+use intervals::RegId;
 use jepsen_form::MomentField;
-use shards::NoGate;
+use shards::{Closed, NoGate};
 use std::alloc::{AllocError, Global};
 use std::sync::Wait;
 use tower_file::Tower;
@@ -29,41 +33,79 @@ pub fn lint<R: Wait>(
     field: MomentField,
 ) -> Result<Findings, RunFault>
     requires traces { (1 ≤ length texts.now) × (length texts.now ≤ 256) }
-    ensures found { IfOk result (λ found. (closed : List Ended) × (logs : List ALog) × IsRun tower.now field 1 (map (λ text. text.now) texts.entry.now) closed logs
-        × AreFound (map (λ text. text.now) texts.entry.now) logs found.traces.items) }
+    ensures found { IfOk result (λ found. (closed : List Ended) × (logs : List ALog) × (traces : List (List ℕ)) × AreReadOf (map (λ text. Some text.now) texts.entry.now) logs traces
+        × IsRun tower.now field 1 traces closed logs × AreFound (map (λ text. text.now) texts.entry.now) logs found.traces.items) }
     ensures fault { IfErr result MayEnd }
 {
     elements_of_a_prefix();
-    let run = run_in_turn(rt, alloc, tower, texts, field, 1, &NoGate)?;
-    let traces = find_all(alloc, texts, run.logs.as_slice())?;
-    Ok(Findings { traces })
+    let pages = Pages::new(alloc)?;
+    let readers = Vec::from_slice(alloc, texts)?;
+    let run = run_in_turn(rt, alloc, tower, readers, &pages, field, 1, &NoGate)?;
+    let suspects = Suspects::of(alloc, tower, &run.closed)?;
+    let look = Look {
+        alloc,
+        tower,
+        field,
+        suspects: &suspects,
+    };
+    let traces = find_all(look, texts, run.logs.as_slice())?;
+    let unused = unused_in(alloc, tower, &run.closed)?;
+    Ok(Findings { traces, unused })
+}
+
+/// Of each register of the tower whether no operation of it stands.
+fn unused_in(alloc: Global, tower: &Tower, closed: &Closed) -> Result<Vec<bool>, AllocError> {
+    let mut unused = Vec::new(alloc);
+    for number in 0..tower.len() {
+        unused.push(is_unused(closed, RegId(number as u32)))?;
+    }
+    Ok(unused)
+}
+
+fn is_unused(closed: &Closed, id: RegId) -> bool {
+    match closed.book(id) {
+        Some(book) => book.len() == 0,
+        None => false,
+    }
 }
 
 /// The findings of each trace by its log.
-fn find_all(alloc: Global, texts: &[&[u8]], logs: &[Log]) -> Result<Vec<TraceFindings>, RunFault>
+fn find_all(look: Look, texts: &[&[u8]], logs: &[Log]) -> Result<Vec<TraceFindings>, RunFault>
+    requires few { length texts.now ≤ 256 }
     requires each { length logs.now ≡ length texts.now }
     requires named { AllZip NamesElements (map (λ text. text.now) texts.now) logs.now }
     ensures found { IfOk result (λ traces. AreFound (map (λ text. text.now) texts.entry.now) logs.now traces.items) }
     ensures memory { IfErr result (λ fault. fault ≡ RunFault.Memory) }
 {
-    let mut traces = Vec::new(alloc);
+    let mut traces = Vec::new(look.alloc);
     for number in 0..texts.len() {
-        traces.push(find_in(alloc, texts[number], &logs[number])?)?;
+        traces.push(find_in(look, number as u32, texts[number], &logs[number])?)?;
     }
     Ok(traces)
 }
 
 /// The findings of one trace: its refusals in the order of its elements, and where it broke.
-fn find_in(alloc: Global, text: &[u8], log: &Log) -> Result<TraceFindings, RunFault>
+fn find_in(look: Look, feeder: u32, text: &[u8], log: &Log) -> Result<TraceFindings, RunFault>
     requires named { NamesElements text.now log.now }
     ensures found { IfOk result (IsFoundIn text.now log.now) }
     ensures memory { IfErr result (λ fault. fault ≡ RunFault.Memory) }
 {
-    let spots = spots_of(alloc, text)?;
-    let mut findings = Vec::new(alloc);
-    push_lines(&mut findings, spots.as_slice(), log.lines.as_slice())?;
+    let found = elements_of(look.alloc, text)?;
+    let mut findings = Vec::new(look.alloc);
+    push_lines(&mut findings, found.spots.as_slice(), log.lines.as_slice())?;
     push_break(&mut findings, text, log.broken)?;
-    Ok(TraceFindings { spots, findings })
+    let Noted {
+        notes,
+        unfinished,
+        processes,
+    } = notes_of(look, feeder, text, &found, log.lines.as_slice())?;
+    Ok(TraceFindings {
+        spots: found.spots,
+        findings,
+        notes,
+        unfinished,
+        processes,
+    })
 }
 
 fn push_lines(findings: &mut Vec<Finding>, spots: &[Spot], lines: &[Line]) -> Result<(), AllocError>

@@ -1,11 +1,16 @@
 //! What is amiss in the traces, and what a run of `lint` ends with.
 
-ghost use Rattle.std.specs.Prelude.{◌≡◌};
+ghost use Rattle.std.specs.Prelude.{◌≡◌, ◌++◌, OnOk};
 ghost use Rattle.std.specs.List.{list_any};
-ghost use Rattle.lint.specs.Grade.{code_of, grade_of, grade_word, has_grade, is_of_grade, status_of};
+ghost use Rattle.lint.specs.Grade.{code_of, code_of_note, grade_of, grade_word, has_denied as has_denied_note, has_grade, has_note as has_note_of, is_of_code, is_of_grade, status_of};
 
 use crate::spot::Spot;
 use feeders::{BreakCode, Code};
+use intervals::OpId;
+use jepsen_form::FormField;
+use std::alloc::AllocError;
+use std::collections::BTreeSet;
+use tower_file::{TowerFault, TowerField};
 
 /// What is amiss.
 #[derive(Clone, Copy, Debug)]
@@ -14,6 +19,39 @@ pub enum Amiss {
     Refused(u64, Code),
     /// The text breaks off here: what follows is not judged.
     Broken(BreakCode),
+    /// The tower file says no tower: nothing is judged.
+    Tower(TowerFault),
+    /// It is taken as it stands: the element of this number, or another part of a file.
+    Noted(Option<u64>, Note),
+}
+
+/// What is taken, and may not be meant.
+#[derive(Clone, Copy, Debug, PartialEq, Eq)]
+pub enum Note {
+    /// An element that looks like a client's is skipped: its process is no integer.
+    Skipped,
+    /// No element invokes an operation.
+    NoOperation,
+    /// A register of the tower of which no operation stands.
+    Unused,
+    /// An answer of a read or an invocation of a write without a value.
+    NoValue,
+    /// A field that is not read is near this one, which is absent.
+    NearField(FormField),
+    /// A field of a tower file that is not read, and the one that it is near, which is absent.
+    Unread(Option<TowerField>),
+    /// An invocation that has no answer.
+    Unanswered,
+    /// A claimed writer of an atomic register: no trace has an event of this process.
+    SilentWriter(i64),
+    /// The event of this number has its moment too.
+    SameMoment(u64),
+    /// A moment that is at least 1000 times the ones before and behind it.
+    OutOfProportion,
+    /// A refused write of the value that this read returned, which shows that its register fails.
+    Rests(OpId),
+    /// A refused edit of this operation, which shows that its register fails; or a refused claim of that register.
+    RestsOnEdit(OpId),
 }
 
 /// How grave it is.
@@ -23,6 +61,8 @@ pub enum Grade {
     Error,
     /// An element is left out.
     Warning,
+    /// Nothing is left out.
+    Note,
 }
 
 /// What is amiss, and where.
@@ -32,17 +72,24 @@ pub struct Finding {
     pub spot: Spot,
 }
 
-/// What is found in one trace: its findings by place, and the spots of its elements by number.
+/// What is found in one trace: its findings by place, its notes by place, and the spots of its elements by number.
 #[derive(Drop)]
 pub struct TraceFindings {
     pub spots: Vec<Spot>,
     pub findings: Vec<Finding>,
+    pub notes: Vec<Finding>,
+    /// Of each element whether it is an invocation that has neither an `:ok` nor a `:fail`.
+    pub unfinished: Vec<bool>,
+    /// The processes of its events.
+    pub processes: BTreeSet<i64>,
 }
 
 /// What is found in all traces, by number.
 #[derive(Drop)]
 pub struct Findings {
     pub traces: Vec<TraceFindings>,
+    /// Of each register of the tower whether no operation of it stands; empty where there is no trace.
+    pub unused: Vec<bool>,
 }
 
 impl Grade {
@@ -53,6 +100,7 @@ impl Grade {
         match self {
             Grade::Error => "error",
             Grade::Warning => "warning",
+            Grade::Note => "note",
         }
     }
 }
@@ -63,7 +111,8 @@ impl Amiss {
     {
         match self {
             Amiss::Refused(..) => Grade::Warning,
-            Amiss::Broken(_) => Grade::Error,
+            Amiss::Broken(_) | Amiss::Tower(_) => Grade::Error,
+            Amiss::Noted(..) => Grade::Note,
         }
     }
 
@@ -74,6 +123,26 @@ impl Amiss {
         match self {
             Amiss::Refused(_, code) => code.code(),
             Amiss::Broken(code) => code.code(),
+            Amiss::Tower(fault) => fault.code(),
+            Amiss::Noted(_, note) => note.code(),
+        }
+    }
+}
+
+impl Note {
+    /// The code that users see.
+    pub fn code(&self) -> &'static str
+        ensures { result.now ≡ code_of_note self.now }
+    {
+        match self {
+            Note::Skipped => "L1",
+            Note::NoOperation | Note::Unused => "L2",
+            Note::NoValue | Note::NearField(_) => "L3",
+            Note::Unread(_) => "L4",
+            Note::Unanswered => "L5",
+            Note::SilentWriter(_) => "L6",
+            Note::SameMoment(_) | Note::OutOfProportion => "L7",
+            Note::Rests(_) | Note::RestsOnEdit(_) => "L8",
         }
     }
 }
@@ -86,18 +155,56 @@ impl TraceFindings {
     }
 }
 
+impl TraceFindings {
+    fn has_note(&self, code: &str) -> bool
+        ensures { result ≡ list_any (is_of_code code.now) self.now.notes.items }
+    {
+        self.notes.iter().any(|note| note.what.code() == code)
+    }
+}
+
 impl Findings {
-    /// With which status a run ends: 2 with an error, else 3 with a warning, else 0.
-    pub fn status(&self) -> u8
-        ensures { result ≡ status_of self.now.traces.items }
+    /// Puts the files of others behind its own.
+    pub fn append(&mut self, others: Findings) -> Result<(), AllocError>
+        ensures { OnOk result (self.new.traces.items ≡ self.old.traces.items ++ others.traces.items) }
+    {
+        let Findings { traces, .. } = others;
+        let mut more = traces;
+        self.traces.append(&mut more)
+    }
+
+    /// Whether there are traces, and none of them has an event of the process.
+    pub fn is_silent(&self, process: i64) -> bool {
+        !self.traces.is_empty()
+            && !self
+                .traces
+                .iter()
+                .any(|trace| trace.processes.contains(&process))
+    }
+
+    /// With which status a run ends: 2 with an error, else 3 with a warning or a note of a code that is denied, else 0.
+    pub fn status(&self, denied: &[&str]) -> u8
+        ensures { result ≡ status_of denied.now self.now.traces.items }
     {
         if self.has(Grade::Error) {
             2
-        } else if self.has(Grade::Warning) {
+        } else if self.has(Grade::Warning) || self.has_denied(denied) {
             3
         } else {
             0
         }
+    }
+
+    fn has_denied(&self, denied: &[&str]) -> bool
+        ensures { result ≡ has_denied_note denied.now self.now.traces.items }
+    {
+        denied.iter().any(|code| self.has_note(code))
+    }
+
+    fn has_note(&self, code: &str) -> bool
+        ensures { result ≡ has_note_of code.now self.now.traces.items }
+    {
+        self.traces.iter().any(|trace| trace.has_note(code))
     }
 
     fn has(&self, grade: Grade) -> bool
@@ -111,7 +218,9 @@ fn is_of(finding: &Finding, grade: Grade) -> bool
     ensures { result ≡ is_of_grade grade finding.now }
 {
     match (finding.what.grade(), grade) {
-        (Grade::Error, Grade::Error) | (Grade::Warning, Grade::Warning) => true,
+        (Grade::Error, Grade::Error)
+        | (Grade::Warning, Grade::Warning)
+        | (Grade::Note, Grade::Note) => true,
         _ => false,
     }
 }

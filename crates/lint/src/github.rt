@@ -16,9 +16,19 @@ pub fn push_github(
         let Some(source) = sources.get(trace) else {
             return Ok(());
         };
-        for finding in &traces[trace].findings {
-            push_command(text, source, finding)?;
-        }
+        push_commands(text, source, traces[trace].findings.as_slice())?;
+        push_commands(text, source, traces[trace].notes.as_slice())?;
+    }
+    Ok(())
+}
+
+fn push_commands(
+    text: &mut String,
+    source: &Source,
+    findings: &[Finding],
+) -> Result<(), AllocError> {
+    for finding in findings {
+        push_command(text, source, finding)?;
     }
     Ok(())
 }
@@ -43,6 +53,7 @@ fn command_of(grade: Grade) -> &'static str {
     match grade {
         Grade::Error => "error",
         Grade::Warning => "warning",
+        Grade::Note => "notice",
     }
 }
 

@@ -1,6 +1,6 @@
 //! Findings as records of JSON, one a line.
 
-use crate::finding::{Amiss, Finding, Findings};
+use crate::finding::{Amiss, Finding, Findings, Note};
 use crate::message::push_message;
 use crate::quoted::push_quoted;
 use crate::source::Source;
@@ -19,9 +19,27 @@ pub fn push_json(
         let Some(source) = sources.get(trace) else {
             return Ok(());
         };
-        for finding in &traces[trace].findings {
-            push_record(text, alloc, source, trace, finding)?;
-        }
+        push_records(
+            text,
+            alloc,
+            source,
+            trace,
+            traces[trace].findings.as_slice(),
+        )?;
+        push_records(text, alloc, source, trace, traces[trace].notes.as_slice())?;
+    }
+    Ok(())
+}
+
+fn push_records(
+    text: &mut String,
+    alloc: Global,
+    source: &Source,
+    trace: usize,
+    findings: &[Finding],
+) -> Result<(), AllocError> {
+    for finding in findings {
+        push_record(text, alloc, source, trace, finding)?;
     }
     Ok(())
 }
@@ -69,6 +87,14 @@ fn push_name(text: &mut String, alloc: Global, what: &Amiss) -> Result<(), Alloc
         Amiss::Refused(_, Code::Pair(fault)) => format!(in alloc; "{fault}")?,
         Amiss::Refused(_, Code::Register(refusal)) => format!(in alloc; "{refusal}")?,
         Amiss::Broken(code) => format!(in alloc; "{code:?}")?,
+        Amiss::Tower(fault) => format!(in alloc; "{fault}")?,
+        Amiss::Noted(_, Note::Unread(_)) => String::from_str(alloc, "Unread")?,
+        Amiss::Noted(_, Note::NearField(_)) => String::from_str(alloc, "NearField")?,
+        Amiss::Noted(_, Note::Rests(_)) => String::from_str(alloc, "Rests")?,
+        Amiss::Noted(_, Note::RestsOnEdit(_)) => String::from_str(alloc, "RestsOnEdit")?,
+        Amiss::Noted(_, Note::SilentWriter(_)) => String::from_str(alloc, "SilentWriter")?,
+        Amiss::Noted(_, Note::SameMoment(_)) => String::from_str(alloc, "SameMoment")?,
+        Amiss::Noted(_, note) => format!(in alloc; "{note:?}")?,
     };
     push_quoted(text, name_in(printed.as_str()).as_bytes())
 }
@@ -80,11 +106,13 @@ fn name_in(printed: &str) -> &str {
     }
 }
 
-/// The trace and the number of the element; null where the text broke.
+/// The trace and the number of the element; null where it is of none.
 fn push_id(text: &mut String, trace: usize, what: &Amiss) -> Result<(), AllocError> {
     match what {
-        Amiss::Refused(event, _) => write!(text, "\"{trace}:{event}\""),
-        Amiss::Broken(_) => text.push_str("null"),
+        Amiss::Refused(event, _) | Amiss::Noted(Some(event), _) => {
+            write!(text, "\"{trace}:{event}\"")
+        }
+        Amiss::Noted(None, _) | Amiss::Broken(_) | Amiss::Tower(_) => text.push_str("null"),
     }
 }
 

@@ -1,14 +1,16 @@
 //! What is amiss, in a few words.
 
 ghost use Rattle.std.specs.Prelude.{◌≡◌, ◌++◌, OnOk, string_bytes};
-ghost use Rattle.lint.specs.Message.{break_words as words_of_break, details_of, field_word as word_of_field, field_text, form_words as words_of_form, holder_text, id_text, message_of, operations_text, pair_words as words_of_pair, refusal_words as words_of_refusal, words_of};
+ghost use Rattle.lint.specs.Message.{break_words as words_of_break, details_of, field_word as word_of_field, field_text, form_words as words_of_form, holder_text, id_text, message_of, note_words as words_of_note, edn_words as words_of_edn, noted_text, operations_text, pair_words as words_of_pair, refusal_words as words_of_refusal, tower_text, tower_word as word_of_tower, tower_words as words_of_tower, words_of};
 
-use crate::finding::Amiss;
+use crate::finding::{Amiss, Note};
+use edn_reader::EdnFault;
 use feeders::{BreakCode, Code};
 use intervals::{Holder, OpId, Refusal};
 use jepsen_form::{FormFault, FormField};
 use pairing::PairFault;
 use std::alloc::AllocError;
+use tower_file::{TowerFault, TowerField};
 
 /// The words for it, and what they speak of: a field, a moment or other operations.
 pub fn push_message(text: &mut String, what: &Amiss) -> Result<(), AllocError>
@@ -26,6 +28,8 @@ fn words(what: &Amiss) -> &'static str
         Amiss::Refused(_, Code::Pair(fault)) => pair_words(fault),
         Amiss::Refused(_, Code::Register(refusal)) => refusal_words(refusal),
         Amiss::Broken(code) => break_words(*code),
+        Amiss::Tower(fault) => tower_words(fault),
+        Amiss::Noted(_, note) => note_words(note),
     }
 }
 
@@ -92,6 +96,26 @@ fn break_words(code: BreakCode) -> &'static str
     }
 }
 
+fn note_words(note: &Note) -> &'static str
+    ensures { result.now ≡ words_of_note note.now }
+{
+    match note {
+        Note::Skipped => "an event is skipped: its :process is no integer",
+        Note::NoOperation => "no element invokes an operation",
+        Note::Unused => "a register that has no operation",
+        Note::NoValue => "an event without a :value, which is taken as nil",
+        Note::NearField(_) => "a field is not read, and this one is absent: ",
+        Note::Unread(Some(_)) => "a field is not read, and this one is absent: ",
+        Note::Unread(None) => "a field is not read",
+        Note::Unanswered => "an invocation that has no answer",
+        Note::SilentWriter(_) => "a writer of an atomic register that has no event: process ",
+        Note::SameMoment(_) => "a moment that another event of the trace has: number ",
+        Note::OutOfProportion => "a moment at least 1000 times the ones before and behind it",
+        Note::Rests(_) => "a refused write of the value for which its register fails: read by ",
+        Note::RestsOnEdit(_) => "a refused edit of a register that fails: shown by ",
+    }
+}
+
 /// What the words speak of.
 fn push_details(text: &mut String, what: &Amiss) -> Result<(), AllocError>
     ensures { OnOk result (string_bytes text.new ≡ string_bytes text.old ++ details_of what.now) }
@@ -99,7 +123,97 @@ fn push_details(text: &mut String, what: &Amiss) -> Result<(), AllocError>
     match what {
         Amiss::Refused(_, Code::Form(fault)) => push_field(text, fault),
         Amiss::Refused(_, Code::Register(refusal)) => push_operations(text, refusal),
+        Amiss::Tower(fault) => push_tower(text, fault),
+        Amiss::Noted(_, note) => push_noted(text, note),
         Amiss::Refused(_, Code::Pair(_)) | Amiss::Broken(_) => Ok(()),
+    }
+}
+
+fn push_noted(text: &mut String, note: &Note) -> Result<(), AllocError>
+    ensures { OnOk result (string_bytes text.new ≡ string_bytes text.old ++ noted_text note.now) }
+{
+    match note {
+        Note::NearField(field) => text.push_str(field_word(*field)),
+        Note::Unread(Some(field)) => text.push_str(tower_word(*field)),
+        Note::SilentWriter(process) => write!(text, "{process}"),
+        Note::SameMoment(event) => write!(text, "{event}"),
+        Note::Rests(read) => push_id(text, *read),
+        Note::RestsOnEdit(operation) => push_id(text, *operation),
+        Note::Unread(None)
+        | Note::Skipped
+        | Note::NoOperation
+        | Note::Unused
+        | Note::NoValue
+        | Note::Unanswered
+        | Note::OutOfProportion => Ok(()),
+    }
+}
+
+/// The words for a fault of a tower file.
+fn tower_words(fault: &TowerFault) -> &'static str
+    ensures { result.now ≡ words_of_tower fault.now }
+{
+    match fault {
+        TowerFault::Edn(_) => "the text breaks: ",
+        TowerFault::Shape(_) => "a part is missing, stands twice or has another form: ",
+        TowerFault::NameTaken => "an earlier register has this name",
+        TowerFault::WriterCount => "a safe or regular register has not exactly one writer",
+        TowerFault::UnknownPart => "a part is no register of an earlier level",
+        TowerFault::EmptyDomain => "a domain without a value",
+        TowerFault::InitialOutOfDomain => "the initial value is not in the domain",
+        TowerFault::TooMany => "65536 registers come before this one",
+        TowerFault::Memory => "out of memory",
+        TowerFault::UnknownInitial => "the initial value of a safe or regular register is unknown",
+    }
+}
+
+/// What the words for a fault of a tower file speak of.
+fn push_tower(text: &mut String, fault: &TowerFault) -> Result<(), AllocError>
+    ensures { OnOk result (string_bytes text.new ≡ string_bytes text.old ++ tower_text fault.now) }
+{
+    match fault {
+        TowerFault::Edn(fault) => text.push_str(edn_words(fault)),
+        TowerFault::Shape(field) => text.push_str(tower_word(*field)),
+        TowerFault::NameTaken
+        | TowerFault::WriterCount
+        | TowerFault::UnknownPart
+        | TowerFault::EmptyDomain
+        | TowerFault::InitialOutOfDomain
+        | TowerFault::TooMany
+        | TowerFault::Memory
+        | TowerFault::UnknownInitial => Ok(()),
+    }
+}
+
+fn edn_words(fault: &EdnFault) -> &'static str
+    ensures { result.now ≡ words_of_edn fault.now }
+{
+    match fault {
+        EdnFault::Truncated(_) => "E1, it ends inside an element",
+        EdnFault::StrayClose(_) => "E2, a closing bracket, and none is open",
+        EdnFault::WrongClose(_) => "E3, a closing bracket that does not fit the open one",
+        EdnFault::TooDeep(_) => "E4, more than 64 brackets, tags and discards are open",
+        EdnFault::OddMap(_) => "E5, a map closes after an odd number of elements",
+        EdnFault::TagWithoutElement(_) => "E6, a tag or discard has no element",
+        EdnFault::Memory(_) => "E7, out of memory",
+    }
+}
+
+/// A part of a tower file.
+pub fn tower_word(field: TowerField) -> &'static str
+    ensures { result.now ≡ word_of_tower field }
+{
+    match field {
+        TowerField::File => "the file",
+        TowerField::Levels => ":levels",
+        TowerField::Name => ":name",
+        TowerField::Registers => ":registers",
+        TowerField::Kind => ":kind",
+        TowerField::Writers => ":writers",
+        TowerField::Initial => ":initial",
+        TowerField::Domain => ":domain",
+        TowerField::Parts => ":of",
+        TowerField::Fixed => ":fixed",
     }
 }
 
@@ -118,7 +232,8 @@ fn push_field(text: &mut String, fault: &FormFault) -> Result<(), AllocError>
     }
 }
 
-fn field_word(field: FormField) -> &'static str
+/// A field of an element.
+pub fn field_word(field: FormField) -> &'static str
     ensures { result.now ≡ word_of_field field }
 {
     match field {

@@ -20,6 +20,7 @@ pub fn push_short(
     let traces = findings.traces.as_slice();
     for number in 0..traces.len() {
         push_lines(text, &sources[number], traces[number].findings.as_slice())?;
+        push_lines(text, &sources[number], traces[number].notes.as_slice())?;
     }
     Ok(())
 }

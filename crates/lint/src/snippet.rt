@@ -5,6 +5,7 @@ use crate::spot::Spot;
 use bstr::ByteSlice;
 use memchr::memchr;
 use std::alloc::AllocError;
+use unicode_width::UnicodeWidthChar;
 
 /// How many bytes of a line are shown.
 const WIDTH: usize = 160;
@@ -72,7 +73,7 @@ pub fn push_mark(text: &mut String, width: usize, mark: Mark) -> Result<(), Allo
         text.push_str("  ")?;
     }
     push_under(text, part_of(bytes, window.from, window.at))?;
-    for _ in 0..length_of(window, &mark.spot) {
+    for _ in 0..length_of(bytes, window, &mark.spot) {
         text.push(mark.sign)?;
     }
     Ok(())
@@ -100,15 +101,24 @@ fn window_of(text: &[u8], spot: &Spot) -> Window {
     }
 }
 
-/// A whole element that is long is marked at its first byte, and a short one under each.
-fn length_of(window: Window, spot: &Spot) -> usize {
-    let length = spot.end.saturating_sub(spot.start);
-    let room = window.to.saturating_sub(window.at);
-    if length <= LONGEST && length <= room {
-        length.max(1)
-    } else {
-        1
+/// A whole element that is long is marked at its first column, and a short one under each.
+fn length_of(text: &[u8], window: Window, spot: &Spot) -> usize {
+    if spot.end > window.to {
+        return 1;
     }
+    let mut length: usize = 0;
+    for character in part_of(text, window.at, spot.end).chars() {
+        length = length.saturating_add(columns_of(character));
+    }
+    if length <= LONGEST { length.max(1) } else { 1 }
+}
+
+/// How many columns a character takes where it is shown. A control character is shown as a blank.
+fn columns_of(character: char) -> usize {
+    if character.is_control() {
+        return 1;
+    }
+    character.width().unwrap_or(0)
 }
 
 fn part_of(text: &[u8], from: usize, to: usize) -> &[u8] {
@@ -118,13 +128,19 @@ fn part_of(text: &[u8], from: usize, to: usize) -> &[u8] {
     }
 }
 
+/// Bytes of a file on one line.
+pub fn push_plain(text: &mut String, bytes: &[u8]) -> Result<(), AllocError> {
+    for character in bytes.chars() {
+        push_character(text, character)?;
+    }
+    Ok(())
+}
+
 fn push_shown(text: &mut String, bytes: &[u8], window: Window) -> Result<(), AllocError> {
     if window.start < window.from {
         text.push_str("..")?;
     }
-    for character in part_of(bytes, window.from, window.to).chars() {
-        push_character(text, character)?;
-    }
+    push_plain(text, part_of(bytes, window.from, window.to))?;
     if window.to < window.end {
         text.push_str("..")?;
     }
@@ -133,20 +149,20 @@ fn push_shown(text: &mut String, bytes: &[u8], window: Window) -> Result<(), All
 
 /// A control character but a tab is a blank.
 fn push_character(text: &mut String, character: char) -> Result<(), AllocError> {
-    if character < ' ' && character != '\t' {
+    if character.is_control() && character != '\t' {
         text.push_str(" ")
     } else {
         text.push(character)
     }
 }
 
-/// As many columns as the bytes take: a tab is a tab, any other character a blank.
+/// As many columns as the bytes take: a tab is a tab, and another character as many blanks as it has columns.
 fn push_under(text: &mut String, bytes: &[u8]) -> Result<(), AllocError> {
     for character in bytes.chars() {
         if character == '\t' {
             text.push(character)?;
         } else {
-            text.push_str(" ")?;
+            push_blanks(text, columns_of(character))?;
         }
     }
     Ok(())

@@ -20,30 +20,43 @@ pub struct Spot {
     pub place: Place,
 }
 
-/// The spots of the elements of a text, or of those before its fault, by number.
-pub fn spots_of(alloc: Global, text: &[u8]) -> Result<Vec<Spot>, RunFault>
-    ensures spots { IfOk result (λ spots. (pieces : List Piece) × AreElementsBefore text.now pieces × (spots.items ≡ map (spot_of text.now) pieces)) }
+/// The elements of a text, or those before its fault, and their spots, by number.
+#[derive(Drop)]
+pub struct Elements<'t> {
+    pub elements: Vec<Element<'t>>,
+    pub spots: Vec<Spot>,
+}
+
+/// Reads a text through.
+pub fn elements_of<'t>(alloc: Global, text: &'t [u8]) -> Result<Elements<'t>, RunFault>
+    ensures spots { IfOk result (λ found. (pieces : List Piece) × AreElementsBefore text.entry.now pieces × (found.spots.items ≡ map (spot_of text.entry.now) pieces)) }
+    ensures each { IfOk result (λ found. length found.elements.items ≡ length found.spots.items) }
     ensures memory { IfErr result (λ fault. fault ≡ RunFault.Memory) }
 {
     elements_of_a_prefix();
     let mut reader = Reader::new(alloc, text);
     let mut cursor = Cursor::new(text);
     let mut spots = Vec::new(alloc);
+    let mut elements = Vec::new(alloc);
     loop {
         match reader.next() {
-            Ok(Some(element)) => spots.push(spot_in(&mut cursor, &element))?,
-            Ok(None) => return Ok(spots),
+            Ok(Some(element)) => {
+                spots.push(spot_in(&mut cursor, &element))?;
+                elements.push(element)?;
+            }
+            Ok(None) => return Ok(Elements { elements, spots }),
             Err(fault) => {
                 if is_memory(fault) {
                     return Err(RunFault::Memory);
                 }
-                return Ok(spots);
+                return Ok(Elements { elements, spots });
             }
         }
     }
 }
 
-fn spot_in(cursor: &mut Cursor, element: &Element) -> Spot
+/// The spot of an element of the cursor's text.
+pub fn spot_in(cursor: &mut Cursor, element: &Element) -> Spot
     ensures spot { result ≡ spot_of cursor.old.text.now (piece_of element.now) }
     ensures text { cursor.new.text ≡ cursor.old.text }
 {

@@ -33,11 +33,17 @@ impl Tally {
             counts: Vec::new(alloc),
         };
         for trace in &found.traces {
-            for finding in &trace.findings {
-                tally.add(finding)?;
-            }
+            tally.add_all(trace.findings.as_slice())?;
+            tally.add_all(trace.notes.as_slice())?;
         }
         Ok(tally)
+    }
+
+    fn add_all(&mut self, findings: &[Finding]) -> Result<(), AllocError> {
+        for finding in findings {
+            self.add(finding)?;
+        }
+        Ok(())
     }
 
     fn add(&mut self, finding: &Finding) -> Result<(), AllocError> {

@@ -2,7 +2,7 @@
 use Rattle.std.specs.Prelude.{ℕ, List, [], ◌∷◌, Option, codes, find}
 use Rattle.std.specs.Str.{str_eq_ignore_ascii_case, str_to_ascii_lowercase}
 use Rattle.texts.specs.declared.topic.Topic.{Topic}
-use Rattle.texts.specs.declared.topic.Topic.TheVariants.{Text, Form, Pair, Register, Tower, Shard, Word}
+use Rattle.texts.specs.declared.topic.Topic.TheVariants.{Text, Form, Pair, Register, Tower, Shard, Note, Word}
 use Rattle.texts.specs.declared.text_codes.TextCode.{TextCode}
 use Rattle.texts.specs.declared.text_codes.TextCode.TheVariants as text_codes
 use Rattle.texts.specs.declared.form_codes.FormCode.{FormCode}
@@ -15,6 +15,8 @@ use Rattle.texts.specs.declared.tower_codes.TowerCode.{TowerCode}
 use Rattle.texts.specs.declared.tower_codes.TowerCode.TheVariants as tower_codes
 use Rattle.texts.specs.declared.shard_codes.ShardCode.{ShardCode}
 use Rattle.texts.specs.declared.shard_codes.ShardCode.TheVariants as shard_codes
+use Rattle.texts.specs.declared.notes.Note.{Note as NoteCode}
+use Rattle.texts.specs.declared.notes.Note.TheVariants as note_codes
 use Rattle.texts.specs.declared.report_words.ReportWord.{ReportWord}
 use Rattle.texts.specs.declared.report_words.ReportWord.TheVariants as report_words
 
@@ -87,6 +89,17 @@ shard_code shard_codes.PassMissing = codes "S4"
 shard_code shard_codes.Stranger = codes "S5"
 shard_code shard_codes.ForeignPass = codes "S6"
 
+-- the code of a note
+abbrev pub note_code : NoteCode → List ℕ
+note_code note_codes.SkippedClient = codes "L1"
+note_code note_codes.NoOperation = codes "L2"
+note_code note_codes.NoValue = codes "L3"
+note_code note_codes.UnreadField = codes "L4"
+note_code note_codes.Unanswered = codes "L5"
+note_code note_codes.SilentWriter = codes "L6"
+note_code note_codes.TiedMoments = codes "L7"
+note_code note_codes.RestsOnARefusal = codes "L8"
+
 -- the word
 abbrev pub report_word : ReportWord → List ℕ
 report_word report_words.Wrong = codes "wrong"
@@ -108,6 +121,7 @@ topic_code (Pair code) = pair_code code
 topic_code (Register code) = register_code code
 topic_code (Tower code) = tower_code code
 topic_code (Shard code) = shard_code code
+topic_code (Note code) = note_code code
 topic_code (Word code) = report_word code
 
 -- all topics, in the order in which they are listed
@@ -132,6 +146,9 @@ all_topics =
     Tower tower_codes.TooMany ∷ Tower tower_codes.NoMemoryForTower ∷ Tower tower_codes.UnknownInitial ∷
     Shard shard_codes.UnknownRegister ∷ Shard shard_codes.NoMemoryForShard ∷ Shard shard_codes.JournalBehind ∷
     Shard shard_codes.PassMissing ∷ Shard shard_codes.Stranger ∷ Shard shard_codes.ForeignPass ∷
+    Note note_codes.SkippedClient ∷ Note note_codes.NoOperation ∷ Note note_codes.NoValue ∷
+    Note note_codes.UnreadField ∷ Note note_codes.Unanswered ∷ Note note_codes.SilentWriter ∷
+    Note note_codes.TiedMoments ∷ Note note_codes.RestsOnARefusal ∷
     Word report_words.Wrong ∷ Word report_words.Unwritten ∷ Word report_words.Early ∷ Word report_words.Conflict ∷
     Word report_words.Culprit ∷ Word report_words.Answer ∷ Word report_words.Refused ∷ Word report_words.Broken ∷
     Word report_words.Order ∷ Word report_words.Status ∷

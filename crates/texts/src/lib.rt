@@ -14,6 +14,7 @@
 
 mod entry;
 mod form_codes;
+mod notes;
 mod pair_codes;
 mod register_codes;
 mod report_words;
@@ -25,6 +26,7 @@ mod version;
 
 pub use entry::{Entry, push_entry};
 pub use form_codes::{FormCode, of_form};
+pub use notes::Note;
 pub use pair_codes::{PairCode, of_pair};
 pub use register_codes::{RegisterCode, of_refusal};
 pub use report_words::ReportWord;

@@ -7,6 +7,7 @@ ghost use Rattle.texts.specs.Topics.{all_topics, topic_among, topic_code, topic_
 
 use crate::entry::{Entry, push_line};
 use crate::form_codes::FormCode;
+use crate::notes::Note;
 use crate::pair_codes::PairCode;
 use crate::register_codes::RegisterCode;
 use crate::report_words::ReportWord;
@@ -25,6 +26,7 @@ pub enum Topic {
     Register(RegisterCode),
     Tower(TowerCode),
     Shard(ShardCode),
+    Note(Note),
     Word(ReportWord),
 }
 
@@ -55,12 +57,13 @@ impl Topic {
             Topic::Register(code) => code.entry(),
             Topic::Tower(code) => code.entry(),
             Topic::Shard(code) => code.entry(),
+            Topic::Note(code) => code.entry(),
             Topic::Word(code) => code.entry(),
         }
     }
 
     /// All topics, in the order in which they are listed.
-    pub fn all() -> array::IntoIter<Topic, 61>
+    pub fn all() -> array::IntoIter<Topic, 69>
         ensures { array_into_iter_items result ≡ all_topics }
     {
         [
@@ -115,6 +118,14 @@ impl Topic {
             Topic::Shard(ShardCode::PassMissing),
             Topic::Shard(ShardCode::Stranger),
             Topic::Shard(ShardCode::ForeignPass),
+            Topic::Note(Note::SkippedClient),
+            Topic::Note(Note::NoOperation),
+            Topic::Note(Note::NoValue),
+            Topic::Note(Note::UnreadField),
+            Topic::Note(Note::Unanswered),
+            Topic::Note(Note::SilentWriter),
+            Topic::Note(Note::TiedMoments),
+            Topic::Note(Note::RestsOnARefusal),
             Topic::Word(ReportWord::Wrong),
             Topic::Word(ReportWord::Unwritten),
             Topic::Word(ReportWord::Early),
@@ -130,7 +141,7 @@ impl Topic {
     }
 }
 
-fn first_named(topics: array::IntoIter<Topic, 61>, word: &str) -> Option<Topic>
+fn first_named(topics: array::IntoIter<Topic, 69>, word: &str) -> Option<Topic>
     ensures { result ≡ topic_among (array_into_iter_items topics) word.now }
 {
     for topic in topics {
@@ -148,7 +159,7 @@ pub fn push_list(text: &mut String) -> Result<(), AllocError>
     push_lines(text, Topic::all())
 }
 
-fn push_lines(text: &mut String, topics: array::IntoIter<Topic, 61>) -> Result<(), AllocError>
+fn push_lines(text: &mut String, topics: array::IntoIter<Topic, 69>) -> Result<(), AllocError>
     ensures { OnOk result ((lines : List ℕ) × AreLines (array_into_iter_items topics) lines × (string_bytes text.new ≡ string_bytes text.old ++ lines)) }
 {
     for topic in topics {

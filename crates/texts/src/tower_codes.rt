@@ -74,8 +74,7 @@ const EDN: Entry = Entry {
     mostly: "a bracket that is missing, or one too many.",
     tower: "",
     example: "{:levels [{:name l :registers [{:name x :kind :atomic :writers :any}]}}      ; V1: no ]",
-    mend: "close each bracket. To see the code and the place, give the file as a trace to another
-         tower: `regaudit check --tower examples/tower.edn FILE` prints `broken 0 E3 at BYTE`.",
+    mend: "close each bracket: `regaudit lint --tower FILE` shows which stands open, and where.",
     see: "E1, E2, E3, E4, E5, E6",
 };
 

@@ -136,17 +136,17 @@ unfolding clap_on_literals
 no_shell program = refl
 
 pub tower_alone : (program : Text) → asked (program ∷ codes "lint" ∷ codes "--tower" ∷ codes "t" ∷ [])
-    ≡ Some (Lint (record { tower = Some (codes "t"); moments = Index; form = Human; most = 3; traces = [] }))
+    ≡ Some (Lint (record { tower = Some (codes "t"); moments = Index; form = Human; most = 3; denied = None; traces = [] }))
 unfolding clap_on_literals
 tower_alone program = refl
 
 pub traces_alone : (program : Text) → asked (program ∷ codes "lint" ∷ codes "a" ∷ codes "b" ∷ [])
-    ≡ Some (Lint (record { tower = None; moments = Index; form = Human; most = 3; traces = codes "a" ∷ codes "b" ∷ [] }))
+    ≡ Some (Lint (record { tower = None; moments = Index; form = Human; most = 3; denied = None; traces = codes "a" ∷ codes "b" ∷ [] }))
 unfolding clap_on_literals
 traces_alone program = refl
 
-pub whole_lint : (program : Text) → asked (program ∷ codes "lint" ∷ codes "--tower=t" ∷ codes "--moment" ∷ codes "time" ∷ codes "--as" ∷ codes "json" ∷ codes "--max" ∷ codes "0" ∷ codes "a" ∷ [])
-    ≡ Some (Lint (record { tower = Some (codes "t"); moments = Time; form = Json; most = 0; traces = codes "a" ∷ [] }))
+pub whole_lint : (program : Text) → asked (program ∷ codes "lint" ∷ codes "--tower=t" ∷ codes "--moment" ∷ codes "time" ∷ codes "--as" ∷ codes "json" ∷ codes "--max" ∷ codes "0" ∷ codes "--deny" ∷ codes "L1,L3" ∷ codes "a" ∷ [])
+    ≡ Some (Lint (record { tower = Some (codes "t"); moments = Time; form = Json; most = 0; denied = Some (codes "L1,L3"); traces = codes "a" ∷ [] }))
 unfolding clap_on_literals
 whole_lint program = refl
 

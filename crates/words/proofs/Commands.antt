@@ -50,11 +50,11 @@ emptiness None lent held found is lent_is found_is is_is = rw (length-map, ← l
 emptiness (Some name) lent held found is lent_is found_is is_is = sym found_is ∙ is_is
 
 -- a look through what is there
-pub is_lint : (rows : List Row) (tower : Option Text) (moments : Moments) (form : LintForm) (most : ℕ) (traces : List Text) → first_of (codes "tower") rows ≡ tower → Some moments ≡ said_in moments_in (codes "moment") rows
-    → Some form ≡ said_in lint_form_in (codes "as") rows → Some most ≡ said_in count_in (codes "max") rows → traces ≡ traces_in rows → (is_none tower && length traces == 0) ≡ false
-    → ◌≡◌ {A = Option AskedLint} (Some (record { tower = tower; moments = moments; form = form; most = most; traces = traces })) (lint_by rows)
-is_lint rows tower moments form most traces tower_is moments_is form_is most_is traces_are some =
-    rw (← moments_is, ← form_is, ← most_is, ← traces_are, tower_is, some) refl
+pub is_lint : (rows : List Row) (tower : Option Text) (moments : Moments) (form : LintForm) (most : ℕ) (denied : Option Text) (traces : List Text) → first_of (codes "tower") rows ≡ tower → Some moments ≡ said_in moments_in (codes "moment") rows
+    → Some form ≡ said_in lint_form_in (codes "as") rows → Some most ≡ said_in count_in (codes "max") rows → first_of (codes "deny") rows ≡ denied → traces ≡ traces_in rows → (is_none tower && length traces == 0) ≡ false
+    → ◌≡◌ {A = Option AskedLint} (Some (record { tower = tower; moments = moments; form = form; most = most; denied = denied; traces = traces })) (lint_by rows)
+is_lint rows tower moments form most denied traces tower_is moments_is form_is most_is denied_is traces_are some =
+    rw (← moments_is, ← form_is, ← most_is, ← traces_are, tower_is, some, denied_is) refl
 
 -- and where nothing is
 pub is_no_lint : (rows : List Row) (tower : Option Text) (moments : Moments) (form : LintForm) (most : ℕ) (traces : List Text) → first_of (codes "tower") rows ≡ tower → Some moments ≡ said_in moments_in (codes "moment") rows

@@ -72,15 +72,19 @@ any_tower_rule = record (new_rule (codes "tower")) { long = Some (codes "tower")
 abbrev pub amiss_rule : Rule
 amiss_rule = record (new_rule (codes "as")) { long = Some (codes "as"); value_names = 1; defaults = codes "human" ∷ [] }
 
+-- `--deny CODES`
+abbrev pub deny_rule : Rule
+deny_rule = record (new_rule (codes "deny")) { long = Some (codes "deny"); value_names = 1 }
+
 -- `TRACE..`, any number
 abbrev pub any_traces_rule : Rule
 any_traces_rule = record (new_rule (codes "TRACE")) { range = Some (record { start_inclusive = 1; end_inclusive = usize_max }) }
 
--- a command with how much is shown, and the traces
+-- a command with how much is shown, what counts as a warning, and the traces
 abbrev pub with_lint_options : App → App
-with_lint_options options = with_rule (with_rule options (count_rule (codes "max") (codes "3"))) any_traces_rule
+with_lint_options options = with_rule (with_rule (with_rule options (count_rule (codes "max") (codes "3"))) deny_rule) any_traces_rule
 
--- `lint [--tower FILE] [--moment FIELD] [--as FORM] [--max N] TRACE..`, where `--moment` and `--as` have these rules
+-- `lint [--tower FILE] [--moment FIELD] [--as FORM] [--max N] [--deny CODES] TRACE..`, where `--moment` and `--as` have these rules
 abbrev pub lint_with : Rule → Rule → App
 lint_with moment form = with_lint_options (with_rule (with_rule (with_rule (new_app (codes "lint")) any_tower_rule) moment) form)
 
@@ -160,6 +164,7 @@ pub record AskedLint : Type 0 where
   pub moments : Moments
   pub form : LintForm
   pub most : ℕ
+  pub denied : Option Text
   pub traces : List Text
 
 -- a command: the trace that is named, none for standard input; what is checked, or looked through; the tower file that is named; the
@@ -228,7 +233,7 @@ check_by rows =
 abbrev pub lint_of : Moments → LintForm → ℕ → List Row → Option AskedLint
 lint_of moments form most rows =
     if is_none (first_of (codes "tower") rows) && length (traces_in rows) == 0 then None
-    else Some (record { tower = first_of (codes "tower") rows; moments = moments; form = form; most = most; traces = traces_in rows })
+    else Some (record { tower = first_of (codes "tower") rows; moments = moments; form = form; most = most; denied = first_of (codes "deny") rows; traces = traces_in rows })
 
 -- the look through what these arguments name
 abbrev pub lint_by : List Row → Option AskedLint
@@ -292,6 +297,7 @@ asked_lint lint = record {
   moments = lint.moments;
   form = lint.form;
   most = lint.most;
+  denied = option_map (λ codes. codes.now) lint.denied;
   traces = map (λ name. name.now) lint.traces.items;
 }
 

@@ -90,6 +90,7 @@ _regaudit() {
             check:--moment | lint:--moment) words='index time' ;;
             check:--as) words='text summary' ;;
             lint:--as) words='human short github json' ;;
+            lint:--deny) words='L1 L2 L3 L4 L5 L6 L7 L8' ;;
             explain:explain) words=$("$1" explain 2> /dev/null | cut -d ' ' -f 1) ;;
             completion:completion) words='bash zsh fish' ;;
             check:*)
@@ -99,7 +100,7 @@ _regaudit() {
                 ;;
             lint:*)
                 if [[ $begun == -* ]]; then
-                    words='--tower --moment --as --max --help'
+                    words='--tower --moment --as --max --deny --help'
                 fi
                 ;;
             *)
@@ -147,7 +148,7 @@ _regaudit() {
     local -a commands
     commands=(
         'check:judges the registers of a tower by traces'
-        'lint:says what is amiss in traces'
+        'lint:says what is amiss in a tower file and in traces'
         'safe:judges a trace of one safe register'
         'tower:lists the registers of a tower'
         'explain:says what a code or a word of a report means'
@@ -178,6 +179,7 @@ _regaudit() {
                         '--moment=[the field that moments stand under]:field:(index time)' \
                         '--as=[how it is printed]:form:(human short github json)' \
                         '--max=[how many of each code are shown]:number: ' \
+                        '--deny=[codes of notes that count as warnings]:codes:(L1 L2 L3 L4 L5 L6 L7 L8)' \
                         '(- *)'{-h,--help}'[prints help]' \
                         '*:trace:_files'
                     ;;
@@ -231,7 +233,7 @@ complete -c regaudit -s h -l help -d 'prints help'
 complete -c regaudit -n __fish_use_subcommand -s V -l version -d 'prints the version'
 
 complete -c regaudit -n __fish_use_subcommand -a check -d 'judges the registers of a tower by traces'
-complete -c regaudit -n __fish_use_subcommand -a lint -d 'says what is amiss in traces'
+complete -c regaudit -n __fish_use_subcommand -a lint -d 'says what is amiss in a tower file and in traces'
 complete -c regaudit -n __fish_use_subcommand -a safe -d 'judges a trace of one safe register'
 complete -c regaudit -n __fish_use_subcommand -a tower -d 'lists the registers of a tower'
 complete -c regaudit -n __fish_use_subcommand -a explain -d 'says what a code or a word of a report means'
@@ -251,6 +253,7 @@ complete -c regaudit -n '__regaudit_is lint' -l tower -rF -d 'the tower file'
 complete -c regaudit -n '__regaudit_is lint' -l moment -x -a 'index time' -d 'the field that moments stand under'
 complete -c regaudit -n '__regaudit_is lint' -l as -x -a 'human short github json' -d 'how it is printed'
 complete -c regaudit -n '__regaudit_is lint' -l max -x -d 'how many of each code are shown'
+complete -c regaudit -n '__regaudit_is lint' -l deny -x -a 'L1 L2 L3 L4 L5 L6 L7 L8' -d 'notes that count as warnings'
 complete -c regaudit -n '__regaudit_is explain' -a '(__regaudit_codes)'
 complete -c regaudit -n '__regaudit_is completion' -a 'bash zsh fish'
 "##;

@@ -42,15 +42,15 @@ pub fn checks_in_turn()
         ≡ Some (Check (record { tower = tower; shards = 1; moments = Index; order = Some order; form = Report; least = 0; least_each = 0; traces = trace ∷ [] })) }
 {}
 
-/// What `lint` asks for: a tower file, traces, or both; three of each code, for people, where nothing
+/// What `lint` asks for: a tower file, traces, or both; three of each code, for people, and no code denied, where nothing
 /// else is said.
 pub fn looks_in_turn()
     ensures tower { (program : Text) → asked (program ∷ codes "lint" ∷ codes "--tower" ∷ codes "t" ∷ [])
-        ≡ Some (Lint (record { tower = Some (codes "t"); moments = Index; form = Human; most = 3; traces = [] })) }
+        ≡ Some (Lint (record { tower = Some (codes "t"); moments = Index; form = Human; most = 3; denied = None; traces = [] })) }
     ensures traces { (program : Text) → asked (program ∷ codes "lint" ∷ codes "a" ∷ codes "b" ∷ [])
-        ≡ Some (Lint (record { tower = None; moments = Index; form = Human; most = 3; traces = codes "a" ∷ codes "b" ∷ [] })) }
-    ensures whole { (program : Text) → asked (program ∷ codes "lint" ∷ codes "--tower=t" ∷ codes "--moment" ∷ codes "time" ∷ codes "--as" ∷ codes "json" ∷ codes "--max" ∷ codes "0" ∷ codes "a" ∷ [])
-        ≡ Some (Lint (record { tower = Some (codes "t"); moments = Time; form = Json; most = 0; traces = codes "a" ∷ [] })) }
+        ≡ Some (Lint (record { tower = None; moments = Index; form = Human; most = 3; denied = None; traces = codes "a" ∷ codes "b" ∷ [] })) }
+    ensures whole { (program : Text) → asked (program ∷ codes "lint" ∷ codes "--tower=t" ∷ codes "--moment" ∷ codes "time" ∷ codes "--as" ∷ codes "json" ∷ codes "--max" ∷ codes "0" ∷ codes "--deny" ∷ codes "L1,L3" ∷ codes "a" ∷ [])
+        ≡ Some (Lint (record { tower = Some (codes "t"); moments = Time; form = Json; most = 0; denied = Some (codes "L1,L3"); traces = codes "a" ∷ [] })) }
     ensures nothing { (program : Text) → asked (program ∷ codes "lint" ∷ []) ≡ None }
     ensures no_form { (program : Text) → asked (program ∷ codes "lint" ∷ codes "--as" ∷ codes "text" ∷ codes "a" ∷ []) ≡ None }
 {}

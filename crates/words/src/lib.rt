@@ -3,7 +3,8 @@
 //! ```text
 //! regaudit check --tower FILE [--shards N] [--moment index|time] [--order NAME] [--as text|summary]
 //!     [--least N] [--least-each N] TRACE..
-//! regaudit lint [--tower FILE] [--moment index|time] [--as human|short|github|json] [--max N] [TRACE..]
+//! regaudit lint [--tower FILE] [--moment index|time] [--as human|short|github|json] [--max N] [--deny CODES]
+//!     [TRACE..]
 //! regaudit safe [TRACE]
 //! regaudit tower FILE
 //! regaudit explain [CODE]

@@ -2,7 +2,7 @@
 
 ghost use Rattle.std.specs.Prelude.{◌≡◌, false, IfOk};
 ghost use Rattle.clap.specs.Words.{App, app_of, rule_of};
-ghost use Rattle.words.specs.Words.{AreLocal, IsLine, amiss_rule, any_tower_rule, any_traces_rule, check_with, completion_with, count_rule, explain_line, form_rule, line_with, lint_with, manual_line, moment_rule, order_rule, safe_line, shards_rule, shell_rule, tower_line, tower_rule, traces_rule, version_line, with_audits, with_counts, with_lint_options, with_texts};
+ghost use Rattle.words.specs.Words.{AreLocal, IsLine, amiss_rule, any_tower_rule, any_traces_rule, check_with, completion_with, count_rule, deny_rule, explain_line, form_rule, line_with, lint_with, manual_line, moment_rule, order_rule, safe_line, shards_rule, shell_rule, tower_line, tower_rule, traces_rule, version_line, with_audits, with_counts, with_lint_options, with_texts};
 
 use clap::builder::ValueParser;
 use clap::{Arg, Command};
@@ -39,9 +39,9 @@ An ID is TRACE:PLACE, the number of a trace and of an element in it, each from 0
 
 /// What stands at the end of the help of `lint`.
 const LINT_STATUSES: &str = "Exit status:
-  0  nothing is amiss
+  0  nothing is amiss, or notes alone are
   2  the tower file or a trace has a fault, or something could not be read or written
-  3  no fault, and an element was refused";
+  3  no fault, and an element was refused, or a note is denied";
 
 const TOWER: &str = "The tower file, in EDN, such as examples/tower.edn";
 
@@ -209,7 +209,7 @@ fn lint_line<'a>(alloc: Global, moment: Arg<'a>, form: Arg<'a>) -> Result<Comman
     ensures { moment.entry.global ≡ false → form.entry.global ≡ false → IfOk result (λ line. IsLine (lint_with (rule_of moment.entry) (rule_of form.entry)) line) }
 {
     let line = Command::new(alloc, "lint")
-        .about("Says what is amiss in traces, with file, line and column")
+        .about("Says what is amiss in a tower file and in traces, with file, line and column")
         .after_help(LINT_STATUSES)
         .arg(any_tower(alloc))?
         .arg(moment)?
@@ -217,7 +217,7 @@ fn lint_line<'a>(alloc: Global, moment: Arg<'a>, form: Arg<'a>) -> Result<Comman
     add_lint_options(alloc, line)
 }
 
-/// Adds how much is shown, and the traces.
+/// Adds how much is shown, what counts as a warning, and the traces.
 fn add_lint_options<'a>(alloc: Global, line: Command<'a>) -> Result<Command<'a>, AllocError>
     ensures { (app : App) → IsLine app line.entry → IfOk result (IsLine (with_lint_options app)) }
 {
@@ -228,7 +228,18 @@ fn add_lint_options<'a>(alloc: Global, line: Command<'a>) -> Result<Command<'a>,
         "How many of each code are shown; 0 for all",
     );
     let line = line.arg(most)?;
+    let line = line.arg(denied(alloc))?;
     line.arg(any_traces(alloc))
+}
+
+fn denied<'a>(alloc: Global) -> Arg<'a>
+    ensures rule { rule_of result ≡ deny_rule }
+    ensures local { result.global ≡ false }
+{
+    Arg::new(alloc, "deny")
+        .long("deny")
+        .value_name("CODES")
+        .help("Codes of notes that count as warnings, with commas between them, as L1,L3")
 }
 
 /// `TRACE..`, any number.

@@ -31,6 +31,8 @@ pub struct Lint<'a> {
     pub form: LintForm,
     /// How many of each code are shown, or 0 for all.
     pub most: u64,
+    /// Codes of notes, with commas between them, that are to count as warnings.
+    pub denied: Option<&'a str>,
     pub traces: Vec<&'a str>,
 }
 
@@ -60,6 +62,7 @@ pub(crate) fn lint_of<'a>(
         moments,
         form,
         most,
+        denied: found.get_str("deny"),
         traces,
     }))
 }

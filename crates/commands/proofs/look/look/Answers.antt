@@ -1,38 +1,55 @@
-use Rattle.std.proofs.Common.{◌≡◌, ◌∙◌, ℕ, List, ap, length, map, rules, string_bytes, subst, sym}
+use Rattle.std.proofs.Common.{◌≡◌, ◌∙◌, ℕ, List, Option, Some, ap, map, rules, string_bytes, subst, sym}
+use Rattle.std.specs.Prelude.{IfSome, option_map}
+use Rattle.std.specs.Borrow.{Bor}
 use Rattle.std.specs.Io.KnownBytes.{Appends}
-use Rattle.std.proofs.lemmas.List.{length-map}
-use Rattle.commands.specs.Checked.{field_of}
-use Rattle.commands.specs.Looked.{AreFindings}
-use Rattle.commands.proofs.Looking.{as_many_found}
+use Rattle.words.specs.Words.{asked_lint}
+use Rattle.commands.specs.declared.look.Told.{Told}
+use Rattle.commands.proofs.Looking.{HasLooked, looked_alone, looked_by}
 use Rattle.commands.proofs.Readings.{held_later, read_known}
+use Rattle.commands.proofs.look.look.Goals.{in-None+in_ok-told-in-None, in-Some+in_ok-told-in-Some}
 use Rattle.commands.proofs.look.look.Goals as goal
-
-pub text_of-requires-clause-each : goal.text_of-requires-clause-each
-text_of-requires-clause-each g c =
-    ap length c.deref-4.ensures.value ∙ sym (ap length c.deref-3.ensures.value) ∙ sym (length-map c.deref-3.result.now (λ slice. slice.now))
-    ∙ sym (as_many_found _ _ _ c.in_ok-found.ensures.found.are)
 
 pub returns-in-Ok-write_text-clause-looked : goal.returns-in-Ok-write_text-clause-looked
 returns-in-Ok-write_text-clause-looked g c = λ traces held.
     let files = g.F.Files.held c.args.files.now in
     let asked = c.args.asked.now in
-    let tower = c.in_ok-tower.tower in
-    let found = c.in_ok-found.found.traces.items in
+    let denied = c.in_ok-denied.denied.items in
     let old = g.W.Write.contents c.args.out.now in
     let new = g.W.Write.contents c.write_text.new.out in
-    let text : List ℕ = string_bytes c.in-Ok-text_of.text in
+    let text : List ℕ = string_bytes c.match-asked.told.text in
     let written : Appends old new text = search rules in
-    let later = held_later files (g.F.Files.held c.tower_of.new.files) asked.traces.items c.deref.result.now traces c.tower_of.ensures.stays c.deref.ensures.value held in
+    let later = held_later files (g.F.Files.held c.read_named.new.files) asked.traces.items c.deref.result.now traces c.read_named.ensures.stays c.deref.ensures.value held in
     let are_read = read_known c.in_ok-texts.texts.items traces (c.in_ok-texts.ensures.held traces later) in
-    let are : map (λ slice. slice.now) c.deref-3.result.now ≡ traces =
-    rw (c.deref-3.ensures.value, c.in-Ok.ensures, c.deref-2.ensures.value) are_read in
+    let are : map (λ slice. slice.now) c.in-Ok.slices.items ≡ traces = rw (c.in-Ok.ensures, c.deref-2.ensures.value) are_read in
+    let tells : Told → Type 0 = λ told. HasLooked (asked_lint asked) files traces denied (string_bytes told.text) told.status in
+    let looked : tells c.match-asked.told =
+    elim c.match-asked.branch [
+      | in-None+in_ok-told-in-None w ↦
+          let told = w.in_ok-told-in-None.told in
+          let is = w.in_ok-told-in-None.ensures.told in
+          subst tells (sym w.told-is)
+          (subst (λ (codes : List (Bor (List ℕ))). HasLooked (asked_lint asked) files traces codes (string_bytes told.text) told.status) w.deref-in-None-2.ensures.value
+          (looked_alone (asked_lint asked) files traces (map (λ slice. slice.now) w.deref-in-None.result.now) w.deref-in-None-2.result.now is.0 (string_bytes told.text) told.status
+          (ap (option_map (λ name. name.now)) w.in-None.is) (ap (map (λ slice. slice.now)) w.deref-in-None.ensures.value ∙ are) is.1 is.2))
+      | in-Some+in_ok-told-in-Some w ↦
+          let told = w.in_ok-told-in-Some.told in
+          let is = w.in_ok-told-in-Some.ensures.told in
+          let name = w.in-Some.name in
+          let known : IfSome (files name.now) (λ known. c.in_ok-file.file.items ≡ known) =
+          subst (λ (tower : Option (Bor (List ℕ))). IfSome tower (λ name. IfSome (files name.now) (λ known. c.in_ok-file.file.items ≡ known))) w.in-Some.is c.in_ok-file.ensures.held in
+          subst tells (sym w.told-is)
+          (subst (λ (codes : List (Bor (List ℕ))). HasLooked (asked_lint asked) files traces codes (string_bytes told.text) told.status) w.deref-in-Some-3.ensures.value
+          (looked_by (asked_lint asked) files traces (map (λ slice. slice.now) w.deref-in-Some-2.result.now) w.deref-in-Some-3.result.now name.now w.deref-in-Some.result.now is.0 is.1 (string_bytes told.text) told.status
+          (ap (option_map (λ name. name.now)) w.in-Some.is) (subst (λ (bytes : List ℕ). IfSome (files name.now) (λ known. bytes ≡ known)) (sym w.deref-in-Some.ensures.value) known)
+          (ap (map (λ slice. slice.now)) w.deref-in-Some-2.ensures.value ∙ are) is.2 is.3))
+    ] in
     record {
-      tower = tower;
-      tower_is = c.in_ok-tower.ensures.tower;
-      found = found;
-      findings = subst (λ (texts : List (List ℕ)). AreFindings tower (field_of asked.moments) texts found) are c.in_ok-found.ensures.found;
+      names = looked.0;
+      found = looked.1;
+      findings = looked.2;
+      denied = denied;
+      denied_are = c.in_ok-denied.ensures.denied;
       text = text;
-      text_is = c.in-Ok-text_of.ensures;
+      told = looked.3;
       written = written;
-      status_is = c.status.ensures;
     }

@@ -1,4 +1,4 @@
-use Rattle.std.proofs.Common.{◌≡◌, ℕ, ◌<◌, List, [], ◌∷◌, ◌++◌, get_or, ◌+◌, length, sym, subst, arith}
+use Rattle.std.proofs.Common.{ℕ, ◌<◌, List, [], get_or, ◌+◌, length, sym, subst, arith}
 use Rattle.std.specs.Borrow.{Bor}
 use Rattle.feeders.specs.declared.log.Log.{Log}
 use Rattle.lint.specs.declared.finding.TraceFindings.{TraceFindings}

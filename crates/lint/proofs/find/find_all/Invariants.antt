@@ -1,5 +1,4 @@
 -- what is found so far, with what will be found in the rest
-use Rattle.std.proofs.Common.{◌≤◌, length}
 use Rattle.lint.proofs.Found.{GoesOn}
 use Rattle.lint.proofs.find.find_all.Given as goal
 

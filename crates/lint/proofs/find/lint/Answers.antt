@@ -1,8 +1,10 @@
-use Rattle.std.proofs.Common.{◌≡◌, List, ℕ, length, map, sym, subst, ◌∙◌}
+use Rattle.std.proofs.Common.{List, ℕ, Some, map, sym, subst, ◌∙◌}
 use Rattle.std.specs.List.{AllZip}
+use Rattle.std.specs.Borrow.{Bor}
 use Rattle.std.proofs.lemmas.List.{length-map}
 use Rattle.std.proofs.lemmas.Slice.Zip.{AllZip-long}
 use Rattle.feeders.specs.declared.log.Log.{Log}
+use Rattle.feeders.specs.Readers.{AreReadOf}
 use Rattle.feeders.specs.Run.{plan_of_run}
 use Rattle.lint.specs.Found.{AreFound, NamesElements}
 use Rattle.lint.proofs.Named.{each_names}
@@ -10,19 +12,26 @@ use Rattle.lint.proofs.find.lint.Goals as goal
 
 pub find_all-requires : goal.find_all-requires
 find_all-requires g c =
-    let traces = map (λ text. text.now) c.args.texts.now in
+    let texts = c.args.texts.now in
     let logs = c.in_ok-run.run'.logs.items in
-    let run = c.in_ok-run.ensures.run in
-    let named : AllZip NamesElements traces logs =
-    each_names c.elements_of_a_prefix.ensures.text (plan_of_run c.args.tower.now 1 traces) c.args.tower.now c.args.field c.in_ok-run.run'.closed 0 traces logs run.traced c.in_ok-run.ensures.by_text in
-    let lent : AllZip NamesElements traces c.as_slice.result.now = subst (λ (ls : List Log). AllZip NamesElements traces ls) (sym c.as_slice.ensures.value) named in
-    record { each = AllZip-long NamesElements traces c.as_slice.result.now lent ∙ length-map c.args.texts.now (λ text. text.now); named = lent }
+    let read = c.in_ok-run.ensures.run.0 in
+    let run = c.in_ok-run.ensures.run.2 in
+    let are_read = subst (λ (all : List (Bor (List ℕ))). AreReadOf (map (λ text. Some text.now) all) logs read) c.in_ok-readers.ensures.items c.in_ok-run.ensures.run.1 in
+    let named : AllZip NamesElements (map (λ text. text.now) texts) logs =
+    each_names c.elements_of_a_prefix.ensures.text c.elements_of_a_prefix.ensures.so_far (plan_of_run c.args.tower.now 1 read) c.args.tower.now c.args.field c.in_ok-run.run'.closed
+    (λ (text : Bor (List ℕ)). text.now) 0 texts read logs run.traced are_read in
+    let lent : AllZip NamesElements (map (λ text. text.now) texts) c.as_slice.result.now = subst (λ (ls : List Log). AllZip NamesElements (map (λ text. text.now) texts) ls) (sym c.as_slice.ensures.value) named in
+    record { few = c.requires.traces.1; each = AllZip-long NamesElements (map (λ text. text.now) texts) c.as_slice.result.now lent ∙ length-map texts (λ text. text.now); named = lent }
 
 pub returns-clause-found : goal.returns-clause-found
 returns-clause-found g c =
-    let traces = map (λ text. text.now) c.args.texts.now in (
+    let texts = c.args.texts.now in
+    let logs = c.in_ok-run.run'.logs.items in
+    let read = c.in_ok-run.ensures.run.0 in (
       c.in_ok-run.run'.closed,
-      c.in_ok-run.run'.logs.items,
-      c.in_ok-run.ensures.run,
-      subst (λ (ls : List Log). AreFound traces ls c.in_ok-traces.traces.items) c.as_slice.ensures.value c.in_ok-traces.ensures.found,
+      logs,
+      read,
+      subst (λ (all : List (Bor (List ℕ))). AreReadOf (map (λ text. Some text.now) all) logs read) c.in_ok-readers.ensures.items c.in_ok-run.ensures.run.1,
+      c.in_ok-run.ensures.run.2,
+      subst (λ (ls : List Log). AreFound (map (λ text. text.now) texts) ls c.in_ok-traces.traces.items) c.as_slice.ensures.value c.in_ok-traces.ensures.found,
     )

@@ -1,4 +1,4 @@
-use Rattle.std.proofs.Common.{◌-◌, ◌+◌, take, drop, get_or, ap, arith}
+use Rattle.std.proofs.Common.{◌-◌, take, drop, get_or, ap, arith}
 use Rattle.lint.specs.declared.place.Place.{Place}
 use Rattle.lint.proofs.Places.{behind_small, part_on}
 use Rattle.lint.proofs.place.place_on.Goals as goal

@@ -1,5 +1,5 @@
 -- the place behind the bytes so far
-use Rattle.std.proofs.Common.{◌≡◌, ◌≤◌, ◌+◌, take}
+use Rattle.std.proofs.Common.{◌≡◌, ◌≤◌, ◌+◌}
 use Rattle.lint.specs.Place.{place_of}
 use Rattle.lint.proofs.place.place_on.Given as goal
 

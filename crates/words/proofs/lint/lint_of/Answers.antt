@@ -14,7 +14,7 @@ returns-then-is_empty c =
 pub returns : goal.returns
 returns c =
     let found = c.args.found.now in
-    is_lint (rows_of (found_of found)) _ c.in-Some.moments c.in-Some-lint_form_of.form c.in-Some-count_of.most (map (λ name. name.now) c.in_ok-traces.traces.items)
+    is_lint (rows_of (found_of found)) _ c.in-Some.moments c.in-Some-lint_form_of.form c.in-Some-count_of.most _ (map (λ name. name.now) c.in_ok-traces.traces.items)
     (value_in found (codes "tower") _ c.get_str-tower.ensures) c.in-Some.ensures c.in-Some-lint_form_of.ensures c.in-Some-count_of.ensures
-    c.in_ok-traces.ensures
+    (value_in found (codes "deny") _ c.get_str.ensures) c.in_ok-traces.ensures
     (emptiness c.get_str-tower.result c.deref.result.now c.in_ok-traces.traces.items c.is_empty.result false c.deref.ensures.value c.is_empty.ensures c.if-is_empty.false)

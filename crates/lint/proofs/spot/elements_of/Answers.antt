@@ -1,10 +1,9 @@
-use Rattle.std.proofs.Common.{◌≡◌, ℕ, List, [], ◌∷◌, ◌++◌, map, sym, ap, subst, ◌∙◌}
+use Rattle.std.proofs.Common.{◌≡◌, ℕ, List, [], ◌∷◌, ◌++◌, map, rules, sym, ap, ◌∙◌}
 use Rattle.std.proofs.lemmas.List.{map-append}
 use Rattle.edn_reader.specs.Lent.{piece_of}
-use Rattle.edn_reader.specs.Text.{IsFront}
 use Rattle.lint.specs.declared.spot.Spot.{Spot}
 use Rattle.lint.specs.Spot.{spot_of}
-use Rattle.lint.proofs.spot.spots_of.Goals as goal
+use Rattle.lint.proofs.spot.elements_of.Goals as goal
 
 pub loop-element-preserved : goal.loop-element-preserved
 loop-element-preserved c =
@@ -25,4 +24,5 @@ loop-element-preserved c =
         goes so_far.0 so_far.1,
         pushed ∙ ap (λ (xs : List Spot). xs ++ c.spot_in.result ∷ []) so_far.2 ∙ ap (λ (s : Spot). map (spot_of text) so_far.0 ++ s ∷ []) spot ∙ sym (map-append (spot_of text) so_far.0 (piece ∷ [])),
       );
+      each = search rules;
     }

@@ -1,0 +1,34 @@
+-- What is found in a tower file.
+use Rattle.std.specs.Prelude.{◌≡◌, ℕ, List, [], ◌∷◌, Option, Some, None, Vec}
+use Rattle.std.specs.declared.alloc.Global.{Global}
+use Rattle.tower_file.specs.declared.fault.TowerFault.{TowerFault}
+use Rattle.lint.specs.declared.finding.Amiss.TheVariants.{Tower}
+use Rattle.lint.specs.declared.finding.Finding.{Finding}
+use Rattle.lint.specs.declared.finding.TraceFindings.{TraceFindings}
+use Rattle.lint.specs.declared.spot.Spot.{Spot}
+use Rattle.lint.specs.Place.{place_of}
+use Rattle.lint.specs.Spot.{spot_of_byte}
+
+-- the spot of a span; that of the first byte of the text where there is none
+abbrev pub spot_of_span : List ℕ → Option (ℕ × ℕ) → Spot
+spot_of_span text (Some span) = record { start = span.0; end = span.1; place = place_of text span.0 }
+spot_of_span text None = spot_of_byte text 0
+
+-- one file with these findings and notes
+pub record IsOneFile (findings notes : Vec Finding Global) (traces : List TraceFindings) : Type 0 where
+  pub one : TraceFindings
+  pub traces_are : traces ≡ one ∷ []
+  pub findings_are : one.findings ≡ findings
+  pub notes_are : one.notes ≡ notes
+
+-- one file with one finding: the fault, at its span
+pub record IsOneFault (text : List ℕ) (fault : TowerFault) (span : Option (ℕ × ℕ)) (traces : List TraceFindings) : Type 0 where
+  pub one : TraceFindings
+  pub traces_are : traces ≡ one ∷ []
+  pub found : one.findings.items ≡ record { what = Tower fault; spot = spot_of_span text span } ∷ []
+
+-- one file in which nothing is amiss, and some things may not be meant
+pub record HasNotesAlone (traces : List TraceFindings) : Type 0 where
+  pub one : TraceFindings
+  pub traces_are : traces ≡ one ∷ []
+  pub none : one.findings.items ≡ []

@@ -1,0 +1,374 @@
+//! What will be taken of a trace, and may not be meant. Nothing is left out for it.
+
+ghost use Rattle.std.specs.Prelude.{◌≡◌, length};
+
+use crate::finding::{Amiss, Finding, Note};
+use crate::nearest::{Absent, is_absent, meant_by};
+use crate::place::Cursor;
+use crate::spot::{Elements, Spot, spot_in, spot_of_one};
+use crate::suspect::Suspects;
+use edn_reader::{Element, Field, MapView};
+use feeders::{Line, What};
+use intervals::OpId;
+use jepsen_form::{Action, Event, Item, MomentField, Stage, read_item};
+use std::alloc::{AllocError, Global};
+use std::collections::{BTreeMap, BTreeSet};
+use tower_file::Tower;
+
+/// What the elements of a trace are looked at with.
+#[derive(Clone, Copy)]
+pub struct Look<'a> {
+    pub alloc: Global,
+    pub tower: &'a Tower,
+    pub field: MomentField,
+    pub suspects: &'a Suspects,
+}
+
+/// What is noted of a trace.
+#[derive(Drop)]
+pub struct Noted {
+    pub notes: Vec<Finding>,
+    /// Of each element whether it is an invocation that has neither an `:ok` nor a `:fail`.
+    pub unfinished: Vec<bool>,
+    /// The processes of its events.
+    pub processes: BTreeSet<i64>,
+}
+
+/// What is known of a trace after the elements so far.
+#[derive(Drop)]
+struct Watch {
+    /// The invocations that have no answer, by process.
+    unanswered: BTreeMap<i64, Invoked>,
+    /// The event of each moment.
+    moments: BTreeMap<u64, u64>,
+    /// The last event that has a moment.
+    last: Option<Timed>,
+    invoked: bool,
+    noted: Noted,
+}
+
+/// An invocation, and where it is.
+#[derive(Clone, Copy)]
+struct Invoked {
+    number: u64,
+    spot: Spot,
+}
+
+/// An event that has a moment, the moment before it, which is 0 where there is none, and where it is.
+#[derive(Clone, Copy)]
+struct Timed {
+    before: u64,
+    moment: u64,
+    number: u64,
+    spot: Spot,
+}
+
+/// An element, and where it is.
+#[derive(Clone, Copy)]
+struct Seen<'t> {
+    feeder: u32,
+    number: u64,
+    element: Element<'t>,
+    spot: Spot,
+    refused: bool,
+}
+
+/// The notes of a trace, by place. The elements are its own, and the lines those of its log.
+pub fn notes_of(
+    look: Look,
+    feeder: u32,
+    text: &[u8],
+    found: &Elements,
+    lines: &[Line],
+) -> Result<Noted, AllocError>
+    requires each { length found.now.elements.items ≡ length found.now.spots.items }
+{
+    let mut cursor = Cursor::new(text);
+    let mut watch = Watch::new(look.alloc);
+    let mut ahead = lines;
+    for at in 0..found.elements.len() {
+        let number = at as u64;
+        ahead = lines_from(ahead, number);
+        let seen = Seen {
+            feeder,
+            number,
+            element: found.elements[at],
+            spot: found.spots[at],
+            refused: is_refused(ahead, number),
+        };
+        watch.look_at(look, &mut cursor, seen)?;
+    }
+    watch.end(text)
+}
+
+/// The lines of the element of this number and of later ones.
+fn lines_from<'a, 't>(lines: &'a [Line<'t>], number: u64) -> &'a [Line<'t>] {
+    match lines.first() {
+        Some(line) if line.event < number => &lines[1..],
+        _ => lines,
+    }
+}
+
+/// Whether the first of the lines says that the element of this number is refused.
+fn is_refused(lines: &[Line], number: u64) -> bool {
+    match lines.first() {
+        Some(line) => line.event == number && matches!(line.what, What::Refused(_)),
+        None => false,
+    }
+}
+
+impl Watch {
+    fn new(alloc: Global) -> Watch {
+        Watch {
+            unanswered: BTreeMap::new(alloc),
+            moments: BTreeMap::new(alloc),
+            last: None,
+            invoked: false,
+            noted: Noted {
+                notes: Vec::new(alloc),
+                unfinished: Vec::new(alloc),
+                processes: BTreeSet::new(alloc),
+            },
+        }
+    }
+
+    fn note(&mut self, number: Option<u64>, note: Note, spot: Spot) -> Result<(), AllocError> {
+        self.noted.notes.push(Finding {
+            what: Amiss::Noted(number, note),
+            spot,
+        })?;
+        Ok(())
+    }
+
+    fn look_at(&mut self, look: Look, cursor: &mut Cursor, seen: Seen) -> Result<(), AllocError> {
+        self.noted.unfinished.push(false)?;
+        let Some(map) = seen.element.as_map() else {
+            return Ok(());
+        };
+        match read_item(seen.element, look.field, look.tower) {
+            Ok(Item::Event(event)) => self.look_at_event(look, cursor, &map, &event, seen),
+            Ok(Item::Skipped) => self.look_at_skipped(&map, seen),
+            Ok(item) => self.look_at_edit(look.suspects, &item, seen),
+            Err(_) => {
+                self.look_at_fields(look.alloc, cursor, &map, Absent::of(&map), seen.number)
+            }
+        }
+    }
+
+    fn look_at_skipped(&mut self, map: &MapView, seen: Seen) -> Result<(), AllocError> {
+        if is_skipped_client(map) {
+            return self.note(Some(seen.number), Note::Skipped, seen.spot);
+        }
+        Ok(())
+    }
+
+    /// Notes a refused edit of what shows that a register fails.
+    fn look_at_edit(
+        &mut self,
+        suspects: &Suspects,
+        item: &Item,
+        seen: Seen,
+    ) -> Result<(), AllocError> {
+        if let (true, Some(operation)) = (seen.refused, edited_by(suspects, item, seen.feeder)) {
+            return self.note(Some(seen.number), Note::RestsOnEdit(operation), seen.spot);
+        }
+        Ok(())
+    }
+
+    /// Notes a field that is not read and is near one that is absent.
+    fn look_at_fields(
+        &mut self,
+        alloc: Global,
+        cursor: &mut Cursor,
+        map: &MapView,
+        absent: Absent,
+        number: u64,
+    ) -> Result<(), AllocError> {
+        if !absent.any() {
+            return Ok(());
+        }
+        let mut left = *map;
+        while let Some((key, _)) = left.next_pair() {
+            if let Some(meant) = meant_by(alloc, &key, absent)? {
+                let spot = spot_in(cursor, &key);
+                self.note(Some(number), Note::NearField(meant), spot)?;
+            }
+        }
+        Ok(())
+    }
+
+    fn look_at_event(
+        &mut self,
+        look: Look,
+        cursor: &mut Cursor,
+        map: &MapView,
+        event: &Event,
+        seen: Seen,
+    ) -> Result<(), AllocError> {
+        self.noted.processes.insert(event.process)?;
+        if is_absent(&map.field(b":value")) {
+            self.look_at_no_value(look.alloc, cursor, map, event, seen)?;
+        }
+        if let Some(moment) = event.moment {
+            self.look_at_moment(moment.0, seen.number, seen.spot)?;
+            self.look_at_last(moment.0, seen.number, seen.spot)?;
+        }
+        if let (true, Some(read)) = (seen.refused, suspect_of(look.suspects, event)) {
+            self.note(Some(seen.number), Note::Rests(read), seen.spot)?;
+        }
+        self.look_at_stage(event, seen)
+    }
+
+    /// An event without a value, which may stand under another name.
+    fn look_at_no_value(
+        &mut self,
+        alloc: Global,
+        cursor: &mut Cursor,
+        map: &MapView,
+        event: &Event,
+        seen: Seen,
+    ) -> Result<(), AllocError> {
+        if wants_value(event) {
+            self.note(Some(seen.number), Note::NoValue, seen.spot)?;
+        }
+        let absent = Absent {
+            process: false,
+            stage: false,
+            value: true,
+        };
+        self.look_at_fields(alloc, cursor, map, absent, seen.number)
+    }
+
+    /// Pairs invocations with their answers, as far as that can be told without looking at refusals.
+    fn look_at_stage(&mut self, event: &Event, seen: Seen) -> Result<(), AllocError> {
+        match event.answer {
+            Stage::Invoke => {
+                self.invoked = true;
+                self.set_unfinished(seen.number, true);
+                let invoked = Invoked {
+                    number: seen.number,
+                    spot: seen.spot,
+                };
+                self.unanswered.insert(event.process, invoked)?;
+            }
+            Stage::Ok | Stage::Fail => {
+                if let Some(invoked) = self.unanswered.remove(&event.process) {
+                    self.set_unfinished(invoked.number, false);
+                }
+            }
+            Stage::Info => {
+                let _ = self.unanswered.remove(&event.process);
+            }
+        }
+        Ok(())
+    }
+
+    fn set_unfinished(&mut self, number: u64, is_unfinished: bool) {
+        if let Some(slot) = self.noted.unfinished.get_mut(number as usize) {
+            *slot = is_unfinished;
+        }
+    }
+
+    fn look_at_moment(&mut self, moment: u64, number: u64, spot: Spot) -> Result<(), AllocError> {
+        if let Some(first) = self.moments.get(&moment).copied() {
+            return self.note(Some(number), Note::SameMoment(first), spot);
+        }
+        self.moments.insert(moment, number)?;
+        Ok(())
+    }
+
+    /// Notes the last moment where it is out of proportion to the ones next to it.
+    fn look_at_last(&mut self, moment: u64, number: u64, spot: Spot) -> Result<(), AllocError> {
+        let mut before = 0;
+        if let Some(last) = self.last {
+            if is_out_of_proportion(last.before, last.moment, moment) {
+                self.note(Some(last.number), Note::OutOfProportion, last.spot)?;
+            }
+            before = last.moment;
+        }
+        self.last = Some(Timed {
+            before,
+            moment,
+            number,
+            spot,
+        });
+        Ok(())
+    }
+
+    /// What is noted at the end of a trace.
+    fn end(self, text: &[u8]) -> Result<Noted, AllocError> {
+        let Watch {
+            unanswered,
+            invoked,
+            mut noted,
+            ..
+        } = self;
+        for (_, last) in &unanswered {
+            noted.notes.push(Finding {
+                what: Amiss::Noted(Some(last.number), Note::Unanswered),
+                spot: last.spot,
+            })?;
+        }
+        noted.notes.sort_by_key(|note| note.spot.start)?;
+        if !invoked {
+            noted.notes.push(Finding {
+                what: Amiss::Noted(None, Note::NoOperation),
+                spot: spot_of_one(text, 0),
+            })?;
+        }
+        Ok(noted)
+    }
+}
+
+/// Whether a moment is at least 1000 times the ones before and behind it, neither of which is 0.
+fn is_out_of_proportion(before: u64, moment: u64, behind: u64) -> bool {
+    before != 0 && behind != 0 && moment / 1000 >= before.max(behind)
+}
+
+/// What shows that a register fails, and an edit is of: the operation that it changes or withdraws, or one of the
+/// register of which it claims a kind.
+fn edited_by(suspects: &Suspects, item: &Item, feeder: u32) -> Option<OpId> {
+    match item {
+        Item::Amend { of, .. } | Item::Withdraw { of } => suspects.named(OpId {
+            feeder,
+            event: *of,
+        }),
+        Item::Claim(id, _) => suspects.one_of(*id),
+        Item::Event(_) | Item::Ask(_) | Item::Skipped => None,
+    }
+}
+
+/// The read that shows that a register fails, and returned the value of this write of it.
+fn suspect_of(suspects: &Suspects, event: &Event) -> Option<OpId> {
+    match (event.answer, event.action, event.register) {
+        (Stage::Invoke, Action::Write, Some(id)) => suspects.read_of(id, event.value),
+        _ => None,
+    }
+}
+
+/// Whether the event says what was read or is to be written.
+fn wants_value(event: &Event) -> bool {
+    match (event.answer, event.action) {
+        (Stage::Ok, Action::Read) | (Stage::Invoke, Action::Write) => true,
+        _ => false,
+    }
+}
+
+/// Whether it reads or writes, and its process is neither an integer nor the one that injects faults.
+fn is_skipped_client(map: &MapView) -> bool {
+    is_of_client(&map.field(b":f")) && is_no_process(&map.field(b":process"))
+}
+
+fn is_of_client(action: &Field) -> bool {
+    match action {
+        Field::Once(word) => word.is_keyword(b":read") || word.is_keyword(b":write"),
+        Field::Absent | Field::Twice => false,
+    }
+}
+
+fn is_no_process(process: &Field) -> bool {
+    match process {
+        Field::Once(process) => process.as_int().is_none() && !process.is_keyword(b":nemesis"),
+        Field::Absent | Field::Twice => false,
+    }
+}

@@ -1,0 +1,183 @@
+//! Words that may have been meant where another one stands.
+
+use crate::message::tower_word;
+use crate::nearest::{distance, is_close};
+use crate::spot::Spot;
+use crate::tower::names_in;
+use edn_reader::{Element, Field, Reader};
+use feeders::Code;
+use jepsen_form::FormFault;
+use std::alloc::{AllocError, Global};
+use tower_file::{TowerFault, TowerField};
+
+/// What a refused element may have meant, by its own text and by that of the tower file.
+pub fn meant_in_element<'t>(
+    alloc: Global,
+    text: &[u8],
+    code: Code,
+    tower: &'t [u8],
+) -> Result<Option<&'t [u8]>, AllocError> {
+    let Some(element) = element_in(alloc, text) else {
+        return Ok(None);
+    };
+    match code {
+        Code::Form(FormFault::NoRegister) => match name_in(&element) {
+            Some(name) => nearest(alloc, name, &names_in(alloc, tower)?),
+            None => Ok(None),
+        },
+        Code::Form(FormFault::BadType) => meant_type(alloc, &element),
+        Code::Form(FormFault::UnsupportedF) => meant_under(
+            alloc,
+            &element,
+            b":f",
+            &[b":read".as_slice(), b":write".as_slice()],
+        ),
+        _ => Ok(None),
+    }
+}
+
+fn meant_type<'t>(alloc: Global, element: &Element) -> Result<Option<&'t [u8]>, AllocError> {
+    let stages = [
+        b":invoke".as_slice(),
+        b":ok".as_slice(),
+        b":fail".as_slice(),
+        b":info".as_slice(),
+    ];
+    if let Some(stage) = meant_under(alloc, element, b":type", &stages)? {
+        return Ok(Some(stage));
+    }
+    let edits = [
+        b":amend".as_slice(),
+        b":withdraw".as_slice(),
+        b":claim".as_slice(),
+    ];
+    if let Some(edit) = meant_under(alloc, element, b":edit", &edits)? {
+        return Ok(Some(edit));
+    }
+    meant_under(alloc, element, b":kind", &kinds())
+}
+
+fn kinds<'t>() -> [&'t [u8]; 3] {
+    [
+        b":safe".as_slice(),
+        b":regular".as_slice(),
+        b":atomic".as_slice(),
+    ]
+}
+
+/// What may have been meant by what stands under a key.
+fn meant_under<'t>(
+    alloc: Global,
+    element: &Element,
+    key: &[u8],
+    words: &[&'t [u8]],
+) -> Result<Option<&'t [u8]>, AllocError> {
+    match under(element, key) {
+        Some(word) => nearest(alloc, word.text(), words),
+        None => Ok(None),
+    }
+}
+
+/// What may have been meant by the bytes of a tower file that are wrong.
+pub fn meant_in_tower<'t>(
+    alloc: Global,
+    text: &'t [u8],
+    fault: TowerFault,
+    spot: &Spot,
+) -> Result<Option<&'t [u8]>, AllocError> {
+    let word = part_of(text, spot);
+    match fault {
+        TowerFault::Shape(TowerField::Kind) => nearest(alloc, word, &kinds()),
+        TowerFault::Shape(TowerField::Writers) => nearest(alloc, word, &[b":any".as_slice()]),
+        TowerFault::Shape(TowerField::Initial) => nearest(alloc, word, &[b":unknown".as_slice()]),
+        TowerFault::Shape(TowerField::Fixed) => nearest(
+            alloc,
+            word,
+            &[b"true".as_slice(), b"false".as_slice()],
+        ),
+        TowerFault::UnknownPart => nearest(alloc, word, &names_in(alloc, text)?),
+        _ => Ok(None),
+    }
+}
+
+/// The key of a map that is wrong which may have been meant to be the field that is missing, and that field.
+pub fn meant_key<'t>(
+    alloc: Global,
+    text: &'t [u8],
+    fault: TowerFault,
+    spot: &Spot,
+) -> Result<Option<(&'t [u8], &'static str)>, AllocError> {
+    let TowerFault::Shape(field) = fault else {
+        return Ok(None);
+    };
+    let Some(element) = element_in(alloc, part_of(text, spot)) else {
+        return Ok(None);
+    };
+    let Some(mut left) = element.as_map() else {
+        return Ok(None);
+    };
+    let missing = tower_word(field);
+    while let Some((key, _)) = left.next_pair() {
+        if is_close(alloc, key.text(), missing)? {
+            return Ok(Some((key.text(), missing)));
+        }
+    }
+    Ok(None)
+}
+
+fn part_of<'t>(text: &'t [u8], spot: &Spot) -> &'t [u8] {
+    match text.get(spot.start..spot.end) {
+        Some(part) => part,
+        None => b"",
+    }
+}
+
+fn element_in<'t>(alloc: Global, text: &'t [u8]) -> Option<Element<'t>> {
+    match Reader::new(alloc, text).next() {
+        Ok(element) => element,
+        Err(_) => None,
+    }
+}
+
+/// The name of a register that an element gives.
+fn name_in<'t>(element: &Element<'t>) -> Option<&'t [u8]> {
+    if let Some(name) = under(element, b":ask") {
+        return Some(name.untagged().text());
+    }
+    if let Some(name) = under(element, b":register") {
+        return Some(name.untagged().text());
+    }
+    let Some(mut members) = under(element, b":value")?.as_vector() else {
+        return None;
+    };
+    match members.next() {
+        Some(name) => Some(name.untagged().text()),
+        None => None,
+    }
+}
+
+/// What stands under a key of a map once.
+fn under<'t>(element: &Element<'t>, key: &[u8]) -> Option<Element<'t>> {
+    match element.as_map()?.field(key) {
+        Field::Once(value) => Some(value),
+        Field::Absent | Field::Twice => None,
+    }
+}
+
+/// The nearest of the words that are one or two edits away, where not all of its letters have to be changed.
+fn nearest<'t>(
+    alloc: Global,
+    word: &[u8],
+    words: &[&'t [u8]],
+) -> Result<Option<&'t [u8]>, AllocError> {
+    let mut found = None;
+    let mut least = 3;
+    for other in words {
+        let far = distance(alloc, word, other)?;
+        if far > 0 && far < least && far < other.len() {
+            least = far;
+            found = Some(*other);
+        }
+    }
+    Ok(found)
+}

@@ -1,0 +1,309 @@
+//! What is amiss in a tower file, and what of it is not read.
+
+ghost use Rattle.std.specs.Prelude.{◌≡◌, IfOk, IfErr};
+ghost use Rattle.lint.specs.Tower.{HasNotesAlone, IsOneFault, IsOneFile, spot_of_span as spot_at_span};
+
+use crate::finding::{Amiss, Finding, Findings, Note, TraceFindings};
+use crate::message::tower_word;
+use crate::nearest::is_near;
+use crate::place::Cursor;
+use crate::spot::{Spot, spot_in, spot_of_one};
+use edn_reader::{Element, Field, MapView, Reader, VectorView};
+use feeders::RunFault;
+use std::alloc::{AllocError, Global};
+use std::collections::BTreeSet;
+use tower_file::{TowerFault, TowerField};
+
+/// Which map of a tower file: the file itself, a level or a register.
+#[derive(Clone, Copy)]
+enum Part {
+    File,
+    Level,
+    Register,
+}
+
+/// A walk through a tower file.
+#[derive(Drop)]
+struct Walk<'a, 't> {
+    alloc: Global,
+    /// What was found in the traces.
+    found: &'a Findings,
+    /// How many registers come before the next one.
+    before: usize,
+    noted: Vec<Remark<'t>>,
+}
+
+/// What is noted of an element.
+#[derive(Clone, Copy)]
+struct Remark<'t> {
+    element: Element<'t>,
+    note: Note,
+}
+
+/// The fault of a text that is no tower file, as the one finding of its file.
+pub fn lint_fault(
+    alloc: Global,
+    text: &[u8],
+    fault: TowerFault,
+    span: Option<(usize, usize)>,
+) -> Result<Findings, RunFault>
+    ensures found { IfOk result (λ found. IsOneFault text.now fault span found.traces.items) }
+    ensures memory { IfErr result (λ fault. fault ≡ RunFault.Memory) }
+{
+    let mut findings = Vec::new(alloc);
+    findings.push(Finding {
+        what: Amiss::Tower(fault),
+        spot: spot_of_span(text, span),
+    })?;
+    one_file(alloc, findings, Vec::new(alloc))
+}
+
+/// The notes of a tower file, as those of one file: the fields that are not read, and by what was found in the traces the
+/// registers that have no operation and the writers that have no event.
+pub fn lint_tower(alloc: Global, text: &[u8], found: &Findings) -> Result<Findings, RunFault>
+    ensures notes { IfOk result (λ found. HasNotesAlone found.traces.items) }
+    ensures memory { IfErr result (λ fault. fault ≡ RunFault.Memory) }
+{
+    let mut reader = Reader::new(alloc, text);
+    let mut walk = Walk {
+        alloc,
+        found,
+        before: 0,
+        noted: Vec::new(alloc),
+    };
+    if let Ok(Some(file)) = reader.next() {
+        walk.note_map(&file, Part::File)?;
+        walk.note_levels(&file)?;
+    }
+    let notes = walk.end(text)?;
+    one_file(alloc, Vec::new(alloc), notes)
+}
+
+fn one_file(
+    alloc: Global,
+    findings: Vec<Finding>,
+    notes: Vec<Finding>,
+) -> Result<Findings, RunFault>
+    ensures found { IfOk result (λ found. IsOneFile findings notes found.traces.items) }
+    ensures memory { IfErr result (λ fault. fault ≡ RunFault.Memory) }
+{
+    let mut traces = Vec::new(alloc);
+    traces.push(TraceFindings {
+        spots: Vec::new(alloc),
+        findings,
+        notes,
+        unfinished: Vec::new(alloc),
+        processes: BTreeSet::new(alloc),
+    })?;
+    Ok(Findings {
+        traces,
+        unused: Vec::new(alloc),
+    })
+}
+
+/// The spot of a span; the first byte of the text where there is none.
+fn spot_of_span(text: &[u8], span: Option<(usize, usize)>) -> Spot
+    ensures { result ≡ spot_at_span text.now span }
+{
+    match span {
+        Some((start, end)) => Spot {
+            start,
+            end,
+            place: Cursor::new(text).go_to(start),
+        },
+        None => spot_of_one(text, 0),
+    }
+}
+
+impl<'t> Walk<'_, 't> {
+    fn note(&mut self, element: Element<'t>, note: Note) -> Result<(), AllocError> {
+        self.noted.push(Remark { element, note })?;
+        Ok(())
+    }
+
+    /// The notes by place.
+    fn end(self, text: &[u8]) -> Result<Vec<Finding>, AllocError> {
+        let Walk {
+            alloc,
+            mut noted,
+            ..
+        } = self;
+        noted.sort_by_key(|remark| remark.element.span().0)?;
+        let mut cursor = Cursor::new(text);
+        let mut notes = Vec::new(alloc);
+        for remark in &noted {
+            notes.push(Finding {
+                what: Amiss::Noted(None, remark.note),
+                spot: spot_in(&mut cursor, &remark.element),
+            })?;
+        }
+        Ok(notes)
+    }
+
+    fn note_levels(&mut self, file: &Element<'t>) -> Result<(), AllocError> {
+        let Some(mut levels) = members_of(file, b":levels") else {
+            return Ok(());
+        };
+        while let Some(level) = levels.next() {
+            self.note_map(&level, Part::Level)?;
+            self.note_registers(&level)?;
+        }
+        Ok(())
+    }
+
+    fn note_registers(&mut self, level: &Element<'t>) -> Result<(), AllocError> {
+        let Some(mut registers) = members_of(level, b":registers") else {
+            return Ok(());
+        };
+        while let Some(register) = registers.next() {
+            self.note_map(&register, Part::Register)?;
+            self.note_register(&register)?;
+        }
+        Ok(())
+    }
+
+    /// Notes a register that has no operation, and the writers of an atomic one that have no event.
+    fn note_register(&mut self, register: &Element<'t>) -> Result<(), AllocError> {
+        let Some(map) = register.as_map() else {
+            return Ok(());
+        };
+        let is_unused = self.found.unused.get(self.before).copied();
+        if let (Some(true), Field::Once(name)) = (is_unused, map.field(b":name")) {
+            self.note(name, Note::Unused)?;
+        }
+        self.before = self.before.saturating_add(1);
+        match map.field(b":kind") {
+            Field::Once(kind) if kind.is_keyword(b":atomic") => self.note_writers(register),
+            _ => Ok(()),
+        }
+    }
+
+    fn note_writers(&mut self, register: &Element<'t>) -> Result<(), AllocError> {
+        let Some(mut writers) = members_of(register, b":writers") else {
+            return Ok(());
+        };
+        while let Some(writer) = writers.next() {
+            if let Some(process) = writer.as_int() {
+                if self.found.is_silent(process) {
+                    self.note(writer, Note::SilentWriter(process))?;
+                }
+            }
+        }
+        Ok(())
+    }
+
+    /// Notes the fields of a map that are not read.
+    fn note_map(&mut self, element: &Element<'t>, part: Part) -> Result<(), AllocError> {
+        let Some(map) = element.as_map() else {
+            return Ok(());
+        };
+        let mut left = map;
+        while let Some((key, _)) = left.next_pair() {
+            if !is_read_of(part, &key) {
+                let meant = meant_in(self.alloc, part, &key, &map)?;
+                self.note(key, Note::Unread(meant))?;
+            }
+        }
+        Ok(())
+    }
+}
+
+/// The names of the registers of a tower file.
+pub fn names_in<'t>(alloc: Global, text: &'t [u8]) -> Result<Vec<&'t [u8]>, AllocError> {
+    let mut names = Vec::new(alloc);
+    let Ok(Some(file)) = Reader::new(alloc, text).next() else {
+        return Ok(names);
+    };
+    let Some(mut levels) = members_of(&file, b":levels") else {
+        return Ok(names);
+    };
+    while let Some(level) = levels.next() {
+        push_names(&mut names, &level)?;
+    }
+    Ok(names)
+}
+
+fn push_names<'t>(names: &mut Vec<&'t [u8]>, level: &Element<'t>) -> Result<(), AllocError> {
+    let Some(mut registers) = members_of(level, b":registers") else {
+        return Ok(());
+    };
+    while let Some(register) = registers.next() {
+        if let Some(map) = register.as_map() {
+            if let Field::Once(name) = map.field(b":name") {
+                names.push(name.untagged().text())?;
+            }
+        }
+    }
+    Ok(())
+}
+
+/// The members of the vector that a map has under a key.
+fn members_of<'t>(map: &Element<'t>, key: &[u8]) -> Option<VectorView<'t>> {
+    let Some(map) = map.as_map() else {
+        return None;
+    };
+    match map.field(key) {
+        Field::Once(vector) => vector.as_vector(),
+        Field::Absent | Field::Twice => None,
+    }
+}
+
+fn is_read_of(part: Part, key: &Element) -> bool {
+    match part {
+        Part::File => key.is_keyword(b":levels"),
+        Part::Level => key.is_keyword(b":name") || key.is_keyword(b":registers"),
+        Part::Register => is_read_of_register(key),
+    }
+}
+
+fn is_read_of_register(key: &Element) -> bool {
+    key.is_keyword(b":name")
+        || key.is_keyword(b":kind")
+        || key.is_keyword(b":writers")
+        || key.is_keyword(b":initial")
+        || key.is_keyword(b":domain")
+        || key.is_keyword(b":of")
+        || key.is_keyword(b":fixed")
+}
+
+/// The field that is absent and that a key which is not read is near.
+fn meant_in(
+    alloc: Global,
+    part: Part,
+    key: &Element,
+    map: &MapView,
+) -> Result<Option<TowerField>, AllocError> {
+    let Some(word) = key.as_keyword() else {
+        return Ok(None);
+    };
+    match part {
+        Part::File => meant_of(alloc, word, map, &[TowerField::Levels]),
+        Part::Level => meant_of(alloc, word, map, &[TowerField::Name, TowerField::Registers]),
+        Part::Register => meant_of(
+            alloc,
+            word,
+            map,
+            &[
+                TowerField::Writers,
+                TowerField::Initial,
+                TowerField::Domain,
+                TowerField::Fixed,
+                TowerField::Parts,
+            ],
+        ),
+    }
+}
+
+fn meant_of(
+    alloc: Global,
+    word: &[u8],
+    map: &MapView,
+    fields: &[TowerField],
+) -> Result<Option<TowerField>, AllocError> {
+    for field in fields {
+        if is_near(alloc, word, tower_word(*field), map)? {
+            return Ok(Some(*field));
+        }
+    }
+    Ok(None)
+}
