@@ -13,6 +13,7 @@ use crate::tally::{Count, Tally};
 use edn_reader::EdnFault;
 use feeders::{BreakCode, Code};
 use intervals::{Holder, OpId, Refusal};
+use jepsen_form::FormFault;
 use std::alloc::{AllocError, Global};
 use tower_file::TowerFault;
 
@@ -196,7 +197,14 @@ fn push_refused(
         text.push_str(":")?;
         push_meant(text, word)?;
     }
-    text.push_str("\n")
+    text.push_str("\n")?;
+    if let (Code::Form(FormFault::UnsupportedF), 0) = (code, case.before) {
+        push_foot(text, case.width)?;
+        text.push_str(
+            "only reads and writes are judged: a register that meets another :f is not covered by its verdict\n",
+        )?;
+    }
+    Ok(())
 }
 
 /// What a refused element may have meant. The file behind the traces is the tower file.

@@ -22,7 +22,7 @@ pub fn meant_in_element<'t>(
     };
     match code {
         Code::Form(FormFault::NoRegister) => match name_in(&element) {
-            Some(name) => nearest(alloc, name, &names_in(alloc, tower)?),
+            Some(name) => nearest_name(alloc, name, &names_in(alloc, tower)?),
             None => Ok(None),
         },
         Code::Form(FormFault::BadType) => meant_type(alloc, &element),
@@ -162,6 +162,27 @@ fn under<'t>(element: &Element<'t>, key: &[u8]) -> Option<Element<'t>> {
         Field::Once(value) => Some(value),
         Field::Absent | Field::Twice => None,
     }
+}
+
+/// The name that is this one without its quotes, or else the nearest.
+fn nearest_name<'t>(
+    alloc: Global,
+    name: &[u8],
+    names: &[&'t [u8]],
+) -> Result<Option<&'t [u8]>, AllocError> {
+    if let Some(inner) = unquoted(name) {
+        for other in names {
+            if *other == inner {
+                return Ok(Some(*other));
+            }
+        }
+    }
+    nearest(alloc, name, names)
+}
+
+/// What stands between the quotes of a text.
+fn unquoted(name: &[u8]) -> Option<&[u8]> {
+    name.strip_prefix(b"\"")?.strip_suffix(b"\"")
 }
 
 /// The nearest of the words that are one or two edits away, where not all of its letters have to be changed.
