@@ -21,11 +21,12 @@ pub record IsOneFile (findings notes : Vec Finding Global) (traces : List TraceF
   pub findings_are : one.findings ≡ findings
   pub notes_are : one.notes ≡ notes
 
--- one file with one finding: the fault, at its span
+-- one file with one finding and no note: the fault, at its span
 pub record IsOneFault (text : List ℕ) (fault : TowerFault) (span : Option (ℕ × ℕ)) (traces : List TraceFindings) : Type 0 where
   pub one : TraceFindings
   pub traces_are : traces ≡ one ∷ []
   pub found : one.findings.items ≡ record { what = Tower fault; spot = spot_of_span text span } ∷ []
+  pub alone : one.notes.items ≡ []
 
 -- one file in which nothing is amiss, and some things may not be meant
 pub record HasNotesAlone (traces : List TraceFindings) : Type 0 where

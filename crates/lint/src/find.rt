@@ -71,7 +71,6 @@ fn is_unused(closed: &Closed, id: RegId) -> bool {
 
 /// The findings of each trace by its log.
 fn find_all(look: Look, texts: &[&[u8]], logs: &[Log]) -> Result<Vec<TraceFindings>, RunFault>
-    requires few { length texts.now ≤ 256 }
     requires each { length logs.now ≡ length texts.now }
     requires named { AllZip NamesElements (map (λ text. text.now) texts.now) logs.now }
     ensures found { IfOk result (λ traces. AreFound (map (λ text. text.now) texts.entry.now) logs.now traces.items) }
@@ -79,13 +78,13 @@ fn find_all(look: Look, texts: &[&[u8]], logs: &[Log]) -> Result<Vec<TraceFindin
 {
     let mut traces = Vec::new(look.alloc);
     for number in 0..texts.len() {
-        traces.push(find_in(look, number as u32, texts[number], &logs[number])?)?;
+        traces.push(find_in(look, number, texts[number], &logs[number])?)?;
     }
     Ok(traces)
 }
 
 /// The findings of one trace: its refusals in the order of its elements, and where it broke.
-fn find_in(look: Look, feeder: u32, text: &[u8], log: &Log) -> Result<TraceFindings, RunFault>
+fn find_in(look: Look, feeder: usize, text: &[u8], log: &Log) -> Result<TraceFindings, RunFault>
     requires named { NamesElements text.now log.now }
     ensures found { IfOk result (IsFoundIn text.now log.now) }
     ensures memory { IfErr result (λ fault. fault ≡ RunFault.Memory) }

@@ -66,7 +66,7 @@ struct Timed {
 /// An element, and where it is.
 #[derive(Clone, Copy)]
 struct Seen<'t> {
-    feeder: u32,
+    feeder: usize,
     number: u64,
     element: Element<'t>,
     spot: Spot,
@@ -76,7 +76,7 @@ struct Seen<'t> {
 /// The notes of a trace, by place. The elements are its own, and the lines those of its log.
 pub fn notes_of(
     look: Look,
-    feeder: u32,
+    feeder: usize,
     text: &[u8],
     found: &Elements,
     lines: &[Line],
@@ -327,14 +327,13 @@ fn is_out_of_proportion(before: u64, moment: u64, behind: u64) -> bool {
 
 /// What shows that a register fails, and an edit is of: the operation that it changes or withdraws, or one of the
 /// register of which it claims a kind.
-fn edited_by(suspects: &Suspects, item: &Item, feeder: u32) -> Option<OpId> {
-    match item {
-        Item::Amend { of, .. } | Item::Withdraw { of } => suspects.named(OpId {
-            feeder,
-            event: *of,
-        }),
-        Item::Claim(id, _) => suspects.one_of(*id),
-        Item::Event(_) | Item::Ask(_) | Item::Skipped => None,
+fn edited_by(suspects: &Suspects, item: &Item, feeder: usize) -> Option<OpId> {
+    match (item, u32::try_from(feeder)) {
+        (Item::Amend { of, .. }, Ok(feeder)) | (Item::Withdraw { of }, Ok(feeder)) => {
+            suspects.named(OpId { feeder, event: *of })
+        }
+        (Item::Claim(id, _), _) => suspects.one_of(*id),
+        _ => None,
     }
 }
 

@@ -121,7 +121,8 @@ fn columns_of(character: char) -> usize {
     character.width().unwrap_or(0)
 }
 
-fn part_of(text: &[u8], from: usize, to: usize) -> &[u8] {
+/// The bytes from one place to another; none where they are not there.
+pub fn part_of(text: &[u8], from: usize, to: usize) -> &[u8] {
     match text.get(from..to) {
         Some(part) => part,
         None => b"",

@@ -2,6 +2,7 @@
 
 use crate::message::tower_word;
 use crate::nearest::{distance, is_close};
+use crate::snippet::part_of;
 use crate::spot::Spot;
 use crate::tower::names_in;
 use edn_reader::{Element, Field, Reader};
@@ -85,7 +86,7 @@ pub fn meant_in_tower<'t>(
     fault: TowerFault,
     spot: &Spot,
 ) -> Result<Option<&'t [u8]>, AllocError> {
-    let word = part_of(text, spot);
+    let word = part_of(text, spot.start, spot.end);
     match fault {
         TowerFault::Shape(TowerField::Kind) => nearest(alloc, word, &kinds()),
         TowerFault::Shape(TowerField::Writers) => nearest(alloc, word, &[b":any".as_slice()]),
@@ -110,7 +111,7 @@ pub fn meant_key<'t>(
     let TowerFault::Shape(field) = fault else {
         return Ok(None);
     };
-    let Some(element) = element_in(alloc, part_of(text, spot)) else {
+    let Some(element) = element_in(alloc, part_of(text, spot.start, spot.end)) else {
         return Ok(None);
     };
     let Some(mut left) = element.as_map() else {
@@ -123,13 +124,6 @@ pub fn meant_key<'t>(
         }
     }
     Ok(None)
-}
-
-fn part_of<'t>(text: &'t [u8], spot: &Spot) -> &'t [u8] {
-    match text.get(spot.start..spot.end) {
-        Some(part) => part,
-        None => b"",
-    }
 }
 
 fn element_in<'t>(alloc: Global, text: &'t [u8]) -> Option<Element<'t>> {

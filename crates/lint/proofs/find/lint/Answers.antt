@@ -21,7 +21,7 @@ find_all-requires g c =
     each_names c.elements_of_a_prefix.ensures.text c.elements_of_a_prefix.ensures.so_far (plan_of_run c.args.tower.now 1 read) c.args.tower.now c.args.field c.in_ok-run.run'.closed
     (λ (text : Bor (List ℕ)). text.now) 0 texts read logs run.traced are_read in
     let lent : AllZip NamesElements (map (λ text. text.now) texts) c.as_slice.result.now = subst (λ (ls : List Log). AllZip NamesElements (map (λ text. text.now) texts) ls) (sym c.as_slice.ensures.value) named in
-    record { few = c.requires.traces.1; each = AllZip-long NamesElements (map (λ text. text.now) texts) c.as_slice.result.now lent ∙ length-map texts (λ text. text.now); named = lent }
+    record { each = AllZip-long NamesElements (map (λ text. text.now) texts) c.as_slice.result.now lent ∙ length-map texts (λ text. text.now); named = lent }
 
 pub returns-clause-found : goal.returns-clause-found
 returns-clause-found g c =

@@ -12,5 +12,5 @@ returns-clause-found c =
     let pushed : c.push.new.self.items ≡ at (spot_of_span c.args.text.now c.args.span) ∷ [] =
     c.in_ok-push.ensures.items ∙ ap (λ (before : List Finding). before ++ at c.spot_of_span.result ∷ []) c.new-findings.ensures.items
     ∙ ap (λ (spot : Spot). at spot ∷ []) c.spot_of_span.ensures in
-    weaker c.one_file.result (λ found file. record { one = file.one; traces_are = file.traces_are; found = ap (λ findings. findings.items) file.findings_are ∙ pushed })
+    weaker c.one_file.result (λ found file. record { one = file.one; traces_are = file.traces_are; found = ap (λ findings. findings.items) file.findings_are ∙ pushed; alone = ap (λ notes. notes.items) file.notes_are ∙ c.new.ensures.items })
     c.one_file.ensures.found
