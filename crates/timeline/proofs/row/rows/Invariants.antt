@@ -1,0 +1,13 @@
+-- the rows so far go on up to the next
+use Rattle.std.proofs.Common.{◌-◌, ◌≤◌, length}
+use Rattle.timeline.specs.Row.{AreRowsUpTo}
+use Rattle.timeline.proofs.row.rows.Given as goal
+
+abbrev pub invariant-loop-start : goal.invariant-loop-start
+invariant-loop-start l = record {
+  within : l.start ≤ length l.marks;
+  rows : AreRowsUpTo l.places l.width l.starts.items l.start;
+}
+
+abbrev pub decreases-loop-start : goal.decreases-loop-start
+decreases-loop-start l = length l.marks - l.start
