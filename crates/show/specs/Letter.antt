@@ -1,0 +1,83 @@
+-- The letters of the operations that a picture is about.
+use Rattle.std.specs.Prelude.{◌+◌, ℕ, zero, suc, Bool, false, List, [], ◌∷◌, ◌++◌, Option, Some, None, codes, option_map, if◌then◌else◌}
+use Rattle.std.specs.List.{find}
+use Rattle.intervals.specs.declared.operation.Op.{Op}
+use Rattle.intervals.specs.declared.operation.OpId.{OpId}
+use Rattle.intervals.specs.Operation.{same_id}
+use Rattle.register_book.specs.declared.fault.Side.{Side}
+use Rattle.register_book.specs.declared.fault.Side.TheVariants as sides
+use Rattle.show.specs.declared.letter.Letter.{Letter}
+use Rattle.show.specs.declared.letter.Letter.TheVariants.{A, B, C, Bc, D, R, R1, R2, W, W1, W2, W3, W4}
+use Rattle.show.specs.declared.letter.Lettered.{Lettered}
+use Rattle.show.specs.declared.story.Story.{Story}
+use Rattle.show.specs.declared.story.Story.TheVariants.{Holds, Wrong, Unwritten, Split, Early, Crossing}
+
+-- as it is printed
+abbrev pub word_of : Letter → List ℕ
+word_of A = codes "A"
+word_of B = codes "B"
+word_of C = codes "C"
+word_of Bc = codes "BC"
+word_of D = codes "D"
+word_of R = codes "R"
+word_of R1 = codes "R1"
+word_of R2 = codes "R2"
+word_of W = codes "W"
+word_of W1 = codes "W1"
+word_of W2 = codes "W2"
+word_of W3 = codes "W3"
+word_of W4 = codes "W4"
+
+-- an operation with its letter
+abbrev pub lettered : Op → Letter → Lettered
+lettered op letter = record { id = op.id; letter = letter }
+
+-- the same of one that is there
+abbrev pub letters_if : Option Op → Letter → List Lettered
+letters_if None letter = []
+letters_if (Some op) letter = lettered op letter ∷ []
+
+-- of a side, where it is an operation
+abbrev pub letters_at : Side → Letter → List Lettered
+letters_at (sides.Op op) letter = lettered op letter ∷ []
+letters_at sides.Initial letter = []
+
+-- the letter of the write of that number among those that a wrong read overlaps: the first three have one
+abbrev pub over_letter : ℕ → Option Letter
+over_letter zero = Some W2
+over_letter (suc zero) = Some W3
+over_letter (suc (suc zero)) = Some W4
+over_letter (suc (suc (suc number))) = None
+
+-- a letter that there may be
+abbrev pub letters_by : Option Letter → Op → List Lettered
+letters_by None op = []
+letters_by (Some letter) op = lettered op letter ∷ []
+
+-- their letters, of which the first has this number
+abbrev pub over_letters : ℕ → List Op → List Lettered
+over_letters number [] = []
+over_letters number (op ∷ ops) = letters_by (over_letter number) op ++ over_letters (number + 1) ops
+
+-- two sides are one operation
+abbrev pub same_side : Side → Side → Bool
+same_side (sides.Op a) (sides.Op b) = same_id a.id b.id
+same_side (sides.Op a) sides.Initial = false
+same_side sides.Initial b = false
+
+-- the second and the third operation of a conflict
+abbrev pub middle_letters : Side → Side → List Lettered
+middle_letters b c = if same_side b c then letters_at b Bc else letters_at b B ++ letters_at c C
+
+-- the letters of a story
+abbrev pub letters_of : Story → List Lettered
+letters_of Holds = []
+letters_of (Wrong wrong) = lettered wrong.read R ∷ (letters_if wrong.last W1 ++ over_letters 0 wrong.over.items)
+letters_of (Unwritten read) = lettered read R ∷ []
+letters_of (Split first second) = lettered first R1 ∷ lettered second R2 ∷ []
+letters_of (Early read write) = lettered read R ∷ lettered write W ∷ []
+letters_of (Crossing a b c d) = letters_at a A ++ (middle_letters b c ++ letters_at d D)
+
+-- the letter of an operation, where it has one
+abbrev pub letter_for : List Lettered → OpId → Option Letter
+letter_for letters id = option_map (λ (l : Lettered). l.letter) (find (λ (l : Lettered). same_id l.id id) letters)

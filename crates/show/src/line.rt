@@ -1,0 +1,84 @@
+//! One line of cells.
+
+ghost use Rattle.std.specs.Prelude.{◌≤◌, length};
+
+use std::alloc::{AllocError, Global};
+
+/// Cells of a line from one place on.
+#[derive(Debug, Drop)]
+pub struct Line {
+    pub from: u128,
+    pub cells: Vec<char>,
+}
+
+impl Line {
+    /// So many blanks.
+    pub fn blank(alloc: Global, from: u128, width: usize) -> Result<Line, AllocError> {
+        Ok(Line {
+            from,
+            cells: vec![in alloc; ' '; width]?,
+        })
+    }
+
+    /// Puts a character at a place, where the line has it.
+    pub fn put(&mut self, place: u128, character: char) {
+        if place < self.from {
+            return;
+        }
+        let Ok(number) = usize::try_from(place - self.from) else {
+            return;
+        };
+        if number < self.cells.len() {
+            self.cells[number] = character;
+        }
+    }
+
+    /// Puts it at each place up to the second.
+    pub fn fill(&mut self, from: u128, to: u128, character: char) {
+        for number in 0..self.cells.len() {
+            let place = self.from.saturating_add(number as u128);
+            if from <= place && place < to {
+                self.cells[number] = character;
+            }
+        }
+    }
+
+    /// Puts the characters of a text one behind the other.
+    pub fn put_text(&mut self, place: u128, text: &str) {
+        let mut at = place;
+        for character in text.chars() {
+            self.put(at, character);
+            at = at.saturating_add(1);
+        }
+    }
+
+    /// Whether all its cells between two places are blank.
+    pub fn is_blank(&self, from: u128, to: u128) -> bool {
+        for number in 0..self.cells.len() {
+            let place = self.from.saturating_add(number as u128);
+            if from <= place && place < to && self.cells[number] != ' ' {
+                return false;
+            }
+        }
+        true
+    }
+
+    /// Adds it to a text, without the blanks at its end.
+    pub fn push(&self, text: &mut String) -> Result<(), AllocError> {
+        for character in &self.cells[..end_of(&self.cells)] {
+            text.push(*character)?;
+        }
+        text.push_str("\n")
+    }
+}
+
+/// The number of the first blank behind which there are only blanks.
+fn end_of(cells: &[char]) -> usize
+    ensures { result ≤ length cells.now }
+{
+    let mut end = cells.len();
+    while end > 0 && cells[end - 1] == ' ' {
+        end -= 1;
+    }
+    end
+}

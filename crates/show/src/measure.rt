@@ -1,0 +1,133 @@
+//! The distances that a picture wants.
+
+ghost use Rattle.std.specs.Prelude.{◌≡◌, ◌+◌, All, IfOk, OnOk, length};
+ghost use Rattle.show.specs.Measure.{IsWanted};
+
+use crate::scene::Scene;
+use std::alloc::{AllocError, Global};
+use timeline::{Extent, Want};
+
+/// How wide things are, in cells or units.
+#[derive(Clone, Copy, Debug, PartialEq, Eq)]
+pub struct Measure {
+    /// Between two marks.
+    pub gap: u32,
+    /// A character.
+    pub character: u32,
+    /// More than its characters, for a label in its bar.
+    pub label: u32,
+    /// More than its characters, for how many operations are left out between two marks.
+    pub fold: u32,
+    /// From the left edge to the first mark.
+    pub first: u32,
+    /// From the last mark to the right edge.
+    pub last: u32,
+}
+
+/// The step to each mark, and last to the right edge.
+pub fn steps_of(alloc: Global, scene: &Scene, measure: &Measure) -> Result<Vec<u32>, AllocError>
+    ensures { IfOk result (λ steps. length steps.items ≡ length scene.now.marks.items + 1) }
+{
+    let mut steps = Vec::with_capacity(alloc, scene.marks.len() + 1)?;
+    for number in 0..scene.marks.len() {
+        steps.push(step_to(scene, measure, number))?;
+    }
+    steps.push(measure.last)?;
+    Ok(steps)
+}
+
+fn step_to(scene: &Scene, measure: &Measure, number: usize) -> u32 {
+    if number == 0 {
+        return measure.first;
+    }
+    match scene.folded.get(number) {
+        Some(many) if *many > 0 => measure
+            .gap
+            .saturating_add(measure.fold)
+            .saturating_add(width_of(measure, digits_of(*many).saturating_add(1))),
+        _ => measure.gap,
+    }
+}
+
+/// What the labels want of their bars, and the moments that are told of from one another.
+pub fn wants_of(
+    alloc: Global,
+    scene: &Scene,
+    measure: &Measure,
+    told: &[usize],
+) -> Result<Vec<Want>, AllocError>
+    ensures { IfOk result (λ wants. All (IsWanted (length scene.now.marks.items)) wants.items) }
+{
+    let mut wants = Vec::new(alloc);
+    for number in 0..scene.spans.len() {
+        let from = scene.spans[number].begin;
+        let to = match scene.spans[number].end {
+            Some(end) => end,
+            None => scene.marks.len(),
+        };
+        want(
+            &mut wants,
+            scene,
+            from,
+            to,
+            label_width(scene, measure, number),
+        )?;
+    }
+    for number in 1..told.len() {
+        let wide = moment_width(scene, measure, told[number - 1]);
+        want(&mut wants, scene, told[number - 1], told[number], wide)?;
+    }
+    Ok(wants)
+}
+
+fn want(
+    wants: &mut Vec<Want>,
+    scene: &Scene,
+    from: usize,
+    to: usize,
+    least: u32,
+) -> Result<(), AllocError>
+    ensures { OnOk result (All (IsWanted (length scene.now.marks.items)) wants.old.items → All (IsWanted (length scene.now.marks.items)) wants.new.items) }
+{
+    if from < to && to <= scene.marks.len() {
+        wants.push(Want { from, to, least })?;
+    }
+    Ok(())
+}
+
+fn label_width(scene: &Scene, measure: &Measure, number: usize) -> u32 {
+    match scene.labels.get(number) {
+        Some(label) => width_of(measure, label.len()).saturating_add(measure.label),
+        None => 0,
+    }
+}
+
+/// The moment of a mark and a blank behind it.
+fn moment_width(scene: &Scene, measure: &Measure, number: usize) -> u32 {
+    match scene.marks.get(number) {
+        Some(mark) => width_of(measure, digits_of_moment(mark.moment.0).saturating_add(1)),
+        None => 0,
+    }
+}
+
+fn width_of(measure: &Measure, characters: usize) -> u32 {
+    match u32::try_from(characters) {
+        Ok(many) => many.saturating_mul(measure.character),
+        Err(_) => u32::MAX,
+    }
+}
+
+/// How many digits a number has.
+pub fn digits_of(number: usize) -> usize {
+    digits_of_moment(number as u64)
+}
+
+pub fn digits_of_moment(number: u64) -> usize {
+    let mut digits: usize = 1;
+    let mut left = number / 10;
+    while left > 0 {
+        digits = digits.saturating_add(1);
+        left /= 10;
+    }
+    digits
+}

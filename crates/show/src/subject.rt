@@ -1,0 +1,15 @@
+//! What a picture is of.
+
+use intervals::{Initial, Kind, Op};
+use register_book::Witness;
+
+/// A register as it stands: its name, what it claims and holds at first, the operations in the order of their appends, some
+/// places empty, and those that show that it fails, where it does.
+#[derive(Clone, Copy, Debug)]
+pub struct Subject<'a, 't> {
+    pub name: &'a [u8],
+    pub kind: Kind,
+    pub initial: Initial,
+    pub slots: &'a [Option<Op<'t>>],
+    pub witness: Option<Witness<'t>>,
+}
