@@ -7,7 +7,7 @@ use Rattle.intervals.specs.Operation.{same_id}
 use Rattle.register_book.specs.declared.fault.Side.{Side}
 use Rattle.register_book.specs.declared.fault.Side.TheVariants as sides
 use Rattle.show.specs.declared.letter.Letter.{Letter}
-use Rattle.show.specs.declared.letter.Letter.TheVariants.{A, B, C, Bc, D, R, R1, R2, W, W1, W2, W3, W4}
+use Rattle.show.specs.declared.letter.Letter.TheVariants.{A, B, C, Bc, D, Read, FirstRead, SecondRead, Write, LastWrite, FirstOver, SecondOver, ThirdOver}
 use Rattle.show.specs.declared.letter.Lettered.{Lettered}
 use Rattle.show.specs.declared.story.Story.{Story}
 use Rattle.show.specs.declared.story.Story.TheVariants.{Holds, Wrong, Unwritten, Split, Early, Crossing}
@@ -19,14 +19,14 @@ word_of B = codes "B"
 word_of C = codes "C"
 word_of Bc = codes "BC"
 word_of D = codes "D"
-word_of R = codes "R"
-word_of R1 = codes "R1"
-word_of R2 = codes "R2"
-word_of W = codes "W"
-word_of W1 = codes "W1"
-word_of W2 = codes "W2"
-word_of W3 = codes "W3"
-word_of W4 = codes "W4"
+word_of Read = codes "R"
+word_of FirstRead = codes "R1"
+word_of SecondRead = codes "R2"
+word_of Write = codes "W"
+word_of LastWrite = codes "W1"
+word_of FirstOver = codes "W2"
+word_of SecondOver = codes "W3"
+word_of ThirdOver = codes "W4"
 
 -- an operation with its letter
 abbrev pub lettered : Op → Letter → Lettered
@@ -44,9 +44,9 @@ letters_at sides.Initial letter = []
 
 -- the letter of the write of that number among those that a wrong read overlaps: the first three have one
 abbrev pub over_letter : ℕ → Option Letter
-over_letter zero = Some W2
-over_letter (suc zero) = Some W3
-over_letter (suc (suc zero)) = Some W4
+over_letter zero = Some FirstOver
+over_letter (suc zero) = Some SecondOver
+over_letter (suc (suc zero)) = Some ThirdOver
 over_letter (suc (suc (suc number))) = None
 
 -- a letter that there may be
@@ -72,10 +72,10 @@ middle_letters b c = if same_side b c then letters_at b Bc else letters_at b B +
 -- the letters of a story
 abbrev pub letters_of : Story → List Lettered
 letters_of Holds = []
-letters_of (Wrong wrong) = lettered wrong.read R ∷ (letters_if wrong.last W1 ++ over_letters 0 wrong.over.items)
-letters_of (Unwritten read) = lettered read R ∷ []
-letters_of (Split first second) = lettered first R1 ∷ lettered second R2 ∷ []
-letters_of (Early read write) = lettered read R ∷ lettered write W ∷ []
+letters_of (Wrong wrong) = lettered wrong.read Read ∷ (letters_if wrong.last LastWrite ++ over_letters 0 wrong.over.items)
+letters_of (Unwritten read) = lettered read Read ∷ []
+letters_of (Split first second) = lettered first FirstRead ∷ lettered second SecondRead ∷ []
+letters_of (Early read write) = lettered read Read ∷ lettered write Write ∷ []
 letters_of (Crossing a b c d) = letters_at a A ++ (middle_letters b c ++ letters_at d D)
 
 -- the letter of an operation, where it has one

@@ -21,17 +21,17 @@ pub enum Letter {
     C,
     Bc,
     D,
-    /// A read that is wrong by itself, or one of two that cannot both be right.
-    R,
-    R1,
-    R2,
-    /// The write that it was too early for.
-    W,
-    /// The last write before it, and the first three that overlap it.
-    W1,
-    W2,
-    W3,
-    W4,
+    /// A read that is wrong by itself, and two that cannot both be right.
+    Read,
+    FirstRead,
+    SecondRead,
+    /// The write that a read was too early for.
+    Write,
+    /// The last write before a wrong read, and the first three that overlap it.
+    LastWrite,
+    FirstOver,
+    SecondOver,
+    ThirdOver,
 }
 
 impl Letter {
@@ -45,14 +45,14 @@ impl Letter {
             Letter::C => "C",
             Letter::Bc => "BC",
             Letter::D => "D",
-            Letter::R => "R",
-            Letter::R1 => "R1",
-            Letter::R2 => "R2",
-            Letter::W => "W",
-            Letter::W1 => "W1",
-            Letter::W2 => "W2",
-            Letter::W3 => "W3",
-            Letter::W4 => "W4",
+            Letter::Read => "R",
+            Letter::FirstRead => "R1",
+            Letter::SecondRead => "R2",
+            Letter::Write => "W",
+            Letter::LastWrite => "W1",
+            Letter::FirstOver => "W2",
+            Letter::SecondOver => "W3",
+            Letter::ThirdOver => "W4",
         }
     }
 }
@@ -72,14 +72,14 @@ pub fn letters_of(alloc: Global, story: &Story) -> Result<Vec<Lettered>, AllocEr
     match story {
         Story::Holds => {}
         Story::Wrong(wrong) => letter_wrong(&mut letters, wrong)?,
-        Story::Unwritten(read) => give(&mut letters, read, Letter::R)?,
+        Story::Unwritten(read) => give(&mut letters, read, Letter::Read)?,
         Story::Split { first, second } => {
-            give(&mut letters, first, Letter::R1)?;
-            give(&mut letters, second, Letter::R2)?;
+            give(&mut letters, first, Letter::FirstRead)?;
+            give(&mut letters, second, Letter::SecondRead)?;
         }
         Story::Early { read, write } => {
-            give(&mut letters, read, Letter::R)?;
-            give(&mut letters, write, Letter::W)?;
+            give(&mut letters, read, Letter::Read)?;
+            give(&mut letters, write, Letter::Write)?;
         }
         Story::Crossing { a, b, c, d } => letter_crossing(&mut letters, a, b, c, d)?,
     }
@@ -89,9 +89,9 @@ pub fn letters_of(alloc: Global, story: &Story) -> Result<Vec<Lettered>, AllocEr
 fn letter_wrong(letters: &mut Vec<Lettered>, wrong: &Wrong) -> Result<(), AllocError>
     ensures { OnOk result (letters.new.items ≡ letters.old.items ++ letters_in (Story.Wrong wrong.now)) }
 {
-    give(letters, &wrong.read, Letter::R)?;
+    give(letters, &wrong.read, Letter::Read)?;
     if let Some(last) = &wrong.last {
-        give(letters, last, Letter::W1)?;
+        give(letters, last, Letter::LastWrite)?;
     }
     letter_over(letters, &wrong.over)
 }
@@ -131,9 +131,9 @@ pub fn over_letter(number: usize) -> Option<Letter>
     ensures { result ≡ letter_of_number number }
 {
     match number {
-        0 => Some(Letter::W2),
-        1 => Some(Letter::W3),
-        2 => Some(Letter::W4),
+        0 => Some(Letter::FirstOver),
+        1 => Some(Letter::SecondOver),
+        2 => Some(Letter::ThirdOver),
         _ => None,
     }
 }
