@@ -4,6 +4,7 @@ ghost use Rattle.intervals.specs.Edit.{op_of, is_claim};
 ghost use Rattle.intervals.specs.Target.{IsTargetOf};
 ghost use Rattle.intervals.specs.Refusal.{reply_to, to_kind_refusal, carried_out, after_edit};
 ghost use Rattle.intervals.specs.Kind.{Holds};
+ghost use Rattle.intervals.specs.Table.{standing};
 ghost use Rattle.zones.specs.AtFirst.{with_start};
 ghost use Rattle.zones.specs.Turn.{IsOrder};
 ghost use Rattle.register_book.specs.Kept.{claimed_of, most_steps};
@@ -67,6 +68,13 @@ impl<'t> RegisterBook<'t> {
         ensures { result ≡ length self.now.ops }
     {
         self.judge.operations().len()
+    }
+
+    /// The operations in the order of their appends; a place that a withdrawn one left is empty.
+    pub fn slots(&self) -> &[Option<Op<'t>>]
+        ensures { standing result.now ≡ self.now.ops }
+    {
+        self.judge.operations().slots()
     }
 
     /// The operation of that id, where it stands.

@@ -33,6 +33,6 @@ pub use culprit::culprits;
 pub use fault::ReportFault;
 pub use finding::Finding;
 pub use listing::tower_text;
-pub use names::push_printed;
-pub use section::push_register;
+pub use names::{kind_word, push_printed};
+pub use section::{push_fault, push_register, push_section};
 pub use text::report;
