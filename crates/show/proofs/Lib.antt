@@ -1,1 +1,6 @@
+mod Fitting
 mod Lettering
+mod Scenes
+mod Shifted
+mod Stepping
+mod Timelines

@@ -21,7 +21,7 @@ line_end = 46 ∷ (10 ∷ [])
 abbrev pub holds_text : Kind → List ℕ
 holds_text Safe = codes "Each read returned what it may return" ++ line_end
 holds_text Regular = codes "Each read returned what it may return" ++ line_end
-holds_text Atomic = codes "There is an order of the operations that explains what was read" ++ line_end
+holds_text Atomic = codes "Each number is a place in an order that explains what was read" ++ line_end
 
 -- the value of a side
 abbrev pub side_text : Side → List ℕ

@@ -1,13 +1,16 @@
 -- What stands on a bar.
 use Rattle.std.specs.Prelude.{ℕ, List, [], ◌++◌, Option, Some, None, codes, if◌then◌else◌}
-use Rattle.std.specs.Fmt.{signed_decimal}
+use Rattle.std.specs.Fmt.{decimal, signed_decimal}
 use Rattle.intervals.specs.declared.operation.Op.{Op}
 use Rattle.intervals.specs.declared.operation.Moment.{Moment}
 use Rattle.intervals.specs.declared.operation.Value.{Value}
 use Rattle.intervals.specs.declared.operation.Value.TheVariants.{Nil, Int}
 use Rattle.intervals.specs.Operation.{is_write, value_of}
+use Rattle.show.specs.declared.label.Head.{Head}
+use Rattle.show.specs.declared.label.Head.TheVariants as heads
 use Rattle.show.specs.declared.letter.Letter.{Letter}
-use Rattle.show.specs.Letter.{word_of}
+use Rattle.show.specs.declared.letter.Lettered.{Lettered}
+use Rattle.show.specs.Letter.{letter_for, word_of}
 
 -- a value as it is printed
 abbrev pub value_text : Value → List ℕ
@@ -23,11 +26,22 @@ read_text (Some end) value = value_text value
 abbrev pub act_text : Op → List ℕ
 act_text op = if is_write op then codes "w " ++ value_text (value_of op.act) else codes "r " ++ read_text op.end (value_of op.act)
 
--- a letter and a blank, where there is one
-abbrev pub letter_text : Option Letter → List ℕ
-letter_text None = []
-letter_text (Some letter) = word_of letter ++ codes " "
+-- a letter where there is one, else a rank
+abbrev pub head_for : Option Letter → Option ℕ → Option Head
+head_for (Some letter) rank = Some (heads.Letter letter)
+head_for None (Some rank) = Some (heads.Rank rank)
+head_for None None = None
+
+-- what a label begins with, and a blank
+abbrev pub head_text : Option Head → List ℕ
+head_text None = []
+head_text (Some (heads.Letter letter)) = word_of letter ++ codes " "
+head_text (Some (heads.Rank rank)) = decimal rank ++ codes " "
 
 -- the label of an operation
-abbrev pub label_text : Option Letter → Op → List ℕ
-label_text letter op = letter_text letter ++ act_text op
+abbrev pub label_text : Option Head → Op → List ℕ
+label_text head op = head_text head ++ act_text op
+
+-- the same of one that has this rank, by its letter where it has one
+abbrev pub label_by : List Lettered → Option ℕ → Op → List ℕ
+label_by letters rank op = label_text (head_for (letter_for letters op.id) rank) op

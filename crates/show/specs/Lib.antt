@@ -1,5 +1,11 @@
 -- what the public clauses speak of
 pub mod Caption
+pub mod Escape
 pub mod Label
+pub mod Layout
 pub mod Letter
 pub mod Measure
+pub mod Rank
+pub mod Scene
+pub mod Story
+pub mod Svg

@@ -34,9 +34,9 @@ fn push_holds(text: &mut String, kind: Kind) -> Result<(), AllocError>
     ensures { OnOk result (string_bytes text.new ≡ string_bytes text.old ++ holds_text kind) }
 {
     match kind {
-        Kind::Atomic => text.push_str(
-            "There is an order of the operations that explains what was read.\n",
-        ),
+        Kind::Atomic => {
+            text.push_str("Each number is a place in an order that explains what was read.\n")
+        }
         Kind::Safe | Kind::Regular => text.push_str("Each read returned what it may return.\n"),
     }
 }
@@ -207,9 +207,9 @@ fn push_crossing(
     d: &Side,
 ) -> Result<(), AllocError> {
     push_before(text, "A", a, second_letter(b, c))?;
-    push_written(text, alloc, d, b)?;
+    push_written(text, alloc, a, d, b)?;
     push_before(text, third_letter(b, c), c, "D")?;
-    push_written(text, alloc, b, d)?;
+    push_written(text, alloc, c, b, d)?;
     text.push_str("Both cannot be: no order explains the reads.\n")
 }
 
@@ -235,15 +235,21 @@ fn push_before(text: &mut String, before: &str, side: &Side, after: &str) -> Res
     }
 }
 
+/// What follows of the values: one was written before the other, or was there before it.
 fn push_written(
     text: &mut String,
     alloc: Global,
+    before: &Side,
     one: &Side,
     other: &Side,
 ) -> Result<(), AllocError> {
     let one = side_word(alloc, one)?;
     let other = side_word(alloc, other)?;
-    write!(text, "{one} was written before {other}.\n")
+    let verb = match before {
+        Side::Op(_) => "written",
+        Side::Initial => "there",
+    };
+    write!(text, "{one} was {verb} before {other}.\n")
 }
 
 /// The value of a side.

@@ -1,28 +1,48 @@
 //! What stands on a bar.
 
 ghost use Rattle.std.specs.Prelude.{◌≡◌, ◌++◌, IfOk, OnOk, string_bytes};
-ghost use Rattle.show.specs.Label.{act_text, label_text, letter_text, read_text, value_text};
+ghost use Rattle.show.specs.Label.{act_text, head_for, head_text, label_text, read_text, value_text};
 
 use crate::letter::Letter;
 use intervals::{Moment, Op, Value};
 use std::alloc::{AllocError, Global};
 
-/// The letter where there is one, `w` or `r`, and the value; `?` where a read has not been answered.
-pub fn push_label(text: &mut String, letter: Option<Letter>, op: &Op) -> Result<(), AllocError>
-    ensures { OnOk result (string_bytes text.new ≡ string_bytes text.old ++ label_text letter op.now) }
+/// What a label begins with: what the operation is to the reason why its register fails, or its place in an order that
+/// explains the reads.
+#[derive(Clone, Copy, Debug, PartialEq, Eq)]
+pub enum Head {
+    Letter(Letter),
+    Rank(usize),
+}
+
+/// The letter where there is one, else the rank.
+pub fn head_of(letter: Option<Letter>, rank: Option<usize>) -> Option<Head>
+    ensures { result ≡ head_for letter rank }
 {
-    push_letter(text, letter)?;
+    match (letter, rank) {
+        (Some(letter), _) => Some(Head::Letter(letter)),
+        (None, Some(rank)) => Some(Head::Rank(rank)),
+        (None, None) => None,
+    }
+}
+
+/// What it begins with, `w` or `r`, and the value; `?` where a read has not been answered.
+pub fn push_label(text: &mut String, head: Option<Head>, op: &Op) -> Result<(), AllocError>
+    ensures { OnOk result (string_bytes text.new ≡ string_bytes text.old ++ label_text head op.now) }
+{
+    push_head(text, head)?;
     push_act(text, op)
 }
 
-fn push_letter(text: &mut String, letter: Option<Letter>) -> Result<(), AllocError>
-    ensures { OnOk result (string_bytes text.new ≡ string_bytes text.old ++ letter_text letter) }
+fn push_head(text: &mut String, head: Option<Head>) -> Result<(), AllocError>
+    ensures { OnOk result (string_bytes text.new ≡ string_bytes text.old ++ head_text head) }
 {
-    match letter {
-        Some(letter) => {
+    match head {
+        Some(Head::Letter(letter)) => {
             text.push_str(letter.word())?;
             text.push_str(" ")
         }
+        Some(Head::Rank(rank)) => write!(text, "{rank} "),
         None => Ok(()),
     }
 }

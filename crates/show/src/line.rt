@@ -63,6 +63,11 @@ impl Line {
         true
     }
 
+    /// Whether one of its cells is not blank.
+    pub fn has_some(&self) -> bool {
+        end_of(&self.cells) > 0
+    }
+
     /// Adds it to a text, without the blanks at its end.
     pub fn push(&self, text: &mut String) -> Result<(), AllocError> {
         for character in &self.cells[..end_of(&self.cells)] {

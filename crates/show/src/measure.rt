@@ -1,11 +1,14 @@
 //! The distances that a picture wants.
 
-ghost use Rattle.std.specs.Prelude.{◌≡◌, ◌+◌, All, IfOk, OnOk, length};
-ghost use Rattle.show.specs.Measure.{IsWanted};
+ghost use Rattle.std.specs.Prelude.{◌≡◌, ◌+◌, ◌++◌, ◌<◌, ◌≤◌, All, IfOk, List, OnOk, drop, length};
+ghost use Rattle.std.specs.List.{slice_get};
+ghost use Rattle.std.specs.Option.{option_map_or};
+ghost use Rattle.timeline.specs.declared.place.Want.{Want as AWant};
+ghost use Rattle.show.specs.Measure.{IsWanted, end_of as end_among, label_width as width_of_label, wanted_between, wanted_of, width_of as width_by};
 
 use crate::scene::Scene;
 use std::alloc::{AllocError, Global};
-use timeline::{Extent, Want};
+use timeline::{Span, Want};
 
 /// How wide things are, in cells or units.
 #[derive(Clone, Copy, Debug, PartialEq, Eq)]
@@ -26,7 +29,8 @@ pub struct Measure {
 
 /// The step to each mark, and last to the right edge.
 pub fn steps_of(alloc: Global, scene: &Scene, measure: &Measure) -> Result<Vec<u32>, AllocError>
-    ensures { IfOk result (λ steps. length steps.items ≡ length scene.now.marks.items + 1) }
+    ensures many { IfOk result (λ steps. length steps.items ≡ length scene.now.marks.items + 1) }
+    ensures positive { IfOk result (λ steps. 0 < measure.now.gap → 0 < measure.now.last → All (λ step. 0 < step) (drop 1 steps.items)) }
 {
     let mut steps = Vec::with_capacity(alloc, scene.marks.len() + 1)?;
     for number in 0..scene.marks.len() {
@@ -36,7 +40,9 @@ pub fn steps_of(alloc: Global, scene: &Scene, measure: &Measure) -> Result<Vec<u
     Ok(steps)
 }
 
-fn step_to(scene: &Scene, measure: &Measure, number: usize) -> u32 {
+fn step_to(scene: &Scene, measure: &Measure, number: usize) -> u32
+    ensures { 0 < number → measure.now.gap ≤ result }
+{
     if number == 0 {
         return measure.first;
     }
@@ -56,23 +62,50 @@ pub fn wants_of(
     measure: &Measure,
     told: &[usize],
 ) -> Result<Vec<Want>, AllocError>
-    ensures { IfOk result (λ wants. All (IsWanted (length scene.now.marks.items)) wants.items) }
+    ensures within { IfOk result (λ wants. All (IsWanted (length scene.now.marks.items)) wants.items) }
+    ensures labels { IfOk result (λ wants. (others : List AWant) × (wants.items ≡ wanted_of measure.now (length scene.now.marks.items) scene.now.labels.items 0 scene.now.spans.items ++ others)) }
+{
+    let mut wants = label_wants(alloc, scene, measure)?;
+    let told = told_wants(alloc, scene, measure, told)?;
+    wants.extend_from_slice(&told)?;
+    Ok(wants)
+}
+
+/// What the labels want of their bars.
+fn label_wants(alloc: Global, scene: &Scene, measure: &Measure) -> Result<Vec<Want>, AllocError>
+    ensures within { IfOk result (λ wants. All (IsWanted (length scene.now.marks.items)) wants.items) }
+    ensures labels { IfOk result (λ wants. wants.items ≡ wanted_of measure.now (length scene.now.marks.items) scene.now.labels.items 0 scene.now.spans.items) }
 {
     let mut wants = Vec::new(alloc);
     for number in 0..scene.spans.len() {
-        let from = scene.spans[number].begin;
-        let to = match scene.spans[number].end {
-            Some(end) => end,
-            None => scene.marks.len(),
-        };
-        want(
-            &mut wants,
-            scene,
-            from,
-            to,
-            label_width(scene, measure, number),
-        )?;
+        let span = scene.spans[number];
+        let to = end_of(scene, span);
+        let least = label_width(scene, measure, number);
+        want(&mut wants, scene, span.begin, to, least)?;
     }
+    Ok(wants)
+}
+
+/// The mark at which a span ends; the right edge where it has no end.
+fn end_of(scene: &Scene, span: Span) -> usize
+    ensures { result ≡ end_among (length scene.now.marks.items) span }
+{
+    match span.end {
+        Some(end) => end,
+        None => scene.marks.len(),
+    }
+}
+
+/// What the moments that are told of want from one another.
+fn told_wants(
+    alloc: Global,
+    scene: &Scene,
+    measure: &Measure,
+    told: &[usize],
+) -> Result<Vec<Want>, AllocError>
+    ensures { IfOk result (λ wants. All (IsWanted (length scene.now.marks.items)) wants.items) }
+{
+    let mut wants = Vec::new(alloc);
     for number in 1..told.len() {
         let wide = moment_width(scene, measure, told[number - 1]);
         want(&mut wants, scene, told[number - 1], told[number], wide)?;
@@ -87,7 +120,8 @@ fn want(
     to: usize,
     least: u32,
 ) -> Result<(), AllocError>
-    ensures { OnOk result (All (IsWanted (length scene.now.marks.items)) wants.old.items → All (IsWanted (length scene.now.marks.items)) wants.new.items) }
+    ensures within { OnOk result (All (IsWanted (length scene.now.marks.items)) wants.old.items → All (IsWanted (length scene.now.marks.items)) wants.new.items) }
+    ensures added { OnOk result (wants.new.items ≡ wants.old.items ++ wanted_between (length scene.now.marks.items) from to least) }
 {
     if from < to && to <= scene.marks.len() {
         wants.push(Want { from, to, least })?;
@@ -95,9 +129,11 @@ fn want(
     Ok(())
 }
 
-fn label_width(scene: &Scene, measure: &Measure, number: usize) -> u32 {
+fn label_width(scene: &Scene, measure: &Measure, number: usize) -> u32
+    ensures { result ≡ option_map_or (λ label. width_of_label measure.now label) (slice_get scene.now.labels.items number) 0 }
+{
     match scene.labels.get(number) {
-        Some(label) => width_of(measure, label.len()).saturating_add(measure.label),
+        Some(label) => width_of(measure, label.as_str().len()).saturating_add(measure.label),
         None => 0,
     }
 }
@@ -110,7 +146,10 @@ fn moment_width(scene: &Scene, measure: &Measure, number: usize) -> u32 {
     }
 }
 
-fn width_of(measure: &Measure, characters: usize) -> u32 {
+/// The width of so many characters.
+pub fn width_of(measure: &Measure, characters: usize) -> u32
+    ensures { result ≡ width_by measure.now characters }
+{
     match u32::try_from(characters) {
         Ok(many) => many.saturating_mul(measure.character),
         Err(_) => u32::MAX,

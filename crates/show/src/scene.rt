@@ -1,11 +1,21 @@
 //! What a picture shows, whatever it is drawn with.
 
-use crate::label::push_label;
+ghost use Rattle.std.specs.Prelude.{◌≡◌, ◌++◌, IfOk, OnOk, map, string_bytes, true};
+ghost use Rattle.std.specs.HashMap.{get};
+ghost use Rattle.intervals.specs.Least.{less_of};
+ghost use Rattle.intervals.specs.Operation.{same_id};
+ghost use Rattle.intervals.specs.Table.{standing};
+ghost use Rattle.show.specs.Label.{label_by};
+ghost use Rattle.show.specs.Scene.{IsScene, asked_of as asked_in, asked_beside, extent_of as extent_for, first_of as first_in, id_of};
+
+use crate::label::{head_of, push_label};
 use crate::letter::{Lettered, letter_for, letters_of};
+use crate::rank::{places_of, rank_in, ranks_in};
 use crate::story::{Story, story_of};
 use crate::subject::Subject;
 use intervals::{Op, OpId};
 use std::alloc::{AllocError, Global};
+use std::collections::HashMap;
 use timeline::{Extent, Mark, Seat, Span, choose, folded, marks, seats, spans};
 
 /// How many of the first operations are shown of a register that holds, for each that is shown around one otherwise.
@@ -17,6 +27,8 @@ pub struct Scene<'t> {
     pub story: Story<'t>,
     pub letters: Vec<Lettered>,
     pub ops: Vec<Op<'t>>,
+    /// The place of each in an order that explains the reads, from 1.
+    pub ranks: Vec<Option<usize>>,
     pub labels: Vec<String>,
     pub marks: Vec<Mark>,
     pub spans: Vec<Span>,
@@ -32,21 +44,26 @@ pub fn scene_of<'t>(
     alloc: Global,
     subject: &Subject<'_, 't>,
     extent: Extent,
-) -> Result<Scene<'t>, AllocError> {
+) -> Result<Scene<'t>, AllocError>
+    ensures { IfOk result (IsScene subject.now extent) }
+{
     let story = story_of(alloc, subject)?;
     let letters = letters_of(alloc, &story)?;
-    let asked = asked_of(alloc, subject, &story, &letters)?;
+    let asked = asked_of(alloc, subject.slots, &story, &letters)?;
     let chosen = choose(alloc, subject.slots, &asked, extent_of(&story, extent))?;
     let marks = marks(alloc, &chosen.shown)?;
     let spans = spans(alloc, &chosen.shown, &marks)?;
     let folded = folded(alloc, &marks, &chosen.hidden)?;
     let seats = seats(alloc, &chosen.shown)?;
-    let labels = labels_of(alloc, &chosen.shown, &letters)?;
+    let places = places_of(alloc, subject.order)?;
+    let ranks = ranks_in(alloc, &places, &chosen.shown)?;
+    let labels = labels_of(alloc, &chosen.shown, &letters, &places)?;
     let all = chosen.shown.len() + chosen.hidden.len();
     Ok(Scene {
         story,
         letters,
         ops: chosen.shown,
+        ranks,
         labels,
         marks,
         spans,
@@ -57,7 +74,9 @@ pub fn scene_of<'t>(
 }
 
 /// Of a register that holds more are shown, from the first on.
-fn extent_of(story: &Story, extent: Extent) -> Extent {
+fn extent_of(story: &Story, extent: Extent) -> Extent
+    ensures { result ≡ extent_for story.now extent }
+{
     match (story, extent) {
         (Story::Holds, Extent::Around(around)) => {
             Extent::Around(around.saturating_mul(FIRST_FOR_EACH))
@@ -70,26 +89,43 @@ fn extent_of(story: &Story, extent: Extent) -> Extent {
 /// register that holds the first that stands.
 fn asked_of(
     alloc: Global,
-    subject: &Subject,
+    slots: &[Option<Op>],
     story: &Story,
     letters: &[Lettered],
-) -> Result<Vec<OpId>, AllocError> {
-    let mut asked = Vec::new(alloc);
-    for lettered in letters {
-        asked.push(lettered.id)?;
-    }
-    match story {
-        Story::Wrong(wrong) => {
-            ask(&mut asked, &wrong.source)?;
-            ask(&mut asked, &wrong.later)?;
-        }
-        Story::Holds => ask(&mut asked, &first_of(subject.slots))?,
-        _ => {}
-    }
+) -> Result<Vec<OpId>, AllocError>
+    ensures { IfOk result (λ asked. asked.items ≡ asked_in (standing slots.now) story.now letters.now) }
+{
+    let mut asked = ids_of(alloc, letters)?;
+    ask_beside(&mut asked, slots, story)?;
     Ok(asked)
 }
 
-fn ask(asked: &mut Vec<OpId>, op: &Option<Op>) -> Result<(), AllocError> {
+fn ids_of(alloc: Global, letters: &[Lettered]) -> Result<Vec<OpId>, AllocError>
+    ensures { IfOk result (λ ids. ids.items ≡ map (λ lettered. lettered.id) letters.now) }
+{
+    let mut ids = Vec::new(alloc);
+    for lettered in letters {
+        ids.push(lettered.id)?;
+    }
+    Ok(ids)
+}
+
+fn ask_beside(asked: &mut Vec<OpId>, slots: &[Option<Op>], story: &Story) -> Result<(), AllocError>
+    ensures { OnOk result (asked.new.items ≡ asked.old.items ++ asked_beside (standing slots.now) story.now) }
+{
+    match story {
+        Story::Wrong(wrong) => {
+            ask(asked, &wrong.source)?;
+            ask(asked, &wrong.later)
+        }
+        Story::Holds => ask(asked, &first_of(slots)),
+        _ => Ok(()),
+    }
+}
+
+fn ask(asked: &mut Vec<OpId>, op: &Option<Op>) -> Result<(), AllocError>
+    ensures { OnOk result (asked.new.items ≡ asked.old.items ++ id_of op.now) }
+{
     if let Some(op) = op {
         asked.push(op.id)?;
     }
@@ -97,25 +133,59 @@ fn ask(asked: &mut Vec<OpId>, op: &Option<Op>) -> Result<(), AllocError> {
 }
 
 /// The operation that began first.
-fn first_of<'t>(slots: &[Option<Op<'t>>]) -> Option<Op<'t>> {
+fn first_of<'t>(slots: &[Option<Op<'t>>]) -> Option<Op<'t>>
+    ensures { result ≡ first_in (standing slots.now) }
+{
     let mut first: Option<Op<'t>> = None;
     for slot in slots {
         if let Some(op) = slot {
-            first = match first {
-                Some(found) if found.begin.0 <= op.begin.0 => Some(found),
-                _ => Some(*op),
-            };
+            first = earlier_of(first, op);
         }
     }
     first
 }
 
-fn labels_of(alloc: Global, ops: &[Op], letters: &[Lettered]) -> Result<Vec<String>, AllocError> {
+/// The one of two that began first.
+fn earlier_of<'t>(found: Option<Op<'t>>, op: &Op<'t>) -> Option<Op<'t>>
+    ensures { result ≡ less_of (λ op. op.begin.0) (λ op. true) found.entry op.now }
+{
+    match found {
+        Some(found) => {
+            if op.begin.0 < found.begin.0 {
+                Some(*op)
+            } else {
+                Some(found)
+            }
+        }
+        None => Some(*op),
+    }
+}
+
+fn labels_of(
+    alloc: Global,
+    ops: &[Op],
+    letters: &[Lettered],
+    places: &HashMap<OpId, usize>,
+) -> Result<Vec<String>, AllocError>
+    ensures { IfOk result (λ labels. map (λ label. string_bytes label) labels.items ≡ map (λ op. label_by letters.now (get same_id places.now op.id) op) ops.now) }
+{
     let mut labels = Vec::new(alloc);
     for op in ops {
-        let mut label = String::new(alloc);
-        push_label(&mut label, letter_for(letters, op.id), op)?;
-        labels.push(label)?;
+        labels.push(label_of(alloc, op, letters, places)?)?;
     }
     Ok(labels)
+}
+
+fn label_of(
+    alloc: Global,
+    op: &Op,
+    letters: &[Lettered],
+    places: &HashMap<OpId, usize>,
+) -> Result<String, AllocError>
+    ensures { IfOk result (λ label. string_bytes label ≡ label_by letters.now (get same_id places.now op.now.id) op.now) }
+{
+    let mut label = String::new(alloc);
+    let head = head_of(letter_for(letters, op.id), rank_in(places, op));
+    push_label(&mut label, head, op)?;
+    Ok(label)
 }

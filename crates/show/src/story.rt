@@ -1,7 +1,13 @@
 //! What is to be told of a register.
 
+ghost use Rattle.std.specs.Prelude.{◌≡◌, IfOk, filter, find, reverse};
+ghost use Rattle.intervals.specs.Operation.{overlaps as does_overlap, precedes as does_precede, writes as writes_among};
+ghost use Rattle.intervals.specs.Table.{standing};
+ghost use Rattle.timeline.specs.Choice.{IsByBeginning};
+ghost use Rattle.show.specs.Story.{IsStory, IsToldBy, IsWrong, is_later_source as comes_later, is_of_its_value as has_its_value, is_source as comes_from};
+
 use crate::subject::Subject;
-use intervals::{Kind, Op, is_same_value, overlaps, precedes};
+use intervals::{Op, is_same_value, overlaps, precedes};
 use register_book::{Side, Witness};
 use std::alloc::{AllocError, Global};
 
@@ -42,14 +48,28 @@ pub struct Wrong<'t> {
 }
 
 /// What is to be told of the register.
-pub fn story_of<'t>(alloc: Global, subject: &Subject<'_, 't>) -> Result<Story<'t>, AllocError> {
+pub fn story_of<'t>(alloc: Global, subject: &Subject<'_, 't>) -> Result<Story<'t>, AllocError>
+    ensures { IfOk result (IsStory (standing subject.now.slots.now) subject.now.witness) }
+{
     match subject.witness {
+        Some(witness) => told_by(alloc, subject.slots, witness),
         None => Ok(Story::Holds),
-        Some(Witness::Wrong(read)) => Ok(Story::Wrong(wrong_of(alloc, subject.slots, read)?)),
-        Some(Witness::Unwritten(read)) => Ok(Story::Unwritten(read)),
-        Some(Witness::Split { first, second }) => Ok(Story::Split { first, second }),
-        Some(Witness::Early { read, write }) => Ok(Story::Early { read, write }),
-        Some(Witness::Crossing { a, b, c, d }) => Ok(Story::Crossing { a, b, c, d }),
+    }
+}
+
+fn told_by<'t>(
+    alloc: Global,
+    slots: &[Option<Op<'t>>],
+    witness: Witness<'t>,
+) -> Result<Story<'t>, AllocError>
+    ensures { IfOk result (IsToldBy (standing slots.now) witness.entry) }
+{
+    match witness {
+        Witness::Wrong(read) => Ok(Story::Wrong(wrong_of(alloc, slots, read)?)),
+        Witness::Unwritten(read) => Ok(Story::Unwritten(read)),
+        Witness::Split { first, second } => Ok(Story::Split { first, second }),
+        Witness::Early { read, write } => Ok(Story::Early { read, write }),
+        Witness::Crossing { a, b, c, d } => Ok(Story::Crossing { a, b, c, d }),
     }
 }
 
@@ -57,54 +77,113 @@ fn wrong_of<'t>(
     alloc: Global,
     slots: &[Option<Op<'t>>],
     read: Op<'t>,
-) -> Result<Wrong<'t>, AllocError> {
-    let mut over = Vec::new(alloc);
-    let mut last = None;
-    let mut source = None;
-    let mut later = None;
-    for slot in slots {
-        if let Some(write) = slot {
-            if !write.is_write() {
-                continue;
-            }
-            if overlaps(write, &read) {
-                over.push(*write)?;
-            } else if precedes(write, &read) {
-                last = later_of(last, write);
-                if is_of_value(write, &read) {
-                    source = later_of(source, write);
-                }
-            } else if is_of_value(write, &read) {
-                later = earlier_of(later, write);
-            }
-        }
-    }
-    over.sort_unstable_by_key(|write| write.begin.0);
+) -> Result<Wrong<'t>, AllocError>
+    ensures { IfOk result (IsWrong (standing slots.now) read.entry) }
+{
+    let writes = writes_by_beginning(alloc, slots)?;
     Ok(Wrong {
         read,
-        last,
-        over,
-        source,
-        later,
+        last: last_before(&writes, &read),
+        over: over_of(alloc, &writes, &read)?,
+        source: source_of(&writes, &read),
+        later: later_source_of(&writes, &read),
     })
 }
 
-fn is_of_value(write: &Op, read: &Op) -> bool {
+fn writes_by_beginning<'t>(
+    alloc: Global,
+    slots: &[Option<Op<'t>>],
+) -> Result<Vec<Op<'t>>, AllocError>
+    ensures { IfOk result (λ sorted. IsByBeginning (writes_among (standing slots.now)) sorted.items) }
+{
+    let mut writes = writes_in(alloc, slots)?;
+    writes.sort_unstable_by_key(|write| write.begin.0);
+    Ok(writes)
+}
+
+fn writes_in<'t>(alloc: Global, slots: &[Option<Op<'t>>]) -> Result<Vec<Op<'t>>, AllocError>
+    ensures { IfOk result (λ writes. writes.items ≡ writes_among (standing slots.now)) }
+{
+    let mut writes = Vec::new(alloc);
+    for slot in slots {
+        if let Some(op) = slot {
+            if op.is_write() {
+                writes.push(*op)?;
+            }
+        }
+    }
+    Ok(writes)
+}
+
+/// The last of the writes that precedes the read.
+fn last_before<'t>(writes: &[Op<'t>], read: &Op) -> Option<Op<'t>>
+    ensures { result ≡ find (λ write. does_precede write read.now) (reverse writes.now) }
+{
+    writes
+        .iter()
+        .rev()
+        .find(|write| precedes(write, read))
+        .copied()
+}
+
+/// Those that overlap it.
+fn over_of<'t>(alloc: Global, writes: &[Op<'t>], read: &Op) -> Result<Vec<Op<'t>>, AllocError>
+    ensures { IfOk result (λ over. over.items ≡ filter (λ write. does_overlap write read.now) writes.now) }
+{
+    let mut over = Vec::new(alloc);
+    for write in writes {
+        if overlaps(write, read) {
+            over.push(*write)?;
+        }
+    }
+    Ok(over)
+}
+
+/// The last of its value that precedes it.
+fn source_of<'t>(writes: &[Op<'t>], read: &Op) -> Option<Op<'t>>
+    ensures { result ≡ find (comes_from read.now) (reverse writes.now) }
+{
+    writes
+        .iter()
+        .rev()
+        .find(|write| is_source(write, read))
+        .copied()
+}
+
+/// The first of its value that it precedes.
+fn later_source_of<'t>(writes: &[Op<'t>], read: &Op) -> Option<Op<'t>>
+    ensures { result ≡ find (comes_later read.now) writes.now }
+{
+    writes
+        .iter()
+        .find(|write| is_later_source(write, read))
+        .copied()
+}
+
+fn is_source(write: &Op, read: &Op) -> bool
+    ensures { result ≡ comes_from read.now write.now }
+{
+    precedes(write, read) && is_of_its_value(write, read)
+}
+
+fn is_later_source(write: &Op, read: &Op) -> bool
+    ensures { result ≡ comes_later read.now write.now }
+{
+    precedes(read, write) && is_of_its_value(write, read)
+}
+
+fn is_of_its_value(write: &Op, read: &Op) -> bool
+    ensures { result ≡ has_its_value read.now write.now }
+{
     is_same_value(write.value(), read.value())
 }
 
-/// The one of two that began later.
-fn later_of<'t>(found: Option<Op<'t>>, op: &Op<'t>) -> Option<Op<'t>> {
-    match found {
-        Some(found) if found.begin.0 >= op.begin.0 => Some(found),
-        _ => Some(*op),
-    }
-}
-
-/// The one of two that began earlier.
-fn earlier_of<'t>(found: Option<Op<'t>>, op: &Op<'t>) -> Option<Op<'t>> {
-    match found {
-        Some(found) if found.begin.0 <= op.begin.0 => Some(found),
-        _ => Some(*op),
+/// Whether it is a read that is wrong by itself.
+pub fn is_wrong(story: &Story, op: &Op) -> bool {
+    match story {
+        Story::Wrong(wrong) => op.has_id(wrong.read.id),
+        Story::Unwritten(read) => op.has_id(read.id),
+        Story::Early { read, .. } => op.has_id(read.id),
+        _ => false,
     }
 }

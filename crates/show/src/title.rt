@@ -1,20 +1,22 @@
-//! The first line of a picture.
+//! What stands above a picture.
 
 use crate::scene::Scene;
 use crate::story::Story;
 use crate::subject::Subject;
-use intervals::{Kind, OpId};
-use register_book::Side;
-use report::push_printed;
-use std::alloc::AllocError;
+use report::{kind_word, push_fault, push_printed};
+use std::alloc::{AllocError, Global};
 
 /// The register, its kind and verdict, why it fails, and how many of its operations are shown.
-pub fn push_title(text: &mut String, subject: &Subject, scene: &Scene) -> Result<(), AllocError> {
+pub fn push_title(
+    text: &mut String,
+    alloc: Global,
+    subject: &Subject,
+    scene: &Scene,
+) -> Result<(), AllocError> {
     text.push_str("register ")?;
     push_printed(text, subject.name)?;
-    text.push_str("  ")?;
-    text.push_str(kind_word(subject.kind))?;
-    push_verdict(text, &scene.story)?;
+    write!(text, "  {}  ", kind_word(subject.kind))?;
+    push_verdict(text, alloc, subject)?;
     write!(
         text,
         "   {} of {} operations, by order of moments\n",
@@ -23,49 +25,31 @@ pub fn push_title(text: &mut String, subject: &Subject, scene: &Scene) -> Result
     )
 }
 
-fn kind_word(kind: Kind) -> &'static str {
-    match kind {
-        Kind::Safe => "safe",
-        Kind::Regular => "regular",
-        Kind::Atomic => "atomic",
-    }
+/// Whether the register holds, or the line of its fault.
+fn push_verdict(text: &mut String, alloc: Global, subject: &Subject) -> Result<(), AllocError> {
+    let Some(witness) = &subject.witness else {
+        return text.push_str("holds");
+    };
+    let mut line = String::new(alloc);
+    push_fault(&mut line, witness.ids())?;
+    write!(text, "fails: {}", line.as_str().trim())
 }
 
-fn push_verdict(text: &mut String, story: &Story) -> Result<(), AllocError> {
+/// The register and why it fails, in words.
+pub fn push_heading(text: &mut String, subject: &Subject, story: &Story) -> Result<(), AllocError> {
+    text.push_str(kind_word(subject.kind))?;
+    text.push_str(" register ")?;
+    push_printed(text, subject.name)?;
+    text.push_str(reason_for(story))
+}
+
+fn reason_for(story: &Story) -> &'static str {
     match story {
-        Story::Holds => text.push_str("  holds"),
-        Story::Wrong(wrong) => push_one(text, "wrong", wrong.read.id),
-        Story::Unwritten(read) => push_one(text, "unwritten", read.id),
-        Story::Split { first, second } => push_two(text, "unwritten", first.id, "and", second.id),
-        Story::Early { read, write } => push_two(text, "early", read.id, "before", write.id),
-        Story::Crossing { a, b, c, d } => {
-            text.push_str("  fails: conflict")?;
-            push_side(text, a)?;
-            push_side(text, b)?;
-            push_side(text, c)?;
-            push_side(text, d)
-        }
-    }
-}
-
-fn push_one(text: &mut String, word: &str, id: OpId) -> Result<(), AllocError> {
-    write!(text, "  fails: {word} {}:{}", id.feeder, id.event)
-}
-
-fn push_two(
-    text: &mut String,
-    word: &str,
-    one: OpId,
-    between: &str,
-    other: OpId,
-) -> Result<(), AllocError> {
-    push_one(text, word, one)?;
-    write!(text, " {between} {}:{}", other.feeder, other.event)
-}
-
-fn push_side(text: &mut String, side: &Side) -> Result<(), AllocError> {
-    match side {
-        Side::Op(op) => write!(text, " {}:{}", op.id.feeder, op.id.event),
-        Side::Initial => text.push_str(" initial"),
+        Story::Holds => " holds",
+        Story::Wrong(_) => " fails: a read returned what it may not",
+        Story::Unwritten(_) => " fails: a read returned what nothing wrote",
+        Story::Split { .. } => " fails: two reads returned values that nothing wrote",
+        Story::Early { .. } => " fails: a read returned what was not yet written",
+        Story::Crossing { .. } => " fails: no order explains its reads",
     }
 }

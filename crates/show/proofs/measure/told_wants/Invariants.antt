@@ -2,10 +2,7 @@
 use Rattle.std.specs.Prelude.{All}
 use Rattle.std.proofs.Common.{length}
 use Rattle.show.specs.Measure.{IsWanted}
-use Rattle.show.proofs.measure.wants_of.Given as goal
+use Rattle.show.proofs.measure.told_wants.Given as goal
 
 abbrev pub invariant-loop-number : goal.invariant-loop-number
 invariant-loop-number l = All (IsWanted (length l.scene.marks.items)) l.wants.items
-
-abbrev pub invariant-loop-number-2 : goal.invariant-loop-number-2
-invariant-loop-number-2 l = All (IsWanted (length l.scene.marks.items)) l.wants.items

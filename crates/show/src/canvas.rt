@@ -1,0 +1,232 @@
+//! Where the parts of a picture stand.
+
+use crate::layout::{Layout, layout_of, widest_name};
+use crate::measure::{Measure, digits_of};
+use crate::scene::Scene;
+use crate::story::Story;
+use crate::subject::Subject;
+use crate::zone::{Zone, zones_of};
+use intervals::Kind;
+use register_book::Side;
+use std::alloc::{AllocError, Global};
+use timeline::Extent;
+
+/// What is drawn, and where. Each row is a window on one strip, which has the zones, the lanes and the moments of all.
+#[derive(Drop)]
+pub struct Canvas<'s, 't> {
+    pub layout: Layout<'s, 't>,
+    /// With which seats lanes end, and the lane of each operation.
+    pub lane_ends: Vec<usize>,
+    pub lanes: Vec<usize>,
+    /// The zones of all values of an atomic register all of whose operations are shown.
+    pub zones: Vec<Zone>,
+    /// How many units stand before the strip, for the names of lanes.
+    pub margin: u128,
+    /// The top of the lanes within the strip, and their bottom.
+    pub top: u128,
+    pub bottom: u128,
+}
+
+/// A part of the strip.
+#[derive(Clone, Copy)]
+pub struct Window {
+    pub from: u128,
+    pub to: u128,
+}
+
+/// The heights of a lane, of a bar in it, of a zone of a conflict, of a row of the zones of all values, and of a line of words.
+pub const LANE: u128 = 24;
+
+pub const BAR: u128 = 14;
+
+pub const ZONE: u128 = 21;
+
+pub const ZONE_ROW: u128 = 15;
+
+pub const LINE: u128 = 16;
+
+/// The heights of the moments below the lanes, of what stands above the first row, and between two rows.
+const AXIS: u128 = 30;
+
+const HEAD: u128 = 52;
+
+const BETWEEN: u128 = 12;
+
+const MEASURE: Measure = Measure {
+    gap: 16,
+    character: 6,
+    label: 10,
+    fold: 38,
+    first: 12,
+    last: 44,
+};
+
+/// Where all operations are shown, they stand closer.
+const CLOSE: Measure = Measure { gap: 7, ..MEASURE };
+
+/// The scene in rows of that width, the names of lanes included.
+pub fn canvas_of<'s, 't>(
+    alloc: Global,
+    subject: &Subject,
+    scene: &'s Scene<'t>,
+    extent: Extent,
+    width: u32,
+) -> Result<Canvas<'s, 't>, AllocError> {
+    let measure = match extent {
+        Extent::All => &CLOSE,
+        Extent::Around(_) => &MEASURE,
+    };
+    let margin = margin_of(alloc, scene)?;
+    let width = match u32::try_from(margin) {
+        Ok(margin) => width.saturating_sub(margin).max(100),
+        Err(_) => 100,
+    };
+    let layout = layout_of(alloc, subject, scene, measure, width)?;
+    let lane_ends = layout.lane_ends(alloc)?;
+    let lanes = lanes_of(alloc, scene, &lane_ends)?;
+    let zones = match (extent, subject.kind) {
+        (Extent::All, Kind::Atomic) => zones_of(alloc, &layout, subject.initial)?,
+        _ => Vec::new(alloc),
+    };
+    let top = if zones.is_empty() {
+        match scene.story {
+            Story::Crossing { .. } => 2 * ZONE + 6,
+            _ => 0,
+        }
+    } else {
+        rows_of_zones(&zones)
+            .saturating_mul(ZONE_ROW)
+            .saturating_add(10)
+    };
+    let bottom = (lane_ends.len() as u128)
+        .saturating_mul(LANE)
+        .saturating_add(top);
+    Ok(Canvas {
+        layout,
+        lane_ends,
+        lanes,
+        zones,
+        margin,
+        top,
+        bottom,
+    })
+}
+
+/// How many rows the forward zones have, and the backward ones behind them.
+fn rows_of_zones(zones: &[Zone]) -> u128 {
+    rows_of(zones, true).saturating_add(rows_of(zones, false))
+}
+
+pub fn rows_of(zones: &[Zone], is_forward: bool) -> u128 {
+    let mut rows: u128 = 0;
+    for zone in zones {
+        if zone.is_forward == is_forward {
+            rows = rows.max((zone.row as u128).saturating_add(1));
+        }
+    }
+    rows
+}
+
+/// The lane of each operation, of those that are shown.
+fn lanes_of(alloc: Global, scene: &Scene, ends: &[usize]) -> Result<Vec<usize>, AllocError> {
+    let mut lanes = vec![in alloc; 0; scene.ops.len()]?;
+    let mut from = 0;
+    for lane in 0..ends.len() {
+        for number in from..ends[lane] {
+            if let Some(seat) = scene.seats.get(number) {
+                if seat.op < lanes.len() {
+                    lanes[seat.op] = lane;
+                }
+            }
+        }
+        from = ends[lane];
+    }
+    Ok(lanes)
+}
+
+/// The width of so many characters.
+pub fn wide(characters: usize) -> u128 {
+    (characters as u128).saturating_mul(6)
+}
+
+/// Room for the widest name, or for how many operations are left out before all.
+fn margin_of(alloc: Global, scene: &Scene) -> Result<u128, AllocError> {
+    let mut widest = widest_name(alloc, scene, "process ")?;
+    if scene.folded.first().is_some_and(|many| *many > 0) {
+        widest = widest.max(digits_of(scene.folded[0]).saturating_add(6));
+    }
+    Ok(wide(widest).saturating_add(28))
+}
+
+/// The window of a row on the strip.
+pub fn window_of(layout: &Layout, row: usize) -> Window {
+    let from = match layout.starts.get(row) {
+        Some(first) if row > 0 => layout.place_of(*first).saturating_sub(4),
+        _ => 0,
+    };
+    let to = match layout.starts.get(row.saturating_add(1)) {
+        Some(next) => layout.place_of(*next).saturating_sub(3),
+        None => layout.right_edge().saturating_add(tail_width(layout)),
+    };
+    Window {
+        from,
+        to: to.max(from),
+    }
+}
+
+/// Room for how many operations are left out behind all.
+fn tail_width(layout: &Layout) -> u128 {
+    match layout.later() {
+        0 => 4,
+        many => wide(digits_of(many)).saturating_add(50),
+    }
+}
+
+pub fn strip_height(canvas: &Canvas) -> u128 {
+    canvas.bottom.saturating_add(AXIS)
+}
+
+pub fn row_top(canvas: &Canvas, row: usize) -> u128 {
+    strip_height(canvas)
+        .saturating_add(BETWEEN)
+        .saturating_mul(row as u128)
+        .saturating_add(HEAD)
+}
+
+/// The top of a lane within the strip.
+pub fn lane_top(canvas: &Canvas, lane: usize) -> u128 {
+    (lane as u128)
+        .saturating_mul(LANE)
+        .saturating_add(canvas.top)
+}
+
+pub fn lane_of(canvas: &Canvas, number: usize) -> usize {
+    match canvas.lanes.get(number) {
+        Some(lane) => *lane,
+        None => 0,
+    }
+}
+
+/// The middle of the lane of a side.
+pub fn middle_of(canvas: &Canvas, side: &Side) -> u128 {
+    let top = match side {
+        Side::Initial => canvas.top,
+        Side::Op(op) => {
+            match canvas
+                .layout
+                .scene
+                .ops
+                .iter()
+                .position(|shown| shown.id == op.id)
+            {
+                Some(number) => lane_top(canvas, lane_of(canvas, number)),
+                None => canvas.top,
+            }
+        }
+    };
+    top.saturating_add(LANE / 2)
+}
+
+pub fn box_width(label: &str) -> u128 {
+    wide(label.len()).saturating_add(10)
+}

@@ -1,0 +1,82 @@
+//! A page of pictures, as HTML.
+
+ghost use Rattle.std.specs.Prelude.{◌≡◌, ◌++◌, OnOk, string_bytes};
+ghost use Rattle.show.specs.Svg.{quoted_text, part_head_text};
+
+use crate::escape::push_element;
+use crate::story::story_of;
+use crate::style::{Theme, push_style};
+use crate::subject::Subject;
+use crate::svg::{Sheet, push_picture};
+use crate::title::push_heading;
+use std::alloc::{AllocError, Global};
+
+/// The rules of what stands around the pictures.
+const PAGE: &str = "<style>:root{color-scheme:light dark}
+body{margin:1.5em;font-family:system-ui,sans-serif}
+summary{cursor:pointer;padding:.3em 0;font-weight:600}
+svg{max-width:100%;height:auto}
+pre{overflow-x:auto}
+</style>
+";
+
+/// The rules of one theme alone.
+const LIGHT: &str = "<style>:root{color-scheme:light;background:#ffffff;color:#1f2328}</style>\n";
+
+const DARK: &str = "<style>:root{color-scheme:dark;background:#0d1117;color:#e6edf3}</style>\n";
+
+/// Begins a page, with what its head line says.
+pub fn push_page_head(text: &mut String, theme: Theme, line: &str) -> Result<(), AllocError> {
+    text.push_str(
+        "<!DOCTYPE html>\n<html xmlns=\"http://www.w3.org/1999/xhtml\" lang=\"en\">\n<head>\n<meta charset=\"utf-8\"/>\n",
+    )?;
+    push_element(text, "<title>", line, "</title>\n")?;
+    text.push_str(PAGE)?;
+    match theme {
+        Theme::Auto => {}
+        Theme::Light => text.push_str(LIGHT)?,
+        Theme::Dark => text.push_str(DARK)?,
+    }
+    push_style(text, theme)?;
+    text.push_str("</head>\n<body>\n")?;
+    push_element(text, "<h1>", line, "</h1>\n")
+}
+
+/// A register: its picture, which is to be seen at once where it is open, and what the report says of it.
+pub fn push_page_part(
+    text: &mut String,
+    alloc: Global,
+    subject: &Subject,
+    sheet: &Sheet,
+    is_unfolded: bool,
+    report: &str,
+) -> Result<(), AllocError> {
+    text.push_str(if is_unfolded {
+        "<details open=\"open\">\n"
+    } else {
+        "<details>\n"
+    })?;
+    let mut heading = String::new(alloc);
+    push_heading(&mut heading, subject, &story_of(alloc, subject)?)?;
+    push_part_head(text, &heading)?;
+    push_picture(text, alloc, subject, sheet)?;
+    push_quoted(text, report)?;
+    text.push_str("</details>\n")
+}
+
+fn push_part_head(text: &mut String, heading: &str) -> Result<(), AllocError>
+    ensures { OnOk result (string_bytes text.new ≡ string_bytes text.old ++ part_head_text heading.now) }
+{
+    push_element(text, "<summary>", heading, "</summary>\n")
+}
+
+fn push_quoted(text: &mut String, report: &str) -> Result<(), AllocError>
+    ensures { OnOk result (string_bytes text.new ≡ string_bytes text.old ++ quoted_text report.now) }
+{
+    push_element(text, "<pre>", report, "</pre>\n")
+}
+
+/// Ends a page.
+pub fn push_page_end(text: &mut String) -> Result<(), AllocError> {
+    text.push_str("</body>\n</html>\n")
+}
