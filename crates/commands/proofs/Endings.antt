@@ -10,12 +10,13 @@ use Rattle.shards.specs.Closing.{Ended}
 use Rattle.feeders.specs.declared.log.Log.{Log}
 use Rattle.feeders.specs.Readers.{AreReadOf}
 use Rattle.feeders.specs.Run.{IsRun}
-use Rattle.words.specs.Words.{AskedCheck}
+use Rattle.words.specs.Words.{AskedCheck, AskedShow}
 use Rattle.commands.specs.declared.safe.Audit.{Audit}
 use Rattle.commands.specs.Audit.{IsAudit}
 use Rattle.commands.specs.Status.{status_of}
 use Rattle.commands.specs.Verdict.{IsAudited, verdict_line}
 use Rattle.commands.specs.Checked.{IsChecked, IsNamed, IsPrinted, IsStatus, field_of}
+use Rattle.commands.specs.Shown.{IsShown}
 
 -- `AreTheir known` says that the files hold these texts
 pub checked : (held : Option (List ℕ)) (asked : AskedCheck) (tower : Contents) (order : Option RegId) (closed : List Ended) (logs : List Log) (chosen : MomentField) (lefts : List (Option (List ℕ))) (AreTheir : List (List ℕ) → Type 0) (status : ℕ) (old new : Option (List ℕ))
@@ -65,3 +66,30 @@ audited (Some input) audit status old new is written status_is = record {
   written = written;
   status_is = status_is;
 }
+
+-- the same of a picture
+pub shown : (held : Option (List ℕ)) (asked : AskedShow) (tower : Contents) (register : Option RegId) (closed : List Ended) (logs : List Log) (chosen : MomentField) (lefts : List (Option (List ℕ))) (AreTheir : List (List ℕ) → Type 0) (text : List ℕ) (status : ℕ) (old new : Option (List ℕ))
+    → IfSome held (λ file. IsTowerOf file tower)
+    → IsNamed tower asked.register register
+    → ((known : List (List ℕ)) → AreTheir known → lefts ≡ map (λ text. Some text) known)
+    → chosen ≡ field_of asked.moments
+    → ((read : List (List ℕ)) × AreReadOf lefts logs read × IsRun tower chosen 1 read closed logs)
+    → Appends old new text
+    → IsStatus tower closed logs 0 0 status
+    → IfSome held (λ file. (traces : List (List ℕ)) → AreTheir traces → IsShown asked file traces status old new)
+shown None asked tower register closed logs chosen lefts AreTheir text status old new says named opened field run written is = search rules
+shown (Some file) asked tower register closed logs chosen lefts AreTheir text status old new says named opened field run written is =
+    λ traces are. record {
+      tower = tower;
+      says = says;
+      register = register;
+      named = named;
+      closed = closed;
+      logs = logs;
+      read = run.0;
+      are_read = subst (λ (l : List (Option (List ℕ))). AreReadOf l logs run.0) (opened traces are) run.1;
+      run = subst (λ (f : MomentField). IsRun tower f 1 run.0 closed logs) field run.2;
+      text = text;
+      written = written;
+      status_is = is;
+    }

@@ -8,3 +8,4 @@ pub mod Denied
 pub mod Looked
 pub mod Printed
 pub mod Run
+pub mod Shown

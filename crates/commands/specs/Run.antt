@@ -7,11 +7,12 @@ use Rattle.tower_file.specs.Tower.{IsTowerOf}
 use Rattle.report.specs.Listing.{tower_lines}
 use Rattle.texts.specs.declared.version.TheConstants.{VERSION}
 use Rattle.words.specs.Completion.{script_for}
-use Rattle.words.specs.Words.{Asked, Safe, Check, Lint, Tower, Explain, Version, Manual, Completion, IsFaultless, asked}
+use Rattle.words.specs.Words.{Asked, Safe, Check, Show, Lint, Tower, Explain, Version, Manual, Completion, IsFaultless, asked}
 use Rattle.commands.specs.Printed.{IsExplained, IsManual, IsPrintedText}
 use Rattle.commands.specs.Verdict.{IsAudited}
 use Rattle.commands.specs.Checked.{IsChecked}
 use Rattle.commands.specs.Looked.{IsLooked}
+use Rattle.commands.specs.Shown.{IsShown}
 
 -- a tower file was listed: the lines of the tower that it says were written
 pub record IsListed (file : List ℕ) (status : ℕ) (old new : Option (List ℕ)) : Type 0 where
@@ -30,6 +31,8 @@ IsCarriedOut (Safe None) files input status old new = IfSome input (λ bytes. Is
 IsCarriedOut (Safe (Some name)) files input status old new = IfSome (files name) (λ bytes. IsAudited bytes status old new)
 IsCarriedOut (Check check) files input status old new =
     IfSome (files check.tower) (λ file. (traces : List (List ℕ)) → AreHeld files check.traces traces → IsChecked check file traces status old new)
+IsCarriedOut (Show show) files input status old new =
+    IfSome (files show.tower) (λ file. (traces : List (List ℕ)) → AreHeld files show.traces traces → IsShown show file traces status old new)
 IsCarriedOut (Lint lint) files input status old new =
     (traces : List (List ℕ)) → AreHeld files lint.traces traces → IsLooked lint files traces status old new
 IsCarriedOut (Explain code) files input status old new = IsExplained code status old new

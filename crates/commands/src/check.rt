@@ -68,7 +68,7 @@ pub fn check<'a, A: AllocGlobal + Threads + Wait + Sync, F: Files, W: Write>(
         Ok(run) => run,
         Err(fault) => return Err(CommandFault::of_run(fault)),
     };
-    let Ok(status) = status_after(alloc, asked, &tower, &run) else {
+    let Ok(status) = status_after(alloc, asked.least, asked.least_each, &tower, &run) else {
         return Err(CommandFault::Memory);
     };
     match print(rt, asked.form, &tower, &run, order, out) {
@@ -100,7 +100,7 @@ pub fn read_tower<'a, F: Files>(
 }
 
 /// The register of that name, where one is asked for.
-fn named<'a>(tower: &Tower, name: Option<&'a str>) -> Result<Option<RegId>, CommandFault<'a>>
+pub fn named<'a>(tower: &Tower, name: Option<&'a str>) -> Result<Option<RegId>, CommandFault<'a>>
     ensures named { IfOk result (IsNamed tower.now (option_map (λ name. name.now) name.entry)) }
     ensures within { IfOk result (λ found. IfSome found (λ id. id.0 < length tower.now.registers)) }
     ensures quiet { IfErr result (λ fault. fault ≢ CommandFault.Unwritable) }
@@ -143,10 +143,17 @@ fn print<A: AllocGlobal + Threads + Wait + Sync, W: Write>(
     }
 }
 
-fn status_after(alloc: Global, asked: &Check, tower: &Tower, run: &Run) -> Result<u8, AllocError>
-    ensures { IfOk result (IsStatus tower.now run.now.closed run.now.logs.items asked.now.least asked.now.least_each) }
+/// The status of a run in which so many operations are to stand in all registers together, and in each.
+pub fn status_after(
+    alloc: Global,
+    least: u64,
+    least_each: u64,
+    tower: &Tower,
+    run: &Run,
+) -> Result<u8, AllocError>
+    ensures { IfOk result (IsStatus tower.now run.now.closed run.now.logs.items least least_each) }
 {
-    let few = has_too_few(alloc, tower, &run.closed, asked.least, asked.least_each)?;
+    let few = has_too_few(alloc, tower, &run.closed, least, least_each)?;
     Ok(status(
         any_broken(&run.logs),
         any_fails(tower, &run.closed),

@@ -8,6 +8,7 @@ ghost use Rattle.commands.specs.Verdict.{IsAudited};
 ghost use Rattle.commands.specs.Run.{IsListed, IsCarriedOut, IsDone, WantInput};
 
 use crate::check::{check, read_tower};
+use crate::draw::draw;
 use crate::fault::{CommandFault, say};
 use crate::files::{Files, open_file};
 use crate::look::look;
@@ -120,6 +121,7 @@ fn carry_out<'a, A: AllocGlobal + Threads + Wait + Sync, F: Files, R: Read + Sen
         Command::Safe(None) => judge(rt, input, out),
         Command::Safe(Some(name)) => judge(rt, open_file(files, name)?, out),
         Command::Check(asked) => check(rt, &asked, files, out),
+        Command::Show(asked) => draw(rt, &asked, files, out),
         Command::Lint(asked) => look(rt, &asked, files, out),
         Command::Tower(name) => list(rt, name, files, out),
         Command::Explain(code) => explain(rt.alloc(), code, out),

@@ -13,11 +13,13 @@
 mod check;
 mod commands;
 mod deny;
+mod draw;
 mod fault;
 mod files;
 mod input;
 pub mod laws;
 mod look;
+mod picture;
 mod print;
 mod safe;
 mod status;

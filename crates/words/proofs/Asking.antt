@@ -7,7 +7,9 @@ use Rattle.words.specs.declared.check.Moments.TheVariants.{Index, Time}
 use Rattle.words.specs.declared.check.Form.TheVariants.{Report, Summary}
 use Rattle.words.specs.declared.completion.Shell.TheVariants.{Bash, Zsh, Fish}
 use Rattle.words.specs.declared.lint.LintForm.TheVariants.{Human, Json}
-use Rattle.words.specs.Words.{Check, Completion, Explain, Lint, Manual, Safe, Tower, Version, asked, command_line, is_plain}
+use Rattle.words.specs.declared.show.Picture.TheVariants as pictures
+use Rattle.words.specs.declared.show.Theme.TheVariants.{Auto, Dark}
+use Rattle.words.specs.Words.{Check, Completion, Explain, Lint, Manual, Safe, Show, Tower, Version, asked, command_line, is_plain}
 
 pub input : (program : Text) → asked (program ∷ codes "safe" ∷ []) ≡ Some (Safe None)
 unfolding clap_on_literals
@@ -134,6 +136,64 @@ no_form program = refl
 pub no_shell : (program : Text) → asked (program ∷ codes "completion" ∷ codes "csh" ∷ []) ≡ None
 unfolding clap_on_literals
 no_shell program = refl
+
+pub plain_show : (program : Text) → asked (program ∷ codes "show" ∷ codes "--tower" ∷ codes "t" ∷ codes "a" ∷ [])
+    ≡ Some (Show (record { tower = codes "t"; moments = Index; register = None; picture = pictures.Text; around = 3; all = false; width = None; theme = Auto; traces = codes "a" ∷ [] }))
+unfolding clap_on_literals
+plain_show program = refl
+
+pub whole_show : (program : Text) → asked (program ∷ codes "show" ∷ codes "--tower=t" ∷ codes "--moment" ∷ codes "time" ∷ codes "--register" ∷ codes "x" ∷ codes "--html" ∷ codes "--around" ∷ codes "0" ∷ codes "--all" ∷ codes "--width" ∷ codes "72" ∷ codes "--theme" ∷ codes "dark" ∷ codes "a" ∷ codes "b" ∷ [])
+    ≡ Some (Show (record { tower = codes "t"; moments = Time; register = Some (codes "x"); picture = pictures.Html; around = 0; all = true; width = Some 72; theme = Dark; traces = codes "a" ∷ codes "b" ∷ [] }))
+unfolding clap_on_literals
+whole_show program = refl
+
+pub svg : (program : Text) → asked (program ∷ codes "show" ∷ codes "--tower=t" ∷ codes "--svg" ∷ codes "a" ∷ [])
+    ≡ Some (Show (record { tower = codes "t"; moments = Index; register = None; picture = pictures.Svg; around = 3; all = false; width = None; theme = Auto; traces = codes "a" ∷ [] }))
+unfolding clap_on_literals
+svg program = refl
+
+pub ascii : (program : Text) → asked (program ∷ codes "show" ∷ codes "a" ∷ codes "--ascii" ∷ codes "--tower=t" ∷ [])
+    ≡ Some (Show (record { tower = codes "t"; moments = Index; register = None; picture = pictures.Ascii; around = 3; all = false; width = None; theme = Auto; traces = codes "a" ∷ [] }))
+unfolding clap_on_literals
+ascii program = refl
+
+pub any_names_to_show : (program tower register trace : Text) → asked (program ∷ codes "show" ∷ (codes "--tower=" ++ tower) ∷ (codes "--register=" ++ register) ∷ codes "--" ∷ trace ∷ [])
+    ≡ Some (Show (record { tower = tower; moments = Index; register = Some register; picture = pictures.Text; around = 3; all = false; width = None; theme = Auto; traces = trace ∷ [] }))
+unfolding clap_on_literals
+any_names_to_show program tower register trace = refl
+
+pub two_pictures : (program : Text) → (asked (program ∷ codes "show" ∷ codes "--tower=t" ∷ codes "--svg" ∷ codes "--html" ∷ codes "a" ∷ []) ≡ None)
+    × (asked (program ∷ codes "show" ∷ codes "--tower=t" ∷ codes "--svg" ∷ codes "--ascii" ∷ codes "a" ∷ []) ≡ None)
+    × (asked (program ∷ codes "show" ∷ codes "--tower=t" ∷ codes "--ascii" ∷ codes "--html" ∷ codes "a" ∷ []) ≡ None)
+unfolding clap_on_literals
+two_pictures program = (refl, refl, refl)
+
+pub three_pictures : (program : Text) → asked (program ∷ codes "show" ∷ codes "--tower=t" ∷ codes "--svg" ∷ codes "--html" ∷ codes "--ascii" ∷ codes "a" ∷ []) ≡ None
+unfolding clap_on_literals
+three_pictures program = refl
+
+pub no_tower_to_show : (program : Text) → asked (program ∷ codes "show" ∷ codes "a" ∷ []) ≡ None
+unfolding clap_on_literals
+no_tower_to_show program = refl
+
+pub no_trace_to_show : (program : Text) → asked (program ∷ codes "show" ∷ codes "--tower" ∷ codes "t" ∷ []) ≡ None
+unfolding clap_on_literals
+no_trace_to_show program = refl
+
+pub no_theme : (program : Text) → asked (program ∷ codes "show" ∷ codes "--tower=t" ∷ codes "--theme" ∷ codes "blue" ∷ codes "a" ∷ []) ≡ None
+unfolding clap_on_literals
+no_theme program = refl
+
+pub refused_widths : (takes command_line (codes "regaudit" ∷ codes "show" ∷ codes "--tower=t" ∷ codes "--width=19" ∷ codes "a" ∷ []) ≡ false)
+    × (takes command_line (codes "regaudit" ∷ codes "show" ∷ codes "--tower=t" ∷ codes "--width=1000001" ∷ codes "a" ∷ []) ≡ false)
+    × (takes command_line (codes "regaudit" ∷ codes "show" ∷ codes "--tower=t" ∷ codes "--width=x" ∷ codes "a" ∷ []) ≡ false)
+unfolding clap_on_literals
+refused_widths = (refl, refl, refl)
+
+pub taken_shows : (takes command_line (codes "regaudit" ∷ codes "show" ∷ codes "--tower=t" ∷ codes "--width=20" ∷ codes "a" ∷ []) ≡ true)
+    × (takes command_line (codes "regaudit" ∷ codes "show" ∷ codes "--tower=t" ∷ codes "--width=1000000" ∷ codes "--svg" ∷ codes "--all" ∷ codes "a" ∷ codes "b" ∷ []) ≡ true)
+unfolding clap_on_literals
+taken_shows = (refl, refl)
 
 pub tower_alone : (program : Text) → asked (program ∷ codes "lint" ∷ codes "--tower" ∷ codes "t" ∷ [])
     ≡ Some (Lint (record { tower = Some (codes "t"); moments = Index; form = Human; most = 3; denied = None; traces = [] }))

@@ -9,7 +9,9 @@ use Rattle.clap.specs.declared.ArgMatches.{ArgMatches}
 use Rattle.words.specs.declared.check.Form.{Form}
 use Rattle.words.specs.declared.check.Moments.{Moments}
 use Rattle.words.specs.declared.lint.LintForm.{LintForm}
-use Rattle.words.specs.Words.{Asked, AskedCheck, AskedLint, asked_by, check_by, command_by, command_line, count_in, form_in, lint_by, lint_form_in, moments_in, said_in, shards_in, traces_in}
+use Rattle.words.specs.declared.show.Picture.{Picture}
+use Rattle.words.specs.declared.show.Theme.{Theme}
+use Rattle.words.specs.Words.{Asked, AskedCheck, AskedLint, AskedShow, asked_by, check_by, command_by, command_line, count_in, form_in, is_set, lint_by, lint_form_in, moments_in, picture_by, said_in, shards_in, show_by, theme_in, traces_in}
 
 one_by_one : {A B C : Type 0} (f : B → C) (g : A → B) (found : Option A) → option_map f (option_map g found) ≡ option_map (λ a. f (g a)) found
 one_by_one f g None = refl
@@ -42,6 +44,17 @@ is_check rows tower shards moments order form least least_each traces tower_is s
 
 pub no_tower : (rows : List Row) → first_of (codes "tower") rows ≡ None → ◌≡◌ {A = Option AskedCheck} None (check_by rows)
 no_tower rows none = rw none refl
+
+-- a picture whose arguments are all there
+pub is_show : (rows : List Row) (tower : Text) (moments : Moments) (register : Option Text) (picture : Picture) (around : ℕ) (all : Bool) (width : Option ℕ) (theme : Theme) (traces : List Text) → first_of (codes "tower") rows ≡ Some tower → Some moments ≡ said_in moments_in (codes "moment") rows
+    → first_of (codes "register") rows ≡ register → Some picture ≡ picture_by rows → Some around ≡ said_in count_in (codes "around") rows → all ≡ is_set (codes "all") rows → width ≡ said_in count_in (codes "width") rows → Some theme ≡ said_in theme_in (codes "theme") rows
+    → traces ≡ traces_in rows → (length traces == 0) ≡ false
+    → ◌≡◌ {A = Option AskedShow} (Some (record { tower = tower; moments = moments; register = register; picture = picture; around = around; all = all; width = width; theme = theme; traces = traces })) (show_by rows)
+is_show rows tower moments register picture around all width theme traces tower_is moments_is register_is picture_is around_is all_is width_is theme_is traces_are some =
+    rw (tower_is, ← moments_is, ← picture_is, ← around_is, ← theme_is, ← traces_are, some, register_is, ← all_is, ← width_is) refl
+
+pub no_tower_to_show : (rows : List Row) → first_of (codes "tower") rows ≡ None → ◌≡◌ {A = Option AskedShow} None (show_by rows)
+no_tower_to_show rows none = rw none refl
 
 -- whether neither is there, of a name and of names, by their texts
 pub emptiness : (tower : Option (Bor (List ℕ))) (lent held : List (Bor (List ℕ))) (found is : Bool) → lent ≡ held → found ≡ (is_none tower && length lent == 0) → found ≡ is

@@ -1,14 +1,15 @@
 -- The commands, and what words ask for.
 use Rattle.std.specs.Prelude.{◌≡◌, ◌==◌, ◌||◌, ◌&&◌, ◌<◌, ◌≤◌, ◌-◌, ◌^◌, ⊤, ℕ, Bool, true, false, not, List, [], ◌∷◌, length, map, Option, Some, None, is_none, codes, if◌then◌else◌, option_and_then, unwrap_or}
-use Rattle.std.specs.Option.{option_map}
+use Rattle.std.specs.Option.{option_map, option_map_or}
 use Rattle.std.specs.Str.{bytes_eq}
 use Rattle.std.specs.Str.Parse.{digits_value, without_leading_plus}
 use Rattle.clap.specs.Lexer.{usize_max}
-use Rattle.clap.specs.Words.{App, Row, Rule, Text, all_of, app_of, first_of, new_app, new_rule, subcommand_of, with_rule, with_subcommand}
+use Rattle.clap.specs.Words.{App, Row, Rule, Text, all_of, app_of, first_of, new_app, new_rule, rule_of, subcommand_of, with_rule, with_subcommand}
 use Rattle.clap.specs.declared.builder.command.Command.{Command as Line}
 use Rattle.clap.specs.declared.builder.command.Command.TheViews.{out-Command as fields_of}
 use Rattle.clap.specs.Faults.{fault_of}
 use Rattle.clap.specs.ValueTests.{is_unsigned_in}
+use Rattle.clap.specs.declared.builder.action.ArgAction.TheVariants.{SetTrue}
 use Rattle.clap.specs.declared.builder.value_parser.ValueParser.TheVariants as parsers
 use Rattle.words.specs.declared.check.Check.{Check as HeldCheck}
 use Rattle.words.specs.declared.check.Form.{Form}
@@ -19,6 +20,11 @@ use Rattle.words.specs.declared.line.Choices.{Choices}
 use Rattle.words.specs.declared.lint.Lint.{Lint as HeldLint}
 use Rattle.words.specs.declared.lint.LintForm.{LintForm}
 use Rattle.words.specs.declared.lint.LintForm.TheVariants.{Human, Short, GitHub, Json}
+use Rattle.words.specs.declared.show.Picture.{Picture}
+use Rattle.words.specs.declared.show.Picture.TheVariants as pictures
+use Rattle.words.specs.declared.show.Show.{Show as HeldShow}
+use Rattle.words.specs.declared.show.Theme.{Theme}
+use Rattle.words.specs.declared.show.Theme.TheVariants.{Auto, Light, Dark}
 use Rattle.words.specs.declared.completion.Shell.{Shell}
 use Rattle.words.specs.Completion.{shell_named}
 use Rattle.words.specs.declared.words.Command.{Command}
@@ -64,6 +70,36 @@ check_with moment form = with_counts (with_rule (with_rule (with_rule (with_rule
 abbrev pub check_line : App
 check_line = check_with moment_rule form_rule
 
+-- `--register NAME`
+abbrev pub register_rule : Rule
+register_rule = record (new_rule (codes "register")) { long = Some (codes "register"); value_names = 1 }
+
+-- `--NAME`, a flag
+abbrev pub flag_rule : Text → Rule
+flag_rule name = record (new_rule name) { long = Some name; action = Some SetTrue }
+
+-- `--width N`, from 20 to 1000000
+abbrev pub width_rule : Rule
+width_rule = record (new_rule (codes "width")) { long = Some (codes "width"); value_names = 1; parser = Some (parsers.Unsigned 20 1000000) }
+
+-- `--theme THEME`, and `auto` where it is not given
+abbrev pub theme_rule : Rule
+theme_rule = record (new_rule (codes "theme")) { long = Some (codes "theme"); value_names = 1; defaults = codes "auto" ∷ [] }
+
+-- a command with how much is shown, how wide and in which colours, and the traces, where `--theme` has this rule
+abbrev pub with_show_options : App → Rule → App
+with_show_options options theme =
+    with_rule (with_rule (with_rule (with_rule (with_rule options (count_rule (codes "around") (codes "3"))) (flag_rule (codes "all"))) width_rule) theme) traces_rule
+
+-- `show` with these options and traces, where `--moment`, the flags of the pictures and `--theme` have these rules
+abbrev pub show_with : Rule → Rule → Rule → Rule → Rule → App
+show_with moment svg html ascii theme =
+    with_show_options (with_rule (with_rule (with_rule (with_rule (with_rule (with_rule (new_app (codes "show")) tower_rule) moment) register_rule) svg) html) ascii) theme
+
+-- `show --tower FILE [--moment FIELD] [--register NAME] [--svg] [--html] [--ascii] [--around N] [--all] [--width N] [--theme THEME] TRACE..`
+abbrev pub show_line : App
+show_line = show_with moment_rule (flag_rule (codes "svg")) (flag_rule (codes "html")) (flag_rule (codes "ascii")) theme_rule
+
 -- `--tower FILE`, which may be left out
 abbrev pub any_tower_rule : Rule
 any_tower_rule = record (new_rule (codes "tower")) { long = Some (codes "tower"); value_names = 1 }
@@ -84,9 +120,13 @@ any_traces_rule = record (new_rule (codes "TRACE")) { range = Some (record { sta
 abbrev pub with_lint_options : App → App
 with_lint_options options = with_rule (with_rule (with_rule options (count_rule (codes "max") (codes "3"))) deny_rule) any_traces_rule
 
--- `lint [--tower FILE] [--moment FIELD] [--as FORM] [--max N] [--deny CODES] TRACE..`, where `--moment` and `--as` have these rules
+-- `lint` with these options and traces, where `--moment` and `--as` have these rules
 abbrev pub lint_with : Rule → Rule → App
 lint_with moment form = with_lint_options (with_rule (with_rule (with_rule (new_app (codes "lint")) any_tower_rule) moment) form)
+
+-- `lint [--tower FILE] [--moment FIELD] [--as FORM] [--max N] [--deny CODES] TRACE..`
+abbrev pub lint_line : App
+lint_line = lint_with moment_rule amiss_rule
 
 -- `safe [TRACE]`
 abbrev pub safe_line : App
@@ -112,30 +152,42 @@ manual_line = new_app (codes "manual")
 abbrev pub shell_rule : Rule
 shell_rule = record (new_rule (codes "SHELL")) { required = true }
 
--- `completion SHELL`, where `SHELL` has this rule
+-- `completion` of a shell, where `SHELL` has this rule
 abbrev pub completion_with : Rule → App
 completion_with shell = with_rule (new_app (codes "completion")) shell
+
+-- `completion SHELL`
+abbrev pub completion_line : App
+completion_line = completion_with shell_rule
 
 -- the program's name alone, with one of these behind it
 abbrev pub program_line : App
 program_line = let alone = new_app (codes "regaudit") in record alone { top = record alone.top { subcommand_required = true } }
 
--- a line with the commands that read traces or a tower, where `--moment` and `--as` have these rules
-abbrev pub with_audits : App → Rule → Rule → App
-with_audits line moment form = with_subcommand (with_subcommand (with_subcommand line (check_with moment form).top) safe_line.top) tower_line.top
+-- a line with the commands that read one file
+abbrev pub with_files : App → App
+with_files line = with_subcommand (with_subcommand line safe_line.top) tower_line.top
 
 -- a line with the commands that print a text
 abbrev pub with_texts : App → App
 with_texts line = with_subcommand (with_subcommand (with_subcommand line explain_line.top) version_line.top) manual_line.top
 
--- the whole line: the program and its commands, where `--moment` and `--as` of `check` and of `lint`, and `SHELL`, have these rules
-abbrev pub line_with : Rule → Rule → Rule → Rule → Rule → App
-line_with moment form lint_moment lint_form shell =
-    with_subcommand (with_texts (with_subcommand (with_audits program_line moment form) (lint_with lint_moment lint_form).top)) (completion_with shell).top
+-- the whole line: the program and its commands, of which these are `check`, `show`, `lint` and `completion`
+abbrev pub line_with : App → App → App → App → App
+line_with check show lint completion =
+    with_subcommand (with_texts (with_files (with_subcommand (with_subcommand (with_subcommand program_line check.top) show.top) lint.top))) completion.top
+
+-- the whole line, with these arguments
+abbrev pub line_of : Choices → App
+line_of choices = line_with
+    (check_with (rule_of choices.moment) (rule_of choices.form))
+    (show_with (rule_of choices.show_moment) (rule_of choices.svg) (rule_of choices.html) (rule_of choices.ascii) (rule_of choices.theme))
+    (lint_with (rule_of choices.lint_moment) (rule_of choices.lint_form))
+    (completion_with (rule_of choices.shell))
 
 -- the whole line: the program and its commands
 abbrev pub command_line : App
-command_line = line_with moment_rule form_rule moment_rule amiss_rule shell_rule
+command_line = line_with check_line show_line lint_line completion_line
 
 -- a command as `clap` holds it: it is this one, and no argument of it goes to commands below it
 abbrev pub IsLine : App → Line → Type 0
@@ -145,6 +197,7 @@ IsLine app line = (app_of line ≡ app) × ((fields_of line).has_globals ≡ fal
 abbrev pub AreLocal : Choices → Type 0
 AreLocal choices =
     (choices.moment.global ≡ false) × (choices.form.global ≡ false)
+    × (choices.show_moment.global ≡ false) × (choices.svg.global ≡ false) × (choices.html.global ≡ false) × (choices.ascii.global ≡ false) × (choices.theme.global ≡ false)
     × (choices.lint_moment.global ≡ false) × (choices.lint_form.global ≡ false) × (choices.shell.global ≡ false)
 
 -- what `check` asks for
@@ -158,6 +211,18 @@ pub record AskedCheck : Type 0 where
   pub least_each : ℕ
   pub traces : List Text
 
+-- what `show` asks for
+pub record AskedShow : Type 0 where
+  pub tower : Text
+  pub moments : Moments
+  pub register : Option Text
+  pub picture : Picture
+  pub around : ℕ
+  pub all : Bool
+  pub width : Option ℕ
+  pub theme : Theme
+  pub traces : List Text
+
 -- what `lint` asks for
 pub record AskedLint : Type 0 where
   pub tower : Option Text
@@ -167,11 +232,12 @@ pub record AskedLint : Type 0 where
   pub denied : Option Text
   pub traces : List Text
 
--- a command: the trace that is named, none for standard input; what is checked, or looked through; the tower file that is named; the
+-- a command: the trace that is named, none for standard input; what is checked, shown or looked through; the tower file that is named; the
 -- code that is to be explained, none for a list of all; the program's version; its manual; the completion of a shell
 pub data Asked : Type 0 where
   Safe : (trace : Option Text) → Asked
   Check : (check : AskedCheck) → Asked
+  Show : (show : AskedShow) → Asked
   Lint : (lint : AskedLint) → Asked
   Tower : (file : Text) → Asked
   Explain : (code : Option Text) → Asked
@@ -190,6 +256,20 @@ moments_in text = if bytes_eq text (codes "index") then Some Index else (if byte
 -- the form that a text names
 abbrev pub form_in : Text → Option Form
 form_in text = if bytes_eq text (codes "text") then Some Report else (if bytes_eq text (codes "summary") then Some Summary else None)
+
+-- the picture that these flags ask for; none where they ask for two
+abbrev pub picture_in : Bool → Bool → Bool → Option Picture
+picture_in svg html ascii =
+    if svg then (if html || ascii then None else Some pictures.Svg)
+    else (if html then (if ascii then None else Some pictures.Html)
+    else (if ascii then Some pictures.Ascii else Some pictures.Text))
+
+-- the colours that a text names
+abbrev pub theme_in : Text → Option Theme
+theme_in text =
+    if bytes_eq text (codes "auto") then Some Auto
+    else (if bytes_eq text (codes "light") then Some Light
+    else (if bytes_eq text (codes "dark") then Some Dark else None))
 
 -- the form of what is amiss that a text names
 abbrev pub lint_form_in : Text → Option LintForm
@@ -211,6 +291,10 @@ traces_in rows = unwrap_or (all_of (codes "TRACE") rows) []
 abbrev pub said_in : {A : Type 0} → (Text → Option A) → Text → List Row → Option A
 said_in says name rows = option_and_then says (first_of name rows)
 
+-- whether the flag of this name is among the arguments: its value is `true` where it is, and `false` where it is not
+abbrev pub is_set : Text → List Row → Bool
+is_set name rows = option_map_or (λ value. bytes_eq value (codes "true")) (first_of name rows) false
+
 -- a check of this tower, with what is said of it, over the other arguments; none where they name no trace
 abbrev pub check_of : Text → ℕ → Moments → Form → ℕ → ℕ → List Row → Option AskedCheck
 check_of tower shards moments form least least_each rows =
@@ -227,6 +311,27 @@ check_by rows =
     (said_in form_in (codes "as") rows))
     (said_in moments_in (codes "moment") rows))
     (said_in shards_in (codes "shards") rows))
+    (first_of (codes "tower") rows)
+
+-- the picture that the flags among the arguments ask for
+abbrev pub picture_by : List Row → Option Picture
+picture_by rows = picture_in (is_set (codes "svg") rows) (is_set (codes "html") rows) (is_set (codes "ascii") rows)
+
+-- a picture of a register of this tower, with what is said of it, over the other arguments; none where they name no trace
+abbrev pub show_of : Text → Moments → Picture → ℕ → Theme → List Row → Option AskedShow
+show_of tower moments picture around theme rows =
+    if length (traces_in rows) == 0 then None
+    else Some (record { tower = tower; moments = moments; register = first_of (codes "register") rows; picture = picture; around = around; all = is_set (codes "all") rows; width = said_in count_in (codes "width") rows; theme = theme; traces = traces_in rows })
+
+-- the picture with these arguments
+abbrev pub show_by : List Row → Option AskedShow
+show_by rows =
+    option_and_then (λ tower. option_and_then (λ moments. option_and_then (λ picture. option_and_then (λ around.
+    option_and_then (λ theme. show_of tower moments picture around theme rows)
+    (said_in theme_in (codes "theme") rows))
+    (said_in count_in (codes "around") rows))
+    (picture_by rows))
+    (said_in moments_in (codes "moment") rows))
     (first_of (codes "tower") rows)
 
 -- a look through these, over the other arguments; none where they name neither a tower file nor a trace
@@ -247,13 +352,14 @@ lint_by rows =
 abbrev pub command_by : Text → List Row → Option Asked
 command_by name rows =
     if bytes_eq name (codes "check") then option_map Check (check_by rows)
+    else (if bytes_eq name (codes "show") then option_map Show (show_by rows)
     else (if bytes_eq name (codes "lint") then option_map Lint (lint_by rows)
     else (if bytes_eq name (codes "safe") then Some (Safe (first_of (codes "TRACE") rows))
     else (if bytes_eq name (codes "tower") then option_map Tower (first_of (codes "FILE") rows)
     else (if bytes_eq name (codes "explain") then Some (Explain (first_of (codes "CODE") rows))
     else (if bytes_eq name (codes "version") then Some Version
     else (if bytes_eq name (codes "manual") then Some Manual
-    else option_map Completion (said_in shell_named (codes "SHELL") rows)))))))
+    else option_map Completion (said_in shell_named (codes "SHELL") rows))))))))
 
 -- the command that was found, with its arguments
 abbrev pub asked_by : Option (Text × List Row) → Option Asked
@@ -290,6 +396,20 @@ asked_check check = record {
   traces = map (λ name. name.now) check.traces.items;
 }
 
+-- the program's value of a picture
+abbrev pub asked_show : HeldShow → AskedShow
+asked_show show = record {
+  tower = show.tower.now;
+  moments = show.moments;
+  register = option_map (λ name. name.now) show.register;
+  picture = show.picture;
+  around = show.around;
+  all = show.all;
+  width = show.width;
+  theme = show.theme;
+  traces = map (λ name. name.now) show.traces.items;
+}
+
 -- the program's value of a look through traces and a tower file
 abbrev pub asked_lint : HeldLint → AskedLint
 asked_lint lint = record {
@@ -305,6 +425,7 @@ asked_lint lint = record {
 abbrev pub asked_of : Command → Asked
 asked_of (commands.Safe trace) = Safe (option_map (λ name. name.now) trace)
 asked_of (commands.Check check) = Check (asked_check check)
+asked_of (commands.Show show) = Show (asked_show show)
 asked_of (commands.Lint lint) = Lint (asked_lint lint)
 asked_of (commands.Tower file) = Tower file.now
 asked_of (commands.Explain code) = Explain (option_map (λ code. code.now) code)
@@ -317,9 +438,10 @@ abbrev pub HasShards : Command → Type 0
 HasShards (commands.Check check) = (1 ≤ check.shards) × (check.shards ≤ 64)
 HasShards _ = ⊤
 
--- a check has one trace or more
+-- a check and a picture have one trace or more
 abbrev pub HasTraces : Command → Type 0
 HasTraces (commands.Check check) = 0 < length check.traces.items
+HasTraces (commands.Show show) = 0 < length show.traces.items
 HasTraces _ = ⊤
 
 -- a word that is no option: it does not begin with a hyphen, or it is the hyphen alone

@@ -78,17 +78,18 @@ _regaudit() {
         before=${COMP_WORDS[COMP_CWORD - 2]}
     fi
     if ((COMP_CWORD == 1)); then
-        words='check lint safe tower explain version manual completion --help --version'
+        words='check show lint safe tower explain version manual completion --help --version'
     else
         case ${COMP_WORDS[1]}:$before in
-            check:--order)
+            check:--order | show:--register)
                 _regaudit_registers "$1" "$begun"
                 return
                 ;;
-            check:--tower | lint:--tower) ;;
+            check:--tower | show:--tower | lint:--tower) ;;
             check:--shards) words='1 2 4 8 16 32 64' ;;
-            check:--moment | lint:--moment) words='index time' ;;
+            check:--moment | show:--moment | lint:--moment) words='index time' ;;
             check:--as) words='text summary' ;;
+            show:--theme) words='auto light dark' ;;
             lint:--as) words='human short github json' ;;
             lint:--deny) words='L1 L2 L3 L4 L5 L6 L7 L8' ;;
             explain:explain) words=$("$1" explain 2> /dev/null | cut -d ' ' -f 1) ;;
@@ -96,6 +97,11 @@ _regaudit() {
             check:*)
                 if [[ $begun == -* ]]; then
                     words='--tower --shards --moment --order --as --least --least-each --help'
+                fi
+                ;;
+            show:*)
+                if [[ $begun == -* ]]; then
+                    words='--tower --moment --register --svg --html --ascii --around --all --width --theme --help'
                 fi
                 ;;
             lint:*)
@@ -148,6 +154,7 @@ _regaudit() {
     local -a commands
     commands=(
         'check:judges the registers of a tower by traces'
+        'show:draws a register'
         'lint:says what is amiss in a tower file and in traces'
         'safe:judges a trace of one safe register'
         'tower:lists the registers of a tower'
@@ -170,6 +177,21 @@ _regaudit() {
                         '--as=[how the report is printed]:form:(text summary)' \
                         '--least=[status 4 where fewer operations stand]:number: ' \
                         '--least-each=[status 4 where fewer stand in a register]:number: ' \
+                        '(- *)'{-h,--help}'[prints help]' \
+                        '*:trace:_files'
+                    ;;
+                show)
+                    _arguments \
+                        '--tower=[the tower file]:tower file:_files' \
+                        '--moment=[the field that moments stand under]:field:(index time)' \
+                        '--register=[the register that is drawn]:register:_regaudit_registers' \
+                        '(--html --ascii)--svg[one picture, as SVG]' \
+                        '(--svg --ascii)--html[a page with a picture of each register that fails]' \
+                        '(--svg --html)--ascii[lines of ASCII alone]' \
+                        '--around=[how many operations are shown before and after each that tells why]:number: ' \
+                        '--all[shows all operations]' \
+                        '--width=[how wide lines or rows may be]:number: ' \
+                        '--theme=[the colours of a picture]:theme:(auto light dark)' \
                         '(- *)'{-h,--help}'[prints help]' \
                         '*:trace:_files'
                     ;;
@@ -233,6 +255,7 @@ complete -c regaudit -s h -l help -d 'prints help'
 complete -c regaudit -n __fish_use_subcommand -s V -l version -d 'prints the version'
 
 complete -c regaudit -n __fish_use_subcommand -a check -d 'judges the registers of a tower by traces'
+complete -c regaudit -n __fish_use_subcommand -a show -d 'draws a register'
 complete -c regaudit -n __fish_use_subcommand -a lint -d 'says what is amiss in a tower file and in traces'
 complete -c regaudit -n __fish_use_subcommand -a safe -d 'judges a trace of one safe register'
 complete -c regaudit -n __fish_use_subcommand -a tower -d 'lists the registers of a tower'
@@ -241,7 +264,7 @@ complete -c regaudit -n __fish_use_subcommand -a version -d 'says which build th
 complete -c regaudit -n __fish_use_subcommand -a manual -d 'prints all helps and the tables of codes'
 complete -c regaudit -n __fish_use_subcommand -a completion -d 'prints a script that completes the words'
 
-complete -c regaudit -n '__regaudit_is check lint safe tower' -F
+complete -c regaudit -n '__regaudit_is check show lint safe tower' -F
 complete -c regaudit -n '__regaudit_is check' -l tower -rF -d 'the tower file'
 complete -c regaudit -n '__regaudit_is check' -l shards -x -a '1 2 4 8 16 32 64' -d 'over how many shards the registers are spread'
 complete -c regaudit -n '__regaudit_is check' -l moment -x -a 'index time' -d 'the field that moments stand under'
@@ -249,6 +272,16 @@ complete -c regaudit -n '__regaudit_is check' -l order -x -a '(__regaudit_regist
 complete -c regaudit -n '__regaudit_is check' -l as -x -a 'text summary' -d 'how the report is printed'
 complete -c regaudit -n '__regaudit_is check' -l least -x -d 'status 4 where fewer operations stand'
 complete -c regaudit -n '__regaudit_is check' -l least-each -x -d 'status 4 where fewer stand in a register'
+complete -c regaudit -n '__regaudit_is show' -l tower -rF -d 'the tower file'
+complete -c regaudit -n '__regaudit_is show' -l moment -x -a 'index time' -d 'the field that moments stand under'
+complete -c regaudit -n '__regaudit_is show' -l register -x -a '(__regaudit_registers)' -d 'the register that is drawn'
+complete -c regaudit -n '__regaudit_is show' -l svg -d 'one picture, as SVG'
+complete -c regaudit -n '__regaudit_is show' -l html -d 'a page with a picture of each register that fails'
+complete -c regaudit -n '__regaudit_is show' -l ascii -d 'lines of ASCII alone'
+complete -c regaudit -n '__regaudit_is show' -l around -x -d 'how many are shown before and after each that tells why'
+complete -c regaudit -n '__regaudit_is show' -l all -d 'shows all operations'
+complete -c regaudit -n '__regaudit_is show' -l width -x -d 'how wide lines or rows may be'
+complete -c regaudit -n '__regaudit_is show' -l theme -x -a 'auto light dark' -d 'the colours of a picture'
 complete -c regaudit -n '__regaudit_is lint' -l tower -rF -d 'the tower file'
 complete -c regaudit -n '__regaudit_is lint' -l moment -x -a 'index time' -d 'the field that moments stand under'
 complete -c regaudit -n '__regaudit_is lint' -l as -x -a 'human short github json' -d 'how it is printed'

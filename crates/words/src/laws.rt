@@ -6,7 +6,9 @@ ghost use Rattle.words.specs.declared.check.Moments.TheVariants.{Index, Time};
 ghost use Rattle.words.specs.declared.check.Form.TheVariants.{Report, Summary};
 ghost use Rattle.words.specs.declared.completion.Shell.TheVariants.{Bash, Zsh, Fish};
 ghost use Rattle.words.specs.declared.lint.LintForm.TheVariants.{Human, Json};
-ghost use Rattle.words.specs.Words.{Check, Completion, Explain, Lint, Manual, Safe, Tower, Version, asked, command_line, is_plain};
+ghost use Rattle.words.specs.declared.show.Picture.TheVariants as pictures;
+ghost use Rattle.words.specs.declared.show.Theme.TheVariants.{Auto, Dark};
+ghost use Rattle.words.specs.Words.{Check, Completion, Explain, Lint, Manual, Safe, Show, Tower, Version, asked, command_line, is_plain};
 
 /// What words ask for, whatever the program's name: the command is named behind it, and then its
 /// file. A file whose name begins with a hyphen stands behind `--`.
@@ -40,6 +42,33 @@ pub fn checks_in_turn()
         ≡ Some (Check (record { tower = codes "t"; shards = 2; moments = Index; order = None; form = Report; least = 0; least_each = 0; traces = codes "a" ∷ codes "b" ∷ codes "a" ∷ [] })) }
     ensures any_names { (program tower order trace : Text) → asked (program ∷ codes "check" ∷ (codes "--tower=" ++ tower) ∷ (codes "--order=" ++ order) ∷ codes "--" ∷ trace ∷ [])
         ≡ Some (Check (record { tower = tower; shards = 1; moments = Index; order = Some order; form = Report; least = 0; least_each = 0; traces = trace ∷ [] })) }
+{}
+
+/// What `show` asks for: lines of a terminal, three operations around each that tells why, and the colours of the
+/// reader's machine where nothing else is said. One flag at most asks for another picture, and a trace is named.
+pub fn shows_in_turn()
+    ensures plain { (program : Text) → asked (program ∷ codes "show" ∷ codes "--tower" ∷ codes "t" ∷ codes "a" ∷ [])
+        ≡ Some (Show (record { tower = codes "t"; moments = Index; register = None; picture = pictures.Text; around = 3; all = false; width = None; theme = Auto; traces = codes "a" ∷ [] })) }
+    ensures whole { (program : Text) → asked (program ∷ codes "show" ∷ codes "--tower=t" ∷ codes "--moment" ∷ codes "time" ∷ codes "--register" ∷ codes "x" ∷ codes "--html" ∷ codes "--around" ∷ codes "0" ∷ codes "--all" ∷ codes "--width" ∷ codes "72" ∷ codes "--theme" ∷ codes "dark" ∷ codes "a" ∷ codes "b" ∷ [])
+        ≡ Some (Show (record { tower = codes "t"; moments = Time; register = Some (codes "x"); picture = pictures.Html; around = 0; all = true; width = Some 72; theme = Dark; traces = codes "a" ∷ codes "b" ∷ [] })) }
+    ensures svg { (program : Text) → asked (program ∷ codes "show" ∷ codes "--tower=t" ∷ codes "--svg" ∷ codes "a" ∷ [])
+        ≡ Some (Show (record { tower = codes "t"; moments = Index; register = None; picture = pictures.Svg; around = 3; all = false; width = None; theme = Auto; traces = codes "a" ∷ [] })) }
+    ensures ascii { (program : Text) → asked (program ∷ codes "show" ∷ codes "a" ∷ codes "--ascii" ∷ codes "--tower=t" ∷ [])
+        ≡ Some (Show (record { tower = codes "t"; moments = Index; register = None; picture = pictures.Ascii; around = 3; all = false; width = None; theme = Auto; traces = codes "a" ∷ [] })) }
+    ensures any_names { (program tower register trace : Text) → asked (program ∷ codes "show" ∷ (codes "--tower=" ++ tower) ∷ (codes "--register=" ++ register) ∷ codes "--" ∷ trace ∷ [])
+        ≡ Some (Show (record { tower = tower; moments = Index; register = Some register; picture = pictures.Text; around = 3; all = false; width = None; theme = Auto; traces = trace ∷ [] })) }
+    ensures two_pictures { (program : Text) → (asked (program ∷ codes "show" ∷ codes "--tower=t" ∷ codes "--svg" ∷ codes "--html" ∷ codes "a" ∷ []) ≡ None)
+        × (asked (program ∷ codes "show" ∷ codes "--tower=t" ∷ codes "--svg" ∷ codes "--ascii" ∷ codes "a" ∷ []) ≡ None)
+        × (asked (program ∷ codes "show" ∷ codes "--tower=t" ∷ codes "--ascii" ∷ codes "--html" ∷ codes "a" ∷ []) ≡ None) }
+    ensures three_pictures { (program : Text) → asked (program ∷ codes "show" ∷ codes "--tower=t" ∷ codes "--svg" ∷ codes "--html" ∷ codes "--ascii" ∷ codes "a" ∷ []) ≡ None }
+    ensures no_tower { (program : Text) → asked (program ∷ codes "show" ∷ codes "a" ∷ []) ≡ None }
+    ensures no_trace { (program : Text) → asked (program ∷ codes "show" ∷ codes "--tower" ∷ codes "t" ∷ []) ≡ None }
+    ensures no_theme { (program : Text) → asked (program ∷ codes "show" ∷ codes "--tower=t" ∷ codes "--theme" ∷ codes "blue" ∷ codes "a" ∷ []) ≡ None }
+    ensures refused_widths { (takes command_line (codes "regaudit" ∷ codes "show" ∷ codes "--tower=t" ∷ codes "--width=19" ∷ codes "a" ∷ []) ≡ false)
+        × (takes command_line (codes "regaudit" ∷ codes "show" ∷ codes "--tower=t" ∷ codes "--width=1000001" ∷ codes "a" ∷ []) ≡ false)
+        × (takes command_line (codes "regaudit" ∷ codes "show" ∷ codes "--tower=t" ∷ codes "--width=x" ∷ codes "a" ∷ []) ≡ false) }
+    ensures taken { (takes command_line (codes "regaudit" ∷ codes "show" ∷ codes "--tower=t" ∷ codes "--width=20" ∷ codes "a" ∷ []) ≡ true)
+        × (takes command_line (codes "regaudit" ∷ codes "show" ∷ codes "--tower=t" ∷ codes "--width=1000000" ∷ codes "--svg" ∷ codes "--all" ∷ codes "a" ∷ codes "b" ∷ []) ≡ true) }
 {}
 
 /// What `lint` asks for: a tower file, traces, or both; three of each code, for people, and no code denied, where nothing

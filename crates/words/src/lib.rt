@@ -3,6 +3,8 @@
 //! ```text
 //! regaudit check --tower FILE [--shards N] [--moment index|time] [--order NAME] [--as text|summary]
 //!     [--least N] [--least-each N] TRACE..
+//! regaudit show --tower FILE [--moment index|time] [--register NAME] [--svg|--html|--ascii] [--around N] [--all]
+//!     [--width N] [--theme auto|light|dark] TRACE..
 //! regaudit lint [--tower FILE] [--moment index|time] [--as human|short|github|json] [--max N] [--deny CODES]
 //!     [TRACE..]
 //! regaudit safe [TRACE]
@@ -39,10 +41,12 @@ pub mod laws;
 mod line;
 mod lint;
 mod manual;
+mod show;
 mod words;
 
 pub use check::{Check, Form, Moments};
 pub use completion::Shell;
 pub use lint::{Lint, LintForm};
 pub use manual::help_of_all;
+pub use show::{Picture, Show, Theme};
 pub use words::{Command, no_text, read_words};

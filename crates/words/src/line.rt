@@ -1,11 +1,11 @@
 //! The command line as `clap` is told of it.
 
-ghost use Rattle.std.specs.Prelude.{◌≡◌, false, IfOk};
-ghost use Rattle.clap.specs.Words.{App, app_of, rule_of};
-ghost use Rattle.words.specs.Words.{AreLocal, IsLine, amiss_rule, any_tower_rule, any_traces_rule, check_with, completion_with, count_rule, deny_rule, explain_line, form_rule, line_with, lint_with, manual_line, moment_rule, order_rule, safe_line, shards_rule, shell_rule, tower_line, tower_rule, traces_rule, version_line, with_audits, with_counts, with_lint_options, with_texts};
+ghost use Rattle.std.specs.Prelude.{◌≡◌, codes, false, IfOk};
+ghost use Rattle.clap.specs.Words.{App, app_of, rule_of, with_subcommand};
+ghost use Rattle.words.specs.Words.{AreLocal, IsLine, amiss_rule, any_tower_rule, any_traces_rule, check_with, completion_with, count_rule, deny_rule, explain_line, flag_rule, form_rule, line_of, lint_with, manual_line, moment_rule, order_rule, register_rule, safe_line, shards_rule, shell_rule, show_with, theme_rule, tower_line, tower_rule, traces_rule, version_line, width_rule, with_counts, with_files, with_lint_options, with_show_options, with_texts};
 
 use clap::builder::ValueParser;
-use clap::{Arg, Command};
+use clap::{Arg, ArgAction, Command};
 use std::alloc::{AllocError, Global};
 
 /// What stands at the end of each help: the statuses, and where the formats are described.
@@ -47,13 +47,29 @@ const TOWER: &str = "The tower file, in EDN, such as examples/tower.edn";
 
 const MANUAL: &str = "Prints the help of all commands, and what each code means in a line";
 
-/// The arguments that have one of a few words, each of which takes any word here.
+/// The arguments that have one of a few words, each of which takes any word here, and the flags of the pictures, of
+/// which one may be given and any may be given here.
 pub(crate) struct Choices<'a> {
     pub moment: Arg<'a>,
     pub form: Arg<'a>,
+    pub show_moment: Arg<'a>,
+    pub svg: Arg<'a>,
+    pub html: Arg<'a>,
+    pub ascii: Arg<'a>,
+    pub theme: Arg<'a>,
     pub lint_moment: Arg<'a>,
     pub lint_form: Arg<'a>,
     pub shell: Arg<'a>,
+}
+
+/// Those of `show`.
+#[derive(Drop)]
+struct ShowChoices<'a> {
+    moment: Arg<'a>,
+    svg: Arg<'a>,
+    html: Arg<'a>,
+    ascii: Arg<'a>,
+    theme: Arg<'a>,
 }
 
 /// The line with these arguments.
@@ -61,38 +77,61 @@ pub(crate) fn command_line<'a>(
     alloc: Global,
     choices: Choices<'a>,
 ) -> Result<Command<'a>, AllocError>
-    ensures { AreLocal choices.entry → IfOk result (λ line. app_of line ≡ line_with (rule_of choices.entry.moment) (rule_of choices.entry.form) (rule_of choices.entry.lint_moment) (rule_of choices.entry.lint_form) (rule_of choices.entry.shell)) }
+    ensures { AreLocal choices.entry → IfOk result (λ line. app_of line ≡ line_of choices.entry) }
 {
     let Choices {
         moment,
         form,
+        show_moment,
+        svg,
+        html,
+        ascii,
+        theme,
         lint_moment,
         lint_form,
         shell,
     } = choices;
+    let show = ShowChoices {
+        moment: show_moment,
+        svg,
+        html,
+        ascii,
+        theme,
+    };
     let line = Command::new(alloc, "regaudit")
         .about("Audits the histories of registers")
         .after_help(STATUSES)
         .subcommand_required(true);
-    let line = add_audits(alloc, line, moment, form)?;
+    let line = add_audits(alloc, line, moment, form, show)?;
     let lint = lint_line(alloc, lint_moment, lint_form)?;
     let line = line.subcommand(lint)?;
+    let line = add_files(alloc, line)?;
     let line = add_texts(alloc, line)?;
     let completion = completion_line(alloc, shell)?;
     line.subcommand(completion)
 }
 
-/// Adds the commands that read traces or a tower.
+/// Adds the commands that judge registers and draw them.
 fn add_audits<'a>(
     alloc: Global,
     line: Command<'a>,
     moment: Arg<'a>,
     form: Arg<'a>,
+    show: ShowChoices<'a>,
 ) -> Result<Command<'a>, AllocError>
-    ensures { moment.entry.global ≡ false → form.entry.global ≡ false → IfOk result (λ new. app_of new ≡ with_audits (app_of line.entry) (rule_of moment.entry) (rule_of form.entry)) }
+    ensures { moment.entry.global ≡ false → form.entry.global ≡ false → show.entry.moment.global ≡ false → show.entry.svg.global ≡ false → show.entry.html.global ≡ false → show.entry.ascii.global ≡ false → show.entry.theme.global ≡ false
+        → IfOk result (λ new. app_of new ≡ with_subcommand (with_subcommand (app_of line.entry) (check_with (rule_of moment.entry) (rule_of form.entry)).top) (show_with (rule_of show.entry.moment) (rule_of show.entry.svg) (rule_of show.entry.html) (rule_of show.entry.ascii) (rule_of show.entry.theme)).top) }
 {
     let check = check_line(alloc, moment, form)?;
     let line = line.subcommand(check)?;
+    let show = show_line(alloc, show)?;
+    line.subcommand(show)
+}
+
+/// Adds the commands that read one file.
+fn add_files<'a>(alloc: Global, line: Command<'a>) -> Result<Command<'a>, AllocError>
+    ensures { IfOk result (λ new. app_of new ≡ with_files (app_of line.entry)) }
+{
     let safe = safe_line(alloc)?;
     let line = line.subcommand(safe)?;
     let tower = tower_line(alloc)?;
@@ -109,10 +148,15 @@ fn add_texts<'a>(alloc: Global, line: Command<'a>) -> Result<Command<'a>, AllocE
     line.subcommand(manual_line(alloc))
 }
 
-/// `--moment` and `--as` of `check` and of `lint`, and `SHELL`, each of which takes any word.
+/// Those arguments, each of which takes any word, and goes with any other.
 pub(crate) fn few_words<'a>(alloc: Global) -> Choices<'a>
     ensures moment { rule_of result.moment ≡ moment_rule }
     ensures form { rule_of result.form ≡ form_rule }
+    ensures show_moment { rule_of result.show_moment ≡ moment_rule }
+    ensures svg { rule_of result.svg ≡ flag_rule (codes "svg") }
+    ensures html { rule_of result.html ≡ flag_rule (codes "html") }
+    ensures ascii { rule_of result.ascii ≡ flag_rule (codes "ascii") }
+    ensures theme { rule_of result.theme ≡ theme_rule }
     ensures lint_moment { rule_of result.lint_moment ≡ moment_rule }
     ensures lint_form { rule_of result.lint_form ≡ amiss_rule }
     ensures shell { rule_of result.shell ≡ shell_rule }
@@ -121,6 +165,15 @@ pub(crate) fn few_words<'a>(alloc: Global) -> Choices<'a>
     Choices {
         moment: moment(alloc),
         form: form(alloc),
+        show_moment: moment(alloc),
+        svg: flag(alloc, "svg", "One picture, as SVG"),
+        html: flag(
+            alloc,
+            "html",
+            "A page with a picture of each register that fails",
+        ),
+        ascii: flag(alloc, "ascii", "Lines of ASCII alone"),
+        theme: theme(alloc),
         lint_moment: moment(alloc),
         lint_form: lint_form(alloc),
         shell: shell(alloc),
@@ -147,6 +200,17 @@ fn form<'a>(alloc: Global) -> Arg<'a>
         .value_name("FORM")
         .default_value("text")
         .help("What is printed: the report as text, or a summary of it")
+}
+
+fn theme<'a>(alloc: Global) -> Arg<'a>
+    ensures rule { rule_of result ≡ theme_rule }
+    ensures local { result.global ≡ false }
+{
+    Arg::new(alloc, "theme")
+        .long("theme")
+        .value_name("THEME")
+        .default_value("auto")
+        .help("The colours of a picture: auto, light or dark")
 }
 
 fn lint_form<'a>(alloc: Global) -> Arg<'a>
@@ -203,6 +267,76 @@ fn add_counts<'a>(alloc: Global, line: Command<'a>) -> Result<Command<'a>, Alloc
     );
     let line = line.arg(least_each)?;
     line.arg(traces(alloc))
+}
+
+fn show_line<'a>(alloc: Global, choices: ShowChoices<'a>) -> Result<Command<'a>, AllocError>
+    ensures { choices.entry.moment.global ≡ false → choices.entry.svg.global ≡ false → choices.entry.html.global ≡ false → choices.entry.ascii.global ≡ false → choices.entry.theme.global ≡ false
+        → IfOk result (λ line. IsLine (show_with (rule_of choices.entry.moment) (rule_of choices.entry.svg) (rule_of choices.entry.html) (rule_of choices.entry.ascii) (rule_of choices.entry.theme)) line) }
+{
+    let ShowChoices {
+        moment,
+        svg,
+        html,
+        ascii,
+        theme,
+    } = choices;
+    let line = Command::new(alloc, "show")
+        .about("Draws a register: why it fails, or an order of its operations")
+        .after_help(STATUSES)
+        .arg(tower(alloc))?
+        .arg(moment)?
+        .arg(register(alloc))?
+        .arg(svg)?
+        .arg(html)?
+        .arg(ascii)?;
+    add_show_options(alloc, line, theme)
+}
+
+/// Adds how much is shown, how wide and in which colours, and the traces.
+fn add_show_options<'a>(
+    alloc: Global,
+    line: Command<'a>,
+    theme: Arg<'a>,
+) -> Result<Command<'a>, AllocError>
+    ensures { theme.entry.global ≡ false → (app : App) → IsLine app line.entry → IfOk result (IsLine (with_show_options app (rule_of theme.entry))) }
+{
+    let around = count(
+        alloc,
+        "around",
+        "3",
+        "How many operations are shown before and after each that tells why",
+    );
+    let line = line.arg(around)?;
+    let all = flag(alloc, "all", "Shows all operations");
+    let line = line.arg(all)?;
+    let line = line.arg(width(alloc))?;
+    let line = line.arg(theme)?;
+    line.arg(traces(alloc))
+}
+
+fn register<'a>(alloc: Global) -> Arg<'a>
+    ensures rule { rule_of result ≡ register_rule }
+    ensures local { result.global ≡ false }
+{
+    Arg::new(alloc, "register")
+        .long("register")
+        .value_name("NAME")
+        .help(
+            "The register that is drawn; where none is named, the first to blame, else the first that fails, else the first with an operation",
+        )
+}
+
+fn width<'a>(alloc: Global) -> Arg<'a>
+    ensures rule { rule_of result ≡ width_rule }
+    ensures local { result.global ≡ false }
+{
+    Arg::new(alloc, "width")
+        .long("width")
+        .value_name("N")
+        .value_parser(ValueParser::unsigned(20, 1000000))
+        .help(
+            "How many cells a line has, or units a row of a picture: 100 and 1000 where it is not said",
+        )
 }
 
 fn lint_line<'a>(alloc: Global, moment: Arg<'a>, form: Arg<'a>) -> Result<Command<'a>, AllocError>
@@ -347,6 +481,17 @@ fn order<'a>(alloc: Global) -> Arg<'a>
         .long("order")
         .value_name("NAME")
         .help("Prints an order of this atomic register's operations too")
+}
+
+/// `--NAME`, a flag.
+fn flag<'a>(alloc: Global, name: &'a str, help: &'a str) -> Arg<'a>
+    ensures rule { rule_of result ≡ flag_rule name.entry.now }
+    ensures local { result.global ≡ false }
+{
+    Arg::new(alloc, name)
+        .long(name)
+        .action(ArgAction::SetTrue)
+        .help(help)
 }
 
 /// `--NAME N`, a number.

@@ -3,8 +3,9 @@
 use crate::line::{command_line, few_words};
 use std::alloc::{AllocError, Global};
 
-static COMMANDS: [&str; 8] = [
+static COMMANDS: [&str; 9] = [
     "check",
+    "show",
     "lint",
     "safe",
     "tower",

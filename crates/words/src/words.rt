@@ -14,6 +14,7 @@ use crate::check::{Check, check_of};
 use crate::completion::Shell;
 use crate::line::{Choices, command_line, few_words};
 use crate::lint::{Lint, lint_of};
+use crate::show::{Show, show_of};
 use clap::error::ErrorKind;
 use clap::{ArgMatches, Error};
 use std::alloc::{AllocError, Global};
@@ -26,6 +27,8 @@ pub enum Command<'a> {
     Safe(Option<&'a str>),
     /// Traces against a tower.
     Check(Check<'a>),
+    /// A picture of a register.
+    Show(Show<'a>),
     /// What is amiss in a tower file and in traces.
     Lint(Lint<'a>),
     /// The tower file that is named.
@@ -104,16 +107,18 @@ static MOMENTS: [&str; 2] = ["index", "time"];
 
 static FORMS: [&str; 2] = ["text", "summary"];
 
+static THEMES: [&str; 3] = ["auto", "light", "dark"];
+
 static LINT_FORMS: [&str; 4] = ["human", "short", "github", "json"];
 
 static SHELLS: [&str; 3] = ["bash", "zsh", "fish"];
 
 /// The fault of words that `clap` takes and that ask for nothing: an argument that has one of a few words has
-/// another, which `clap` tells in its own text, on a line that takes these alone; or `lint` is given nothing to
-/// read. That line holds the words as it was lent them, so no line of `specs/` is equal to it, and words are not
-/// read by it.
+/// another, or two flags ask for pictures, which `clap` tells in its own text, on a line that takes these words and
+/// one such flag alone; or `lint` is given nothing to read. That line holds the words as it was lent them, so no
+/// line of `specs/` is equal to it, and words are not read by it.
 fn refused<'a, S: AsStr>(alloc: Global, words: &'a [S]) -> Result<Error, AllocError> {
-    let mut line = command_line(alloc, narrow(few_words(alloc)))?;
+    let mut line = command_line(alloc, narrow(few_words(alloc))?)?;
     match line.try_get_matches_from_mut(words) {
         Err(error) => Ok(error),
         Ok(_) => line.error(
@@ -123,22 +128,34 @@ fn refused<'a, S: AsStr>(alloc: Global, words: &'a [S]) -> Result<Error, AllocEr
     }
 }
 
-/// The arguments, each of which takes its few words alone.
-fn narrow(choices: Choices<'_>) -> Choices<'_> {
+/// The arguments, each of which takes its few words alone, and flags of which one alone may be given.
+fn narrow(choices: Choices<'_>) -> Result<Choices<'_>, AllocError> {
     let Choices {
         moment,
         form,
+        show_moment,
+        svg,
+        html,
+        ascii,
+        theme,
         lint_moment,
         lint_form,
         shell,
     } = choices;
-    Choices {
+    let svg = svg.conflicts_with("html")?.conflicts_with("ascii")?;
+    let html = html.conflicts_with("ascii")?;
+    Ok(Choices {
         moment: moment.value_parser(MOMENTS.as_slice()),
         form: form.value_parser(FORMS.as_slice()),
+        show_moment: show_moment.value_parser(MOMENTS.as_slice()),
+        svg,
+        html,
+        ascii,
+        theme: theme.value_parser(THEMES.as_slice()),
         lint_moment: lint_moment.value_parser(MOMENTS.as_slice()),
         lint_form: lint_form.value_parser(LINT_FORMS.as_slice()),
         shell: shell.value_parser(SHELLS.as_slice()),
-    }
+    })
 }
 
 fn command_of<'a>(
@@ -158,6 +175,12 @@ fn command_of<'a>(
             None => None,
         });
     }
+    if name == "show" {
+        return Ok(match show_of(alloc, found)? {
+            Some(show) => Some(Command::Show(show)),
+            None => None,
+        });
+    }
     if name == "lint" {
         return Ok(match lint_of(alloc, found)? {
             Some(lint) => Some(Command::Lint(lint)),
@@ -167,9 +190,10 @@ fn command_of<'a>(
     Ok(other_command(name, found))
 }
 
-/// A command of that name other than `check` and `lint`.
+/// A command of that name other than `check`, `show` and `lint`.
 fn other_command<'a>(name: &str, found: &ArgMatches<'a>) -> Option<Command<'a>>
     requires check { bytes_eq name.now (codes "check") ≡ false }
+    requires show { bytes_eq name.now (codes "show") ≡ false }
     requires lint { bytes_eq name.now (codes "lint") ≡ false }
     ensures asks { option_map asked_of result ≡ command_by name.now (rows_of (found_of found.now)) }
     ensures shards { IfSome result HasShards }

@@ -1,0 +1,144 @@
+//! What `show` asks for.
+
+ghost use Rattle.std.specs.Prelude.{◌≡◌, ◌<◌, IfOk, IfSome, codes, length};
+ghost use Rattle.std.specs.Option.{option_map};
+ghost use Rattle.clap.specs.Words.{found_of, rows_of};
+ghost use Rattle.words.specs.Words.{asked_show, is_set, picture_by, picture_in, said_in, show_by, theme_in};
+
+use crate::check::{Moments, count_of, moments_of, traces_of};
+use clap::ArgMatches;
+use std::alloc::{AllocError, Global};
+
+/// How a picture is drawn.
+#[derive(Clone, Copy, Debug, PartialEq, Eq)]
+pub enum Picture {
+    /// In lines of a terminal.
+    Text,
+    /// In those of ASCII alone.
+    Ascii,
+    /// One picture as SVG.
+    Svg,
+    /// A page with a picture of each register that fails.
+    Html,
+}
+
+/// The colours of a picture.
+#[derive(Clone, Copy, Debug, PartialEq, Eq)]
+pub enum Theme {
+    /// Those that the reader's machine asks for.
+    Auto,
+    Light,
+    Dark,
+}
+
+/// What `show` asks for.
+#[derive(Debug, Drop)]
+pub struct Show<'a> {
+    /// The tower file.
+    pub tower: &'a str,
+    pub moments: Moments,
+    /// The register that is drawn, where one is named.
+    pub register: Option<&'a str>,
+    pub picture: Picture,
+    /// How many operations are shown before and after each that tells why.
+    pub around: u64,
+    /// Whether all operations are shown.
+    pub all: bool,
+    /// How wide lines or rows may be, in cells or units; where it is not said, as the form has it.
+    pub width: Option<u64>,
+    pub theme: Theme,
+    /// One or more.
+    pub traces: Vec<&'a str>,
+}
+
+/// The picture with the arguments that `clap` found, where they make one.
+pub(crate) fn show_of<'a>(
+    alloc: Global,
+    found: &ArgMatches<'a>,
+) -> Result<Option<Show<'a>>, AllocError>
+    ensures asks { IfOk result (λ show. option_map asked_show show ≡ show_by (rows_of (found_of found.now))) }
+    ensures traces { IfOk result (λ show. IfSome show (λ show. 0 < length show.traces.items)) }
+{
+    let Some(tower) = found.get_str("tower") else {
+        return Ok(None);
+    };
+    let Some(moments) = moments_of(found) else {
+        return Ok(None);
+    };
+    let Some(picture) = picture_of(found) else {
+        return Ok(None);
+    };
+    let Some(around) = count_of(found, "around") else {
+        return Ok(None);
+    };
+    let Some(theme) = theme_of(found) else {
+        return Ok(None);
+    };
+    let traces = traces_of(alloc, found)?;
+    if traces.is_empty() {
+        return Ok(None);
+    }
+    Ok(Some(Show {
+        tower,
+        moments,
+        register: found.get_str("register"),
+        picture,
+        around,
+        all: is_set(found, "all"),
+        width: count_of(found, "width"),
+        theme,
+        traces,
+    }))
+}
+
+fn picture_of(found: &ArgMatches<'_>) -> Option<Picture>
+    ensures { result ≡ picture_by (rows_of (found_of found.now)) }
+{
+    picture_in(
+        is_set(found, "svg"),
+        is_set(found, "html"),
+        is_set(found, "ascii"),
+    )
+}
+
+fn picture_in(svg: bool, html: bool, ascii: bool) -> Option<Picture>
+    ensures { result ≡ picture_in svg html ascii }
+{
+    match (svg, html, ascii) {
+        (false, false, false) => Some(Picture::Text),
+        (false, false, true) => Some(Picture::Ascii),
+        (false, true, false) => Some(Picture::Html),
+        (true, false, false) => Some(Picture::Svg),
+        _ => None,
+    }
+}
+
+/// Whether the flag of that name is among the arguments.
+fn is_set(found: &ArgMatches<'_>, name: &str) -> bool
+    ensures { result ≡ is_set name.now (rows_of (found_of found.now)) }
+{
+    match found.get_str(name) {
+        Some(value) => value == "true",
+        None => false,
+    }
+}
+
+fn theme_of(found: &ArgMatches<'_>) -> Option<Theme>
+    ensures { result ≡ said_in theme_in (codes "theme") (rows_of (found_of found.now)) }
+{
+    theme_in(found.get_str("theme")?)
+}
+
+fn theme_in(text: &str) -> Option<Theme>
+    ensures { result ≡ theme_in text.now }
+{
+    if text == "auto" {
+        Some(Theme::Auto)
+    } else if text == "light" {
+        Some(Theme::Light)
+    } else if text == "dark" {
+        Some(Theme::Dark)
+    } else {
+        None
+    }
+}
