@@ -16,10 +16,7 @@ pub fn push_axis(text: &mut String, alloc: Global, canvas: &Canvas) -> Result<()
     let mut free = 0;
     for number in 0..layout.scene.marks.len() {
         if let Some((left, right)) = moment_room(layout, number) {
-            if free <= left
-                && is_within_row(layout, number, left, right)
-                && !is_taken(layout, number, left, right)
-            {
+            if free <= left && !is_taken(layout, number, left, right) {
                 push_moment(text, alloc, canvas, number, "quiet")?;
                 free = right.saturating_add(6);
             }
@@ -46,12 +43,12 @@ fn push_moment(
     let Some(mark) = canvas.layout.scene.marks.get(number) else {
         return Ok(());
     };
-    let (x, y) = (
-        canvas.layout.place_of(number),
-        canvas.bottom.saturating_add(18),
-    );
+    let y = canvas.bottom.saturating_add(18);
     let moment = format!(in alloc; "{}", mark.moment.0)?;
     let length = wide(moment.len());
+    let x = room_of(&canvas.layout, number, length)
+        .0
+        .saturating_add(length / 2);
     let ink = if class == "bold" { "paper" } else { "quiet" };
     write!(
         text,
@@ -63,16 +60,19 @@ fn push_moment(
 /// From where to where the moment of a mark stands.
 fn moment_room(layout: &Layout, number: usize) -> Option<(u128, u128)> {
     let mark = layout.scene.marks.get(number)?;
-    let half = wide(digits_of_moment(mark.moment.0)) / 2;
-    let place = layout.place_of(number);
-    Some((place.saturating_sub(half), place.saturating_add(half)))
+    Some(room_of(layout, number, wide(digits_of_moment(mark.moment.0))))
 }
 
-/// Whether that part of the strip is in the row of a mark.
-fn is_within_row(layout: &Layout, number: usize, left: u128, right: u128) -> bool {
+/// The same of words of that length: with their middle below the mark, but within its row.
+fn room_of(layout: &Layout, number: usize, length: u128) -> (u128, u128) {
     let row = layout.starts.partition_point(|start| *start <= number);
     let window = window_of(layout, row.saturating_sub(1));
-    window.from <= left && right <= window.to
+    let left = layout
+        .place_of(number)
+        .saturating_sub(length / 2)
+        .min(window.to.saturating_sub(length))
+        .max(window.from);
+    (left, left.saturating_add(length))
 }
 
 /// Whether a moment that the caption tells of, or how many operations are left out, is in the way.
@@ -96,6 +96,6 @@ fn is_in_fold(layout: &Layout, number: usize, left: u128, right: u128) -> bool {
     }
     let half = wide(digits_of(many).saturating_add(5)) / 2;
     let middle = layout.middle_before(number);
-    left <= middle.saturating_add(half).saturating_add(4)
-        && middle.saturating_sub(half) <= right.saturating_add(4)
+    left <= middle.saturating_add(half).saturating_add(6)
+        && middle.saturating_sub(half) <= right.saturating_add(6)
 }
