@@ -19,3 +19,5 @@ pub mod Skipping
 pub mod Views
 pub mod Integers
 pub mod Lent
+pub mod FlatMaps
+pub mod Known

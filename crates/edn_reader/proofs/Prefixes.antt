@@ -21,7 +21,7 @@ follows_some [] b some = absurd (omega arith)
 follows_some (x ∷ a) b some = (λ h. h, λ h. h, λ h. h)
 
 -- What has more behind it has more behind all of it.
-replaced_behind : {p q : ℕ} {a b d : List ℕ} (behind : List ℕ) → Replaced p a q b d (b ++ behind) → d ≡ a ++ behind
+pub replaced_behind : {p q : ℕ} {a b d : List ℕ} (behind : List ℕ) → Replaced p a q b d (b ++ behind) → d ≡ a ++ behind
 replaced_behind {b = b} behind m = m.there ∙ sym (append_assoc m.front b behind) ∙ ap (λ (s : List ℕ). s ++ behind) (sym m.here)
 
 element_some : {room p q : ℕ} {kind : ElementKind} {core : Core} {a b : List ℕ} → IsElementAt room kind core p a q b → 0 < length a

@@ -12,7 +12,7 @@ use Rattle.edn_reader.specs.Text.{IsFront, StandsOpen, outermost, opened}
 use Rattle.edn_reader.specs.Fault.{IsBeginning, AreElementsSoFar}
 use Rattle.edn_reader.specs.Token.{lexed}
 use Rattle.edn_reader.specs.Splitting.{Splitting, IsAfter, StandsAfter}
-use Rattle.edn_reader.proofs.Places.{Follows, Replaced, cancel_end, core_within, elements_forward, follows_same, gap_forward, moved_element, moved_stands, token_forward}
+use Rattle.edn_reader.proofs.Places.{Follows, Replaced, cancel_end, core_within, follows_same, gap_forward, moved_element, moved_stands, token_forward}
 use Rattle.edn_reader.proofs.Lexing.{lexed_some}
 use Rattle.edn_reader.proofs.Stretches.{drop_before, drop_here, from_index}
 use Rattle.edn_reader.proofs.Keeping.{inside_forward}

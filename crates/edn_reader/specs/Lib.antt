@@ -15,3 +15,4 @@ pub mod Within
 pub mod Splitting
 pub mod Skipping
 pub mod Standing
+pub mod Flat

@@ -100,3 +100,11 @@ Finishes input pieces old (Err fault) new =
 -- The same of whatever input ends there.
 abbrev pub EndsOn : Splitting → Result (Option (ℕ × ℕ)) EdnFault → Splitting → Type 0
 EndsOn old result new = (input : List ℕ) (pieces : List Piece) → IsAfter input input pieces old → Finishes input pieces old result new
+
+-- It stands behind an element, or at the beginning: nothing has begun since, and nothing stands open.
+abbrev pub IsBetweenElements : Splitting → Type 0
+IsBetweenElements splitting = (splitting.opens ≡ []) × (splitting.begun.start ≡ splitting.taken)
+
+-- The answer that this element ended, of which so many bytes were not taken before.
+abbrev pub told : Splitting → Piece → Taken
+told old piece = record { used = piece.start + length piece.text - old.taken; whole = Some (piece.start, piece.start + length piece.text) }

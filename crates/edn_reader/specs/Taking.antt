@@ -56,6 +56,10 @@ EndsOne (Some item) opens after = (others : List Open) × (opens ≡ item ∷ ot
 abbrev pub plain_span : ElementKind → ℕ → ℕ → Span
 plain_span kind start after = record { kind = kind; start = start; end = after; core = record { kind = kind; start = start } }
 
+-- The places of an element.
+abbrev pub span_of : Piece → Span
+span_of piece = record { kind = piece.kind; start = piece.start; end = piece.start + length piece.text; core = piece.core }
+
 -- A closing bracket that finds a tag or a discard waiting.
 abbrev pub fault_before : ℕ → Bracket → Open → Option Open → EdnFault
 fault_before place bracket waiting None = StrayClose place

@@ -6,6 +6,7 @@ ghost use Rattle.edn_reader.specs.Grammar.{IsElement};
 
 use crate::integer;
 use crate::parts::Parts;
+use crate::step::Span;
 use crate::view::{MapView, VectorView};
 
 #[derive(Clone, Copy, Debug, PartialEq, Eq)]
@@ -47,6 +48,7 @@ impl<'t> Element<'t> {
     ghost use Rattle.edn_reader.specs.Lent.{piece_of, PairsLeft, MembersLeft};
     ghost use Rattle.edn_reader.specs.Integer.{int_of};
     ghost use Rattle.edn_reader.specs.Skipping.{IsInside};
+    ghost use Rattle.edn_reader.specs.Taking.{span_of};
     ghost use Rattle.edn_reader.specs.Pairs.{keyword_of, is_nil, is_word, HasPairs, HasMembers};
     ghost use Rattle.edn_reader.specs.declared.element.ElementKind.TheVariants.{Vector, Map};
 
@@ -79,6 +81,17 @@ impl<'t> Element<'t> {
         ensures end { result.1 ≡ (piece_of self.now).start + length (piece_of self.now).text }
     {
         (self.start, self.start + self.text.len())
+    }
+
+    pub(crate) fn as_span(&self) -> Span
+        ensures { result ≡ span_of (piece_of self.now) }
+    {
+        Span {
+            kind: self.kind,
+            start: self.start,
+            end: self.start + self.text.len(),
+            core: self.core,
+        }
     }
 
     pub fn kind(&self) -> ElementKind

@@ -1,6 +1,6 @@
 //! The splitter: a reader over pieces, which tells where the elements of the whole begin and end.
 
-ghost use Rattle.std.specs.Prelude.{◌≡◌, ◌+◌, ◌≤◌, ◌<◌, ◌^◌, List, [], length, Some, Err, IfOk, IfSome, ℕ};
+ghost use Rattle.std.specs.Prelude.{◌≡◌, ◌+◌, ◌≤◌, ◌<◌, ◌^◌, List, [], length, Ok, Some, Err, IfOk, IfSome, IsTrue, ◌↔◌, ℕ};
 ghost use Rattle.edn_reader.specs.Splitting.{IsFull};
 
 use crate::element::{Element, ElementKind};
@@ -56,7 +56,8 @@ fn is_full(begun: Begun, nesting: &Nesting) -> bool
 impl Splitter {
     ghost use Rattle.edn_reader.specs.Grammar.{Piece, IsElement};
     ghost use Rattle.edn_reader.specs.Lent.{piece_of};
-    ghost use Rattle.edn_reader.specs.Splitting.{StandsAfter, TakesOn, EndsOn, IsLast, keep};
+    ghost use Rattle.edn_reader.specs.Flat.{IsFirst};
+    ghost use Rattle.edn_reader.specs.Splitting.{StandsAfter, TakesOn, EndsOn, IsLast, IsBetweenElements, keep, told};
 
     /// Takes no memory.
     pub fn new(alloc: Global) -> Splitter
@@ -158,6 +159,36 @@ impl Splitter {
                     Err(EdnFault::Memory(place))
                 }
             },
+        }
+    }
+
+    /// Whether nothing has begun since the element that ended last, and nothing stands open.
+    pub fn is_between_elements(&self) -> bool
+        ensures { IsTrue result ↔ IsBetweenElements self.now }
+    {
+        self.begun.start == self.taken && self.nesting.has(0)
+    }
+
+    /// Takes the element that the next piece begins with, where that is known already: none of its bytes is looked at.
+    pub fn take_known(&mut self, element: &Element) -> Taken
+        requires between { IsBetweenElements self.old }
+        requires after { self.old.taken ≤ (piece_of element.now).start }
+        ensures told { result ≡ told self.old (piece_of element.now) }
+        ensures takes { (piece : List ℕ) → IsFirst piece self.old.taken (piece_of element.now) → TakesOn piece self.old (Ok result) self.new }
+        ensures last { IsLast self.new (piece_of element.now) }
+        ensures taken { self.new.taken ≡ self.old.taken + result.used }
+    {
+        let before = self.taken;
+        let span = element.as_span();
+        self.ended = span;
+        self.taken = span.end;
+        self.begun = Begun {
+            start: span.end,
+            part: Part::Nothing,
+        };
+        Taken {
+            used: span.end - before,
+            whole: Some((span.start as u64, span.end as u64)),
         }
     }
 

@@ -1,9 +1,11 @@
 -- What a loop over the pairs of a map has found.
-use Rattle.std.proofs.Common.{◌≡◌, ℕ, Bool, true, false, ◌&&◌, cond, List, [], ◌∷◌, Option, Some, None, refl, sym, ap, ◌∙◌}
+use Rattle.std.proofs.Common.{◌≡◌, ℕ, Bool, true, false, ◌&&◌, cond, List, [], ◌∷◌, ◌++◌, Option, Some, None, refl, sym, ap, ◌∙◌}
 use Rattle.std.specs.Prelude.{if◌then◌else◌, codes}
 use Rattle.std.specs.Str.{bytes_eq}
 use Rattle.edn_reader.specs.declared.element.Element.{Element}
+use Rattle.edn_reader.specs.declared.flat.FlatMap.{FlatMap}
 use Rattle.edn_reader.specs.declared.view.MapView.{MapView}
+use Rattle.edn_reader.specs.Flat.{HasRead}
 use Rattle.edn_reader.specs.Grammar.{Piece, untagged}
 use Rattle.edn_reader.specs.Pairs.{is_keyword, is_word, keyword_of, values_of}
 use Rattle.edn_reader.specs.Lent.{piece_of, PairsLeft, NextPair}
@@ -127,3 +129,30 @@ pub found_all : (first view next : MapView) (chosen : MomentField) (form : Form)
 found_all first view next chosen form found ended pairs h =
     let k = found pairs h in
     ap (after chosen (seen_all form)) (sym (ended k.0 k.1)) ∙ k.2
+
+-- ---- a map that is read in one pass
+
+after_more : (chosen : MomentField) (found : Fields) (pairs : List (Piece × Piece)) (pair : Piece × Piece) → after chosen found (pairs ++ pair ∷ []) ≡ noted chosen (after chosen found pairs) (keyword_of pair.0) pair.1
+after_more chosen found [] pair = refl
+after_more chosen found (first ∷ pairs) pair = after_more chosen (noted chosen found (keyword_of first.0) first.1) pairs pair
+
+-- The fields found are those of the pairs that were read.
+pub record Noted (map : FlatMap) (chosen : MomentField) (form : Form) : Type 0 where
+  pub pairs : List (Piece × Piece)
+  pub read : HasRead map pairs
+  pub fields : seen_all form ≡ after chosen nothing pairs
+
+pub noted_first : (map : FlatMap) (chosen : MomentField) (form : Form) → HasRead map [] → seen_all form ≡ nothing → Noted map chosen form
+noted_first map chosen form read none = record { pairs = []; read = read; fields = none }
+
+pub noted_next : (map next : FlatMap) (chosen : MomentField) (form more : Form) (key value : Element) (noted_so_far : Noted map chosen form)
+    → HasRead next (noted_so_far.pairs ++ (piece_of key, piece_of value) ∷ []) → seen_all more ≡ noted chosen (seen_all form) (keyword_of (piece_of key)) (piece_of value) → Noted next chosen more
+noted_next map next chosen form more key value so_far read e = record {
+  pairs = so_far.pairs ++ (piece_of key, piece_of value) ∷ [];
+  read = read;
+  fields = e ∙ ap (λ (found : Fields). noted chosen found (keyword_of (piece_of key)) (piece_of value)) so_far.fields
+      ∙ sym (after_more chosen nothing so_far.pairs (piece_of key, piece_of value));
+}
+
+pub noted_all : (map : FlatMap) (chosen : MomentField) (form : Form) (so_far : Noted map chosen form) → seen_all form ≡ fields_of chosen so_far.pairs
+noted_all map chosen form so_far = so_far.fields ∙ after_all chosen so_far.pairs

@@ -12,18 +12,17 @@ use Rattle.edn_reader.specs.Grammar.{Piece, untagged}
 use Rattle.edn_reader.specs.Pairs.{is_word}
 use Rattle.edn_reader.specs.Integer.{int_of}
 use Rattle.intervals.specs.declared.operation.RegId.{RegId}
-use Rattle.tower_file.specs.Contents.{Contents, Register, number_of}
+use Rattle.tower_file.specs.Contents.{Contents, Register}
 use Rattle.tower_file.specs.Steps.{◌>>=◌}
 use Rattle.jepsen_form.specs.declared.item.Stage.{Stage}
 use Rattle.jepsen_form.specs.declared.item.Stage.TheVariants as stages
 use Rattle.jepsen_form.specs.declared.item.Item.{Item}
-use Rattle.jepsen_form.specs.declared.item.Item.TheVariants as items
 use Rattle.jepsen_form.specs.declared.item.MomentField.{MomentField}
 use Rattle.jepsen_form.specs.declared.fault.FormField.TheVariants as fields
 use Rattle.jepsen_form.specs.declared.fault.FormFault.{FormFault}
-use Rattle.jepsen_form.specs.declared.fault.FormFault.TheVariants.{BadType, NoRegister}
+use Rattle.jepsen_form.specs.declared.fault.FormFault.TheVariants.{NoRegister}
 use Rattle.jepsen_form.specs.Fields.{Fields, fields_of, UnderValue, NoValue, AValue, NamedValue, ManyValues}
-use Rattle.jepsen_form.specs.Item.{the_one, is_there, the_stage, the_action, the_register, the_moment, if_told, value_told, event_of, by_process, change_of, edited_place, kind_stated, claim_of, edit_by, question_of, register_named, only_register, item_of, IsItem, no_map, of_map}
+use Rattle.jepsen_form.specs.Item.{the_one, is_there, the_stage, the_action, the_register, the_moment, if_told, value_told, event_of, by_process, change_of, edited_place, kind_stated, claim_of, edit_by, question_of, register_named, item_of, IsItem, no_map, of_map}
 use Rattle.jepsen_form.specs.Whole.{NamesBelow}
 
 -- a register is one of the first so many

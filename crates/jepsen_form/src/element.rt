@@ -8,6 +8,7 @@ ghost use Rattle.jepsen_form.specs.Item.{the_one, at_most_one, is_there, stage_o
 ghost use Rattle.tower_file.specs.Steps.{GivesSeen};
 
 use crate::fault::{FormFault, FormField};
+use crate::form::is;
 use crate::item::{Action, Stage};
 use edn_reader::{Element, Field};
 use intervals::{Kind, Moment, Value};
@@ -65,28 +66,22 @@ pub fn given_end(field: &Field) -> Result<Option<Option<Moment>>, FormFault>
 pub fn read_stage(element: &Element) -> Result<Stage, FormFault>
     ensures { result ≡ stage_of (piece_of element.now) }
 {
-    if element.is_keyword(b":invoke") {
-        Ok(Stage::Invoke)
-    } else if element.is_keyword(b":ok") {
-        Ok(Stage::Ok)
-    } else if element.is_keyword(b":fail") {
-        Ok(Stage::Fail)
-    } else if element.is_keyword(b":info") {
-        Ok(Stage::Info)
-    } else {
-        Err(FormFault::BadType)
+    match element.as_keyword() {
+        Some(word) if is(word, b":invoke") => Ok(Stage::Invoke),
+        Some(word) if is(word, b":ok") => Ok(Stage::Ok),
+        Some(word) if is(word, b":fail") => Ok(Stage::Fail),
+        Some(word) if is(word, b":info") => Ok(Stage::Info),
+        _ => Err(FormFault::BadType),
     }
 }
 
 pub fn read_action(element: &Element) -> Result<Action, FormFault>
     ensures { result ≡ action_of (piece_of element.now) }
 {
-    if element.is_keyword(b":read") {
-        Ok(Action::Read)
-    } else if element.is_keyword(b":write") {
-        Ok(Action::Write)
-    } else {
-        Err(FormFault::UnsupportedF)
+    match element.as_keyword() {
+        Some(word) if is(word, b":read") => Ok(Action::Read),
+        Some(word) if is(word, b":write") => Ok(Action::Write),
+        _ => Err(FormFault::UnsupportedF),
     }
 }
 

@@ -62,7 +62,7 @@ pub fn no_fields<'t>() -> Form<'t>
 }
 
 /// One pair more.
-fn note<'t>(form: &mut Form<'t>, key: &Element<'t>, value: Element<'t>, chosen: MomentField)
+pub fn note<'t>(form: &mut Form<'t>, key: &Element<'t>, value: Element<'t>, chosen: MomentField)
     ensures { seen_all form.new ≡ noted chosen (seen_all form.old) (keyword_of (piece_of key.now)) (piece_of value.entry) }
 {
     let Some(word) = key.as_keyword() else {
@@ -132,7 +132,7 @@ fn field_of(word: &[u8], chosen: MomentField) -> Option<FormField>
 
 /// Whether a word is this key. Where the key is written at the call, its few bytes are compared in place.
 #[inline(always)]
-fn is(word: &[u8], key: &[u8]) -> bool
+pub fn is(word: &[u8], key: &[u8]) -> bool
     ensures { result ≡ bytes_eq word.now key.now }
 {
     if word.len() != key.len() {

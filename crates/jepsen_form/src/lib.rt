@@ -29,7 +29,7 @@ mod said;
 
 pub use fault::{FormFault, FormField};
 pub use item::{Action, Event, Item, MomentField, Stage};
-pub use read::read_item;
+pub use read::{read_first, read_item};
 
 #[cfg(test)]
 mod tests;

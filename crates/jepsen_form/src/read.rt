@@ -1,6 +1,7 @@
 //! From an element to an item.
 
-ghost use Rattle.std.specs.Prelude.{◌≡◌, IfOk};
+ghost use Rattle.std.specs.Prelude.{◌≡◌, ◌+◌, ◌<◌, ◌^◌, length, IfOk, IfSome};
+ghost use Rattle.edn_reader.specs.Flat.{IsFirst};
 ghost use Rattle.edn_reader.specs.Given.{seen};
 ghost use Rattle.edn_reader.specs.Lent.{piece_of};
 ghost use Rattle.jepsen_form.specs.Fields.{UnderValue, IsUnderValue};
@@ -12,11 +13,11 @@ use crate::edit::read_edit;
 use crate::element::{is_given, needed};
 use crate::event::read_event;
 use crate::fault::{FormFault, FormField};
-use crate::form::{Form, fill, no_fields};
+use crate::form::{Form, fill, no_fields, note};
 use crate::item::{Item, MomentField};
 use crate::said::find_register;
-use edn_reader::Element;
 use edn_reader::laws::{members_of_vector, pairs_of_map};
+use edn_reader::{Element, FlatMap, FlatPart};
 use tower_file::Tower;
 
 /// The item of an element, or the first fault that it has in reading order. It takes no memory.
@@ -37,6 +38,37 @@ pub fn read_item<'t>(
             item_in(&form, element.text(), tower)
         }
         None => Err(FormFault::NotAMap),
+    }
+}
+
+/// The element that bytes begin with, behind white bytes, and its item, in one pass over them. It reads a map without a
+/// tag or with one, whose keys are words and whose values are words and vectors of words, with white bytes between them;
+/// where the bytes begin with anything else, or end within the map, it answers none, and says nothing of what they are.
+/// The first of the bytes has this place.
+pub fn read_first<'t>(
+    bytes: &'t [u8],
+    place: usize,
+    field: MomentField,
+    tower: &Tower,
+) -> Option<(Element<'t>, Result<Item<'t>, FormFault>)>
+    requires { place + length bytes.now < 2 ^ 64 }
+    ensures first { IfSome result (λ found. IsFirst bytes.entry.now place (piece_of found.0)) }
+    ensures item { IfSome result (λ found. IsItem tower.now field (piece_of found.0) found.1) }
+    ensures whole { IfSome result (λ found. IfOk found.1 IsWhole) }
+{
+    pairs_of_map();
+    members_of_vector();
+    let mut map = FlatMap::open(bytes, place)?;
+    let mut form = no_fields();
+    loop {
+        match map.next_part() {
+            FlatPart::Pair(key, value) => note(&mut form, &key, value, field),
+            FlatPart::End(element) => {
+                let item = item_in(&form, element.text(), tower);
+                return Some((element, item));
+            }
+            FlatPart::Other => return None,
+        }
     }
 }
 

@@ -117,6 +117,21 @@ fn told(
     Ok(told)
 }
 
+/// What the element that a text begins with is read as in one pass, where it is read so.
+fn told_at_once(
+    alloc: Global,
+    tower: &Tower,
+    chosen: MomentField,
+    text: &str,
+) -> Result<Option<String>, AllocError> {
+    let Some((_, item)) = read_first(text.as_bytes(), 0, chosen, tower) else {
+        return Ok(None);
+    };
+    let mut told = String::new(alloc);
+    tell(&mut told, item)?;
+    Ok(Some(told))
+}
+
 /// The same for the tower of a word. Where memory is refused all is done again.
 fn told_at_last(alloc: Global, word: &str, text: &str) -> Result<String, TowerFault> {
     match told_for(alloc, word, text) {
@@ -129,6 +144,25 @@ fn told_for(alloc: Global, word: &str, text: &str) -> Result<String, TowerFault>
     let (tower, chosen) = tower_of(word);
     let tower = Tower::read(alloc, tower.as_bytes())?;
     Ok(told(alloc, &tower, chosen, text)?)
+}
+
+fn told_at_once_for(alloc: Global, word: &str, text: &str) -> Result<Option<String>, TowerFault> {
+    let (tower, chosen) = tower_of(word);
+    let tower = Tower::read(alloc, tower.as_bytes())?;
+    Ok(told_at_once(alloc, &tower, chosen, text)?)
+}
+
+/// Whether the element of a row is read in one pass; it is told as ever then.
+fn is_told_at_once<R: AllocGlobal + Abort>(rt: &R, row: &str) -> Result<bool, Fail> {
+    let (word, row) = row.split_once(' ').ok_or("a tower")?;
+    let (text, want) = row.split_once(" => ").ok_or("a row")?;
+    match told_at_once_for(rt.alloc(), word, text)? {
+        Some(found) => {
+            assert!(rt; found.as_str() == want, "{text} => {found} in one pass");
+            Ok(true)
+        }
+        None => Ok(false),
+    }
 }
 
 fn is_told<R: AllocGlobal + Abort>(rt: &R, row: &str) -> Result<(), Fail> {
@@ -346,4 +380,38 @@ fn each_element_is_told(rt: HostRuntime) -> Result<(), Fail> {
         is_told(&rt, row)?;
     }
     is_told(&rt, WITH_A_COMMENT)
+}
+
+/// Elements that a splitter is left to find, and [`read_item`] to read.
+const LEFT: &str = r##"one {:process 0 :type :ok :f :read #_ :value 1 :index 3} => left
+one {:process 0 :type :ok :f :read :value "1" :index 3} => left
+one {:process 0 :type :ok :f :read :value #v 1 :index 3} => left
+one {:process 0 :type :ok :f :read :value {} :index 3} => left
+one {:process 0 :type :ok :f :read :value [x [1]] :index 3} => left
+one {:process 0 :type :ok :f :read :value [x #v 1] :index 3} => left
+one {:process 0 :type :ok :f :read :value \1 :index 3} => left
+one {:process 0 :type :ok :f :read :value 1 :index} => left
+one {:process 0 :type :ok :f :read :value 1 :index 3 => left
+one {:process 0 :type :ok :f :read :value 1 :index 3] => left
+one #a #b {:process 0 :type :ok :f :read :value 1 :index 3} => left
+one ## {:process 0 :type :ok :f :read :value 1 :index 3} => left
+one #_ {} {:process 0 :type :ok :f :read :value 1 :index 3} => left
+one (:process 0 :type :ok :f :read :value 1 :index 3) => left
+one 5 => left
+one  => left"##;
+
+/// The first rows are of the usual form, so they are read in one pass; each row that is read so is told as ever.
+#[test]
+fn usual_elements_are_told_in_one_pass(rt: HostRuntime) -> Result<(), Fail> {
+    for row in ROWS.lines() {
+        let _ = is_told_at_once(&rt, row)?;
+    }
+    for row in ROWS.lines().take(15) {
+        assert!(rt; is_told_at_once(&rt, row)?, "{row} in one pass");
+    }
+    for row in LEFT.lines() {
+        assert!(rt; !is_told_at_once(&rt, row)?, "{row} in one pass");
+    }
+    assert!(rt; !is_told_at_once(&rt, WITH_A_COMMENT)?);
+    Ok(())
 }
