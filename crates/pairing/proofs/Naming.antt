@@ -1,5 +1,5 @@
 -- The step of an item is on a register that it or an earlier item names.
-use Rattle.std.proofs.Common.{◌≡◌, ◌<◌, ◌==◌, ℕ, ℤ, Bool, true, false, List, [], ◌∷◌, ◌++◌, reverse, find, Option, Some, None, Ok, is_some, if◌then◌else◌, All, refl, sym, subst}
+use Rattle.std.proofs.Common.{◌≡◌, ◌<◌, ◌==◌, ℕ, ℤ, Bool, true, false, List, [], ◌∷◌, ◌++◌, reverse, find, Option, Some, None, Ok, is_some, if◌then◌else◌, All, sym, subst}
 use Rattle.std.specs.Prelude.{IfSome}
 use Rattle.std.specs.List.{filter_map, cons_option, fold, AllByRecursion}
 use Rattle.std.specs.Option.{option_map, option_and_then}

@@ -18,7 +18,8 @@ use Rattle.pairing.specs.Invocation.{invocation_by, invocation_of}
 use Rattle.pairing.specs.Step.{unless, given_by, step_of}
 use Rattle.pairing.proofs.Rows.{rises_push}
 use Rattle.pairing.specs.Accepted.{Placed, is_event_of, invocation, last_of, unanswered_of, register_of, fault_of, with_item, accepted}
-use Rattle.pairing.specs.Known.{Known, IsUpTo, StandsAfter, unanswered_in, register_at}
+use Rattle.pairing.specs.Known.{Known, IsUpTo, StandsAfter, register_at}
+use Rattle.pairing.specs.Waiting.{Waiting, waits_at}
 use Rattle.pairing.specs.Kept.{with_row, IsRising, answer_beside}
 
 -- the register of an invocation at that place
@@ -101,7 +102,7 @@ after_refused known items place item rises err after =
     }
 
 -- after an accepted item, where it keeps the invocation
-pub after_taken : (known : Known) (items : List Placed) (place : ℕ) (item : Item) → ForSome known.last (λ last. last < place) → is_err (answer_beside known place item) ≡ false → (unanswered : List (ℤ × Invocation)) (registers : List (ℕ × RegId)) → ((process : ℤ) → unanswered_in unanswered process ≡ (if is_event_of process item then invocation_of place item else unanswered_in known.unanswered process)) → registers ≡ with_row known.registers (invocation_of place item) → StandsAfter known items → StandsAfter (record { feeder = known.feeder; last = Some place; unanswered = unanswered; registers = registers }) (items ++ record { place = place; item = item } ∷ [])
+pub after_taken : (known : Known) (items : List Placed) (place : ℕ) (item : Item) → ForSome known.last (λ last. last < place) → is_err (answer_beside known place item) ≡ false → (unanswered : Waiting) (registers : List (ℕ × RegId)) → ((process : ℤ) → waits_at unanswered process ≡ (if is_event_of process item then invocation_of place item else waits_at known.unanswered process)) → registers ≡ with_row known.registers (invocation_of place item) → StandsAfter known items → StandsAfter (record { feeder = known.feeder; last = Some place; unanswered = unanswered; registers = registers }) (items ++ record { place = place; item = item } ∷ [])
 after_taken known items place item rises ok unanswered registers waits rows after =
     let one : Placed = record { place = place; item = item } in
     let more = taken_push items one (sym (faulty known items place item after) ∙ ok) in

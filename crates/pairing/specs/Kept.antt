@@ -10,8 +10,9 @@ use Rattle.pairing.specs.declared.invocation.Invocation.{Invocation}
 use Rattle.pairing.specs.declared.step.Step.{Step}
 use Rattle.pairing.specs.declared.step.Step.TheVariants as steps
 use Rattle.pairing.specs.Accepted.{event_fault, edit_fault}
-use Rattle.pairing.specs.Known.{Known, unanswered_in, register_at}
+use Rattle.pairing.specs.Known.{Known, register_at}
 use Rattle.pairing.specs.Step.{id_of, event_step, edit_step, unless}
+use Rattle.pairing.specs.Waiting.{waits_at}
 
 -- the place of the row at that index
 abbrev pub place_at : List (ℕ × RegId) → ℕ → ℕ
@@ -29,7 +30,7 @@ with_row registers (Some invocation) = registers ++ (invocation.place, invocatio
 -- the step of an item beside what is known, or why it is refused
 abbrev pub answer_beside : Known → ℕ → Item → Result (Option Step) PairFault
 answer_beside known place (items.Event event) =
-    let unanswered = unanswered_in known.unanswered event.process in
+    let unanswered = waits_at known.unanswered event.process in
     unless (event_fault unanswered event event.answer) (event_step known.feeder unanswered place event event.answer)
 answer_beside known place (items.Amend of change) =
     let register = register_at known.registers of in

@@ -1,23 +1,17 @@
 -- What a pairing knows of the items of a trace, and when it stands after them.
 use Rattle.std.specs.Prelude.{◌≡◌, ◌≤◌, ℕ, ℤ, ◌==◌, List, Option, Some, None, All}
-use Rattle.std.specs.Ordering.{int_cmp}
-use Rattle.std.specs.BTreeMap.{is_at}
 use Rattle.std.specs.Map.{lookup}
 use Rattle.intervals.specs.declared.operation.RegId.{RegId}
-use Rattle.pairing.specs.declared.invocation.Invocation.{Invocation}
 use Rattle.pairing.specs.Accepted.{Placed, accepted, unanswered_of, register_of}
+use Rattle.pairing.specs.Waiting.{Waiting, waits_at}
 
--- the place of the last item, the unanswered invocations by process, and the register of each accepted
+-- the place of the last item, the unanswered invocation of each process, and the register of each accepted
 -- invocation by place
 pub record Known : Type 0 where
   pub feeder : ℕ
   pub last : Option ℕ
-  pub unanswered : List (ℤ × Invocation)
+  pub unanswered : Waiting
   pub registers : List (ℕ × RegId)
-
--- the unanswered invocation of a process
-abbrev pub unanswered_in : List (ℤ × Invocation) → ℤ → Option Invocation
-unanswered_in unanswered process = lookup (is_at (int_cmp process)) unanswered
 
 -- the register that stands beside a place
 abbrev pub register_at : List (ℕ × RegId) → ℕ → Option RegId
@@ -32,5 +26,5 @@ IsUpTo (Some last) place = place ≤ last
 -- invocation of each process and the register of each accepted invocation
 pub record StandsAfter (known : Known) (items : List Placed) : Type 0 where
   pub places : All (λ one. IsUpTo known.last one.place) items
-  pub unanswered : (process : ℤ) → unanswered_in known.unanswered process ≡ unanswered_of (accepted items) process
+  pub unanswered : (process : ℤ) → waits_at known.unanswered process ≡ unanswered_of (accepted items) process
   pub registers : (place : ℕ) → register_at known.registers place ≡ register_of (accepted items) place

@@ -14,8 +14,8 @@
 //!
 //! The first trace of `tests.rt` makes these calls; its other traces have each step and each fault. Begin
 //! with `Pairing::take`: its clauses name the accepted items (specs/Accepted.antt), the step of an item
-//! (Step.antt) and what a pairing knows (Known.antt). Kept.antt serves private clauses alone. `laws` says
-//! which answer belongs to which invocation.
+//! (Step.antt) and what a pairing knows (Known.antt), of processes by Waiting.antt. Kept.antt serves private
+//! clauses alone. `laws` says which answer belongs to which invocation.
 #![tactic(auto)]
 
 mod fault;
@@ -24,6 +24,7 @@ pub mod laws;
 mod pairing;
 mod registers;
 mod step;
+mod waiting;
 
 pub use fault::PairFault;
 pub use pairing::Pairing;

@@ -2,22 +2,22 @@
 
 ghost use Rattle.std.specs.Prelude.{◌≡◌, ◌≢◌, ◌<◌, ◌++◌, ◌∷◌, ℤ, List, [], Some, None, Err, IsSome, IsOk, IfErr, OnOk, OnErr, if◌then◌else◌};
 ghost use Rattle.std.specs.Option.{ForSome};
-ghost use Rattle.std.specs.Ordering.{int_cmp, int_eq};
-ghost use Rattle.std.specs.BTreeMap.{get};
+ghost use Rattle.std.specs.Ordering.{int_eq};
 ghost use Rattle.pairing.specs.Invocation.{invocation_of as invocation_at};
 ghost use Rattle.pairing.specs.Accepted.{Placed, accepted, is_event_of};
 ghost use Rattle.pairing.specs.Step.{step_of};
 ghost use Rattle.pairing.specs.Known.{StandsAfter};
+ghost use Rattle.pairing.specs.Waiting.{waits_at};
 ghost use Rattle.pairing.specs.Kept.{with_row, answer_beside};
 
 use crate::fault::PairFault;
 use crate::invocation::{Invocation, invocation_of};
 use crate::registers::register_at;
 use crate::step::{Step, edit_answer, event_answer, id};
+use crate::waiting::Unanswered;
 use intervals::{Edit, RegId};
 use jepsen_form::{Event, Item};
 use std::alloc::Global;
-use std::collections::BTreeMap;
 use std::marker::Model;
 
 /// The processes of one trace that wait for an answer, and the registers of its invocations.
@@ -25,7 +25,7 @@ use std::marker::Model;
 pub struct Pairing {
     feeder: u32,
     last: Option<u64>,
-    unanswered: BTreeMap<i64, Invocation>,
+    unanswered: Unanswered,
     registers: Vec<(u64, RegId)>,
 }
 
@@ -36,7 +36,7 @@ impl Model for Pairing {
 
     ghost Value = { Known };
 
-    ghost view = { λ p. record { feeder = p.feeder; last = p.last; unanswered = p.unanswered.entries; registers = p.registers.items } };
+    ghost view = { λ p. record { feeder = p.feeder; last = p.last; unanswered = p.unanswered; registers = p.registers.items } };
 
     ghost invariant = { λ p. IsRising p.registers.items × All (λ row. IsUpTo p.last row.0) p.registers.items };
 }
@@ -51,7 +51,7 @@ impl Pairing {
         Pairing {
             feeder,
             last: None,
-            unanswered: BTreeMap::new(alloc),
+            unanswered: Unanswered::new(alloc),
             registers: Vec::new(alloc),
         }
     }
@@ -92,7 +92,7 @@ impl Pairing {
     {
         match item {
             Item::Event(event) => {
-                let unanswered = self.unanswered.get(&event.process).copied();
+                let unanswered = self.unanswered.get(event.process);
                 event_answer(self.feeder, unanswered, place, event)
             }
             Item::Amend { of, change } => {
@@ -112,15 +112,15 @@ impl Pairing {
 
 /// Keeps an accepted item: an invocation stays unanswered, and any answer ends the wait.
 fn remember(
-    unanswered: &mut BTreeMap<i64, Invocation>,
+    unanswered: &mut Unanswered,
     registers: &mut Vec<(u64, RegId)>,
     item: &Item,
     place: u64,
 ) -> Result<(), PairFault>
-    ensures unanswered { OnOk result ((process : ℤ) → get int_cmp unanswered.new process
-        ≡ (if is_event_of process item.now then invocation_at place item.now else get int_cmp unanswered.old process)) }
+    ensures unanswered { OnOk result ((process : ℤ) → waits_at unanswered.new process
+        ≡ (if is_event_of process item.now then invocation_at place item.now else waits_at unanswered.old process)) }
     ensures registers { OnOk result (registers.new.items ≡ with_row registers.old.items (invocation_at place item.now)) }
-    ensures err { OnErr result ((unanswered.new.entries ≡ unanswered.old.entries) × (registers.new.items ≡ registers.old.items)) }
+    ensures err { OnErr result ((unanswered.new ≡ unanswered.old) × (registers.new.items ≡ registers.old.items)) }
     ensures memory { OnErr result (IsSome (invocation_at place item.now)) }
     ensures fault { IfErr result (λ fault. fault ≡ PairFault.Memory) }
 {
@@ -130,7 +130,7 @@ fn remember(
     match invocation_of(place, item) {
         Some(invocation) => open(unanswered, registers, event.process, invocation),
         None => {
-            unanswered.remove(&event.process);
+            unanswered.remove(event.process);
             Ok(())
         }
     }
@@ -138,19 +138,19 @@ fn remember(
 
 /// Makes both growths before the first change.
 fn open(
-    unanswered: &mut BTreeMap<i64, Invocation>,
+    unanswered: &mut Unanswered,
     registers: &mut Vec<(u64, RegId)>,
     process: i64,
     invocation: Invocation,
 ) -> Result<(), PairFault>
-    ensures unanswered { OnOk result ((other : ℤ) → get int_cmp unanswered.new other
-        ≡ (if int_eq other process then Some invocation else get int_cmp unanswered.old other)) }
+    ensures unanswered { OnOk result ((other : ℤ) → waits_at unanswered.new other
+        ≡ (if int_eq other process then Some invocation else waits_at unanswered.old other)) }
     ensures registers { OnOk result (registers.new.items ≡ with_row registers.old.items (Some invocation)) }
-    ensures err { OnErr result ((unanswered.new.entries ≡ unanswered.old.entries) × (registers.new.items ≡ registers.old.items)) }
+    ensures err { OnErr result ((unanswered.new ≡ unanswered.old) × (registers.new.items ≡ registers.old.items)) }
     ensures fault { IfErr result (λ fault. fault ≡ PairFault.Memory) }
 {
     registers.reserve(1)?;
-    unanswered.insert(process, invocation)?;
+    unanswered.put(process, invocation)?;
     registers.push_reserved((invocation.place, invocation.register));
     Ok(())
 }

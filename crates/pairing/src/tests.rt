@@ -244,6 +244,35 @@ const TRACES: &str =
 {:process -1 :type :ok :f :write :value [x 1] :index 100} => 7 on 0 amends 7:0, to 100, answered, lends it
 {:process -1 :type :ok :f :write :value [x 1] :index 100} => 8 P2 NoInvocation
 
+{:process 1023 :type :invoke :f :write :value [x 1] :index 10} => 0 on 0 appends 7:0 of process 1023, write 1, from 10, lends it
+{:process 0 :type :ok :f :write :value [x 1] :index 11} => 1 P2 NoInvocation
+{:process 1022 :type :ok :f :write :value [x 1] :index 11} => 2 P2 NoInvocation
+{:process 1024 :type :ok :f :write :value [x 1] :index 11} => 3 P2 NoInvocation
+{:process 1024 :type :invoke :f :write :value [x 2] :index 12} => 4 on 0 appends 7:4 of process 1024, write 2, from 12, lends it
+{:process 0 :type :ok :f :write :value [x 2] :index 13} => 5 P2 NoInvocation
+{:process -1 :type :invoke :f :write :value [x 3] :index 14} => 6 on 0 appends 7:6 of process -1, write 3, from 14, lends it
+{:process 9223372036854775807 :type :invoke :f :write :value [x 4] :index 15} => 7 on 0 appends 7:7 of process 9223372036854775807, write 4, from 15, lends it
+{:process 0 :type :invoke :f :write :value [x 5] :index 16} => 8 on 0 appends 7:8 of process 0, write 5, from 16, lends it
+{:process 1023 :type :invoke :f :write :value [x 6] :index 17} => 9 P1 ProcessBusy
+{:process 1024 :type :invoke :f :write :value [x 6] :index 17} => 10 P1 ProcessBusy
+{:process 9223372036854775807 :type :invoke :f :write :value [x 6] :index 17} => 11 P1 ProcessBusy
+{:process 0 :type :invoke :f :write :value [x 6] :index 17} => 12 P1 ProcessBusy
+{:process 1023 :type :ok :f :write :value [x 2] :index 18} => 13 P3 AnswerMismatch
+{:process 1024 :type :ok :f :write :value [x 1] :index 18} => 14 P3 AnswerMismatch
+{:process 1023 :type :ok :f :write :value [x 1] :index 19} => 15 on 0 amends 7:0, to 19, answered, lends it
+{:process 1023 :type :ok :f :write :value [x 1] :index 20} => 16 P2 NoInvocation
+{:process 2047 :type :invoke :f :write :value [x 7] :index 21} => 17 on 0 appends 7:17 of process 2047, write 7, from 21, lends it
+{:process 1024 :type :ok :f :write :value [x 2] :index 22} => 18 on 0 amends 7:4, to 22, answered, lends it
+{:process 1024 :type :ok :f :write :value [x 2] :index 23} => 19 P2 NoInvocation
+{:process 0 :type :ok :f :write :value [x 5] :index 24} => 20 on 0 amends 7:8, to 24, answered, lends it
+{:process 0 :type :ok :f :write :value [x 5] :index 24} => 21 P2 NoInvocation
+{:process -1 :type :ok :f :write :value [x 3] :index 25} => 22 on 0 amends 7:6, to 25, answered, lends it
+{:process 9223372036854775807 :type :ok :f :write :value [x 4] :index 26} => 23 on 0 amends 7:7, to 26, answered, lends it
+{:process 2047 :type :ok :f :write :value [x 7] :index 27} => 24 on 0 amends 7:17, to 27, answered, lends it
+{:process 2047 :type :ok :f :write :value [x 7] :index 28} => 25 P2 NoInvocation
+{:process 1023 :type :invoke :f :write :value [x 8] :index 29} => 26 on 0 appends 7:26 of process 1023, write 8, from 29, lends it
+{:process 1023 :type :ok :f :write :value [x 8] :index 30} => 27 on 0 amends 7:26, to 30, answered, lends it
+
 {:process 0 :type :invoke :f :write :value [x 1] :index 0} => 0 on 0 appends 7:0 of process 0, write 1, from 0, lends it
 {:process 0 :type :invoke :f :write :value [x 2] :index 1} => 1 P1 ProcessBusy
 {:process 0 :type :ok :f :write :value [x 2] :index 2} => 2 P3 AnswerMismatch
@@ -324,16 +353,17 @@ fn edited(rt: &impl Abort, pairing: &mut Pairing, item: Item<'static>, at: u32) 
     }
 }
 
-/// Many invocations that wait, and their answers: to be run with each allocation refused in turn.
+/// Many invocations that wait, of processes with a slot and without one, and their answers: to be run with each
+/// allocation refused in turn.
 #[test]
 fn refused_memory_changes_nothing(rt: HostRuntime) -> Result<(), Fail> {
     let mut pairing = Pairing::new(rt.alloc(), 7);
     for n in 0..40 {
-        let found = edited(&rt, &mut pairing, write(n, Stage::Invoke), n);
+        let found = edited(&rt, &mut pairing, write(40 * n, Stage::Invoke), n);
         assert!(rt; found == Some(id(n)));
     }
     for n in 0..40 {
-        let found = edited(&rt, &mut pairing, write(n, Stage::Ok), 40 + n);
+        let found = edited(&rt, &mut pairing, write(40 * n, Stage::Ok), 40 + n);
         assert!(rt; found == Some(id(n)));
     }
     Ok(())

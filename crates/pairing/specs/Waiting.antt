@@ -1,0 +1,33 @@
+-- The unanswered invocation of each process, as a pairing keeps it.
+use Rattle.std.specs.Prelude.{ℕ, ℤ, pos, negsuc, nat_lt, List, slice_index_or, Option, Some, None, if◌then◌else◌}
+use Rattle.std.specs.Ordering.{int_cmp}
+use Rattle.std.specs.BTreeMap.{is_at}
+use Rattle.std.specs.Map.{lookup}
+use Rattle.pairing.specs.declared.invocation.Invocation.{Invocation}
+
+-- the slots of the processes that have one, by number, and the unanswered invocations of all others
+pub record Waiting : Type 0 where
+  pub by_number : List (Option Invocation)
+  pub others : List (ℤ × Invocation)
+
+-- the slot of a process that has one: its number, where that is at most 1,023
+abbrev pub slot_of : ℤ → Option ℕ
+slot_of (pos number) = if nat_lt number 1024 then Some number else None
+slot_of (negsuc number) = None
+
+-- what is in a slot: nothing where there are fewer slots
+abbrev pub in_slot : List (Option Invocation) → ℕ → Option Invocation
+in_slot slots slot = slice_index_or slots slot None
+
+-- what stands beside a process
+abbrev pub beside : List (ℤ × Invocation) → ℤ → Option Invocation
+beside others process = lookup (is_at (int_cmp process)) others
+
+-- what is in the slot, where there is one, and else beside the process
+abbrev pub waits_in : Waiting → ℤ → Option ℕ → Option Invocation
+waits_in waiting process (Some slot) = in_slot waiting.by_number slot
+waits_in waiting process None = beside waiting.others process
+
+-- the unanswered invocation of a process
+abbrev pub waits_at : Waiting → ℤ → Option Invocation
+waits_at waiting process = waits_in waiting process (slot_of process)
