@@ -1,7 +1,7 @@
 //! Rows of an element and what it is read as.
 
 use super::*;
-use edn_reader::Reader;
+use edn_reader::{Reader, Splitter};
 use intervals::{Change, Lent, Moment, Value};
 use std::alloc::{AllocError, Global};
 use std::fmt::Write;
@@ -413,5 +413,195 @@ fn usual_elements_are_told_in_one_pass(rt: HostRuntime) -> Result<(), Fail> {
         assert!(rt; !is_told_at_once(&rt, row)?, "{row} in one pass");
     }
     assert!(rt; !is_told_at_once(&rt, WITH_A_COMMENT)?);
+    Ok(())
+}
+
+/// A row of numbers without a pattern, the same each time.
+#[derive(Drop)]
+struct Dice {
+    state: u64,
+}
+
+impl Dice {
+    fn roll(&mut self, sides: usize) -> usize {
+        self.state = self
+            .state
+            .wrapping_mul(6364136223846793005)
+            .wrapping_add(1442695040888963407);
+        (self.state >> 33) as usize % sides.max(1)
+    }
+
+    fn pick<T: Copy>(&mut self, from: &[T], other: T) -> T {
+        from.get(self.roll(from.len())).copied().unwrap_or(other)
+    }
+}
+
+/// Events, edits and questions of the usual form, and some that are not.
+const USUAL: &str = r##"{:process 0 :type :invoke :f :write :value 5 :index 2}
+{:process -7, :type :invoke, :f :read, :value nil, :index 2}
+#jepsen.history.Op{:index 9223372036854775807, :type :ok, :f :read, :process 0} 5
+{:process 12 :type :ok :f :read :value [x 1] :index 3 :time 70}
+{:process 0 :type :invoke :f :write :value [x -4] :index 3}
+{:process 0 :type :fail :f :write :value [y 1.5] :index -1}
+{:index 1, :type :info, :process :nemesis, :f :kill, :value nil}
+{:process 0 :type :ok :f :read :index 1 :index 1 :index 1}
+#e{:edit :amend :of 2 :value 5 :begin 4 :end nil}
+{:edit :amend :of 12N :end 9}{:ask x}
+{:edit :withdraw :of 2}
+{:edit :claim, :register x, :kind :safe}
+{:ask x}
+{:process #t 0 :type :ok :f :read :value {:a ["b" (c)]} :index 3}"##;
+
+fn usual(alloc: Global) -> Result<Vec<&'static str>, AllocError> {
+    let mut texts = Vec::new(alloc);
+    for line in USUAL.lines() {
+        texts.push(line)?;
+    }
+    Ok(texts)
+}
+
+/// The text with other bytes in place of those between two places.
+fn with_bytes(
+    alloc: Global,
+    text: &[u8],
+    from: usize,
+    to: usize,
+    bytes: &[u8],
+) -> Result<Vec<u8>, AllocError> {
+    let mut made = Vec::new(alloc);
+    made.extend_from_slice(text.get(..from).unwrap_or(text))?;
+    made.extend_from_slice(bytes)?;
+    made.extend_from_slice(text.get(to..).unwrap_or(b""))?;
+    Ok(made)
+}
+
+/// What stands before and behind a part of a text that is put into something.
+const NESTS: &[(&str, &str)] = &[
+    ("(", ")"),
+    ("[", "]"),
+    ("{:k ", "}"),
+    ("#{", "}"),
+    ("#t ", ""),
+    ("#t#u ", ""),
+    ("#_ ", ""),
+    ("; ", "\n"),
+    ("\"", "\""),
+];
+
+fn nested(alloc: Global, dice: &mut Dice, text: &[u8], from: usize) -> Result<Vec<u8>, AllocError> {
+    let (open, close) = dice.pick(NESTS, ("", ""));
+    let to = from.saturating_add(dice.roll(text.len()));
+    let closed = with_bytes(alloc, text, to, to, close.as_bytes())?;
+    with_bytes(alloc, &closed, from, from, open.as_bytes())
+}
+
+/// Bytes that begin, end or separate something, and some that do not.
+const BYTES: &[u8] = b"{}[]()#\"\\;_,: \n\t+-./019Nanx\x7f\x80";
+
+/// The text cut, spoilt by a byte, or with a part of it nested, at a random place.
+fn changed(alloc: Global, dice: &mut Dice, text: &[u8]) -> Result<Vec<u8>, AllocError> {
+    let from = dice.roll(text.len());
+    let behind = from.saturating_add(1);
+    let byte = [dice.pick(BYTES, b' ')];
+    match dice.roll(5) {
+        0 => with_bytes(alloc, text, from, text.len(), b""),
+        1 => with_bytes(alloc, text, from, behind, &byte),
+        2 => with_bytes(alloc, text, from, behind, b""),
+        3 => with_bytes(alloc, text, from, from, &byte),
+        _ => nested(alloc, dice, text, from),
+    }
+}
+
+fn random_text(
+    alloc: Global,
+    dice: &mut Dice,
+    texts: &[&'static str],
+) -> Result<Vec<u8>, AllocError> {
+    let text = dice.pick(texts, "");
+    changed(alloc, dice, text.as_bytes())
+}
+
+/// Whether a splitter takes the element at these places first.
+fn is_taken(alloc: Global, text: &[u8], span: (usize, usize)) -> bool {
+    let mut splitter = Splitter::new(alloc);
+    if splitter.taken() != 0 {
+        return false;
+    }
+    match splitter.take(text) {
+        Ok(taken) => taken.whole == Some((span.0 as u64, span.1 as u64)),
+        Err(_) => false,
+    }
+}
+
+fn item_told(alloc: Global, item: Result<Item, FormFault>) -> Result<String, AllocError> {
+    let mut told = String::new(alloc);
+    tell(&mut told, item)?;
+    Ok(told)
+}
+
+/// What the element at these places, as a reader gives it, is read as.
+fn told_in_turn(
+    alloc: Global,
+    tower: &Tower,
+    text: &[u8],
+    span: (usize, usize),
+) -> Result<String, AllocError> {
+    match Reader::new(alloc, text).next() {
+        Ok(Some(element)) if element.span() == span => {
+            item_told(alloc, read_item(element, MomentField::Index, tower))
+        }
+        _ => Ok(String::new(alloc)),
+    }
+}
+
+/// Whether a text that is read in one pass is read so in turn, too; none where it is not.
+fn is_read_alike(alloc: Global, tower: &Tower, text: &[u8]) -> Result<Option<bool>, AllocError> {
+    let Some((element, item)) = read_first(text, 0, MomentField::Index, tower) else {
+        return Ok(None);
+    };
+    let span = element.span();
+    let at_once = item_told(alloc, item)?;
+    let in_turn = told_in_turn(alloc, tower, text, span)?;
+    Ok(Some(is_taken(alloc, text, span) && at_once == in_turn))
+}
+
+fn is_read_at_once<R: AllocGlobal + Abort>(
+    rt: &R,
+    tower: &Tower,
+    text: &[u8],
+) -> Result<bool, Fail> {
+    match is_read_alike(rt.alloc(), tower, text)? {
+        Some(alike) => {
+            assert!(rt; alike, "{text:?}");
+            Ok(true)
+        }
+        None => Ok(false),
+    }
+}
+
+/// How many of so many random texts are read in one pass.
+fn count_at_once<R: AllocGlobal + Abort>(rt: &R, texts: u32) -> Result<u32, Fail> {
+    let tower = Tower::read(rt.alloc(), ONE.as_bytes())?;
+    let usual = usual(rt.alloc())?;
+    let mut dice = Dice { state: 38 };
+    let mut at_once: u32 = 0;
+    for _ in 0..texts {
+        let text = random_text(rt.alloc(), &mut dice, &usual)?;
+        if is_read_at_once(rt, &tower, &text)? {
+            at_once = at_once.wrapping_add(1);
+        }
+    }
+    Ok(at_once)
+}
+
+/// Texts that are cut, spoilt or nested anywhere: of those that are read in one pass a splitter and [`read_item`] say the
+/// same.
+#[test]
+fn random_texts_are_read_both_ways(rt: HostRuntime) -> Result<(), Fail> {
+    let at_once = count_at_once(&rt, 100_000)?;
+    assert!(rt;
+        at_once >= 20_000 && at_once <= 80_000,
+        "{at_once} in one pass"
+    );
     Ok(())
 }

@@ -1,7 +1,7 @@
 //! The unanswered invocations of a trace, by process.
 //!
 //! Processes 0 to 1,023 have a slot by their number, all others an entry of a map. There are as many slots as
-//! the greatest such process that was put in asked for, as a power of two: 1,024 take some 60 KB.
+//! the greatest such process that was put in asked for, as a power of two: 1,024 take 40 KB.
 
 ghost use Rattle.std.specs.Prelude.{◌≡◌, ◌<◌, ◌==◌, ℕ, ℤ, length, Some, None, OnOk, OnErr, if◌then◌else◌};
 ghost use Rattle.std.specs.Ordering.{int_cmp, int_eq};
