@@ -18,10 +18,12 @@ use Rattle.stretch_tree.specs.declared.stretch.Stretch.{Stretch}
 use Rattle.stretch_tree.specs.Order.{Contents as Stretches}
 use Rattle.zone_tree.specs.Order.{Contents as Zones, StandInOrder}
 use Rattle.zones.specs.declared.index.Members.{Members}
+use Rattle.zones.specs.declared.records.Records.{Records}
 use Rattle.zones.specs.Cluster.{values_from, written_zone, zones_from}
 use Rattle.zones.specs.Faults.{AreStretched, AreStretchesAt, CanStretch, IsStretchAtSome, stretch_shape}
 use Rattle.zones.specs.Index.{AreMembers, HasPlaces, HasPlacesOf, HoldsOnlyFor}
 use Rattle.zones.specs.Members.{IsChange}
+use Rattle.zones.specs.Records.{AreRecords, room_in}
 use Rattle.zones.specs.Together.{HasRoomFor, HoldTogether}
 use Rattle.zones.specs.Moves.{AreExchanged, Stands}
 use Rattle.zones.specs.Zoned.{AreZoned, AreZonesAt, CanExchange, NeedsNoRoom, AreManyWriters, judged_part, other_value, value_in, zone_shape}
@@ -42,20 +44,21 @@ as_many_writes claim ops tree apart order zoned =
     length_permutation (zones_from None ops) tree (zones_each_once ops tree apart.kept.moments (apart.kept.values apart.atomic).apart order zoned)
     ∙ (length-map (values_from None ops) (written_zone ops) ∙ length-map (writes ops) (λ w. value_of w.act))
 
-pub room_of_none : (members : Members) (zones : Zones) (stretches : Stretches) (prepared : Option Op) → prepared ≡ None → IfSome prepared (HasRoomFor members zones stretches)
-room_of_none members zones stretches prepared e = subst (λ (p : Option Op). IfSome p (HasRoomFor members zones stretches)) (sym e) tt
+pub room_of_none : (members : Members) (records : Records) (zones : Zones) (stretches : Stretches) (prepared : Option Op) → prepared ≡ None → IfSome prepared (HasRoomFor members records zones stretches)
+room_of_none members records zones stretches prepared e = subst (λ (p : Option Op). IfSome p (HasRoomFor members records zones stretches)) (sym e) tt
 
-pub room_of_one : (members : Members) (zones : Zones) (stretches : Stretches) (prepared : Option Op) (op : Op) → prepared ≡ Some op → HasPlaces op members → 2 ≤ zones.free → length zones.zones + 6 ≤ stretches.free → IfSome prepared (HasRoomFor members zones stretches)
-room_of_one members zones stretches prepared op e places more most =
-    subst (λ (p : Option Op). IfSome p (HasRoomFor members zones stretches)) (sym e) (record { places = places; zones_free = more; stretches_free = most })
+pub room_of_one : (members : Members) (records : Records) (zones : Zones) (stretches : Stretches) (prepared : Option Op) (op : Op) → prepared ≡ Some op → HasPlaces op members → 1 ≤ room_in records → 2 ≤ zones.free → length zones.zones + 6 ≤ stretches.free → IfSome prepared (HasRoomFor members records zones stretches)
+room_of_one members records zones stretches prepared op e places one more most =
+    subst (λ (p : Option Op). IfSome p (HasRoomFor members records zones stretches)) (sym e) (record { places = places; records_free = one; zones_free = more; stretches_free = most })
 
 -- of no operations
-pub together_at_first : (claim : Terms) → claim.kind ≡ Atomic → (table : Tabled) (members : Members) (zones : Zones) (stretches : Stretches) → table ≡ record { ops = []; prepared = None } → AreMembers [] members → HoldsOnlyFor None members
-    → zones.zones ≡ [] → stretches.stretches ≡ [] → 2 ≤ stretches.free → HoldTogether claim table members zones stretches
-together_at_first claim atomic table members zones stretches e are only no_zones none enough =
-    subst (λ (t : Tabled). HoldTogether claim t members zones stretches) (sym e) (record {
+pub together_at_first : (claim : Terms) → claim.kind ≡ Atomic → (table : Tabled) (members : Members) (records : Records) (zones : Zones) (stretches : Stretches) → table ≡ record { ops = []; prepared = None } → AreMembers [] members → AreRecords [] records → HoldsOnlyFor None members
+    → zones.zones ≡ [] → stretches.stretches ≡ [] → 2 ≤ stretches.free → HoldTogether claim table members records zones stretches
+together_at_first claim atomic table members records zones stretches e are recorded only no_zones none enough =
+    subst (λ (t : Tabled). HoldTogether claim t members records zones stretches) (sym e) (record {
       apart = apart_none claim atomic;
       members_of = are;
+      records_of = recorded;
       zoned = subst (AreZoned []) (sym no_zones) zoned_none;
       stretched = subst (AreStretched claim []) (sym none) (stretched_none claim);
       spare = subst (λ (l : List Zone). length l + 2 ≤ stretches.free) (sym no_zones) enough;
@@ -64,11 +67,12 @@ together_at_first claim atomic table members zones stretches e are only no_zones
     })
 
 -- of the same operations
-pub together_kept : (claim : Terms) (table other : Tabled) (members changed : Members) (zones others : Zones) (stretches rest : Stretches) → HoldTogether claim table members zones stretches
-    → other.ops ≡ table.ops → AreMembers table.ops changed → others.zones ≡ zones.zones → rest.stretches ≡ stretches.stretches → stretches.free ≤ rest.free → IfSome other.prepared (HasRoomFor changed others rest) → HoldsOnlyFor other.prepared changed → HoldTogether claim other changed others rest
-together_kept claim table other members changed zones others stretches rest together same are zones_same rest_same more room only = record {
+pub together_kept : (claim : Terms) (table other : Tabled) (members changed : Members) (records moved : Records) (zones others : Zones) (stretches rest : Stretches) → HoldTogether claim table members records zones stretches
+    → other.ops ≡ table.ops → AreMembers table.ops changed → AreRecords table.ops moved → others.zones ≡ zones.zones → rest.stretches ≡ stretches.stretches → stretches.free ≤ rest.free → IfSome other.prepared (HasRoomFor changed moved others rest) → HoldsOnlyFor other.prepared changed → HoldTogether claim other changed moved others rest
+together_kept claim table other members changed records moved zones others stretches rest together same are recorded zones_same rest_same more room only = record {
   apart = subst (AreManyWriters claim) (sym same) together.apart;
   members_of = subst (λ (l : List Op). AreMembers l changed) (sym same) are;
+  records_of = subst (λ (l : List Op). AreRecords l moved) (sym same) recorded;
   zoned = subst (λ (l : List Op). AreZoned l others.zones) (sym same) (subst (AreZoned table.ops) (sym zones_same) together.zoned);
   stretched = subst (λ (l : List Op). AreStretched claim l rest.stretches) (sym same) (subst (AreStretched claim table.ops) (sym rest_same) together.stretched);
   spare = subst (λ (l : List Zone). length l + 2 ≤ rest.free) (sym zones_same) (let a = together.spare in omega (arith, more));
@@ -90,27 +94,29 @@ some_part None some = absurd (cc)
 some_part (Some op) some = (op, refl)
 
 -- the room of the prepared operation
-module _ (members : Members) (zones : Zones) (stretches : Stretches) (prepared : Option Op) (room : IfSome prepared (HasRoomFor members zones stretches)) where
-  pub room_for : (new : Option Op) → IfSome new (λ op. prepared ≡ Some op) → IsSome (judged_part new) → (2 ≤ zones.free) × (length zones.zones + 6 ≤ stretches.free)
+module _ (members : Members) (records : Records) (zones : Zones) (stretches : Stretches) (prepared : Option Op) (room : IfSome prepared (HasRoomFor members records zones stretches)) where
+  pub room_for : (new : Option Op) → IfSome new (λ op. prepared ≡ Some op) → IsSome (judged_part new) → (2 ≤ zones.free) × (length zones.zones + 6 ≤ stretches.free) × (1 ≤ room_in records)
   room_for new is some =
       let (op, e) = some_part new some in
       let at : prepared ≡ Some op = subst (λ (n : Option Op). IfSome n (λ op. prepared ≡ Some op)) e is in
-      let h : HasRoomFor members zones stretches op = subst (λ (p : Option Op). IfSome p (HasRoomFor members zones stretches)) at room in
-      (h.zones_free, h.stretches_free)
+      let h : HasRoomFor members records zones stretches op = subst (λ (p : Option Op). IfSome p (HasRoomFor members records zones stretches)) at room in
+      (h.zones_free, h.stretches_free, h.records_free)
 
   -- it stays where there is no new operation
-  module _ (after : Members) (zones_after : Zones) (stretches_after : Stretches) (new : Option Op) (places : HasPlacesOf prepared after)
+  module _ (after : Members) (records_after : Records) (zones_after : Zones) (stretches_after : Stretches) (new : Option Op) (places : HasPlacesOf prepared after)
+      (records_kept : judged_part new ≡ None → room_in records ≤ room_in records_after)
       (zones_kept : judged_part new ≡ None → zones.free ≤ zones_after.free) (stretches_kept : judged_part new ≡ None → length zones_after.zones + stretches.free ≤ length zones.zones + stretches_after.free) where
-    pub room_after : IfSome (prepared_after new prepared) (HasRoomFor after zones_after stretches_after)
-    room_after = by_cases new prepared room places zones_kept stretches_kept
+    pub room_after : IfSome (prepared_after new prepared) (HasRoomFor after records_after zones_after stretches_after)
+    room_after = by_cases new prepared room places records_kept zones_kept stretches_kept
       where
-        by_cases : (n p : Option Op) → IfSome p (HasRoomFor members zones stretches) → HasPlacesOf p after → (judged_part n ≡ None → zones.free ≤ zones_after.free)
+        by_cases : (n p : Option Op) → IfSome p (HasRoomFor members records zones stretches) → HasPlacesOf p after → (judged_part n ≡ None → room_in records ≤ room_in records_after) → (judged_part n ≡ None → zones.free ≤ zones_after.free)
             → (judged_part n ≡ None → length zones_after.zones + stretches.free ≤ length zones.zones + stretches_after.free)
-            → IfSome (prepared_after n p) (HasRoomFor after zones_after stretches_after)
-        by_cases (Some op) p h places more most = tt
-        by_cases None None h places more most = tt
-        by_cases None (Some op) h places more most = record {
+            → IfSome (prepared_after n p) (HasRoomFor after records_after zones_after stretches_after)
+        by_cases (Some op) p h places one more most = tt
+        by_cases None None h places one more most = tt
+        by_cases None (Some op) h places one more most = record {
           places = places;
+          records_free = (let a = h.records_free in let b = one refl in omega arith);
           zones_free = (let a = h.zones_free in let b = more refl in omega arith);
           stretches_free = (let a = h.stretches_free in let b = most refl in omega arith);
         }

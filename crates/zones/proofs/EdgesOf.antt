@@ -1,6 +1,7 @@
 -- The edges of a value: what an edit makes of them, and what its zone and its stretch are by them.
 use Rattle.std.proofs.Common.{◌≡◌, ◌≢◌, ◌↔◌, ◌⊎◌, inl, inr, Bool, true, false, ◌&&◌, List, Option, Some, None, refl, sym, ap, ◌∙◌, subst, cond}
 use Rattle.std.specs.Prelude.{Contains, IfSome, IsSome, IsTrue}
+use Rattle.std.proofs.lemmas.Bool.{both_ways}
 use Rattle.std.proofs.lemmas.List.Elements.{All-contains}
 use Rattle.intervals.specs.declared.operation.Op.{Op}
 use Rattle.intervals.specs.declared.operation.Moment.{Moment}
@@ -9,7 +10,8 @@ use Rattle.intervals.specs.Operation.{IsJudgedRead, IsWrite, is_judged_read, is_
 use Rattle.stretch_tree.specs.declared.stretch.Stretch.{Stretch}
 use Rattle.zone_tree.specs.declared.edge.Edge.{Edge}
 use Rattle.zone_tree.specs.declared.edge.Edge.TheVariants.{Before, At, Never}
-use Rattle.zone_tree.specs.Edge.{ComesBefore}
+use Rattle.zone_tree.specs.Edge.{ComesBefore, same_edge}
+use Rattle.zone_tree.proofs.EdgeOrder.{Decides-same_edge}
 use Rattle.zones.specs.Cluster.{earlier_of, edge_of_end, later_of}
 use Rattle.zones.specs.Edges.{AreEdges, AreReadEdges, AreWriteEdges, part_of, read_part, write_part}
 use Rattle.zone_tree.specs.declared.zone.Zone.{Zone}
@@ -49,11 +51,11 @@ module _ (test : Op → Bool) (before : List Op) (old new : Option Op) (after : 
   came : (op : Op) → new ≡ Some op → Contains after op
   came op e = let h : IfSome (Some op) (λ op. Contains (judged after) op) = subst (λ (n : Option Op). IfSome n (λ op. Contains (judged after) op)) e change.comes in (kept_stands is_judged after op h).0
 
-  stayed : part_of test v old ≡ None → (op : Op) → Contains before op → test op ≡ true → value_of op.act ≡ v → Contains after op
-  stayed none op h t e = by_cases (change.stay op (judged_by before op h t))
+  stayed : (op : Op) → Contains before op → test op ≡ true → old ≢ Some op → Contains after op
+  stayed op h t n = by_cases (change.stay op (judged_by before op h t))
     where
       by_cases : (old ≡ Some op) ⊎ Contains (judged after) op → Contains after op
-      by_cases (inl f) = absurd (let g : Some op ≡ None = sym (passes test v op t e) ∙ (ap (part_of test v) (sym f) ∙ none) in cc)
+      by_cases (inl e) = absurd (n e)
       by_cases (inr k) = (kept_stands is_judged after op k).0
 
   stood : (op : Op) → Contains after op → test op ≡ true → (new ≡ Some op) ⊎ Contains before op
@@ -66,7 +68,23 @@ module _ (test : Op → Bool) (before : List Op) (old new : Option Op) (after : 
   not_new : part_of test v new ≡ None → (op : Op) → test op ≡ true → value_of op.act ≡ v → new ≢ Some op
   not_new none op t e f = absurd (let g : Some op ≡ None = sym (passes test v op t e) ∙ (ap (part_of test v) (sym f) ∙ none) in cc)
 
-  module _ (edge : Edge) (still : part_of test v old ≡ None) where
+  is_new : (r : Op) → part_of test v new ≡ Some r → (new ≡ Some r) × (test r ≡ true) × (value_of r.act ≡ v)
+  is_new r comes = passed test v new r comes
+
+  one_new : (r : Op) → part_of test v new ≡ Some r → (op : Op) → new ≡ Some op → r ≡ op
+  one_new r comes op e = let f : Some r ≡ Some op = sym (is_new r comes).0 ∙ e in cc
+
+  -- no edge is of what went, where that passes and has the value
+  abbrev HoldsNot : (Op → Edge) → Edge → Type 0
+  HoldsNot at edge = IfSome (part_of test v old) (λ op. at op ≢ edge)
+
+  not_gone : (at : Op → Edge) (edge : Edge) → HoldsNot at edge → (op : Op) → test op ≡ true → value_of op.act ≡ v → at op ≡ edge → old ≢ Some op
+  not_gone at edge still op t e f g =
+      let is : part_of test v old ≡ Some op = ap (part_of test v) g ∙ passes test v op t e in
+      let other : at op ≢ edge = subst (λ (o : Option Op). IfSome o (λ op. at op ≢ edge)) is still in
+      other f
+
+  module _ (edge : Edge) (still : HoldsNot (λ op. edge_of_end op.end) edge) where
     same_end : part_of test v new ≡ None → IsLeastEnd Passes before v edge → IsLeastEnd Passes after v edge
     same_end none is = record {
       least = all_from (λ op. Passes op → value_of op.act ≡ v → AtMost edge (edge_of_end op.end)) after (λ op h t e. by_place op t e (stood op h t));
@@ -79,8 +97,31 @@ module _ (test : Op → Bool) (before : List Op) (old new : Option Op) (after : 
 
         by_held : (edge ≡ Never) ⊎ ((op : Op) × Contains before op × Passes op × (value_of op.act ≡ v) × (edge_of_end op.end ≡ edge)) → (edge ≡ Never) ⊎ ((op : Op) × Contains after op × Passes op × (value_of op.act ≡ v) × (edge_of_end op.end ≡ edge))
         by_held (inl e) = inl e
-        by_held (inr (op, h, t, e, f)) = inr (op, stayed still op h t e, t, e, f)
+        by_held (inr (op, h, t, e, f)) = inr (op, stayed op h t (not_gone (λ op. edge_of_end op.end) edge still op t e f), t, e, f)
 
+    module _ (r : Op) (comes : part_of test v new ≡ Some r) where
+      more_end : IsLeastEnd Passes before v edge → IsLeastEnd Passes after v (earlier_of edge (edge_of_end r.end))
+      more_end is = record {
+        least = all_from (λ op. Passes op → value_of op.act ≡ v → AtMost least (edge_of_end op.end)) after (λ op h t e. by_place op t e (stood op h t));
+        held = by_cases (earlier-cases edge (edge_of_end r.end)) is.held;
+      }
+        where
+          least : Edge
+          least = earlier_of edge (edge_of_end r.end)
+
+          by_place : (op : Op) → test op ≡ true → value_of op.act ≡ v → (new ≡ Some op) ⊎ Contains before op → AtMost least (edge_of_end op.end)
+          by_place op t e (inl f) = subst (λ (x : Op). AtMost least (edge_of_end x.end)) (one_new r comes op f) (earlier-right edge (edge_of_end r.end))
+          by_place op t e (inr k) =
+              at_most_transitive least edge (edge_of_end op.end) (earlier-left edge (edge_of_end r.end))
+              (All-contains (λ op. Passes op → value_of op.act ≡ v → AtMost edge (edge_of_end op.end)) before op is.least k t e)
+
+          by_cases : (edge ≡ least) ⊎ (edge_of_end r.end ≡ least) → (edge ≡ Never) ⊎ ((op : Op) × Contains before op × Passes op × (value_of op.act ≡ v) × (edge_of_end op.end ≡ edge))
+              → (least ≡ Never) ⊎ ((op : Op) × Contains after op × Passes op × (value_of op.act ≡ v) × (edge_of_end op.end ≡ least))
+          by_cases (inl e) (inl f) = inl (sym e ∙ f)
+          by_cases (inl e) (inr (op, h, t, s, f)) = inr (op, stayed op h t (not_gone (λ op. edge_of_end op.end) edge still op t s f), t, s, f ∙ e)
+          by_cases (inr e) held = let is = is_new r comes in inr (r, came r is.0, is.1, is.2, e)
+
+  module _ (edge : Edge) (still : HoldsNot (λ op. At op.begin) edge) where
     same_begin : part_of test v new ≡ None → IsGreatestBegin Passes before v edge → IsGreatestBegin Passes after v edge
     same_begin none is = record {
       greatest = all_from (λ op. Passes op → value_of op.act ≡ v → AtMost (At op.begin) edge) after (λ op h t e. by_place op t e (stood op h t));
@@ -93,36 +134,9 @@ module _ (test : Op → Bool) (before : List Op) (old new : Option Op) (after : 
 
         by_held : (edge ≡ Before) ⊎ ((op : Op) × Contains before op × Passes op × (value_of op.act ≡ v) × (At op.begin ≡ edge)) → (edge ≡ Before) ⊎ ((op : Op) × Contains after op × Passes op × (value_of op.act ≡ v) × (At op.begin ≡ edge))
         by_held (inl e) = inl e
-        by_held (inr (op, h, t, e, f)) = inr (op, stayed still op h t e, t, e, f)
+        by_held (inr (op, h, t, e, f)) = inr (op, stayed op h t (not_gone (λ op. At op.begin) edge still op t e f), t, e, f)
 
     module _ (r : Op) (comes : part_of test v new ≡ Some r) where
-      is_r : (new ≡ Some r) × (test r ≡ true) × (value_of r.act ≡ v)
-      is_r = passed test v new r comes
-
-      one_new : (op : Op) → new ≡ Some op → r ≡ op
-      one_new op e = let f : Some r ≡ Some op = sym is_r.0 ∙ e in cc
-
-      more_end : IsLeastEnd Passes before v edge → IsLeastEnd Passes after v (earlier_of edge (edge_of_end r.end))
-      more_end is = record {
-        least = all_from (λ op. Passes op → value_of op.act ≡ v → AtMost least (edge_of_end op.end)) after (λ op h t e. by_place op t e (stood op h t));
-        held = by_cases (earlier-cases edge (edge_of_end r.end)) is.held;
-      }
-        where
-          least : Edge
-          least = earlier_of edge (edge_of_end r.end)
-
-          by_place : (op : Op) → test op ≡ true → value_of op.act ≡ v → (new ≡ Some op) ⊎ Contains before op → AtMost least (edge_of_end op.end)
-          by_place op t e (inl f) = subst (λ (x : Op). AtMost least (edge_of_end x.end)) (one_new op f) (earlier-right edge (edge_of_end r.end))
-          by_place op t e (inr k) =
-              at_most_transitive least edge (edge_of_end op.end) (earlier-left edge (edge_of_end r.end))
-              (All-contains (λ op. Passes op → value_of op.act ≡ v → AtMost edge (edge_of_end op.end)) before op is.least k t e)
-
-          by_cases : (edge ≡ least) ⊎ (edge_of_end r.end ≡ least) → (edge ≡ Never) ⊎ ((op : Op) × Contains before op × Passes op × (value_of op.act ≡ v) × (edge_of_end op.end ≡ edge))
-              → (least ≡ Never) ⊎ ((op : Op) × Contains after op × Passes op × (value_of op.act ≡ v) × (edge_of_end op.end ≡ least))
-          by_cases (inl e) (inl f) = inl (sym e ∙ f)
-          by_cases (inl e) (inr (op, h, t, s, f)) = inr (op, stayed still op h t s, t, s, f ∙ e)
-          by_cases (inr e) held = inr (r, came r is_r.0, is_r.1, is_r.2, e)
-
       more_begin : IsGreatestBegin Passes before v edge → IsGreatestBegin Passes after v (later_of edge (At r.begin))
       more_begin is = record {
         greatest = all_from (λ op. Passes op → value_of op.act ≡ v → AtMost (At op.begin) greatest) after (λ op h t e. by_place op t e (stood op h t));
@@ -133,7 +147,7 @@ module _ (test : Op → Bool) (before : List Op) (old new : Option Op) (after : 
           greatest = later_of edge (At r.begin)
 
           by_place : (op : Op) → test op ≡ true → value_of op.act ≡ v → (new ≡ Some op) ⊎ Contains before op → AtMost (At op.begin) greatest
-          by_place op t e (inl f) = subst (λ (x : Op). AtMost (At x.begin) greatest) (one_new op f) (later-right edge (At r.begin))
+          by_place op t e (inl f) = subst (λ (x : Op). AtMost (At x.begin) greatest) (one_new r comes op f) (later-right edge (At r.begin))
           by_place op t e (inr k) =
               at_most_transitive (At op.begin) edge greatest
               (All-contains (λ op. Passes op → value_of op.act ≡ v → AtMost (At op.begin) edge) before op is.greatest k t e)
@@ -142,23 +156,34 @@ module _ (test : Op → Bool) (before : List Op) (old new : Option Op) (after : 
           by_cases : (edge ≡ greatest) ⊎ (At r.begin ≡ greatest) → (edge ≡ Before) ⊎ ((op : Op) × Contains before op × Passes op × (value_of op.act ≡ v) × (At op.begin ≡ edge))
               → (greatest ≡ Before) ⊎ ((op : Op) × Contains after op × Passes op × (value_of op.act ≡ v) × (At op.begin ≡ greatest))
           by_cases (inl e) (inl f) = inl (sym e ∙ f)
-          by_cases (inl e) (inr (op, h, t, s, f)) = inr (op, stayed still op h t s, t, s, f ∙ e)
-          by_cases (inr e) held = inr (r, came r is_r.0, is_r.1, is_r.2, e)
+          by_cases (inl e) (inr (op, h, t, s, f)) = inr (op, stayed op h t (not_gone (λ op. At op.begin) edge still op t s f), t, s, f ∙ e)
+          by_cases (inr e) held = let is = is_new r comes in inr (r, came r is.0, is.1, is.2, e)
+
+-- two edges that the test tells apart
+differ : (a b : Edge) → same_edge a b ≡ false → a ≢ b
+differ a b apart e = both_ways (same_edge a b) apart ((Decides-same_edge a b).1 e)
+
+pub edges_apart : (at : Op → Edge) (edge : Edge) (found : Option Op) → IfSome found (λ op. same_edge (at op) edge ≡ false) → IfSome found (λ op. at op ≢ edge)
+edges_apart at edge None apart = tt
+edges_apart at edge (Some op) apart = differ (at op) edge apart
+
+-- nothing that passes and has the value went
+none_held : (test : Op → Bool) (v : Value) (old : Option Op) (at : Op → Edge) (edge : Edge) → part_of test v old ≡ None → IfSome (part_of test v old) (λ op. at op ≢ edge)
+none_held test v old at edge none = subst (λ (o : Option Op). IfSome o (λ op. at op ≢ edge)) (sym none) tt
 
 -- of the reads
-module _ (before : List Op) (old new : Option Op) (after : List Op) (change : IsChange before old new after) (v : Value) (begin end : Edge)
-    (are : AreReadEdges before v begin end) (still : read_part v old ≡ None) where
-  pub reads_same : read_part v new ≡ None → AreReadEdges after v begin end
-  reads_same none = record {
-    begin = same_begin is_judged_read before old new after change v (λ ops. in_judged-read ops v) begin still none are.begin;
-    end = same_end is_judged_read before old new after change v (λ ops. in_judged-read ops v) end still none are.end;
-  }
+module _ (before : List Op) (old new : Option Op) (after : List Op) (change : IsChange before old new after) (v : Value) where
+  pub begin_same : (edge : Edge) → IfSome (read_part v old) (λ op. At op.begin ≢ edge) → read_part v new ≡ None → IsGreatestBegin IsJudgedRead before v edge → IsGreatestBegin IsJudgedRead after v edge
+  begin_same edge still none is = same_begin is_judged_read before old new after change v (λ ops. in_judged-read ops v) edge still none is
 
-  pub reads_more : (r : Op) → read_part v new ≡ Some r → AreReadEdges after v (later_of begin (At r.begin)) (earlier_of end (edge_of_end r.end))
-  reads_more r is = record {
-    begin = more_begin is_judged_read before old new after change v (λ ops. in_judged-read ops v) begin still r is are.begin;
-    end = more_end is_judged_read before old new after change v (λ ops. in_judged-read ops v) end still r is are.end;
-  }
+  pub begin_more : (edge : Edge) → IfSome (read_part v old) (λ op. At op.begin ≢ edge) → (r : Op) → read_part v new ≡ Some r → IsGreatestBegin IsJudgedRead before v edge → IsGreatestBegin IsJudgedRead after v (later_of edge (At r.begin))
+  begin_more edge still r comes is = more_begin is_judged_read before old new after change v (λ ops. in_judged-read ops v) edge still r comes is
+
+  pub end_same : (edge : Edge) → IfSome (read_part v old) (λ op. edge_of_end op.end ≢ edge) → read_part v new ≡ None → IsLeastEnd IsJudgedRead before v edge → IsLeastEnd IsJudgedRead after v edge
+  end_same edge still none is = same_end is_judged_read before old new after change v (λ ops. in_judged-read ops v) edge still none is
+
+  pub end_more : (edge : Edge) → IfSome (read_part v old) (λ op. edge_of_end op.end ≢ edge) → (r : Op) → read_part v new ≡ Some r → IsLeastEnd IsJudgedRead before v edge → IsLeastEnd IsJudgedRead after v (earlier_of edge (edge_of_end r.end))
+  end_more edge still r comes is = more_end is_judged_read before old new after change v (λ ops. in_judged-read ops v) edge still r comes is
 
 -- the one write of a value
 pub edges_of_write : (ops : List Op) (v : Value) (w : Op) → IsTheWriteAt ops v w → ((a b : Op) → IsTheWriteAt ops v a → IsTheWriteAt ops v b → a ≡ b) → AreWriteEdges ops v (At w.begin) (edge_of_end w.end)
@@ -214,10 +239,32 @@ module _ (before : List Op) (old new : Option Op) (after : List Op) (change : Is
 
   pub write_same : (begin end : Edge) → write_part v new ≡ None → write_part v old ≡ None → AreWriteEdges before v begin end → AreWriteEdges after v begin end
   write_same begin end none still are = record {
-    begin = same_begin is_write before old new after change v (λ ops. in_judged-write ops v) begin still none are.begin;
-    end = same_end is_write before old new after change v (λ ops. in_judged-write ops v) end still none are.end;
+    begin = same_begin is_write before old new after change v (λ ops. in_judged-write ops v) begin (none_held is_write v old (λ op. At op.begin) begin still) none are.begin;
+    end = same_end is_write before old new after change v (λ ops. in_judged-write ops v) end (none_held is_write v old (λ op. edge_of_end op.end) end still) none are.end;
     one = one_after;
   }
+
+-- an operation of another value
+part_of_other : (test : Op → Bool) (v : Value) (found : Option Op) → IfSome found (λ op. value_of op.act ≢ v) → part_of test v found ≡ None
+part_of_other test v None other = refl
+part_of_other test v (Some op) other = by_cases (test op) (same_value (value_of op.act) v) refl
+  where
+    by_cases : (t s : Bool) → same_value (value_of op.act) v ≡ s → cond (t && s) (Some op) None ≡ None
+    by_cases t true e = absurd (other ((Decides-same_value (value_of op.act) v).0 e))
+    by_cases true false e = refl
+    by_cases false false e = refl
+
+-- other values keep their edges
+pub edges_elsewhere : (before : List Op) (old new : Option Op) (after : List Op) → IsChange before old new after → (v : Value) (edges : Edges)
+    → IfSome old (λ op. value_of op.act ≢ v) → IfSome new (λ op. value_of op.act ≢ v) → AreEdges before v edges → AreEdges after v edges
+edges_elsewhere before old new after change v edges not_old not_new are = record {
+  same = are.same;
+  write = write_same before old new after change v edges.write_begin edges.write_end (part_of_other is_write v new not_new) (part_of_other is_write v old not_old) are.write;
+  read = record {
+    begin = begin_same before old new after change v edges.read_begin (none_held is_judged_read v old (λ op. At op.begin) edges.read_begin (part_of_other is_judged_read v old not_old)) (part_of_other is_judged_read v new not_new) are.read.begin;
+    end = end_same before old new after change v edges.read_end (none_held is_judged_read v old (λ op. edge_of_end op.end) edges.read_end (part_of_other is_judged_read v old not_old)) (part_of_other is_judged_read v new not_new) are.read.end;
+  };
+}
 
 -- something begins where the edge is not Before
 module _ (P : Op → Type 0) (ops : List Op) (v : Value) (edge : Edge) (is : IsGreatestBegin P ops v edge) where

@@ -1,7 +1,7 @@
 -- The first stretches show the first reads of values without a write, and the first early read.
 use Rattle.std.proofs.Common.{◌≡◌, ◌≢◌, ◌⊎◌, ◌≤◌, inl, inr, Bool, true, false, not, ◌&&◌, List, [], ◌∷◌, Option, Some, None, refl, sym, ap, ◌∙◌, subst, cond, arith}
 use Rattle.std.specs.Prelude.{All, Contains, IsTrue, MatchOption, find, is_some, option_map}
-use Rattle.std.proofs.lemmas.Bool.{both_ways, false_from_ne_true, ltb-true, not-true, not_from_false}
+use Rattle.std.proofs.lemmas.Bool.{both_ways, false_from_ne_true, ltb-true, not-true}
 use Rattle.std.proofs.lemmas.List.Elements.{All-contains}
 use Rattle.intervals.specs.declared.operation.Op.{Op}
 use Rattle.intervals.specs.declared.operation.OpId.{OpId}
@@ -18,7 +18,7 @@ use Rattle.stretch_tree.specs.Order.{AreByEnd, comes_before}
 use Rattle.stretch_tree.specs.Look.{is_early, is_writeless, is_writeless_but}
 use Rattle.summary_tree.proofs.Lists.{none_found}
 use Rattle.zone_tree.specs.declared.edge.Edge.{Edge}
-use Rattle.zone_tree.specs.declared.edge.Edge.TheVariants.{At, Never}
+use Rattle.zone_tree.specs.declared.edge.Edge.TheVariants.{At}
 use Rattle.zone_tree.specs.Edge.{ComesBefore}
 use Rattle.zones.specs.Cluster.{edge_of_end}
 use Rattle.zones.specs.AtFirst.{IsWriteless, first_writeless, first_writeless_but, sole_of, with_other}

@@ -1,6 +1,6 @@
 -- The zone of the initial value, where there is one, in front of the zones of a tree.
 use Rattle.std.proofs.Common.{◌≡◌, ◌↔◌, ◌⊎◌, inl, inr, true, false, List, ◌∷◌, Option, Some, None, refl, sym, ap, ◌∙◌, subst}
-use Rattle.std.specs.Prelude.{All, Contains, IfSome, IsPermutation, IsSome, map, option_map}
+use Rattle.std.specs.Prelude.{All, Contains, IfSome, IsPermutation, IsSome, map}
 use Rattle.std.proofs.lemmas.Bool.{both_ways}
 use Rattle.intervals.specs.declared.operation.Op.{Op}
 use Rattle.intervals.specs.declared.operation.Value.{Value}

@@ -32,8 +32,8 @@ mod Refusals
 mod FirstReads
 mod Writeless
 mod Stretches
-mod OneWrite
 mod EdgesOf
+mod Recorded
 mod FirstStretch
 mod Front
 mod KeyOrder

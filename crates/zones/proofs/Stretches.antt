@@ -1,6 +1,6 @@
 -- The values at fault and their stretches: the edges of these, and what an edit makes of them.
 use Rattle.std.proofs.Common.{◌≡◌, ◌≢◌, ◌⊎◌, ◌≤◌, ◌<◌, inl, inr, Bool, true, false, ◌&&◌, List, [], Option, Some, None, Decides, refl, sym, ap, ◌∙◌, subst, arith}
-use Rattle.std.specs.Prelude.{Contains, IsNone, IsSome, IfSome, is_some, filter, map}
+use Rattle.std.specs.Prelude.{Contains, IsSome, is_some, filter, map}
 use Rattle.std.proofs.lemmas.Bool.{both_ways, cases_order, lt-ltb, ltb-true}
 use Rattle.std.proofs.lemmas.Bool.Decides.{Decides-and, not_from_Decides}
 use Rattle.std.proofs.lemmas.List.Elements.{All-contains}

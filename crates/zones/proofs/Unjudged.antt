@@ -13,14 +13,17 @@ use Rattle.stretch_tree.specs.declared.stretch.Stretch.{Stretch}
 use Rattle.stretch_tree.specs.Order.{Contents as Stretches}
 use Rattle.zones.specs.declared.index.Members.{Members}
 use Rattle.zones.specs.declared.index.Row.{Row}
+use Rattle.zones.specs.declared.records.Records.{Records}
 use Rattle.zones.specs.declared.index.Row.TheVariants.{Writes, Ends, Begins}
 use Rattle.zones.specs.Index.{AreMembers, HasPlacesOf, HoldsOnlyFor, IsRow, shelf_of}
 use Rattle.zones.specs.Members.{IsChange}
 use Rattle.zones.specs.Moves.{AreExchanged}
 use Rattle.zones.specs.Faults.{stretch_shape}
+use Rattle.zones.specs.Records.{AreRecords, edges_at}
 use Rattle.zones.specs.Together.{HasRoomFor, HoldTogether}
 use Rattle.zones.specs.Zoned.{judged_part, zone_shape}
 use Rattle.zones.proofs.Admitted.{apart_after, change_is, room_after, stretched_after, zoned_after}
+use Rattle.zones.proofs.EdgesOf.{edges_elsewhere}
 use Rattle.zones.proofs.Held.{only_after}
 use Rattle.zones.proofs.Rows.{changed_rows, of_rows}
 
@@ -30,9 +33,9 @@ not_there None e = refl
 not_there (Some op) e = absurd (cc)
 
 -- the places of the prepared operation
-places_of : (prepared : Option Op) (members : Members) (zones : Zones) (stretches : Stretches) → IfSome prepared (HasRoomFor members zones stretches) → HasPlacesOf prepared members
-places_of None members zones stretches h = tt
-places_of (Some op) members zones stretches h = h.places
+places_of : (prepared : Option Op) (members : Members) (records : Records) (zones : Zones) (stretches : Stretches) → IfSome prepared (HasRoomFor members records zones stretches) → HasPlacesOf prepared members
+places_of None members records zones stretches h = tt
+places_of (Some op) members records zones stretches h = h.places
 
 -- where nothing goes and nothing comes the zones and the stretches are these
 no_zones : (zones : List Zone) → AreExchanged zone_shape (None, None) (None, None) zones zones
@@ -47,10 +50,17 @@ same_members before after members are change =
     let all = changed_rows None None members members.writes members.ends members.begins None (λ spot. refl) (λ spot. refl) (λ spot. refl) (λ row. tt) before after are change in
     of_rows (λ (row : Row). IsRow row after (shelf_of members row)) (all Writes) (all Ends) (all Begins)
 
-pub together_unjudged : (claim : Terms) (table : Tabled) (members : Members) (zones : Zones) (stretches : Stretches) → HoldTogether claim table members zones stretches
+-- so are the records
+same_records : (before after : List Op) (records : Records) → AreRecords before records → IsChange before None None after → AreRecords after records
+same_records before after records are change = record {
+  edges = λ v. edges_elsewhere before None None after change v (edges_at records v) tt tt (are.edges v);
+  filled = are.filled;
+}
+
+pub together_unjudged : (claim : Terms) (table : Tabled) (members : Members) (records : Records) (zones : Zones) (stretches : Stretches) → HoldTogether claim table members records zones stretches
     → (edit : Edit) → reply_to claim table.ops edit ≡ None → None ≡ judged_part (found_by table.ops (edit_id edit)) → None ≡ judged_part (new_op table.ops edit)
-    → IfSome (new_op table.ops edit) (λ op. table.prepared ≡ Some op) → HoldTogether claim (admitted table edit) members zones stretches
-together_unjudged claim table members zones stretches together edit accepted old_is new_is held =
+    → IfSome (new_op table.ops edit) (λ op. table.prepared ≡ Some op) → HoldTogether claim (admitted table edit) members records zones stretches
+together_unjudged claim table members records zones stretches together edit accepted old_is new_is held =
     let ops = table.ops in
     let after = edited ops edit in
     let apart = together.apart in
@@ -58,11 +68,12 @@ together_unjudged claim table members zones stretches together edit accepted old
     record {
       apart = apart_after claim ops edit apart accepted None None old_is new_is after refl;
       members_of = same_members ops after members together.members_of (change_is claim ops edit apart accepted None None old_is new_is after refl);
+      records_of = same_records ops after records together.records_of (change_is claim ops edit apart accepted None None old_is new_is after refl);
       zoned = zoned_after claim ops edit apart accepted None None old_is new_is after refl None None refl refl (None, None) (None, None) zones together.zoned
           (record { one = refl; other = refl }) (record { one = refl; other = refl }) zones.zones (no_zones zones.zones);
       stretched = stretched_after claim ops edit apart accepted None None old_is new_is after refl None None refl refl (None, None) (None, None) stretches together.stretched
           (record { one = refl; other = refl }) (record { one = refl; other = refl }) stretches.stretches (no_stretches stretches.stretches);
       spare = together.spare;
-      room = room_after members zones stretches table.prepared together.room members zones stretches new (places_of table.prepared members zones stretches together.room) (λ none. omega arith) (λ none. omega arith);
+      room = room_after members records zones stretches table.prepared together.room members records zones stretches new (places_of table.prepared members records zones stretches together.room) (λ none. omega arith) (λ none. omega arith) (λ none. omega arith);
       only = only_after new table.prepared members held (subst (λ (n : Option Op). HoldsOnlyFor (prepared_after n table.prepared) members) new_is together.only);
     }

@@ -1,5 +1,5 @@
 -- The verdict of a register's judge.
-use Rattle.std.proofs.Common.{◌≡◌, ◌↔◌, true, false, ◌||◌, List, Option, Some, None, refl}
+use Rattle.std.proofs.Common.{◌≡◌, ◌↔◌, false, ◌||◌, List, Option, Some, None, refl}
 use Rattle.std.specs.Prelude.{IfSome, IsNone, IsPermutation, IsSomeAnd, is_some}
 use Rattle.std.proofs.lemmas.List.Sorted.{IsPermutation-sym}
 use Rattle.intervals.specs.declared.operation.Op.{Op}

@@ -4,6 +4,8 @@ use Rattle.intervals.specs.declared.operation.Op.{Op}
 use Rattle.intervals.specs.declared.operation.Value.{Value}
 use Rattle.intervals.specs.Operation.{IsJudgedRead, IsWrite, is_judged_read, is_write, same_value, value_of}
 use Rattle.zone_tree.specs.declared.edge.Edge.{Edge}
+use Rattle.zone_tree.specs.declared.edge.Edge.TheVariants.{Before, Never}
+use Rattle.zone_tree.specs.Edge.{same_edge}
 use Rattle.zones.specs.declared.edges.Edges.{Edges}
 use Rattle.zones.specs.Members.{IsGreatestBegin, IsLeastEnd, IsTheWriteAt}
 
@@ -23,6 +25,14 @@ pub record AreEdges (ops : List Op) (value : Value) (edges : Edges) : Type 0 whe
   pub same : edges.value ≡ value
   pub write : AreWriteEdges ops value edges.write_begin edges.write_end
   pub read : AreReadEdges ops value edges.read_begin edges.read_end
+
+-- the edges of a value that no judged operation has
+abbrev pub edges_of_nothing : Value → Edges
+edges_of_nothing value = record { value = value; write_begin = Before; write_end = Never; read_begin = Before; read_end = Never }
+
+-- they are those edges
+abbrev pub is_of_nothing : Edges → Bool
+is_of_nothing edges = same_edge edges.read_begin Before && same_edge edges.write_begin Before && same_edge edges.read_end Never && same_edge edges.write_end Never
 
 -- the same of a value that there may be
 abbrev pub AreEdgesAtSome : List Op → Option Value → Option Edges → Type 0

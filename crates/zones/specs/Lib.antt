@@ -9,6 +9,7 @@ pub mod Examples
 -- words of private clauses
 pub mod Members
 pub mod Edges
+pub mod Records
 pub mod Index
 pub mod Faults
 pub mod Moves

@@ -1,19 +1,18 @@
 //! Where the write of a value begins and ends, where the last of its judged reads begins and where the
 //! first of them ends.
 
-ghost use Rattle.std.specs.Prelude.{◌≡◌, List, Option, Contains, IfSome, None, MatchOption, option_copied};
+ghost use Rattle.std.specs.Prelude.{◌≡◌, ◌≢◌, List, Option, IfSome, false, true, option_copied};
 ghost use Rattle.intervals.specs.declared.operation.Op.{Op as AnOp};
 ghost use Rattle.intervals.specs.declared.operation.Value.{Value as AValue};
-ghost use Rattle.intervals.specs.Operation.{IsJudgedRead, IsWrite, judged};
-ghost use Rattle.intervals.specs.Kind.{HasNoWrite};
-ghost use Rattle.intervals.specs.Standing.{HasDistinctIds};
+ghost use Rattle.intervals.specs.Operation.{IsJudgedRead};
+ghost use Rattle.zone_tree.specs.Edge.{same_edge};
 ghost use Rattle.zones.specs.Cluster.{edge_of_end as edge_of, earlier_of as earlier, later_of as later};
-ghost use Rattle.zones.specs.Edges.{AreEdges, AreEdgesAt, AreEdgesAtSome, AreReadEdges, AreWriteEdges, read_part, write_part};
+ghost use Rattle.zones.specs.Edges.{AreEdges, AreEdgesAt, AreEdgesAtSome, AreWriteEdges, edges_of_nothing, is_of_nothing as are_of_nothing, read_part, write_part};
 ghost use Rattle.zones.specs.Index.{AreMembers};
-ghost use Rattle.zones.specs.Members.{IsChange, IsGreatestBegin, IsLeastEnd, IsTheWriteAt};
+ghost use Rattle.zones.specs.Members.{IsChange, IsGreatestBegin, IsLeastEnd};
 
 use crate::index::Members;
-use intervals::{Moment, Op, OpTable, Value, is_same_value};
+use intervals::{Moment, Op, Value, is_same_value};
 use zone_tree::Edge;
 
 /// What the zone of a value and its stretch are made of. Where it has no write, that begins at
@@ -27,112 +26,72 @@ pub struct Edges {
     pub read_end: Edge,
 }
 
-/// The edges of the value. One operation is known to stand, so that its write may be no look-up.
-pub fn edges_of(members: &Members, table: &OpTable, known: &Option<Op>, value: Value) -> Edges
-    ensures { AreMembers table.now.ops members.now → HasDistinctIds table.now.ops → IfSome known.now (λ op. Contains (judged table.now.ops) op) → AreEdges table.now.ops value result }
+/// The edges of a value that no judged operation has.
+pub fn of_nothing(value: Value) -> Edges
+    ensures { result ≡ edges_of_nothing value }
 {
-    let (write_begin, write_end) = write_edges(members, table, known, value);
     Edges {
         value,
-        write_begin,
-        write_end,
-        read_begin: read_begin(members, value),
-        read_end: read_end(members, value),
+        write_begin: Edge::Before,
+        write_end: Edge::Never,
+        read_begin: Edge::Before,
+        read_end: Edge::Never,
     }
 }
 
-/// The edges of two values; the known operation may be the write of the first.
-pub fn edges_in(
-    members: &Members,
-    table: &OpTable,
-    known: &Option<Op>,
-    first: Option<Value>,
-    second: Option<Value>,
-) -> (Option<Edges>, Option<Edges>)
-    ensures { AreMembers table.now.ops members.now → HasDistinctIds table.now.ops → IfSome known.now (λ op. Contains (judged table.now.ops) op) → AreEdgesAt table.now.ops first second result }
+/// Whether no judged operation has the value.
+pub fn is_of_nothing(edges: &Edges) -> bool
+    ensures { result ≡ are_of_nothing edges.now }
 {
-    (
-        edges_in_some(members, table, known, first),
-        edges_in_some(members, table, &None, second),
-    )
+    is_same_edge(edges.read_begin, Edge::Before)
+        && is_same_edge(edges.write_begin, Edge::Before)
+        && is_same_edge(edges.read_end, Edge::Never)
+        && is_same_edge(edges.write_end, Edge::Never)
 }
 
-/// What these edges come to once an operation went and one came.
+/// What the edges of two values come to once an operation went and one came: the shelves, as they are after
+/// that, are asked only where a read went that an edge was of.
 pub fn edges_after(
     before: &(Option<Edges>, Option<Edges>),
     members: &Members,
-    table: &OpTable,
     old: &Option<Op>,
     new: &Option<Op>,
 ) -> (Option<Edges>, Option<Edges>)
-    ensures { (ops : List AnOp) (first second : Option AValue) → AreEdgesAt ops first second before.now → IsChange ops old.now new.now table.now.ops → AreMembers table.now.ops members.now → HasDistinctIds table.now.ops
-        → AreEdgesAt table.now.ops first second result }
+    ensures { (ops later : List AnOp) (first second : Option AValue) → AreEdgesAt ops first second before.now → IsChange ops old.now new.now later → AreMembers later members.now
+        → AreEdgesAt later first second result }
 {
     (
-        after_in_some(&before.0, members, table, old, new),
-        after_in_some(&before.1, members, table, old, new),
+        after_in_some(&before.0, members, old, new),
+        after_in_some(&before.1, members, old, new),
     )
-}
-
-fn edges_in_some(
-    members: &Members,
-    table: &OpTable,
-    known: &Option<Op>,
-    value: Option<Value>,
-) -> Option<Edges>
-    ensures { AreMembers table.now.ops members.now → HasDistinctIds table.now.ops → IfSome known.now (λ op. Contains (judged table.now.ops) op) → AreEdgesAtSome table.now.ops value result }
-{
-    match value {
-        Some(value) => Some(edges_of(members, table, known, value)),
-        None => None,
-    }
 }
 
 fn after_in_some(
     before: &Option<Edges>,
     members: &Members,
-    table: &OpTable,
     old: &Option<Op>,
     new: &Option<Op>,
 ) -> Option<Edges>
-    ensures { (ops : List AnOp) (value : Option AValue) → AreEdgesAtSome ops value before.now → IsChange ops old.now new.now table.now.ops → AreMembers table.now.ops members.now → HasDistinctIds table.now.ops
-        → AreEdgesAtSome table.now.ops value result }
+    ensures { (ops later : List AnOp) (value : Option AValue) → AreEdgesAtSome ops value before.now → IsChange ops old.now new.now later → AreMembers later members.now
+        → AreEdgesAtSome later value result }
 {
     match before {
-        Some(edges) => Some(after(edges, members, table, old, new)),
+        Some(edges) => Some(after(edges, members, old, new)),
         None => None,
     }
 }
 
-/// Where a read went, others may end first or begin last.
-fn after(
-    before: &Edges,
-    members: &Members,
-    table: &OpTable,
-    old: &Option<Op>,
-    new: &Option<Op>,
-) -> Edges
-    ensures { (ops : List AnOp) → AreEdges ops before.now.value before.now → IsChange ops old.now new.now table.now.ops → AreMembers table.now.ops members.now → HasDistinctIds table.now.ops
-        → AreEdges table.now.ops before.now.value result }
-{
-    match read_in(old, before.value) {
-        Some(_) => edges_of(members, table, new, before.value),
-        None => changed(before, old, new),
-    }
-}
-
-/// What the edges come to where no read of the value went.
-fn changed(before: &Edges, old: &Option<Op>, new: &Option<Op>) -> Edges
-    ensures { (ops later : List AnOp) → AreEdges ops before.now.value before.now → IsChange ops old.now new.now later → read_part before.now.value old.now ≡ None → AreEdges later before.now.value result }
+fn after(before: &Edges, members: &Members, old: &Option<Op>, new: &Option<Op>) -> Edges
+    ensures { (ops later : List AnOp) → AreEdges ops before.now.value before.now → IsChange ops old.now new.now later → AreMembers later members.now
+        → AreEdges later before.now.value result }
 {
     let (write_begin, write_end) = write_after(before, old, new);
-    let (read_begin, read_end) = read_after(before, new);
     Edges {
         value: before.value,
         write_begin,
         write_end,
-        read_begin,
-        read_end,
+        read_begin: read_begin_after(before, members, old, new),
+        read_end: read_end_after(before, members, old, new),
     }
 }
 
@@ -148,40 +107,51 @@ fn write_after(before: &Edges, old: &Option<Op>, new: &Option<Op>) -> (Edge, Edg
     }
 }
 
-fn read_after(before: &Edges, new: &Option<Op>) -> (Edge, Edge)
-    ensures { (ops later : List AnOp) (old : Option AnOp) → AreEdges ops before.now.value before.now → IsChange ops old new.now later → read_part before.now.value old ≡ None → AreReadEdges later before.now.value result.0 result.1 }
+/// Where the read went that began last, another did.
+fn read_begin_after(before: &Edges, members: &Members, old: &Option<Op>, new: &Option<Op>) -> Edge
+    ensures { (ops later : List AnOp) → AreEdges ops before.now.value before.now → IsChange ops old.now new.now later → AreMembers later members.now
+        → IsGreatestBegin IsJudgedRead later before.now.value result }
 {
+    if is_begun_by(before, old) {
+        return read_begin(members, before.value);
+    }
     match read_in(new, before.value) {
-        Some(read) => (
-            later_of(before.read_begin, Edge::At(read.begin)),
-            earlier_of(before.read_end, edge_of_end(read.end)),
-        ),
-        None => (before.read_begin, before.read_end),
+        Some(read) => later_of(before.read_begin, Edge::At(read.begin)),
+        None => before.read_begin,
     }
 }
 
-fn write_edges(members: &Members, table: &OpTable, known: &Option<Op>, value: Value) -> (Edge, Edge)
-    ensures { AreMembers table.now.ops members.now → HasDistinctIds table.now.ops → IfSome known.now (λ op. Contains (judged table.now.ops) op) → AreWriteEdges table.now.ops value result.0 result.1 }
+/// Where the read went that ended first, another did.
+fn read_end_after(before: &Edges, members: &Members, old: &Option<Op>, new: &Option<Op>) -> Edge
+    ensures { (ops later : List AnOp) → AreEdges ops before.now.value before.now → IsChange ops old.now new.now later → AreMembers later members.now
+        → IsLeastEnd IsJudgedRead later before.now.value result }
 {
-    match write_at(members, table, known, value) {
-        Some(write) => (Edge::At(write.begin), edge_of_end(write.end)),
-        None => (Edge::Before, Edge::Never),
+    if is_ended_by(before, old) {
+        return read_end(members, before.value);
+    }
+    match read_in(new, before.value) {
+        Some(read) => earlier_of(before.read_end, edge_of_end(read.end)),
+        None => before.read_end,
     }
 }
 
-/// The write of the value.
-fn write_at<'t>(
-    members: &Members,
-    table: &OpTable<'t>,
-    known: &Option<Op<'t>>,
-    value: Value,
-) -> Option<Op<'t>>
-    ensures { AreMembers table.now.ops members.now → HasDistinctIds table.now.ops → IfSome known.now (λ op. Contains (judged table.now.ops) op)
-        → MatchOption result (HasNoWrite table.now.ops value) (IsTheWriteAt table.now.ops value) }
+/// Whether it is the read of the value that began last.
+fn is_begun_by(edges: &Edges, op: &Option<Op>) -> bool
+    ensures { result ≡ false → IfSome (read_part edges.now.value op.now) (λ read. same_edge (Edge.At read.begin) edges.now.read_begin ≡ false) }
 {
-    match write_in(known, value) {
-        Some(write) => Some(*write),
-        None => members.write_of(table, value),
+    match read_in(op, edges.value) {
+        Some(read) => is_same_edge(Edge::At(read.begin), edges.read_begin),
+        None => false,
+    }
+}
+
+/// Whether it is the read of the value that ended first.
+fn is_ended_by(edges: &Edges, op: &Option<Op>) -> bool
+    ensures { result ≡ false → IfSome (read_part edges.now.value op.now) (λ read. same_edge (edge_of read.end) edges.now.read_end ≡ false) }
+{
+    match read_in(op, edges.value) {
+        Some(read) => is_same_edge(edge_of_end(read.end), edges.read_end),
+        None => false,
     }
 }
 
@@ -195,7 +165,7 @@ fn read_end(members: &Members, value: Value) -> Edge
 }
 
 /// Where the last of the judged reads of the value begins; `Before` where there is none.
-pub fn read_begin(members: &Members, value: Value) -> Edge
+fn read_begin(members: &Members, value: Value) -> Edge
     ensures { (ops : List AnOp) → AreMembers ops members.now → IsGreatestBegin IsJudgedRead ops value result }
 {
     match members.last_to_begin(value) {
@@ -243,4 +213,10 @@ pub fn later_of(a: Edge, b: Edge) -> Edge
     ensures { result ≡ later a b }
 {
     if a.comes_before(b) { b } else { a }
+}
+
+pub fn is_same_edge(a: Edge, b: Edge) -> bool
+    ensures { result ≡ same_edge a b }
+{
+    a == b
 }

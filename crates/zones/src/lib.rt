@@ -37,12 +37,13 @@
 //! unwritten read, a split, an early read or a crossing excludes every arrangement by itself; an order in turn
 //! is an arrangement. Zones, edges and conflicts themselves are those of `zone_tree`.
 //!
-//! The calls are in `register.rt`. `index.rt` keeps the ids of the judged operations of each value on
-//! shelves, by their ends and their beginnings, so that an edit looks at the first and the last of the two
-//! values that it may touch alone, once (`edges.rt`): what it makes of them gives their zones (`zone_in.rt`) and,
-//! where they are at fault, their stretches (`stretch.rt`). It moves their zones in one tree (`moves.rt`) and
-//! their stretches in another (`stretch_moves.rt`); of each tree the root says what is asked. `prepare` makes the
-//! room for one operation ahead: to withdraw others and then to admit it takes no memory.
+//! The calls are in `register.rt`. `records.rt` keeps the edges of each value: where its write begins and ends, and
+//! where the last of its reads begins and the first of them ends. `index.rt` keeps the ids of its judged operations on
+//! shelves, by their ends and their beginnings. An edit takes the edges of the two values that it may touch from
+//! their records, and asks the shelves only where a read goes that an edge was of (`edges.rt`): what it makes of
+//! them gives their zones (`zone_in.rt`) and, where they are at fault, their stretches (`stretch.rt`). It moves their
+//! zones in one tree (`moves.rt`) and their stretches in another (`stretch_moves.rt`); of each tree the root says what
+//! is asked. `prepare` makes the room for one operation ahead: to withdraw others and then to admit it takes no memory.
 #![tactic(auto)]
 
 mod crossing;
@@ -51,6 +52,7 @@ mod index;
 pub mod laws;
 mod moves;
 mod order;
+mod records;
 mod register;
 mod stretch;
 mod stretch_moves;

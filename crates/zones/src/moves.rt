@@ -2,14 +2,14 @@
 
 ghost use Rattle.std.specs.Prelude.{◌≡◌, ◌⊎◌, ◌+◌, ◌*◌, ◌<◌, ◌≤◌, length, true, IsNone, IsSome, IsTrue};
 ghost use Rattle.zone_tree.specs.Digits.{digits};
-ghost use Rattle.zone_tree.specs.Edge.{same_edge};
 ghost use Rattle.zone_tree.specs.Order.{zone_at};
 ghost use Rattle.zones.specs.Moves.{AreExchanged, IsNew, KeepsRoom, Stands, with, without, moved};
 ghost use Rattle.zones.specs.Zoned.{CanExchange, CanMove, NeedsNoRoom, zone_shape};
 
+use crate::edges::is_same_edge;
 use intervals::is_same_value;
 use zone_tree::laws::digits_are_the_least_that_hold_a_number;
-use zone_tree::{Edge, Zone, ZoneTree};
+use zone_tree::{Zone, ZoneTree};
 
 /// Puts two zones in the place of two others. A zone that is the same as before is left where it is.
 pub fn exchange(
@@ -97,12 +97,6 @@ fn is_same(a: &Zone, b: &Zone) -> bool
         && is_same_edge(a.right, b.right)
         && a.forward == b.forward
         && is_same_value(a.value, b.value)
-}
-
-fn is_same_edge(a: Edge, b: Edge) -> bool
-    ensures { result ≡ same_edge a b }
-{
-    a == b
 }
 
 fn take(tree: &mut ZoneTree, zone: &Option<Zone>)

@@ -20,10 +20,11 @@ ghost use Rattle.zones.specs.Members.{IsChange};
 ghost use Rattle.zones.specs.Zoned.{judged_part, value_in as value_of_some, other_value as other};
 
 use crate::crossing::{Crossing, extremes, is_initial};
-use crate::edges::{edges_after, edges_in, edges_of};
+use crate::edges::edges_after;
 use crate::index::Members;
 use crate::laws::{faultless_exactly_where_arranged, faultless_where_no_fault_is_first};
 use crate::moves::exchange;
+use crate::records::Records;
 use crate::stretch::{
     first_early, first_split, first_writeless, has_early, has_split, has_writeless, sole_value,
     stretches_in,
@@ -45,6 +46,7 @@ pub struct Clusters<'t> {
     claim: Claim,
     table: OpTable<'t>,
     members: Members,
+    records: Records,
     zones: ZoneTree,
     stretches: StretchTree,
 }
@@ -57,7 +59,7 @@ impl<'t> Model for Clusters<'t> {
 
     ghost view = { λ c. record { claim = terms_of c.claim; ops = c.table.ops; prepared = c.table.prepared; steps = c.zones.steps } };
 
-    ghost invariant = { λ c. HoldTogether (terms_of c.claim) c.table c.members c.zones c.stretches };
+    ghost invariant = { λ c. HoldTogether (terms_of c.claim) c.table c.members c.records c.zones c.stretches };
 }
 
 impl<'t> Clusters<'t> {
@@ -69,6 +71,7 @@ impl<'t> Clusters<'t> {
         let claim = claim.try_clone(alloc)?;
         let table = OpTable::new(alloc);
         let members = Members::new(alloc);
+        let records = Records::new(alloc);
         let zones = ZoneTree::new(alloc);
         let mut stretches = StretchTree::new(alloc);
         stretches.reserve(2)?;
@@ -76,6 +79,7 @@ impl<'t> Clusters<'t> {
             claim,
             table,
             members,
+            records,
             zones,
             stretches,
         })
@@ -129,6 +133,7 @@ impl<'t> Clusters<'t> {
         // is a place for each write, beside those of this edit.
         let places = self.zones.len().checked_add(6).ok_or(Memory)?;
         self.stretches.reserve(places)?;
+        self.records.reserve()?;
         self.members.hold(op)?;
         if let Err(refused) = self.table.prepare(op) {
             self.members.release(op);
@@ -210,10 +215,11 @@ impl<'t> Clusters<'t> {
         let _ = self.zones.iter();
         let first = value_in(old);
         let second = other_value(first, value_in(new));
-        let edges = edges_in(&self.members, &self.table, old, first, second);
+        let edges = self.records.edges_in(first, second);
         self.members.change(old, new, &self.table.prepared());
         self.table.admit(edit, target);
-        let after = edges_after(&edges, &self.members, &self.table, old, new);
+        let after = edges_after(&edges, &self.members, old, new);
+        self.records.put_both(&after);
         let zones = zones_in(&edges);
         let zones_after = zones_in(&after);
         let stretches = stretches_in(&edges, &self.claim);
@@ -293,10 +299,9 @@ impl<'t> Clusters<'t> {
         ensures written { IsSome result ↔ Contains (values_from (initial_of self.now.claim self.now.ops) self.now.ops) value }
     {
         if is_initial(self.initial(), value) {
-            return Some(initial_zone(&self.members, value));
+            return Some(initial_zone(&self.records, value));
         }
-        let edges = edges_of(&self.members, &self.table, &None, value);
-        zone_in(&edges)
+        zone_in(&self.records.edges_at(value))
     }
 
     /// Where the initial value is known, the unwritten read that ended first.
@@ -339,7 +344,7 @@ impl<'t> Clusters<'t> {
         match self.initial() {
             Some(initial) => self
                 .zones
-                .clean_behind(&initial_zone(&self.members, initial)),
+                .clean_behind(&initial_zone(&self.records, initial)),
             None => self.zones.clean(),
         }
     }
@@ -355,7 +360,7 @@ impl<'t> Clusters<'t> {
         match self.initial() {
             Some(initial) => self
                 .zones
-                .first_conflict_behind(&initial_zone(&self.members, initial)),
+                .first_conflict_behind(&initial_zone(&self.records, initial)),
             None => self.zones.first_conflict(),
         }
     }

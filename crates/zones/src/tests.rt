@@ -471,7 +471,10 @@ w1:0-1 w1:2-3/0 => -<- 2<3 . holds 2
 w1:0-1 w1:2-3/1 r1:4-5 => -<- 1>4 . holds 0 4
 w1:0-1 r1:6-7 w2:2-9 r2:4-5/6 => -<- 0<1 4<5 holds 0 2 4
 w1:0-1 w1:2-3 wnil:4-5 !0 w1:6-7 => X8 ValueTaken X8 ValueTaken -<- 6<7 . holds 6
-w1:0-5 w2:5-6 !9 r1:7-7 => X4 MomentTaken X1 UnknownOp X3 EndNotAfterBegin -<- 0<5 . holds 0";
+w1:0-5 w2:5-6 !9 r1:7-7 => X4 MomentTaken X1 UnknownOp X3 EndNotAfterBegin -<- 0<5 . holds 0
+w1:0- r1:2-3 r1:4-9 r1:6-7 | !4 | !2 | !6 => -<- 3>6 . holds 0 2 4 6 | -<- 3>6 . holds 0 2 6 | -<- 6<7 . holds 0 6 | -<- 0<+ . holds 0
+w1:0- w2:1- r1:2-3 r1:4-9 r1:6-7 r2:10-11 | ~4=2 | ~6=2 | ~2=2 | ~10=1 | ~2=1 => -<- 3>6 10<11 holds 0 2 4 6 1 10 | -<- 3>6 9>10 holds 0 2 6 1 4 10 | -<- 2<3 7>10 holds 0 2 1 4 6 10 | -<- 0<+ 3>10 holds 0 1 2 4 6 10 | -<- 10<11 3>6 holds 1 2 4 6 0 10 | -<- 3>10 6<7 cross 2 6 6 10 fails
+rnil:0-1 rnil:2-3 rnil:4-5 | !4 | !0 | !2 => ->4 . . holds 0 2 4 | ->2 . . holds 0 2 | ->2 . . holds 2 | -<- . . holds";
 
 /// Nobody knows the initial value; the zones of 1, 7, 8 and 9 are told.
 const UNKNOWN_ROWS: &str = "r7:0-1 w1:2-3 r1:4-5 => 3>4 ->0 . . holds 0 2 4

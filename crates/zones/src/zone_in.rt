@@ -6,12 +6,12 @@ ghost use Rattle.intervals.specs.declared.operation.Value.{Value as AValue};
 ghost use Rattle.intervals.specs.Kind.{HasNoWrite};
 ghost use Rattle.zones.specs.Cluster.{written_zone, zone_between as between, zone_of as zone_in_list};
 ghost use Rattle.zones.specs.Edges.{AreEdges, AreEdgesAt, AreEdgesAtSome};
-ghost use Rattle.zones.specs.Index.{AreMembers};
 ghost use Rattle.zones.specs.Members.{HasWrite};
+ghost use Rattle.zones.specs.Records.{AreRecords};
 ghost use Rattle.zones.specs.Zoned.{IsZoneAt, IsZoneAtSome, AreZonesAt};
 
-use crate::edges::{Edges, earlier_of, later_of, read_begin};
-use crate::index::Members;
+use crate::edges::{Edges, earlier_of, later_of};
+use crate::records::Records;
 use intervals::Value;
 use zone_tree::{Edge, Zone};
 
@@ -60,10 +60,10 @@ fn zone_of(edges: &Edges) -> Zone
 }
 
 /// The zone of the initial value: the initial write ends before every moment, and the last read begins last.
-pub fn initial_zone(members: &Members, initial: Value) -> Zone
-    ensures { (ops : List Op) → AreMembers ops members.now → HasNoWrite ops initial → result ≡ zone_in_list initial ops initial }
+pub fn initial_zone(records: &Records, initial: Value) -> Zone
+    ensures { (ops : List Op) → AreRecords ops records.now → HasNoWrite ops initial → result ≡ zone_in_list initial ops initial }
 {
-    zone_between(Edge::Before, read_begin(members, initial), initial)
+    zone_between(Edge::Before, records.edges_at(initial).read_begin, initial)
 }
 
 pub fn zone_between(least: Edge, greatest: Edge, value: Value) -> Zone

@@ -15,7 +15,7 @@ clean_behind-requires-clause-edges c =
     let claim = terms_of c.self.inside.claim in
     let ops = c.self.inside.table.ops in
     let is : initial_of claim ops ≡ Some c.in-Some.initial = sym (subst (λ (x : Clustered). c.initial.result ≡ initial_of x.claim x.ops) (sym c.self.view_is) c.initial.ensures) ∙ c.in-Some.is in
-    let zone : c.initial_zone.result ≡ zone_of c.in-Some.initial ops c.in-Some.initial = c.initial_zone.ensures ops c.self.invariant.members_of (initial_not_written claim ops (apart.kept.values apart.atomic) c.in-Some.initial is) in
+    let zone : c.initial_zone.result ≡ zone_of c.in-Some.initial ops c.in-Some.initial = c.initial_zone.ensures ops c.self.invariant.records_of (initial_not_written claim ops (apart.kept.values apart.atomic) c.in-Some.initial is) in
     front_in_order (terms_of c.self.inside.claim) c.self.inside.table.ops c.self.invariant.apart c.self.inside.zones.zones c.iter.ensures.order c.self.invariant.zoned
     c.in-Some.initial is c.initial_zone.result zone
 
@@ -25,7 +25,7 @@ clean_behind-requires-clause-before c =
     let claim = terms_of c.self.inside.claim in
     let ops = c.self.inside.table.ops in
     let is : initial_of claim ops ≡ Some c.in-Some.initial = sym (subst (λ (x : Clustered). c.initial.result ≡ initial_of x.claim x.ops) (sym c.self.view_is) c.initial.ensures) ∙ c.in-Some.is in
-    let zone : c.initial_zone.result ≡ zone_of c.in-Some.initial ops c.in-Some.initial = c.initial_zone.ensures ops c.self.invariant.members_of (initial_not_written claim ops (apart.kept.values apart.atomic) c.in-Some.initial is) in
+    let zone : c.initial_zone.result ≡ zone_of c.in-Some.initial ops c.in-Some.initial = c.initial_zone.ensures ops c.self.invariant.records_of (initial_not_written claim ops (apart.kept.values apart.atomic) c.in-Some.initial is) in
     front_before (terms_of c.self.inside.claim) c.self.inside.table.ops c.self.invariant.apart c.self.inside.zones.zones c.iter.ensures.order c.self.invariant.zoned
     c.in-Some.initial is c.initial_zone.result zone
 
@@ -35,7 +35,7 @@ returns-in-Some c =
     let claim = terms_of c.self.inside.claim in
     let ops = c.self.inside.table.ops in
     let is : initial_of claim ops ≡ Some c.in-Some.initial = sym (subst (λ (x : Clustered). c.initial.result ≡ initial_of x.claim x.ops) (sym c.self.view_is) c.initial.ensures) ∙ c.in-Some.is in
-    let zone : c.initial_zone.result ≡ zone_of c.in-Some.initial ops c.in-Some.initial = c.initial_zone.ensures ops c.self.invariant.members_of (initial_not_written claim ops (apart.kept.values apart.atomic) c.in-Some.initial is) in
+    let zone : c.initial_zone.result ≡ zone_of c.in-Some.initial ops c.in-Some.initial = c.initial_zone.ensures ops c.self.invariant.records_of (initial_not_written claim ops (apart.kept.values apart.atomic) c.in-Some.initial is) in
     subst (λ (x : Clustered). IsTrue c.clean_behind.result ↔ IsClean (zones_from (initial_of x.claim x.ops) x.ops)) c.self.view_is
     (clean_with (terms_of c.self.inside.claim) c.self.inside.table.ops c.self.invariant.apart c.self.inside.zones.zones c.iter.ensures.order c.self.invariant.zoned
     c.in-Some.initial is c.initial_zone.result zone (IsTrue c.clean_behind.result) c.clean_behind.ensures)

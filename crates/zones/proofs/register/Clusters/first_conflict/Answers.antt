@@ -16,7 +16,7 @@ first_conflict_behind-requires-clause-edges c =
     let claim = terms_of c.self.inside.claim in
     let ops = c.self.inside.table.ops in
     let is : initial_of claim ops ≡ Some c.in-Some.initial = sym (subst (λ (x : Clustered). c.initial.result ≡ initial_of x.claim x.ops) (sym c.self.view_is) c.initial.ensures) ∙ c.in-Some.is in
-    let zone : c.initial_zone.result ≡ zone_of c.in-Some.initial ops c.in-Some.initial = c.initial_zone.ensures ops c.self.invariant.members_of (initial_not_written claim ops (apart.kept.values apart.atomic) c.in-Some.initial is) in
+    let zone : c.initial_zone.result ≡ zone_of c.in-Some.initial ops c.in-Some.initial = c.initial_zone.ensures ops c.self.invariant.records_of (initial_not_written claim ops (apart.kept.values apart.atomic) c.in-Some.initial is) in
     front_in_order (terms_of c.self.inside.claim) c.self.inside.table.ops c.self.invariant.apart c.self.inside.zones.zones c.iter.ensures.order c.self.invariant.zoned
     c.in-Some.initial is c.initial_zone.result zone
 
@@ -26,7 +26,7 @@ first_conflict_behind-requires-clause-before c =
     let claim = terms_of c.self.inside.claim in
     let ops = c.self.inside.table.ops in
     let is : initial_of claim ops ≡ Some c.in-Some.initial = sym (subst (λ (x : Clustered). c.initial.result ≡ initial_of x.claim x.ops) (sym c.self.view_is) c.initial.ensures) ∙ c.in-Some.is in
-    let zone : c.initial_zone.result ≡ zone_of c.in-Some.initial ops c.in-Some.initial = c.initial_zone.ensures ops c.self.invariant.members_of (initial_not_written claim ops (apart.kept.values apart.atomic) c.in-Some.initial is) in
+    let zone : c.initial_zone.result ≡ zone_of c.in-Some.initial ops c.in-Some.initial = c.initial_zone.ensures ops c.self.invariant.records_of (initial_not_written claim ops (apart.kept.values apart.atomic) c.in-Some.initial is) in
     front_before (terms_of c.self.inside.claim) c.self.inside.table.ops c.self.invariant.apart c.self.inside.zones.zones c.iter.ensures.order c.self.invariant.zoned
     c.in-Some.initial is c.initial_zone.result zone
 
@@ -36,7 +36,7 @@ returns-in-Some-clause-first c =
     let claim = terms_of c.self.inside.claim in
     let ops = c.self.inside.table.ops in
     let is : initial_of claim ops ≡ Some c.in-Some.initial = sym (subst (λ (x : Clustered). c.initial.result ≡ initial_of x.claim x.ops) (sym c.self.view_is) c.initial.ensures) ∙ c.in-Some.is in
-    let zone : c.initial_zone.result ≡ zone_of c.in-Some.initial ops c.in-Some.initial = c.initial_zone.ensures ops c.self.invariant.members_of (initial_not_written claim ops (apart.kept.values apart.atomic) c.in-Some.initial is) in
+    let zone : c.initial_zone.result ≡ zone_of c.in-Some.initial ops c.in-Some.initial = c.initial_zone.ensures ops c.self.invariant.records_of (initial_not_written claim ops (apart.kept.values apart.atomic) c.in-Some.initial is) in
     subst (λ (x : Clustered). IfSome c.first_conflict_behind.result (λ pair. HasFirstConflictFrom (initial_of x.claim x.ops) x.ops pair.0 pair.1)) c.self.view_is
     (conflict_with (terms_of c.self.inside.claim) c.self.inside.table.ops c.self.invariant.apart c.self.inside.zones.zones c.iter.ensures.order c.self.invariant.zoned
     c.in-Some.initial is c.initial_zone.result zone c.first_conflict_behind.result c.first_conflict_behind.ensures.first)
@@ -47,7 +47,7 @@ returns-in-Some-clause-none c =
     let claim = terms_of c.self.inside.claim in
     let ops = c.self.inside.table.ops in
     let is : initial_of claim ops ≡ Some c.in-Some.initial = sym (subst (λ (x : Clustered). c.initial.result ≡ initial_of x.claim x.ops) (sym c.self.view_is) c.initial.ensures) ∙ c.in-Some.is in
-    let zone : c.initial_zone.result ≡ zone_of c.in-Some.initial ops c.in-Some.initial = c.initial_zone.ensures ops c.self.invariant.members_of (initial_not_written claim ops (apart.kept.values apart.atomic) c.in-Some.initial is) in
+    let zone : c.initial_zone.result ≡ zone_of c.in-Some.initial ops c.in-Some.initial = c.initial_zone.ensures ops c.self.invariant.records_of (initial_not_written claim ops (apart.kept.values apart.atomic) c.in-Some.initial is) in
     subst (λ (x : Clustered). IsNone c.first_conflict_behind.result ↔ IsClean (zones_from (initial_of x.claim x.ops) x.ops)) c.self.view_is
     (clean_with (terms_of c.self.inside.claim) c.self.inside.table.ops c.self.invariant.apart c.self.inside.zones.zones c.iter.ensures.order c.self.invariant.zoned
     c.in-Some.initial is c.initial_zone.result zone (IsNone c.first_conflict_behind.result) c.first_conflict_behind.ensures.none)

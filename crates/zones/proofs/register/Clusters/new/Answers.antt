@@ -8,5 +8,5 @@ pub invariant_of-result : goal.invariant_of-result
 invariant_of-result c =
     let claim = terms_of c.in_ok-claim.claim in
     let atomic : claim.kind ≡ Atomic = subst (λ (t : Terms). t.kind ≡ Atomic) (sym c.in_ok-claim.ensures) c.requires in
-    together_at_first claim atomic c.new-table.result c.new-members.result c.new-zones.result c.reserve.new.self
-    c.new-table.ensures c.new-members.ensures.members c.new-members.ensures.only c.new-zones.ensures.zones (c.reserve.ensures.stretches ∙ c.new-stretches.ensures.stretches) c.in_ok-reserve.ensures.ok
+    together_at_first claim atomic c.new-table.result c.new-members.result c.new-records.result c.new-zones.result c.reserve.new.self
+    c.new-table.ensures c.new-members.ensures.members c.new-records.ensures c.new-members.ensures.only c.new-zones.ensures.zones (c.reserve.ensures.stretches ∙ c.new-stretches.ensures.stretches) c.in_ok-reserve.ensures.ok

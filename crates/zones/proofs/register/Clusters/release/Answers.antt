@@ -10,8 +10,8 @@ use Rattle.zones.proofs.register.Clusters.release.Goals as goal
 pub invariant_of-self : goal.invariant_of-self
 invariant_of-self c =
     together_kept (terms_of c.self.inside.claim) c.self.inside.table c.release-2.new.self c.self.inside.members c.release.new.self
-    c.self.inside.zones c.self.inside.zones c.self.inside.stretches c.self.inside.stretches c.self.invariant
-    (ap (λ (t : Tabled). t.ops) c.release-2.ensures) (c.release.ensures.members c.self.inside.table.ops c.self.invariant.members_of) refl refl (omega arith)
-    (room_of_none c.release.new.self c.self.inside.zones c.self.inside.stretches c.release-2.new.self.prepared (ap (λ (t : Tabled). t.prepared) c.release-2.ensures))
+    c.self.inside.records c.self.inside.records c.self.inside.zones c.self.inside.zones c.self.inside.stretches c.self.inside.stretches c.self.invariant
+    (ap (λ (t : Tabled). t.ops) c.release-2.ensures) (c.release.ensures.members c.self.inside.table.ops c.self.invariant.members_of) c.self.invariant.records_of refl refl (omega arith)
+    (room_of_none c.release.new.self c.self.inside.records c.self.inside.zones c.self.inside.stretches c.release-2.new.self.prepared (ap (λ (t : Tabled). t.prepared) c.release-2.ensures))
     (subst (λ (o : Option Op). HoldsOnlyFor o c.release.new.self) (sym (ap (λ (t : Tabled). t.prepared) c.release-2.ensures))
     (c.release.ensures.only (subst (λ (o : Option Op). HoldsOnlyFor o c.self.inside.members) (ap (λ (x : Clustered). x.prepared) c.self.view_is ∙ c.requires) c.self.invariant.only)))

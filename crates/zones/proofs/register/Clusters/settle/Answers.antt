@@ -41,8 +41,8 @@ invariant_of-self c =
     let held : IfSome c.args.target.now.new (λ op. table.prepared ≡ Some op) = subst (λ (x : Clustered). IfSome c.args.target.now.new (λ op. x.prepared ≡ Some op)) (sym c.self.view_is) c.requires.prepared in
     let no_old : c.judged-old.result.now ≡ None = not_there c.judged-old.result.now (sym c.is_some.ensures ∙ c.if-is_some.false) in
     let no_new : c.judged-new.result.now ≡ None = not_there c.judged-new.result.now (sym c.is_some-else-is_some.ensures ∙ c.if-is_some-2.false) in
-    subst (λ (t : Tabled). HoldTogether claim t c.self.inside.members c.self.inside.zones c.self.inside.stretches) (sym c.admit.ensures)
-    (together_unjudged claim table c.self.inside.members c.self.inside.zones c.self.inside.stretches c.self.invariant c.args.edit.now accepted
+    subst (λ (t : Tabled). HoldTogether claim t c.self.inside.members c.self.inside.records c.self.inside.zones c.self.inside.stretches) (sym c.admit.ensures)
+    (together_unjudged claim table c.self.inside.members c.self.inside.records c.self.inside.zones c.self.inside.stretches c.self.invariant c.args.edit.now accepted
     (sym no_old ∙ (c.judged-old.ensures ∙ ap judged_part found)) (sym no_new ∙ (c.judged-new.ensures ∙ ap judged_part asked))
     (subst (λ (n : Option Op). IfSome n (λ op. table.prepared ≡ Some op)) asked held))
 

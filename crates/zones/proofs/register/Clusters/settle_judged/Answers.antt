@@ -1,5 +1,5 @@
 use Rattle.std.proofs.Common.{◌≡◌, ◌+◌, ◌*◌, ◌≤◌, ℕ, length, None, Some, Option, ap, sym, subst, ◌∙◌, rules, arith}
-use Rattle.std.specs.Prelude.{IfSome, IsSome}
+use Rattle.std.specs.Prelude.{IfSome, IsSome, is_some}
 use Rattle.intervals.specs.declared.operation.Op.{Op}
 use Rattle.intervals.specs.Operation.{writes}
 use Rattle.intervals.specs.Edit.{new_op, edited, edit_id, found_by}
@@ -15,6 +15,7 @@ use Rattle.zones.specs.Zoned.{judged_part}
 use Rattle.zones.proofs.Admitted.{apart_after, as_many_writes, can_exchange_stretches, can_exchange_zones, change_is, judged_prepared, room_after, room_for, room_left, spare_after, stretched_after, zoned_after, zones_need_no_room}
 use Rattle.zones.proofs.Held.{only_after}
 use Rattle.zones.proofs.Lengths.{more_length}
+use Rattle.zones.proofs.Recorded.{at_values, first_recorded, second_none, second_some}
 use Rattle.zones.proofs.register.Clusters.settle_judged.Goals as goal
 
 pub change-requires-clause-prepared : goal.change-requires-clause-prepared
@@ -39,6 +40,47 @@ admit-requires-clause-room c =
     let held : IfSome c.args.target.now.new (λ op. prepared ≡ Some op) = subst (λ (x : Clustered). IfSome c.args.target.now.new (λ op. x.prepared ≡ Some op)) (sym c.self.view_is) c.requires.prepared in
     subst (λ (n : Option Op). IfSome n (λ op. prepared ≡ Some op)) asked held
 
+pub put_both-requires-clause-first : goal.put_both-requires-clause-first
+put_both-requires-clause-first c =
+    let claim = terms_of c.self.inside.claim in
+    let ops = c.self.inside.table.ops in
+    let accepted : reply_to claim ops c.args.edit.now ≡ None = subst (λ (x : Clustered). reply_to x.claim x.ops c.args.edit.now ≡ None) (sym c.self.view_is) c.requires.accepted in
+    let found : c.args.target.now.old ≡ found_by ops (edit_id c.args.edit.now) = subst (λ (x : Clustered). c.args.target.now.old ≡ found_by x.ops (edit_id c.args.edit.now)) (sym c.self.view_is) c.requires.target.old in
+    let old_is : c.args.old.now ≡ judged_part (found_by ops (edit_id c.args.edit.now)) = c.requires.old ∙ ap judged_part found in
+    let asked : c.args.target.now.new ≡ new_op ops c.args.edit.now = subst (λ (x : Clustered). c.args.target.now.new ≡ new_op x.ops c.args.edit.now) (sym c.self.view_is) c.requires.target.new in
+    let new_is : c.args.new.now ≡ judged_part (new_op ops c.args.edit.now) = c.requires.new ∙ ap judged_part asked in
+    let after = c.admit.new.self.ops in
+    let after_is : after ≡ edited ops c.args.edit.now = ap (λ (t : Tabled). t.ops) c.admit.ensures in
+    let change = change_is claim ops c.args.edit.now c.self.invariant.apart accepted c.args.old.now c.args.new.now old_is new_is after after_is in
+    let members : AreMembers after c.change.new.self = c.change.ensures.members ops after c.self.invariant.members_of change in
+    let first = c.value_in-first.result in
+    let second = c.other_value-second.result in
+    let later_is = c.edges_after-after.ensures ops after first second (c.edges_in-edges.ensures ops c.self.invariant.records_of) change members in
+    first_recorded ops c.args.old.now c.args.new.now after change c.self.inside.records c.edges_after-after.result c.self.invariant.records_of
+    (at_values after c.args.old.now c.args.new.now first second (search rules) (search rules) c.edges_after-after.result later_is)
+
+pub put_both-requires-clause-second : goal.put_both-requires-clause-second
+put_both-requires-clause-second c some =
+    let claim = terms_of c.self.inside.claim in
+    let ops = c.self.inside.table.ops in
+    let prepared = c.self.inside.table.prepared in
+    let accepted : reply_to claim ops c.args.edit.now ≡ None = subst (λ (x : Clustered). reply_to x.claim x.ops c.args.edit.now ≡ None) (sym c.self.view_is) c.requires.accepted in
+    let found : c.args.target.now.old ≡ found_by ops (edit_id c.args.edit.now) = subst (λ (x : Clustered). c.args.target.now.old ≡ found_by x.ops (edit_id c.args.edit.now)) (sym c.self.view_is) c.requires.target.old in
+    let old_is : c.args.old.now ≡ judged_part (found_by ops (edit_id c.args.edit.now)) = c.requires.old ∙ ap judged_part found in
+    let asked : c.args.target.now.new ≡ new_op ops c.args.edit.now = subst (λ (x : Clustered). c.args.target.now.new ≡ new_op x.ops c.args.edit.now) (sym c.self.view_is) c.requires.target.new in
+    let new_is : c.args.new.now ≡ judged_part (new_op ops c.args.edit.now) = c.requires.new ∙ ap judged_part asked in
+    let held : IfSome c.args.target.now.new (λ op. prepared ≡ Some op) = subst (λ (x : Clustered). IfSome c.args.target.now.new (λ op. x.prepared ≡ Some op)) (sym c.self.view_is) c.requires.prepared in
+    let after = c.admit.new.self.ops in
+    let after_is : after ≡ edited ops c.args.edit.now = ap (λ (t : Tabled). t.ops) c.admit.ensures in
+    let change = change_is claim ops c.args.edit.now c.self.invariant.apart accepted c.args.old.now c.args.new.now old_is new_is after after_is in
+    let members : AreMembers after c.change.new.self = c.change.ensures.members ops after c.self.invariant.members_of change in
+    let first = c.value_in-first.result in
+    let second = c.other_value-second.result in
+    let later_is = c.edges_after-after.ensures ops after first second (c.edges_in-edges.ensures ops c.self.invariant.records_of) change members in
+    let values_later = at_values after c.args.old.now c.args.new.now first second (search rules) (search rules) c.edges_after-after.result later_is in
+    let comes : IsSome c.args.new.now = second_some ops c.args.old.now c.args.new.now after change c.edges_after-after.result values_later some in
+    (room_for c.self.inside.members c.self.inside.records c.self.inside.zones c.self.inside.stretches prepared c.self.invariant.room c.args.target.now.new held (subst (λ (n : Option Op). IsSome n) c.requires.new comes)).2
+
 pub exchange-requires : goal.exchange-requires
 exchange-requires c =
     let claim = terms_of c.self.inside.claim in
@@ -58,12 +100,12 @@ exchange-requires c =
     let members : AreMembers after c.change.new.self = c.change.ensures.members ops after c.self.invariant.members_of change in
     let first = c.value_in-first.result in
     let second = c.other_value-second.result in
-    let before_is = c.edges_in-edges.ensures c.self.invariant.members_of apart.kept.ids change.goes in
-    let later_is = c.edges_after-after.ensures ops first second before_is change members later.kept.ids in
+    let before_is = c.edges_in-edges.ensures ops c.self.invariant.records_of in
+    let later_is = c.edges_after-after.ensures ops after first second before_is change members in
     can_exchange_zones claim ops c.args.edit.now apart accepted c.args.old.now c.args.new.now old_is new_is after after_is
     c.value_in-first.result c.other_value-second.result (search rules) (search rules) c.zones_in-zones.result c.zones_in-zones_after.result c.self.inside.zones c.self.invariant.zoned
     (c.zones_in-zones.ensures ops first second before_is) (c.zones_in-zones_after.ensures after first second later_is)
-    (λ some. (room_for c.self.inside.members c.self.inside.zones c.self.inside.stretches prepared c.self.invariant.room c.args.target.now.new held (subst (λ (n : Option Op). IsSome n) c.requires.new some)).0)
+    (λ some. (room_for c.self.inside.members c.self.inside.records c.self.inside.zones c.self.inside.stretches prepared c.self.invariant.room c.args.target.now.new held (subst (λ (n : Option Op). IsSome n) c.requires.new some)).0)
 
 pub exchange_stretches-requires-clause-room : goal.exchange_stretches-requires-clause-room
 exchange_stretches-requires-clause-room c = let a = c.self.invariant.spare in omega arith
@@ -85,8 +127,8 @@ exchange_stretches-requires-clause-new c =
     let members : AreMembers after c.change.new.self = c.change.ensures.members ops after c.self.invariant.members_of change in
     let first = c.value_in-first.result in
     let second = c.other_value-second.result in
-    let before_is = c.edges_in-edges.ensures c.self.invariant.members_of apart.kept.ids change.goes in
-    let later_is = c.edges_after-after.ensures ops first second before_is change members later.kept.ids in
+    let before_is = c.edges_in-edges.ensures ops c.self.invariant.records_of in
+    let later_is = c.edges_after-after.ensures ops after first second before_is change members in
     can_exchange_stretches claim ops c.args.edit.now apart accepted c.args.old.now c.args.new.now old_is new_is after after_is
     c.value_in-first.result c.other_value-second.result (search rules) (search rules) c.stretches_in-stretches.result c.stretches_in-stretches_after.result c.self.inside.stretches c.self.invariant.stretched
     (c.stretches_in-stretches.ensures ops first second before_is) (c.stretches_in-stretches_after.ensures after first second later_is)
@@ -112,8 +154,9 @@ invariant_of-self c =
     let members : AreMembers after c.change.new.self = c.change.ensures.members ops after c.self.invariant.members_of change in
     let first = c.value_in-first.result in
     let second = c.other_value-second.result in
-    let before_is = c.edges_in-edges.ensures c.self.invariant.members_of apart.kept.ids change.goes in
-    let later_is = c.edges_after-after.ensures ops first second before_is change members later.kept.ids in
+    let before_is = c.edges_in-edges.ensures ops c.self.invariant.records_of in
+    let later_is = c.edges_after-after.ensures ops after first second before_is change members in
+    let values_later = at_values after c.args.old.now c.args.new.now first second (search rules) (search rules) c.edges_after-after.result later_is in
     let zones_before = c.zones_in-zones.ensures ops first second before_is in
     let zones_later = c.zones_in-zones_after.ensures after first second later_is in
     let stretches_before = c.stretches_in-stretches.ensures ops first second before_is in
@@ -128,18 +171,20 @@ invariant_of-self c =
     record {
       apart = later;
       members_of = members;
+      records_of = c.put_both.ensures.records ops after c.args.old.now c.args.new.now c.self.invariant.records_of change values_later;
       zoned = zoned_after claim ops c.args.edit.now apart accepted c.args.old.now c.args.new.now old_is new_is after after_is
           c.value_in-first.result c.other_value-second.result (search rules) (search rules) c.zones_in-zones.result c.zones_in-zones_after.result zones c.self.invariant.zoned
           zones_before zones_later c.exchange.new.tree.zones c.exchange.ensures.zones;
       stretched = stretched_after claim ops c.args.edit.now apart accepted c.args.old.now c.args.new.now old_is new_is after after_is
           c.value_in-first.result c.other_value-second.result (search rules) (search rules) c.stretches_in-stretches.result c.stretches_in-stretches_after.result stretches c.self.invariant.stretched
           stretches_before stretches_later c.exchange_stretches.new.tree.stretches c.exchange_stretches.ensures.stretches;
-      spare = spare_after c.self.inside.members zones stretches prepared c.self.invariant.room c.self.invariant.spare c.args.target.now.new held c.exchange.new.tree.zones c.exchange_stretches.new.tree.free
+      spare = spare_after c.self.inside.members c.self.inside.records zones stretches prepared c.self.invariant.room c.self.invariant.spare c.args.target.now.new held c.exchange.new.tree.zones c.exchange_stretches.new.tree.free
           (subst (λ (n : Option Op). n ≡ None → length c.exchange.new.tree.zones + stretches.free ≤ length zones.zones + c.exchange_stretches.new.tree.free) c.requires.new no_fewer)
           (more_length c.exchange.ensures.zones.gone c.exchange.ensures.zones.come zones.zones c.exchange.new.tree.zones c.exchange.ensures.zones.moves) c.exchange_stretches.ensures.room;
-      room = subst (λ (p : Option Op). IfSome p (HasRoomFor c.change.new.self c.exchange.new.tree c.exchange_stretches.new.tree)) (sym (ap (λ (t : Tabled). t.prepared) c.admit.ensures))
-          (room_after c.self.inside.members zones stretches prepared c.self.invariant.room c.change.new.self c.exchange.new.tree c.exchange_stretches.new.tree (new_op ops c.args.edit.now)
+      room = subst (λ (p : Option Op). IfSome p (HasRoomFor c.change.new.self c.put_both.new.self c.exchange.new.tree c.exchange_stretches.new.tree)) (sym (ap (λ (t : Tabled). t.prepared) c.admit.ensures))
+          (room_after c.self.inside.members c.self.inside.records zones stretches prepared c.self.invariant.room c.change.new.self c.put_both.new.self c.exchange.new.tree c.exchange_stretches.new.tree (new_op ops c.args.edit.now)
           (subst (λ (p : Option Op). HasPlacesOf p c.change.new.self) c.prepared.ensures c.change.ensures.places)
+          (λ none. c.put_both.ensures.room (ap is_some (second_none ops c.args.old.now c.args.new.now after change (new_is ∙ none) c.edges_after-after.result values_later)))
           (λ none. c.exchange.ensures.room (zones_need_no_room claim ops c.args.edit.now apart accepted c.args.old.now c.args.new.now old_is new_is after after_is
           c.value_in-first.result c.other_value-second.result (search rules) (search rules) c.zones_in-zones.result c.zones_in-zones_after.result zones c.self.invariant.zoned
           zones_before zones_later (new_is ∙ none)))
