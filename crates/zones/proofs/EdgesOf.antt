@@ -5,6 +5,7 @@ use Rattle.std.proofs.lemmas.Bool.{both_ways}
 use Rattle.std.proofs.lemmas.List.Elements.{All-contains}
 use Rattle.intervals.specs.declared.operation.Op.{Op}
 use Rattle.intervals.specs.declared.operation.Moment.{Moment}
+use Rattle.intervals.specs.declared.operation.OpId.{OpId}
 use Rattle.intervals.specs.declared.operation.Value.{Value}
 use Rattle.intervals.specs.Operation.{IsJudgedRead, IsWrite, is_judged_read, is_write, judged, same_value, value_of}
 use Rattle.stretch_tree.specs.declared.stretch.Stretch.{Stretch}
@@ -13,7 +14,7 @@ use Rattle.zone_tree.specs.declared.edge.Edge.TheVariants.{Before, At, Never}
 use Rattle.zone_tree.specs.Edge.{ComesBefore, same_edge}
 use Rattle.zone_tree.proofs.EdgeOrder.{Decides-same_edge}
 use Rattle.zones.specs.Cluster.{earlier_of, edge_of_end, later_of}
-use Rattle.zones.specs.Edges.{AreEdges, AreReadEdges, AreWriteEdges, part_of, read_part, write_part}
+use Rattle.zones.specs.Edges.{AreEdges, AreReadEdges, AreWriteEdges, NamesWrite, part_of, read_part, write_part}
 use Rattle.zone_tree.specs.declared.zone.Zone.{Zone}
 use Rattle.zones.specs.declared.edges.Edges.{Edges}
 use Rattle.zones.specs.Faults.{IsAtFault, IsRead, IsStretchAt, begin_of_write, first_end_of, moment_of, write_of}
@@ -225,8 +226,11 @@ module _ (before : List Op) (old new : Option Op) (after : List Op) (change : Is
   pub write_came : (w : Op) → write_part v new ≡ Some w → AreWriteEdges after v (At w.begin) (edge_of_end w.end)
   write_came w is = edges_of_write after v w (known_write after new v w change.comes is) one_after
 
-  pub write_went : (w : Op) → write_part v new ≡ None → write_part v old ≡ Some w → AreWriteEdges after v Before Never
-  write_went w none is = edges_of_none after v (no_write after v (λ x is_x. by_place x is_x (change.stood x (in_judged-write after v x is_x.stands is_x.write))))
+  pub named_came : (w : Op) → write_part v new ≡ Some w → NamesWrite after v (Some w.id)
+  named_came w is = (w, known_write after new v w change.comes is, refl)
+
+  pub named_went : (w : Op) → write_part v new ≡ None → write_part v old ≡ Some w → NamesWrite after v None
+  named_went w none is = no_write after v (λ x is_x. by_place x is_x (change.stood x (in_judged-write after v x is_x.stands is_x.write)))
     where
       is_w : IsTheWriteAt before v w
       is_w = known_write before old v w change.goes is
@@ -236,6 +240,20 @@ module _ (before : List Op) (old new : Option Op) (after : List Op) (change : Is
       by_place x is_x (inr (h, n)) =
           let same : w ≡ x = change.apart_before.by_value w x (in_judged-write before v w is_w.stands is_w.write) h (is_w.same ∙ sym is_x.same) is_w.write is_x.write in
           n ((passed is_write v old w is).0 ∙ ap Some same)
+
+  pub write_went : (w : Op) → write_part v new ≡ None → write_part v old ≡ Some w → AreWriteEdges after v Before Never
+  write_went w none is = edges_of_none after v (named_went w none is)
+
+  pub named_same : (name : Option OpId) → write_part v new ≡ None → write_part v old ≡ None → NamesWrite before v name → NamesWrite after v name
+  named_same None none still is = no_write after v (λ x is_x. by_place x is_x (stood is_write before old new after change v (λ ops. in_judged-write ops v) x is_x.stands is_x.write))
+    where
+      by_place : (x : Op) → IsTheWriteAt after v x → (new ≡ Some x) ⊎ Contains before x → ⊥
+      by_place x is_x (inl e) = not_new is_write before old new after change v (λ ops. in_judged-write ops v) none x is_x.write is_x.same e
+      by_place x is_x (inr h) = All-contains (λ w. IsWrite w → value_of w.act ≢ v) before x is h is_x.write is_x.same
+  named_same (Some id) none still (w, is, named) = (w, record { stands = stayed is_write before old new after change v (λ ops. in_judged-write ops v) w is.stands is.write other; write = is.write; same = is.same }, named)
+    where
+      other : old ≢ Some w
+      other e = absurd (let g : Some w ≡ None = sym (passes is_write v w is.write is.same) ∙ (ap (part_of is_write v) (sym e) ∙ still) in cc)
 
   pub write_same : (begin end : Edge) → write_part v new ≡ None → write_part v old ≡ None → AreWriteEdges before v begin end → AreWriteEdges after v begin end
   write_same begin end none still are = record {
@@ -259,6 +277,7 @@ pub edges_elsewhere : (before : List Op) (old new : Option Op) (after : List Op)
     → IfSome old (λ op. value_of op.act ≢ v) → IfSome new (λ op. value_of op.act ≢ v) → AreEdges before v edges → AreEdges after v edges
 edges_elsewhere before old new after change v edges not_old not_new are = record {
   same = are.same;
+  named = named_same before old new after change v edges.write_id (part_of_other is_write v new not_new) (part_of_other is_write v old not_old) are.named;
   write = write_same before old new after change v edges.write_begin edges.write_end (part_of_other is_write v new not_new) (part_of_other is_write v old not_old) are.write;
   read = record {
     begin = begin_same before old new after change v edges.read_begin (none_held is_judged_read v old (λ op. At op.begin) edges.read_begin (part_of_other is_judged_read v old not_old)) (part_of_other is_judged_read v new not_new) are.read.begin;

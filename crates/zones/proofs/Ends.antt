@@ -10,17 +10,14 @@ use Rattle.intervals.specs.declared.operation.Value.{Value}
 use Rattle.intervals.specs.Edit.{op_of}
 use Rattle.intervals.specs.Judging.{end_number}
 use Rattle.intervals.specs.Operation.{IsJudgedRead, IsWrite, is_write, judged, value_of}
-use Rattle.intervals.specs.Shelf.{id_at, spot_of}
 use Rattle.intervals.specs.Standing.{HasDistinctIds}
 use Rattle.intervals.proofs.Ids.{found_by_id}
 use Rattle.zone_tree.specs.declared.edge.Edge.{Edge}
 use Rattle.zone_tree.specs.declared.edge.Edge.TheVariants.{Before, At, Never}
 use Rattle.zone_tree.specs.Edge.{ComesBefore, comes_before}
-use Rattle.zones.specs.declared.index.Members.{Members}
-use Rattle.zones.specs.declared.index.Row.TheVariants.{Writes}
 use Rattle.zones.specs.Cluster.{cluster_of, earlier_of, edge_of_end, greatest_begin_of, later_of, least_end_of, written_zone, zone_between, zone_of}
 use Rattle.zones.specs.Crossing.{HasLeastEnd}
-use Rattle.zones.specs.Index.{AreMembers, at_first}
+use Rattle.zones.specs.Index.{at_first}
 use Rattle.intervals.specs.Kind.{HasNoWrite}
 use Rattle.zones.specs.Members.{BeginsLastOf, EndsFirstOf, HasNoRead, IsGreatestBegin, IsLastToBegin, IsLeastEnd, IsTheWriteAt, began_last, end_of, ended_first}
 use Rattle.zones.proofs.Cluster.{greatest_at_least, greatest_of_one, least_at_most, least_initial, least_of_one, member_of, members_of}
@@ -63,14 +60,10 @@ module _ (ops : List Op) (v : Value) where
     held = inl refl;
   }
 
-  module _ (members : Members) (is : AreMembers ops members) (distinct : HasDistinctIds ops) where
+  module _ (one : (a b : Op) → IsTheWriteAt ops v a → IsTheWriteAt ops v b → a ≡ b) where
     -- one write has the value
     one_write : (w x : Op) → IsTheWriteAt ops v w → Contains ops x → IsWrite x → value_of x.act ≡ v → x ≡ w
-    one_write w x is_w h t e = let a = named w is_w.stands is_w.write is_w.same in let b = named x h t e in let f = found_by_id ops w distinct is_w.stands in let g = found_by_id ops x distinct h in
-        let same : w.id ≡ x.id = cc in let k = ap (op_of ops) same in cc
-      where
-        named : (x : Op) → Contains ops x → IsWrite x → value_of x.act ≡ v → id_at members.writes (spot_of v at_first) ≡ Some x.id
-        named x h t e = subst (λ (u : Value). id_at members.writes (spot_of u at_first) ≡ Some x.id) e ((is Writes).there x (spot_of (value_of x.act) at_first) h (rw t refl))
+    one_write w x is_w h t e = one x w (record { stands = h; write = t; same = e }) is_w
 
     pub write_ends : (w : Op) → IsTheWriteAt ops v w → IsLeastEnd IsWrite ops v (edge_of_end w.end)
     write_ends w is_w = record {
@@ -216,10 +209,10 @@ module _ (ops : List Op) (v : Value) (distinct : HasDistinctIds ops) where
     in_cluster-read : (r : Op) → IsRead r → Contains (cluster_of ops v) r
     in_cluster-read r is = (members_of initial ops v r).1 (in_judged-read ops v r is.stands is.judged, is.same)
 
-    module _ (members : Members) (is : AreMembers ops members) where
+    module _ (one : (a b : Op) → IsTheWriteAt ops v a → IsTheWriteAt ops v b → a ≡ b) where
       write_edge : (found : Option Op) → FoundWrite found → IsLeastEnd IsWrite ops v (end_at found)
       write_edge None none = none_ends ops v IsWrite none
-      write_edge (Some w) is_w = write_ends ops v members is distinct w is_w
+      write_edge (Some w) is_w = write_ends ops v one w is_w
 
       read_edge : (found : Option Op) → FoundFirst found → IsLeastEnd IsJudgedRead ops v (end_at found)
       read_edge None none = none_ends ops v IsJudgedRead none
@@ -243,19 +236,19 @@ module _ (ops : List Op) (v : Value) (distinct : HasDistinctIds ops) where
           by_found (Some a) (Some b) w r e =
               by_test a b (comes_before (edge_of_end b.end) (edge_of_end a.end)) refl (in_cluster-write a w) (in_cluster-read b (first_read_is b r).0) e
 
-    begin_write : (members : Members) → AreMembers ops members → (found : Option Op) → FoundWrite found → IsGreatestBegin IsWrite ops v (begin_at found)
-    begin_write members is None none = none_begins ops v IsWrite none
-    begin_write members is (Some w) is_w = write_begins ops v members is distinct w is_w
+    begin_write : ((a b : Op) → IsTheWriteAt ops v a → IsTheWriteAt ops v b → a ≡ b) → (found : Option Op) → FoundWrite found → IsGreatestBegin IsWrite ops v (begin_at found)
+    begin_write one None none = none_begins ops v IsWrite none
+    begin_write one (Some w) is_w = write_begins ops v one w is_w
 
     begin_read : (found : Option Op) → FoundLast found → IsGreatestBegin IsJudgedRead ops v (begin_at found)
     begin_read None none = none_begins ops v IsJudgedRead none
     begin_read (Some r) is_r = (last_read_is r is_r).1
 
-    module _ (members : Members) (is : AreMembers ops members) where
+    module _ (one : (a b : Op) → IsTheWriteAt ops v a → IsTheWriteAt ops v b → a ≡ b) where
       -- the last to begin of the write and the last read began last
       pub last_found : (write read : Option Op) → FoundWrite write → FoundLast read → MatchOption (began_last write read) (cluster_of ops v ≡ []) (IsLastToBegin ops v)
       last_found write read w r = by_found write read w r (λ op h. let (k, s) = member_of initial ops v op h in
-          greatest_bound ops v initial (begin_at write) (begin_at read) (begin_write members is write w) (begin_read read r) op (parts_of ops v op k) s)
+          greatest_bound ops v initial (begin_at write) (begin_at read) (begin_write one write w) (begin_read read r) op (parts_of ops v op k) s)
         where
           last_is : (op : Op) (edge : Edge) → Contains (cluster_of ops v) op → edge ≡ At op.begin → ((other : Op) → Contains (cluster_of ops v) other → AtMost (At other.begin) edge) → IsLastToBegin ops v op
           last_is op edge h e bound = record {

@@ -11,7 +11,7 @@ use Rattle.intervals.specs.Shelf.{id_at, is_spot, joined, place_at}
 use Rattle.intervals.specs.Table.{prepared_after}
 use Rattle.intervals.proofs.SameSpot.{is_spot_one}
 use Rattle.zones.specs.declared.index.Row.{Row}
-use Rattle.zones.specs.declared.index.Row.TheVariants.{Writes, Ends, Begins}
+use Rattle.zones.specs.declared.index.Row.TheVariants.{Ends, Begins}
 use Rattle.zones.specs.declared.index.Members.{Members}
 use Rattle.zones.specs.Index.{HoldsOnlyFor, IsMade, shelf_of, spot_in, spot_on, taken_at}
 use Rattle.zones.specs.Zoned.{judged_part}
@@ -86,16 +86,15 @@ made_and_gone from between to made is ids gone others spot = by_cases (is_spot m
     by_cases false f = others spot f ∙ is.others spot f
 
 -- the rows one by one
-abbrev pub by_rows : (op : Option Op) (writes ends begins : Shelf) → IsOnlyFor Writes op writes → IsOnlyFor Ends op ends → IsOnlyFor Begins op begins → HoldsOnlyFor op (record { writes = writes; ends = ends; begins = begins })
-by_rows op writes ends begins w e b = of_rows (λ row. IsOnlyFor row op (shelf_of (record { writes = writes; ends = ends; begins = begins }) row)) w e b
+abbrev pub by_rows : (op : Option Op) (ends begins : Shelf) → IsOnlyFor Ends op ends → IsOnlyFor Begins op begins → HoldsOnlyFor op (record { ends = ends; begins = begins })
+by_rows op ends begins e b = of_rows (λ row. IsOnlyFor row op (shelf_of (record { ends = ends; begins = begins }) row)) e b
 
-module _ (members : Members) (writes ends begins : Shelf) where
+module _ (members : Members) (ends begins : Shelf) where
   pub changed_only : (old new prepared : Option Op) → IfSome new (λ op. prepared ≡ Some op)
-      → IsChanged Writes old new prepared members.writes writes → IsChanged Ends old new prepared members.ends ends → IsChanged Begins old new prepared members.begins begins
-      → HoldsOnlyFor prepared members → HoldsOnlyFor (prepared_after new prepared) (record { writes = writes; ends = ends; begins = begins })
-  changed_only old new prepared is w e b only =
-      by_rows (prepared_after new prepared) writes ends begins
-      (changed_row Writes old new prepared members.writes writes is w (only Writes))
+      → IsChanged Ends old new prepared members.ends ends → IsChanged Begins old new prepared members.begins begins
+      → HoldsOnlyFor prepared members → HoldsOnlyFor (prepared_after new prepared) (record { ends = ends; begins = begins })
+  changed_only old new prepared is e b only =
+      by_rows (prepared_after new prepared) ends begins
       (changed_row Ends old new prepared members.ends ends is e (only Ends))
       (changed_row Begins old new prepared members.begins begins is b (only Begins))
 
@@ -109,7 +108,6 @@ no_end None e = refl
 no_end (Some end) e = absurd (cc)
 
 no_spot : (op : Op) → (is_write op || is_some op.end) ≡ false → (row : Row) → spot_on row op ≡ None
-no_spot op unjudged Writes = let (read, open_end) = or_false (is_write op) (is_some op.end) unjudged in rw read refl
 no_spot op unjudged Ends = let (read, open_end) = or_false (is_write op) (is_some op.end) unjudged in rw (read, no_end op.end open_end) refl
 no_spot op unjudged Begins = let (read, open_end) = or_false (is_write op) (is_some op.end) unjudged in rw (read, no_end op.end open_end) refl
 

@@ -1,5 +1,5 @@
 -- What a look-up on the shelves of the members says.
-use Rattle.std.proofs.Common.{◌≡◌, ◌≢◌, ◌≤◌, ◌<◌, ◌⊎◌, inl, inr, ℕ, Bool, true, false, not, ◌&&◌, List, Option, Some, None, refl, sym, ap, subst, ◌∙◌, arith}
+use Rattle.std.proofs.Common.{◌≡◌, ◌≢◌, ◌≤◌, ◌<◌, ◌⊎◌, inl, inr, ℕ, Bool, true, false, not, ◌&&◌, List, Option, Some, None, refl, ap, subst, arith}
 use Rattle.std.specs.Prelude.{Contains, MatchOption, is_some}
 use Rattle.std.proofs.lemmas.Bool.{cases_lt}
 use Rattle.intervals.specs.declared.operation.Op.{Op}
@@ -7,18 +7,14 @@ use Rattle.intervals.specs.declared.operation.OpId.{OpId}
 use Rattle.intervals.specs.declared.operation.Moment.{Moment}
 use Rattle.intervals.specs.declared.operation.Value.{Value}
 use Rattle.intervals.specs.declared.shelf.Shelf.{Shelf}
-use Rattle.intervals.specs.Edit.{op_of}
 use Rattle.intervals.specs.Judging.{end_number}
-use Rattle.intervals.specs.Operation.{IsJudgedRead, IsWrite, is_write, value_of}
+use Rattle.intervals.specs.Operation.{IsJudgedRead, is_write, value_of}
 use Rattle.intervals.specs.Shelf.{id_at, spot_of}
-use Rattle.intervals.specs.Standing.{HasDistinctIds}
-use Rattle.intervals.proofs.Ids.{found_by_id}
-use Rattle.zones.specs.declared.index.Row.TheVariants.{Writes, Ends, Begins}
-use Rattle.intervals.specs.Kind.{HasNoWrite}
-use Rattle.zones.specs.Members.{BeginsLastOf, EndsFirstOf, HasNoRead, IsTheWriteAt}
-use Rattle.zones.specs.Index.{IsRow, at_first, at_last}
+use Rattle.zones.specs.declared.index.Row.TheVariants.{Ends, Begins}
+use Rattle.zones.specs.Members.{BeginsLastOf, EndsFirstOf, HasNoRead}
+use Rattle.zones.specs.Index.{IsRow, at_last}
 use Rattle.zones.proofs.Members.{all_from}
-use Rattle.zones.proofs.Rows.{begun, ended, written}
+use Rattle.zones.proofs.Rows.{begun, ended}
 
 -- a judged read is no write and has an end
 pub has_end : (r : Op) → IsJudgedRead r → (end : Moment) × (is_write r ≡ false) × (r.end ≡ Some end)
@@ -40,21 +36,6 @@ not_less a b n = by_cases (cases_lt a b)
     by_cases (inr le) = le
 
 module _ (ops : List Op) (value : Value) (shelf : Shelf) where
-  module _ (row : IsRow Writes ops shelf) where
-    pub no_write : id_at shelf (spot_of value at_first) ≡ None → HasNoWrite ops value
-    no_write none = all_from (λ w. IsWrite w → value_of w.act ≢ value) ops (λ w h t same.
-        let stood : id_at shelf (spot_of (value_of w.act) at_first) ≡ Some w.id = row.there w (spot_of (value_of w.act) at_first) h (rw t refl) in
-        let here : id_at shelf (spot_of value at_first) ≡ Some w.id = subst (λ (v : Value). id_at shelf (spot_of v at_first) ≡ Some w.id) same stood in
-        absurd (cc))
-
-    pub write_found : HasDistinctIds ops → (id : OpId) → id_at shelf (spot_of value at_first) ≡ Some id → MatchOption (op_of ops id) (HasNoWrite ops value) (IsTheWriteAt ops value)
-    write_found distinct id e =
-        let (op, h, named, s) = row.back (spot_of value at_first) id e in
-        let (t, spot) = written op (spot_of value at_first) s in
-        let found : op_of ops id ≡ Some op = ap (op_of ops) (sym named) ∙ found_by_id ops op distinct h in
-        subst (λ (o : Option Op). MatchOption o (HasNoWrite ops value) (IsTheWriteAt ops value)) (sym found)
-        (record { stands = h; write = t; same = sym (ap (λ s. s.value) spot) })
-
   module _ (row : IsRow Ends ops shelf) where
     ends_there : (r : Op) (end : Moment) → Contains ops r → is_write r ≡ false → value_of r.act ≡ value → r.end ≡ Some end → id_at shelf (spot_of value end) ≡ Some r.id
     ends_there r end h w same e = subst (λ (v : Value). id_at shelf (spot_of v end) ≡ Some r.id) same (row.there r (spot_of (value_of r.act) end) h (rw (w, e) refl))

@@ -1,19 +1,24 @@
 -- The records of the values: what an edit makes of them.
 use Rattle.std.proofs.Common.{◌≡◌, ◌≢◌, ℤ, Bool, true, false, List, [], Option, Some, None, refl, sym, ap, ◌∙◌, subst, cond}
-use Rattle.std.specs.Prelude.{Contains, IfSome, IsSome, is_some, unwrap_or}
+use Rattle.std.specs.Prelude.{Contains, IfSome, IsSome, MatchOption, is_some, unwrap_or}
 use Rattle.std.specs.HashMap.{get}
 use Rattle.std.specs.Ordering.{int_eq}
 use Rattle.std.proofs.lemmas.Bool.{both_ways}
 use Rattle.intervals.specs.declared.operation.Op.{Op}
+use Rattle.intervals.specs.declared.operation.OpId.{OpId}
 use Rattle.intervals.specs.declared.operation.Value.{Value}
 use Rattle.intervals.specs.declared.operation.Value.TheVariants.{Nil, Int}
+use Rattle.intervals.specs.Edit.{op_of}
+use Rattle.intervals.specs.Kind.{HasNoWrite}
+use Rattle.intervals.specs.Standing.{HasDistinctIds}
+use Rattle.intervals.proofs.Ids.{found_by_id}
 use Rattle.intervals.specs.Operation.{IsJudgedRead, IsWrite, is_write, judged, same_value, value_of}
 use Rattle.zone_tree.specs.declared.edge.Edge.TheVariants.{Before}
 use Rattle.zone_tree.specs.Edge.{ComesBefore}
 use Rattle.zones.specs.declared.edges.Edges.{Edges}
 use Rattle.zones.specs.declared.records.Records.{Records}
-use Rattle.zones.specs.Edges.{AreEdges, AreEdgesAt, AreEdgesAtSome, edges_of_nothing}
-use Rattle.zones.specs.Members.{IsChange}
+use Rattle.zones.specs.Edges.{AreEdges, AreEdgesAt, AreEdgesAtSome, NamesWrite, edges_of_nothing}
+use Rattle.zones.specs.Members.{IsChange, IsTheWriteAt}
 use Rattle.zones.specs.Records.{AreRecords, HasNoEmptyRecord, HasRecord, edges_at, put_at}
 use Rattle.zones.specs.Zoned.{other_value, value_in}
 use Rattle.zones.proofs.EdgesOf.{edges_elsewhere, edges_of_none, has_begun}
@@ -25,6 +30,7 @@ use Rattle.zones.proofs.Members.{Decides-same_value, all_from, in_none, kept_sta
 edges_of_no : (v : Value) → AreEdges [] v (edges_of_nothing v)
 edges_of_no v = record {
   same = refl;
+  named = all_from (λ op. IsWrite op → value_of op.act ≢ v) [] (λ op h. absurd (in_none op h));
   write = edges_of_none [] v (all_from (λ op. IsWrite op → value_of op.act ≢ v) [] (λ op h. absurd (in_none op h)));
   read = record {
     begin = none_begins [] v IsJudgedRead (all_from (λ op. IsJudgedRead op → value_of op.act ≢ v) [] (λ op h. absurd (in_none op h)));
@@ -140,3 +146,8 @@ pub at_values : (ops : List Op) (old new : Option Op) (first second : Option Val
 at_values ops old new first second first_is second_is edges is =
     subst (λ (u : Option Value). AreEdgesAt ops u (other_value u (value_in new)) edges) first_is
     (subst (λ (u : Option Value). AreEdgesAt ops first u edges) second_is is)
+
+-- the write that a record names is found in the table
+pub named_found : (ops : List Op) (v : Value) → HasDistinctIds ops → (id : OpId) → NamesWrite ops v (Some id) → MatchOption (op_of ops id) (HasNoWrite ops v) (IsTheWriteAt ops v)
+named_found ops v distinct id (w, is, named) =
+    subst (λ (o : Option Op). MatchOption o (HasNoWrite ops v) (IsTheWriteAt ops v)) (sym (ap (op_of ops) (sym named) ∙ found_by_id ops w distinct is.stands)) is

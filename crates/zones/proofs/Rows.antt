@@ -7,26 +7,19 @@ use Rattle.intervals.specs.declared.operation.Moment.{Moment}
 use Rattle.intervals.specs.declared.operation.Value.{Value}
 use Rattle.intervals.specs.declared.shelf.Spot.{Spot}
 use Rattle.intervals.specs.declared.shelf.Shelf.{Shelf}
-use Rattle.intervals.specs.Operation.{IsWrite, is_write, value_of, judged}
+use Rattle.intervals.specs.Operation.{is_write, value_of, judged}
 use Rattle.intervals.specs.Shelf.{place_at, id_at, is_spot, joined, spot_of}
 use Rattle.intervals.proofs.SameSpot.{is_spot_one, is_spot_itself}
 use Rattle.zones.specs.declared.index.Row.{Row}
-use Rattle.zones.specs.declared.index.Row.TheVariants.{Writes, Ends, Begins}
+use Rattle.zones.specs.declared.index.Row.TheVariants.{Ends, Begins}
 use Rattle.zones.specs.Cluster.{edge_of_end}
 use Rattle.zones.specs.Members.{HaveOwnPlaces, IsChange}
 use Rattle.zones.specs.declared.index.Members.{Members}
-use Rattle.zones.specs.Index.{AreMembers, HasPlaceAt, HasPlaces, HasPlacesOf, IsInTime, IsRow, shelf_of, at_first, by_begin, by_end, come_at, spot_in, spot_on, taken_at}
+use Rattle.zones.specs.Index.{AreMembers, HasPlaceAt, HasPlaces, HasPlacesOf, IsInTime, IsRow, shelf_of, by_begin, by_end, come_at, spot_in, spot_on, taken_at}
 use Rattle.zones.proofs.Members.{kept, kept_stands}
-use Rattle.zones.proofs.Judged.{is_judged, judged_write}
+use Rattle.zones.proofs.Judged.{is_judged}
 
 -- what an operation is that stands at a spot
-pub written : (op : Op) (spot : Spot) → spot_on Writes op ≡ Some spot → IsWrite op × (spot ≡ spot_of (value_of op.act) at_first)
-written op spot e = by_test (is_write op) refl
-  where
-    by_test : (t : Bool) → is_write op ≡ t → IsWrite op × (spot ≡ spot_of (value_of op.act) at_first)
-    by_test true s = (s, let f = rw s at e in cc)
-    by_test false s = absurd (let f = rw s at e in cc)
-
 by_end_is : (v : Value) (end : Option Moment) (spot : Spot) → by_end v end ≡ Some spot → (v ≡ spot.value) × (end ≡ Some spot.moment)
 by_end_is v None spot e = absurd (cc)
 by_end_is v (Some end) spot e = let f : spot_of v end ≡ spot = cc in (ap (λ (s : Spot). s.value) f, ap (λ (s : Spot). Some s.moment) f)
@@ -50,16 +43,11 @@ begun op spot e = by_test (is_write op) refl
     by_test false s = let (v, m, i) = by_begin_is (value_of op.act) op.begin op.end spot (rw s at e) in (s, v, m, i)
 
 pub judged_there : (row : Row) (op : Op) (spot : Spot) → spot_on row op ≡ Some spot → is_judged op ≡ true
-judged_there Writes op spot e = judged_write op (written op spot e).0
 judged_there Ends op spot e = let (w, v, m) = ended op spot e in rw (w, m) refl
 judged_there Begins op spot e = let (w, v, m, i) = begun op spot e in rw (w, i) refl
 
 -- no two judged operations have one spot
 own_spot : (ops : List Op) → HaveOwnPlaces ops → (row : Row) (a b : Op) (spot : Spot) → Contains (judged ops) a → Contains (judged ops) b → spot_on row a ≡ Some spot → spot_on row b ≡ Some spot → a ≡ b
-own_spot ops own Writes a b spot ha hb e f =
-    let (w, p) = written a spot e in
-    let (v, q) = written b spot f in
-    own.by_value a b ha hb (ap (λ (s : Spot). s.value) (sym p ∙ q)) w v
 own_spot ops own Ends a b spot ha hb e f =
     let (_, p, m) = ended a spot e in
     let (_, q, n) = ended b spot f in
@@ -208,41 +196,36 @@ place_of row (Some op) members h = by_spot (spot_on row op) (h row)
     by_spot None each = tt
     by_spot (Some spot) each = each spot refl
 
-module _ (old new : Option Op) (members : Members) (writes ends begins : Shelf) where
+module _ (old new : Option Op) (members : Members) (ends begins : Shelf) where
   abbrev changed : Members
-  changed = record { writes = writes; ends = ends; begins = begins }
+  changed = record { ends = ends; begins = begins }
 
-  pub changed_rows : (prepared : Option Op) → IsChanged Writes old new prepared members.writes writes → IsChanged Ends old new prepared members.ends ends → IsChanged Begins old new prepared members.begins begins
+  pub changed_rows : (prepared : Option Op) → IsChanged Ends old new prepared members.ends ends → IsChanged Begins old new prepared members.begins begins
       → ((row : Row) → IsInTime (spot_in row new)) → (before after : List Op) → AreMembers before members → IsChange before old new after → AreMembers after changed
-  changed_rows prepared w e b fits before after is change Writes = row_after Writes before after old new change members.writes writes (spot_in Writes prepared) (is Writes) (fits Writes) w
-  changed_rows prepared w e b fits before after is change Ends = row_after Ends before after old new change members.ends ends (spot_in Ends prepared) (is Ends) (fits Ends) e
-  changed_rows prepared w e b fits before after is change Begins = row_after Begins before after old new change members.begins begins (spot_in Begins prepared) (is Begins) (fits Begins) b
+  changed_rows prepared e b fits before after is change Ends = row_after Ends before after old new change members.ends ends (spot_in Ends prepared) (is Ends) (fits Ends) e
+  changed_rows prepared e b fits before after is change Begins = row_after Begins before after old new change members.begins begins (spot_in Begins prepared) (is Begins) (fits Begins) b
 
-  pub changed_places : (prepared : Option Op) → IsChanged Writes old new prepared members.writes writes → IsChanged Ends old new prepared members.ends ends → IsChanged Begins old new prepared members.begins begins
+  pub changed_places : (prepared : Option Op) → IsChanged Ends old new prepared members.ends ends → IsChanged Begins old new prepared members.begins begins
       → HasPlacesOf prepared members → HasPlacesOf prepared changed
-  changed_places None w e b h = tt
-  changed_places (Some op) w e b h = by_row
+  changed_places None e b h = tt
+  changed_places (Some op) e b h = by_row
     where
       by_row : HasPlaces op changed
-      by_row Writes spot s = place_stays Writes old new op members.writes writes spot s w (h Writes spot s)
       by_row Ends spot s = place_stays Ends old new op members.ends ends spot s e (h Ends spot s)
       by_row Begins spot s = place_stays Begins old new op members.begins begins spot s b (h Begins spot s)
 
 -- shelves of the same ids have the same members
-pub same_rows : (ops : List Op) (before : Members) (writes ends begins : Shelf)
-    → ((spot : Spot) → id_at writes spot ≡ id_at before.writes spot)
+pub same_rows : (ops : List Op) (before : Members) (ends begins : Shelf)
     → ((spot : Spot) → id_at ends spot ≡ id_at before.ends spot)
     → ((spot : Spot) → id_at begins spot ≡ id_at before.begins spot)
-    → AreMembers ops before → AreMembers ops (record { writes = writes; ends = ends; begins = begins })
-same_rows ops before writes ends begins w e b is Writes = same_row Writes ops before.writes writes w (is Writes)
-same_rows ops before writes ends begins w e b is Ends = same_row Ends ops before.ends ends e (is Ends)
-same_rows ops before writes ends begins w e b is Begins = same_row Begins ops before.begins begins b (is Begins)
+    → AreMembers ops before → AreMembers ops (record { ends = ends; begins = begins })
+same_rows ops before ends begins e b is Ends = same_row Ends ops before.ends ends e (is Ends)
+same_rows ops before ends begins e b is Begins = same_row Begins ops before.begins begins b (is Begins)
 
 -- what is so of each row
-pub of_rows : (P : Row → Type 0) → P Writes → P Ends → P Begins → (row : Row) → P row
-of_rows P w e b Writes = w
-of_rows P w e b Ends = e
-of_rows P w e b Begins = b
+pub of_rows : (P : Row → Type 0) → P Ends → P Begins → (row : Row) → P row
+of_rows P e b Ends = e
+of_rows P e b Begins = b
 
 -- a held place is there when an id was taken out
 pub place_left : (from to : Shelf) (out held : Option Spot) → HasPlaceAt from held

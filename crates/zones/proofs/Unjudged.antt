@@ -14,7 +14,7 @@ use Rattle.stretch_tree.specs.Order.{Contents as Stretches}
 use Rattle.zones.specs.declared.index.Members.{Members}
 use Rattle.zones.specs.declared.index.Row.{Row}
 use Rattle.zones.specs.declared.records.Records.{Records}
-use Rattle.zones.specs.declared.index.Row.TheVariants.{Writes, Ends, Begins}
+use Rattle.zones.specs.declared.index.Row.TheVariants.{Ends, Begins}
 use Rattle.zones.specs.Index.{AreMembers, HasPlacesOf, HoldsOnlyFor, IsRow, shelf_of}
 use Rattle.zones.specs.Members.{IsChange}
 use Rattle.zones.specs.Moves.{AreExchanged}
@@ -47,8 +47,8 @@ no_stretches stretches = record { gone = (None, None); come = (None, None); chan
 -- the shelves are those of the operations after it
 same_members : (before after : List Op) (members : Members) → AreMembers before members → IsChange before None None after → AreMembers after members
 same_members before after members are change =
-    let all = changed_rows None None members members.writes members.ends members.begins None (λ spot. refl) (λ spot. refl) (λ spot. refl) (λ row. tt) before after are change in
-    of_rows (λ (row : Row). IsRow row after (shelf_of members row)) (all Writes) (all Ends) (all Begins)
+    let all = changed_rows None None members members.ends members.begins None (λ spot. refl) (λ spot. refl) (λ row. tt) before after are change in
+    of_rows (λ (row : Row). IsRow row after (shelf_of members row)) (all Ends) (all Begins)
 
 -- so are the records
 same_records : (before after : List Op) (records : Records) → AreRecords before records → IsChange before None None after → AreRecords after records

@@ -1,7 +1,9 @@
 -- The edges of a value: those of its write, and of its judged reads. No public clause speaks of these words.
-use Rattle.std.specs.Prelude.{◌≡◌, Bool, ◌&&◌, List, Option, Some, None, if◌then◌else◌}
+use Rattle.std.specs.Prelude.{◌≡◌, Bool, not, ◌&&◌, List, Option, Some, None, MatchOption, is_some, if◌then◌else◌}
 use Rattle.intervals.specs.declared.operation.Op.{Op}
+use Rattle.intervals.specs.declared.operation.OpId.{OpId}
 use Rattle.intervals.specs.declared.operation.Value.{Value}
+use Rattle.intervals.specs.Kind.{HasNoWrite}
 use Rattle.intervals.specs.Operation.{IsJudgedRead, IsWrite, is_judged_read, is_write, same_value, value_of}
 use Rattle.zone_tree.specs.declared.edge.Edge.{Edge}
 use Rattle.zone_tree.specs.declared.edge.Edge.TheVariants.{Before, Never}
@@ -20,19 +22,24 @@ pub record AreReadEdges (ops : List Op) (value : Value) (begins ends : Edge) : T
   pub begin : IsGreatestBegin IsJudgedRead ops value begins
   pub end : IsLeastEnd IsJudgedRead ops value ends
 
+-- the write of the value has that id, where there is one
+abbrev pub NamesWrite : List Op → Value → Option OpId → Type 0
+NamesWrite ops value name = MatchOption name (HasNoWrite ops value) (λ id. (w : Op) × IsTheWriteAt ops value w × (w.id ≡ id))
+
 -- the edges of the value
 pub record AreEdges (ops : List Op) (value : Value) (edges : Edges) : Type 0 where
   pub same : edges.value ≡ value
+  pub named : NamesWrite ops value edges.write_id
   pub write : AreWriteEdges ops value edges.write_begin edges.write_end
   pub read : AreReadEdges ops value edges.read_begin edges.read_end
 
 -- the edges of a value that no judged operation has
 abbrev pub edges_of_nothing : Value → Edges
-edges_of_nothing value = record { value = value; write_begin = Before; write_end = Never; read_begin = Before; read_end = Never }
+edges_of_nothing value = record { value = value; write_id = None; write_begin = Before; write_end = Never; read_begin = Before; read_end = Never }
 
 -- they are those edges
 abbrev pub is_of_nothing : Edges → Bool
-is_of_nothing edges = same_edge edges.read_begin Before && same_edge edges.write_begin Before && same_edge edges.read_end Never && same_edge edges.write_end Never
+is_of_nothing edges = not (is_some edges.write_id) && same_edge edges.read_begin Before && same_edge edges.write_begin Before && same_edge edges.read_end Never && same_edge edges.write_end Never
 
 -- the same of a value that there may be
 abbrev pub AreEdgesAtSome : List Op → Option Value → Option Edges → Type 0

@@ -1,5 +1,5 @@
--- The shelves of the members: each write stands at its value, each judged read at its value and end, and
--- at its value and beginning. No public clause speaks of these words.
+-- The shelves of the members: each judged read stands at its value and end, and at its value and beginning. No public
+-- clause speaks of these words.
 use Rattle.std.specs.Prelude.{◌≡◌, ◌≤◌, true, false, Contains, List, Option, Some, None, IfSome, is_some, if◌then◌else◌}
 use Rattle.intervals.specs.declared.operation.Op.{Op}
 use Rattle.intervals.specs.declared.operation.OpId.{OpId}
@@ -10,10 +10,10 @@ use Rattle.intervals.specs.declared.shelf.Shelf.{Shelf}
 use Rattle.intervals.specs.Operation.{is_write, value_of}
 use Rattle.intervals.specs.Shelf.{place_at, id_at, is_spot, spot_of}
 use Rattle.zones.specs.declared.index.Row.{Row}
-use Rattle.zones.specs.declared.index.Row.TheVariants.{Writes, Ends, Begins}
+use Rattle.zones.specs.declared.index.Row.TheVariants.{Ends, Begins}
 use Rattle.zones.specs.declared.index.Members.{Members}
 
--- the moment at which writes stand on their shelf
+-- the least moment that there is
 abbrev pub at_first : Moment
 at_first = record { 0 = 0 }
 
@@ -29,7 +29,6 @@ by_begin value begin (Some end) = Some (spot_of value begin)
 
 -- where an operation stands on a shelf
 abbrev pub spot_on : Row → Op → Option Spot
-spot_on Writes op = if is_write op then Some (spot_of (value_of op.act) at_first) else None
 spot_on Ends op = if is_write op then None else by_end (value_of op.act) op.end
 spot_on Begins op = if is_write op then None else by_begin (value_of op.act) op.begin op.end
 
@@ -49,7 +48,6 @@ pub record IsRow (row : Row) (ops : List Op) (shelf : Shelf) : Type 0 where
 
 -- the shelf of a row
 abbrev pub shelf_of : Members → Row → Shelf
-shelf_of members Writes = members.writes
 shelf_of members Ends = members.ends
 shelf_of members Begins = members.begins
 

@@ -12,10 +12,12 @@ ghost use Rattle.zones.specs.Crossing.{HasLeastEnd, AreExtremes};
 ghost use Rattle.intervals.specs.Standing.{HasDistinctIds};
 ghost use Rattle.intervals.specs.declared.operation.Value.{Value as AValue};
 ghost use Rattle.zones.specs.Index.{AreMembers};
+ghost use Rattle.zones.specs.Records.{AreRecords};
 ghost use Rattle.zones.specs.Zoned.{MayStart, is_that};
 
 use crate::edges::edge_of_end;
 use crate::index::Members;
+use crate::records::Records;
 use intervals::{Op, OpTable, Value, is_same_value};
 
 /// Four operations that no order has room for: `a` and `d` are of one value, `b` and `c` of another, `a`
@@ -31,20 +33,21 @@ pub struct Crossing<'t> {
 /// Of two values whose zones conflict the operations that ended first and those that began last.
 pub fn extremes<'t>(
     members: &Members,
+    records: &Records,
     table: &OpTable<'t>,
     initial: Option<Value>,
     one: Value,
     other: Value,
 ) -> Option<Crossing<'t>>
-    ensures { (start : AValue) → MayStart initial start one → MayStart initial start other → AreMembers table.now.ops members.now → HasDistinctIds table.now.ops
+    ensures { (start : AValue) → MayStart initial start one → MayStart initial start other → AreMembers table.now.ops members.now → AreRecords table.now.ops records.now → HasDistinctIds table.now.ops
         → Conflicts (zone_of start table.now.ops one) (zone_of start table.now.ops other) → IsSomeAnd result (λ x. AreExtremes start table.now.ops one other x.a x.b x.c x.d) }
 {
-    let b = last_to_begin(members, table, other)?;
-    let d = last_to_begin(members, table, one)?;
+    let b = last_to_begin(members, records, table, other)?;
+    let d = last_to_begin(members, records, table, one)?;
     Some(Crossing {
-        a: first_to_end(members, table, initial, one),
+        a: first_to_end(members, records, table, initial, one),
         b,
-        c: first_to_end(members, table, initial, other),
+        c: first_to_end(members, records, table, initial, other),
         d,
     })
 }
@@ -52,18 +55,19 @@ pub fn extremes<'t>(
 /// No operation ended before the initial write.
 fn first_to_end<'t>(
     members: &Members,
+    records: &Records,
     table: &OpTable<'t>,
     initial: Option<Value>,
     value: Value,
 ) -> Option<Op<'t>>
-    ensures { (start : AValue) → MayStart initial start value → AreMembers table.now.ops members.now → HasDistinctIds table.now.ops → least_end_of start table.now.ops value ≢ Never
+    ensures { (start : AValue) → MayStart initial start value → AreMembers table.now.ops members.now → AreRecords table.now.ops records.now → HasDistinctIds table.now.ops → least_end_of start table.now.ops value ≢ Never
         → HasLeastEnd start table.now.ops value result }
 {
     if is_initial(initial, value) {
         return None;
     }
     ended_first(
-        members.write_of(table, value),
+        records.write_of(table, value),
         first_read(members, table, value),
     )
 }
@@ -79,12 +83,17 @@ pub fn is_initial(initial: Option<Value>, value: Value) -> bool
 }
 
 /// Of the judged operations of the value the one that began last.
-fn last_to_begin<'t>(members: &Members, table: &OpTable<'t>, value: Value) -> Option<Op<'t>>
-    ensures { AreMembers table.now.ops members.now → HasDistinctIds table.now.ops
+fn last_to_begin<'t>(
+    members: &Members,
+    records: &Records,
+    table: &OpTable<'t>,
+    value: Value,
+) -> Option<Op<'t>>
+    ensures { AreMembers table.now.ops members.now → AreRecords table.now.ops records.now → HasDistinctIds table.now.ops
         → MatchOption result (cluster_of table.now.ops value ≡ []) (IsLastToBegin table.now.ops value) }
 {
     began_last(
-        members.write_of(table, value),
+        records.write_of(table, value),
         last_read(members, table, value),
     )
 }

@@ -7,12 +7,12 @@ ghost use Rattle.intervals.specs.declared.operation.Value.{Value as AValue};
 ghost use Rattle.intervals.specs.Operation.{IsJudgedRead};
 ghost use Rattle.zone_tree.specs.Edge.{same_edge};
 ghost use Rattle.zones.specs.Cluster.{edge_of_end as edge_of, earlier_of as earlier, later_of as later};
-ghost use Rattle.zones.specs.Edges.{AreEdges, AreEdgesAt, AreEdgesAtSome, AreWriteEdges, edges_of_nothing, is_of_nothing as are_of_nothing, read_part, write_part};
+ghost use Rattle.zones.specs.Edges.{AreEdges, AreEdgesAt, AreEdgesAtSome, AreWriteEdges, NamesWrite, edges_of_nothing, is_of_nothing as are_of_nothing, read_part, write_part};
 ghost use Rattle.zones.specs.Index.{AreMembers};
 ghost use Rattle.zones.specs.Members.{IsChange, IsGreatestBegin, IsLeastEnd};
 
 use crate::index::Members;
-use intervals::{Moment, Op, Value, is_same_value};
+use intervals::{Moment, Op, OpId, Value, is_same_value};
 use zone_tree::Edge;
 
 /// What the zone of a value and its stretch are made of. Where it has no write, that begins at
@@ -20,6 +20,7 @@ use zone_tree::Edge;
 #[derive(Clone, Copy)]
 pub struct Edges {
     pub value: Value,
+    pub write_id: Option<OpId>,
     pub write_begin: Edge,
     pub write_end: Edge,
     pub read_begin: Edge,
@@ -32,6 +33,7 @@ pub fn of_nothing(value: Value) -> Edges
 {
     Edges {
         value,
+        write_id: None,
         write_begin: Edge::Before,
         write_end: Edge::Never,
         read_begin: Edge::Before,
@@ -43,7 +45,8 @@ pub fn of_nothing(value: Value) -> Edges
 pub fn is_of_nothing(edges: &Edges) -> bool
     ensures { result ≡ are_of_nothing edges.now }
 {
-    is_same_edge(edges.read_begin, Edge::Before)
+    edges.write_id.is_none()
+        && is_same_edge(edges.read_begin, Edge::Before)
         && is_same_edge(edges.write_begin, Edge::Before)
         && is_same_edge(edges.read_end, Edge::Never)
         && is_same_edge(edges.write_end, Edge::Never)
@@ -85,9 +88,10 @@ fn after(before: &Edges, members: &Members, old: &Option<Op>, new: &Option<Op>) 
     ensures { (ops later : List AnOp) → AreEdges ops before.now.value before.now → IsChange ops old.now new.now later → AreMembers later members.now
         → AreEdges later before.now.value result }
 {
-    let (write_begin, write_end) = write_after(before, old, new);
+    let (write_id, write_begin, write_end) = write_after(before, old, new);
     Edges {
         value: before.value,
+        write_id,
         write_begin,
         write_end,
         read_begin: read_begin_after(before, members, old, new),
@@ -95,14 +99,19 @@ fn after(before: &Edges, members: &Members, old: &Option<Op>, new: &Option<Op>) 
     }
 }
 
-fn write_after(before: &Edges, old: &Option<Op>, new: &Option<Op>) -> (Edge, Edge)
-    ensures { (ops later : List AnOp) → AreEdges ops before.now.value before.now → IsChange ops old.now new.now later → AreWriteEdges later before.now.value result.0 result.1 }
+fn write_after(before: &Edges, old: &Option<Op>, new: &Option<Op>) -> (Option<OpId>, Edge, Edge)
+    ensures named { (ops later : List AnOp) → AreEdges ops before.now.value before.now → IsChange ops old.now new.now later → NamesWrite later before.now.value result.0 }
+    ensures edges { (ops later : List AnOp) → AreEdges ops before.now.value before.now → IsChange ops old.now new.now later → AreWriteEdges later before.now.value result.1 result.2 }
 {
     match write_in(new, before.value) {
-        Some(write) => (Edge::At(write.begin), edge_of_end(write.end)),
+        Some(write) => (
+            Some(write.id),
+            Edge::At(write.begin),
+            edge_of_end(write.end),
+        ),
         None => match write_in(old, before.value) {
-            Some(_) => (Edge::Before, Edge::Never),
-            None => (before.write_begin, before.write_end),
+            Some(_) => (None, Edge::Before, Edge::Never),
+            None => (before.write_id, before.write_begin, before.write_end),
         },
     }
 }

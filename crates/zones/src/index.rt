@@ -1,31 +1,26 @@
-//! The judged operations of each value: its write, and its reads by their ends and by their beginnings.
+//! The judged reads of each value, by their ends and by their beginnings.
 
 ghost use Rattle.std.specs.Prelude.{◌≡◌, ◌≢◌, ◌≤◌, ◌<◌, [], List, All, Contains, IfSome, IfOk, MatchOption, OnOk, OnErr, None, Some, is_some, true, false};
 ghost use Rattle.intervals.specs.declared.operation.Op.{Op as AnOp};
 ghost use Rattle.intervals.specs.declared.shelf.Spot.{Spot as ASpot};
-ghost use Rattle.intervals.specs.Edit.{op_of};
 ghost use Rattle.intervals.specs.Shelf.{place_at, id_at, is_spot};
-ghost use Rattle.intervals.specs.Standing.{HasDistinctIds};
 ghost use Rattle.intervals.specs.Table.{prepared_after};
-ghost use Rattle.zones.specs.Members.{IsChange, IsTheWriteAt, EndsFirstOf, BeginsLastOf, HasNoRead};
-ghost use Rattle.intervals.specs.Kind.{HasNoWrite};
+ghost use Rattle.zones.specs.Members.{IsChange, EndsFirstOf, BeginsLastOf, HasNoRead};
 ghost use Rattle.zones.specs.Index.{AreMembers, HasPlaces, HasPlacesOf, HasPlaceAt, HaveSamePlaces, HoldsOnlyFor, IsInTime, IsMade, IsStill, spot_on as on, spot_in as in_row, taken_at, put_at, come_at};
 
-use intervals::{Memory, Moment, Op, OpId, OpTable, Shelf, Spot, Value};
+use intervals::{Memory, Moment, Op, OpId, Shelf, Spot, Value};
 use std::alloc::Global;
 
-/// The shelves on which an operation may stand.
+/// The shelves on which a read may stand.
 #[derive(Clone, Copy)]
 pub enum Row {
-    Writes,
     Ends,
     Begins,
 }
 
-/// The ids of the writes by value, and of the judged reads by value and end, and by value and beginning.
+/// The ids of the judged reads by value and end, and by value and beginning.
 #[derive(Drop)]
 pub struct Members {
-    writes: Shelf,
     ends: Shelf,
     begins: Shelf,
 }
@@ -36,7 +31,6 @@ impl Members {
         ensures only { HoldsOnlyFor None result }
     {
         Members {
-            writes: Shelf::new(alloc),
             ends: Shelf::new(alloc),
             begins: Shelf::new(alloc),
         }
@@ -49,17 +43,9 @@ impl Members {
         ensures err { OnErr result (HaveSamePlaces self.old self.new) }
         ensures members { (ops : List AnOp) → AreMembers ops self.old → AreMembers ops self.new }
     {
-        let writes = hold(&mut self.writes, spot_on(Row::Writes, op))?;
-        let ends = match hold(&mut self.ends, spot_on(Row::Ends, op)) {
-            Ok(made) => made,
-            Err(memory) => {
-                release(&mut self.writes, writes);
-                return Err(memory);
-            }
-        };
+        let ends = hold(&mut self.ends, spot_on(Row::Ends, op))?;
         if let Err(memory) = hold(&mut self.begins, spot_on(Row::Begins, op)) {
             release(&mut self.ends, ends);
-            release(&mut self.writes, writes);
             return Err(memory);
         }
         Ok(())
@@ -70,7 +56,6 @@ impl Members {
         ensures only { HoldsOnlyFor (Some op.now) self.old → HoldsOnlyFor None self.new }
         ensures members { (ops : List AnOp) → AreMembers ops self.old → AreMembers ops self.new }
     {
-        release(&mut self.writes, spot_on(Row::Writes, op));
         release(&mut self.ends, spot_on(Row::Ends, op));
         release(&mut self.begins, spot_on(Row::Begins, op));
     }
@@ -83,21 +68,8 @@ impl Members {
         ensures places { HasPlacesOf prepared.now self.new }
         ensures only { HoldsOnlyFor prepared.now self.old → HoldsOnlyFor (prepared_after new.now prepared.now) self.new }
     {
-        change_row(&mut self.writes, Row::Writes, old, new, prepared);
         change_row(&mut self.ends, Row::Ends, old, new, prepared);
         change_row(&mut self.begins, Row::Begins, old, new, prepared);
-    }
-
-    /// The write of the value.
-    pub fn write_of<'t>(&self, table: &OpTable<'t>, value: Value) -> Option<Op<'t>>
-        ensures { AreMembers table.now.ops self.now → HasDistinctIds table.now.ops
-            → MatchOption result (HasNoWrite table.now.ops value) (IsTheWriteAt table.now.ops value) }
-    {
-        let id = self.writes.get(Spot {
-            value,
-            moment: Moment(0),
-        })?;
-        table.get(id).copied()
     }
 
     /// Of the judged reads of the value the end of the one that ended first, and its id.
@@ -120,10 +92,6 @@ pub fn spot_on(row: Row, op: &Op) -> Option<Spot>
     ensures { result ≡ on row op.now }
 {
     match row {
-        Row::Writes if op.is_write() => Some(Spot {
-            value: op.value(),
-            moment: Moment(0),
-        }),
         Row::Ends if !op.is_write() => {
             let end = op.end?;
             Some(Spot {

@@ -1,18 +1,20 @@
-//! The edges of each value, in a record that is kept beside the shelves.
+//! The write of each value and its edges, in a record that is kept beside the shelves.
 
-ghost use Rattle.std.specs.Prelude.{◌≡◌, ◌<◌, ◌≤◌, ℤ, [], List, Option, Some, None, IfSome, IsNone, IsSome, OnOk, if◌then◌else◌};
+ghost use Rattle.std.specs.Prelude.{◌≡◌, ◌<◌, ◌≤◌, ℤ, [], List, Option, Some, None, IfSome, IsNone, IsSome, MatchOption, OnOk, if◌then◌else◌};
 ghost use Rattle.std.specs.HashMap.{get, spare};
 ghost use Rattle.std.specs.Ordering.{int_eq};
 ghost use Rattle.intervals.specs.declared.operation.Op.{Op as AnOp};
 ghost use Rattle.intervals.specs.declared.operation.Value.{Value as AValue};
+ghost use Rattle.intervals.specs.Kind.{HasNoWrite};
 ghost use Rattle.intervals.specs.Operation.{same_value};
+ghost use Rattle.intervals.specs.Standing.{HasDistinctIds};
 ghost use Rattle.zones.specs.Edges.{AreEdgesAt, AreEdgesAtSome, edges_of_nothing};
-ghost use Rattle.zones.specs.Members.{IsChange};
+ghost use Rattle.zones.specs.Members.{IsChange, IsTheWriteAt};
 ghost use Rattle.zones.specs.Records.{AreRecords, HasNoEmptyRecord, HasRecord, edges_at as edges_of, put_at, record_of, room_in};
 ghost use Rattle.zones.specs.Zoned.{other_value, value_in};
 
 use crate::edges::{Edges, is_of_nothing, of_nothing};
-use intervals::{Memory, Value};
+use intervals::{Memory, Op, OpTable, Value};
 use std::alloc::Global;
 use std::collections::HashMap;
 
@@ -44,6 +46,15 @@ impl Records {
                 None => of_nothing(value),
             },
         }
+    }
+
+    /// The write of the value.
+    pub fn write_of<'t>(&self, table: &OpTable<'t>, value: Value) -> Option<Op<'t>>
+        ensures { AreRecords table.now.ops self.now → HasDistinctIds table.now.ops
+            → MatchOption result (HasNoWrite table.now.ops value) (IsTheWriteAt table.now.ops value) }
+    {
+        let id = self.edges_at(value).write_id?;
+        table.get(id).copied()
     }
 
     /// The edges of two values.

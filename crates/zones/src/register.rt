@@ -112,7 +112,7 @@ impl<'t> Clusters<'t> {
     pub fn check_write(&self, op: &Op) -> Result<(), Refusal>
         ensures { result ≡ ok_unless (write_refusal self.now.claim self.now.ops op.now) }
     {
-        check_write(&self.claim, &self.members, &self.table, op)
+        check_write(&self.claim, &self.records, &self.table, op)
     }
 
     /// The operation that there is room for.
@@ -331,7 +331,12 @@ impl<'t> Clusters<'t> {
     pub fn first_early(&self) -> Option<(OpId, OpId)>
         ensures { result ≡ option_map (λ pair. (pair.0.id, pair.1.id)) (early_first self.now.ops) }
     {
-        let (read, write) = first_early(&self.stretches, &self.members, &self.table)?;
+        let (read, write) = first_early(
+            &self.stretches,
+            &self.members,
+            &self.records,
+            &self.table,
+        )?;
         Some((read.id, write.id))
     }
 
@@ -373,6 +378,7 @@ impl<'t> Clusters<'t> {
         let (first, second) = self.first_conflict()?;
         extremes(
             &self.members,
+            &self.records,
             &self.table,
             self.initial(),
             first.value,

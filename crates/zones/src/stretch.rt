@@ -9,11 +9,13 @@ ghost use Rattle.zones.specs.Edges.{AreEdges, AreEdgesAt, AreEdgesAtSome};
 ghost use Rattle.zones.specs.Fault.{first_early as early_first};
 ghost use Rattle.zones.specs.Faults.{AreStretched, IsStretchAt, IsStretchAtSome, AreStretchesAt, begin_of_write, write_of};
 ghost use Rattle.zones.specs.Index.{AreMembers};
+ghost use Rattle.zones.specs.Records.{AreRecords};
 ghost use Rattle.zones.specs.Zoned.{AreManyWriters};
 
 use crate::crossing::first_read;
 use crate::edges::Edges;
 use crate::index::Members;
+use crate::records::Records;
 use crate::zone_in::is_written;
 use intervals::{Claim, Op, OpTable, Value};
 use stretch_tree::{Stretch, StretchTree};
@@ -108,14 +110,15 @@ fn first_writeless_but<'t>(
 pub fn first_early<'t>(
     stretches: &StretchTree,
     members: &Members,
+    records: &Records,
     table: &OpTable<'t>,
 ) -> Option<(Op<'t>, Op<'t>)>
-    ensures { (claim : Terms) → AreMembers table.now.ops members.now → AreManyWriters claim table.now.ops → AreStretched claim table.now.ops stretches.now.stretches
+    ensures { (claim : Terms) → AreMembers table.now.ops members.now → AreRecords table.now.ops records.now → AreManyWriters claim table.now.ops → AreStretched claim table.now.ops stretches.now.stretches
         → result ≡ early_first table.now.ops }
 {
     let stretch = stretches.first_early()?;
     let read = first_read(members, table, stretch.value)?;
-    let write = members.write_of(table, stretch.value)?;
+    let write = records.write_of(table, stretch.value)?;
     Some((read, write))
 }
 

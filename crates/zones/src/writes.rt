@@ -5,23 +5,23 @@ ghost use Rattle.intervals.specs.declared.operation.Op.{Op};
 ghost use Rattle.intervals.specs.Refusal.{write_refusal, holder_of as held_by, ok_unless, is_holder};
 ghost use Rattle.intervals.specs.Terms.{Terms, terms_of};
 ghost use Rattle.intervals.specs.Standing.{HasDistinctIds};
-ghost use Rattle.zones.specs.Index.{AreMembers};
+ghost use Rattle.zones.specs.Records.{AreRecords};
 ghost use Rattle.zones.specs.Refused.{refusal_beside};
 ghost use Rattle.zones.specs.Zoned.{AreManyWriters};
 
-use crate::index::Members;
+use crate::records::Records;
 use intervals::{Claim, Holder, Op, OpTable, Refusal};
 
 pub fn check_write(
     claim: &Claim,
-    members: &Members,
+    records: &Records,
     table: &OpTable,
     op: &Op,
 ) -> Result<(), Refusal>
-    ensures { AreMembers table.now.ops members.now → HasDistinctIds table.now.ops → AreManyWriters (terms_of claim.now) table.now.ops
+    ensures { AreRecords table.now.ops records.now → HasDistinctIds table.now.ops → AreManyWriters (terms_of claim.now) table.now.ops
         → result ≡ ok_unless (write_refusal (terms_of claim.now) table.now.ops op.now) }
 {
-    check_beside(claim, op, holder_of(claim, members, table, op))
+    check_beside(claim, op, holder_of(claim, records, table, op))
 }
 
 fn check_beside(claim: &Claim, op: &Op, holder: Option<Holder>) -> Result<(), Refusal>
@@ -43,22 +43,22 @@ fn check_beside(claim: &Claim, op: &Op, holder: Option<Holder>) -> Result<(), Re
 }
 
 /// Who has the value of the operation already.
-fn holder_of(claim: &Claim, members: &Members, table: &OpTable, op: &Op) -> Option<Holder>
-    ensures { AreMembers table.now.ops members.now → HasDistinctIds table.now.ops → AreManyWriters (terms_of claim.now) table.now.ops
+fn holder_of(claim: &Claim, records: &Records, table: &OpTable, op: &Op) -> Option<Holder>
+    ensures { AreRecords table.now.ops records.now → HasDistinctIds table.now.ops → AreManyWriters (terms_of claim.now) table.now.ops
         → result ≡ held_by (terms_of claim.now) table.now.ops op.now }
 {
     if claim.is_initial(op.value()) {
         return Some(Holder::Initial);
     }
-    let write = other_write(members, table, op)?;
+    let write = other_write(records, table, op)?;
     Some(Holder::Op(write.id))
 }
 
 /// The write of its value, where that is another operation.
-fn other_write<'t>(members: &Members, table: &OpTable<'t>, op: &Op) -> Option<Op<'t>>
-    ensures { (claim : Terms) → AreMembers table.now.ops members.now → HasDistinctIds table.now.ops → AreManyWriters claim table.now.ops → result ≡ find (is_holder op.now) table.now.ops }
+fn other_write<'t>(records: &Records, table: &OpTable<'t>, op: &Op) -> Option<Op<'t>>
+    ensures { (claim : Terms) → AreRecords table.now.ops records.now → HasDistinctIds table.now.ops → AreManyWriters claim table.now.ops → result ≡ find (is_holder op.now) table.now.ops }
 {
-    let write = members.write_of(table, op.value())?;
+    let write = records.write_of(table, op.value())?;
     if write.has_id(op.id) {
         None
     } else {

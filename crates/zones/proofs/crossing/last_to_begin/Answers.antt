@@ -7,7 +7,7 @@ use Rattle.zones.proofs.Ends.{last_found}
 use Rattle.zones.proofs.crossing.last_to_begin.Goals as goal
 
 pub returns : goal.returns
-returns c is distinct =
+returns c is recorded distinct =
     let ops = c.args.table.now.ops in
     subst (λ (o : Option Op). MatchOption o (cluster_of ops c.args.value ≡ []) (IsLastToBegin ops c.args.value)) (sym c.began_last.ensures)
-    (last_found ops c.args.value distinct c.args.value c.args.members.now is c.write_of.result c.last_read.result (c.write_of.ensures is distinct) (c.last_read.ensures is distinct))
+    (last_found ops c.args.value distinct c.args.value (recorded.edges c.args.value).write.one c.write_of.result c.last_read.result (c.write_of.ensures recorded distinct) (c.last_read.ensures is distinct))

@@ -34,7 +34,7 @@ found c =
     let other : MayStart c.initial.result start second.value = subst (λ (i : Option Value). MayStart i start second.value) (sym is) (second_may claim ops c.self.invariant.apart first second h) in
     let conflict = of_values start ops first second (conflict_from (initial_of claim ops) ops first second h) in
     let extremes : IsSomeAnd c.extremes.result (λ x. AreExtremes start ops first.value second.value x.a x.b x.c x.d) =
-    c.extremes.ensures start one other c.self.invariant.members_of c.self.invariant.apart.kept.ids conflict
+    c.extremes.ensures start one other c.self.invariant.members_of c.self.invariant.records_of c.self.invariant.apart.kept.ids conflict
     in
     subst (λ (x : Clustered). IsSomeAnd c.extremes.result (λ y. IsFirstCrossingFrom (initial_of x.claim x.ops) (start_of x.claim x.ops) x.ops y.a y.b y.c y.d)) c.self.view_is
     (first_crossing (initial_of claim ops) start ops first second c.extremes.result h extremes)
