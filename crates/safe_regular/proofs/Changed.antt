@@ -14,6 +14,7 @@ use Rattle.intervals.specs.Refusal.{first_refusal, moments_refusal}
 use Rattle.intervals.specs.Standing.{HasDistinctIds}
 use Rattle.intervals.proofs.Ids.{same_id-refl, found_alike, found_by_id, not_taken, none_of, found_stands, found_again}
 use Rattle.safe_regular.specs.Apart.{AreApart}
+use Rattle.safe_regular.specs.Change.{IsAmong}
 use Rattle.safe_regular.specs.Writes.{IsAddedOf}
 use Rattle.safe_regular.proofs.Lists.{kept, kept_stands}
 
@@ -23,10 +24,6 @@ is_other id op = not (has_id id op)
 -- the operations of other ids
 abbrev pub others_of : List Op → Option OpId → List Op
 others_of ops id = filter (is_other id) ops
-
--- it is among the others, or it is the one
-abbrev pub IsAmong : List Op → Option Op → Op → Type 0
-IsAmong others one x = Contains others x ⊎ (one ≡ Some x)
 
 pub other_stands : (ops : List Op) (id : Option OpId) (x : Op) → Contains (others_of ops id) x → Contains ops x
 other_stands ops id x h = kept_stands (is_other id) ops x h

@@ -27,7 +27,7 @@ use Rattle.safe_regular.proofs.Nearest.{ByNone, IsNear, IsNearest, IsReadAmong, 
 use Rattle.safe_regular.proofs.Edited.{all_low, write_allowed}
 
 -- a test that decides what is so exactly where another thing is not
-decides_not : (P Q : Type 0) (b q : Bool) → Decides b P → Decides q Q → (P → ¬ Q) → ((¬ P) → Q) → b ≡ not q
+pub decides_not : (P Q : Type 0) (b q : Bool) → Decides b P → Decides q Q → (P → ¬ Q) → ((¬ P) → Q) → b ≡ not q
 decides_not P Q b q decides_b decides_q one other = same_from_decides b (not q) decides_b (Decides-like (not q) back one (Decides-not q decides_q))
   where
     by_cases : P ⊎ (¬ P) → ¬ Q → P
@@ -39,7 +39,7 @@ decides_not P Q b q decides_b decides_q one other = same_from_decides b (not q) 
 
 module _ (claim : Terms) (ops : List Op) (apart : AreApart ops) (r : Op) (among : IsReadAmong ops r) where
   -- what precedes r begins before r ends
-  before_reached : (w : Op) → Contains ops w → IsWrite w → Precedes w r → w.begin.0 < end_number r
+  pub before_reached : (w : Op) → Contains ops w → IsWrite w → Precedes w r → w.begin.0 < end_number r
   before_reached w sw ww before = let lt = begins_before w r (apart.proper w sw ww) before in let long = among.long in omega arith
 
   -- a write that begins before r ends and does not precede it overlaps it
@@ -110,13 +110,13 @@ module _ (claim : Terms) (ops : List Op) (apart : AreApart ops) (r : Op) (among 
 
   -- a safe register: no write begins before r ends
   module _ (none : NoneFits (IsNear Safe r) ops) where
-    safe_initial : value_of r.act ≡ claim.initial → IsInValueSet claim (value_of r.act) → IsSafeRead claim ops r
+    pub safe_initial : value_of r.act ≡ claim.initial → IsInValueSet claim (value_of r.act) → IsSafeRead claim ops r
     safe_initial e allowed = (
       (λ _. inr (all_from (λ w. IsWrite w → ¬ Precedes w r) ops (λ w sw ww before. none w sw ww (refl, before_reached w sw ww before)), e)),
       (λ _. allowed),
     )
 
-    wrong_initial : value_of r.act ≢ claim.initial → ¬ IsSafeRead claim ops r
+    pub wrong_initial : value_of r.act ≢ claim.initial → ¬ IsSafeRead claim ops r
     wrong_initial other right = by_cases (right.0 (λ any. none any.1 (any.0, any.2, any.3) any.4.0 (refl, among.reached any.1 (any.0, any.2, any.3) any.4.0 any.4.1.1)))
       where
         by_cases : ReturnsLast claim.initial ops r → ⊥
@@ -126,7 +126,7 @@ module _ (claim : Terms) (ops : List Op) (apart : AreApart ops) (r : Op) (among 
   -- w is the last write to begin before r ends
   module _ (w : Op) (last : IsLast (IsNear Safe r) ops w) where
     -- an allowed value is right where it is that of w, or w overlaps r
-    safe_write : ¬ ((value_of r.act ≢ value_of w.act) × Precedes w r) → IsInValueSet claim (value_of r.act) → IsSafeRead claim ops r
+    pub safe_write : ¬ ((value_of r.act ≢ value_of w.act) × Precedes w r) → IsInValueSet claim (value_of r.act) → IsSafeRead claim ops r
     safe_write not allowed =
         (by_cases (either_way (precedes w r) (Decides-precedes w r)) (either_way (same_value (value_of r.act) (value_of w.act)) (Decides-same_value (value_of r.act) (value_of w.act))), (λ _. allowed))
       where
@@ -151,7 +151,7 @@ module _ (claim : Terms) (ops : List Op) (apart : AreApart ops) (r : Op) (among 
         any.4.1.0 (precedes_with ops apart any.1 w r sv last.stands any.4.0 last.write le before)
 
     -- and another is wrong where w precedes r
-    wrong_write : (value_of r.act ≢ value_of w.act) × Precedes w r → ¬ IsSafeRead claim ops r
+    pub wrong_write : (value_of r.act ≢ value_of w.act) × Precedes w r → ¬ IsSafeRead claim ops r
     wrong_write (other, before) right = by_cases (right.0 (none_over before))
       where
         by_cases : ReturnsLast claim.initial ops r → ⊥
@@ -162,14 +162,14 @@ module _ (claim : Terms) (ops : List Op) (apart : AreApart ops) (r : Op) (among 
         by_cases (inr h) = All-contains (λ v. IsWrite v → ¬ Precedes v r) ops w h.0 last.stands last.write before
 
   -- a value that is not allowed is wrong
-  wrong_value : ((w : Op) → Contains ops w → IsWrite w → IsInValueSet claim (value_of w.act)) → IsInValueSet claim claim.initial → ¬ IsInValueSet claim (value_of r.act) → ¬ IsSafeRead claim ops r
+  pub wrong_value : ((w : Op) → Contains ops w → IsWrite w → IsInValueSet claim (value_of w.act)) → IsInValueSet claim claim.initial → ¬ IsInValueSet claim (value_of r.act) → ¬ IsSafeRead claim ops r
   wrong_value of_writes of_initial none right = by_cases (right.0 (λ over. none (right.1 over)))
     where
       by_cases : ReturnsLast claim.initial ops r → ⊥
       by_cases (inl l) = none (subst (IsInValueSet claim) (sym l.2) (of_writes l.0 l.1.stands l.1.write))
       by_cases (inr h) = none (subst (IsInValueSet claim) (sym h.1) of_initial)
 
-true_not : (Q : Type 0) (q : Bool) → Decides q Q → ¬ Q → true ≡ not q
+pub true_not : (Q : Type 0) (q : Bool) → Decides q Q → ¬ Q → true ≡ not q
 true_not Q q decides_q none = sym ((Decides-not q decides_q).1 none)
 
 differ : (a b : Value) → a ≢ b → same_value a b ≡ false
@@ -316,12 +316,12 @@ module _ (base : Terms) (ops : List Op) (apart : AreApart ops) (r : Op) (among :
       by_cases (inr (inr k)) _ = absurd (k.row refl)
 
 -- the initial value is in the value set
-initial_in_set : (domain : Option (List Value)) (initial : Value) → IsAllowed domain initial initial
+pub initial_in_set : (domain : Option (List Value)) (initial : Value) → IsAllowed domain initial initial
 initial_in_set None initial = tt
 initial_in_set (Some values) initial = inr refl
 
 -- and so is that of each write
-in_value_set : (claim : Terms) (ops : List Op) → AreOneWriters claim ops → (w : Op) → Contains ops w → IsWrite w → IsInValueSet claim (value_of w.act)
+pub in_value_set : (claim : Terms) (ops : List Op) → AreOneWriters claim ops → (w : Op) → Contains ops w → IsWrite w → IsInValueSet claim (value_of w.act)
 in_value_set claim ops apart w sw ww =
     (Decides-is_allowed claim.domain claim.initial (value_of w.act)).0 (write_allowed claim ops apart w sw ww)
 

@@ -20,7 +20,7 @@ use Rattle.read_tree.specs.Items.{AreInOrder, place_of}
 use Rattle.safe_regular.specs.Held.{AreOneWriters}
 use Rattle.safe_regular.specs.LookUp.{BeginsBefore, BeginsFrom, IsFirstOf, IsLastOf}
 use Rattle.safe_regular.specs.Line.{AreItems, AreOneCover, ComesLastUnfinished, IsAway, IsCoverBefore, IsExchanged, IsInFront, IsItem, IsLaid, IsLaidAlready, IsRenewed, KeepsItsCover, counted, cover_item, cover_reach, has_rows, initial_item, initial_reach, moment_of, place_in, reach_by, spot_in}
-use Rattle.safe_regular.proofs.Changed.{IsAmong}
+use Rattle.safe_regular.specs.Change.{IsAmong}
 use Rattle.safe_regular.proofs.Exchanged.{is_renewed_itself}
 use Rattle.safe_regular.proofs.Laid.{at_or_away, laid}
 use Rattle.safe_regular.proofs.Next.{some_first, IsApartFrom, next_before}

@@ -16,7 +16,7 @@ use Rattle.read_tree.specs.Items.{AreInOrder, place_of}
 use Rattle.safe_regular.specs.Held.{AreOneWriters}
 use Rattle.safe_regular.specs.LookUp.{BeginsFrom, IsFirstOf}
 use Rattle.safe_regular.specs.Line.{AreItems, HasWriteAt, IsAway, IsCoverBefore, IsExchanged, IsFreeFor, IsInFront, IsItem, IsItemOf, IsLaid, IsRenewed, IsTaken, cover_item, cover_reach, has_rows, initial_item, initial_reach, initial_place, place_in, place_of_some, read_item, spot_in}
-use Rattle.safe_regular.proofs.Changed.{IsAmong}
+use Rattle.safe_regular.specs.Change.{IsAmong}
 use Rattle.safe_regular.proofs.Next.{some_first, IsApartFrom, next_after, next_before}
 use Rattle.safe_regular.proofs.Told.{same_is, same_itself, op_away, initial_away, of_which, items_told, place_of_cover, place_of_read, writes_apart}
 

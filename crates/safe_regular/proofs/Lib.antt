@@ -20,3 +20,8 @@ pub mod Named
 pub mod Crosses
 pub mod Laid
 pub mod Kept
+pub mod Seen
+pub mod Looks
+pub mod Rows
+pub mod RowsAfter
+pub mod Laying

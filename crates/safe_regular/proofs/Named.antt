@@ -99,21 +99,23 @@ module _ (claim : Terms) (ops : List Op) (apart : AreOneWriters claim ops) (item
       by_cases None e = e
       by_cases (Some x) e = absurd (let (r, f, g) = one_named x e in cc)
 
+  -- no read is short exactly where none is wrong
+  pub none_where_none : (some : Bool) → some ≡ is_some_short None items → IsTrue (not some) ↔ (first_wrong claim ops ≡ None)
+  none_where_none some is = (λ t. none_named (sym is ∙ not-true some t), λ none. not_from_false some (is ∙ told.some.1 (none_found none)))
+
+-- no read is wrong exactly where the register keeps what it claims
+module _ (claim : Terms) (ops : List Op) (one_writer : claim.kind ≢ Atomic) where
   by_kind : (kind : Kind) → claim.kind ≡ kind → kind ≢ Atomic
       → (claim.kind ≡ Safe → (first_wrong claim ops ≡ None) ↔ IsSafe claim ops) → (claim.kind ≡ Regular → (first_wrong claim ops ≡ None) ↔ IsRegular claim ops)
       → (first_wrong claim ops ≡ None) ↔ Keeps kind claim ops
-  by_kind Safe e one_writer safe regular = safe e
-  by_kind Regular e one_writer safe regular = regular e
-  by_kind Atomic e one_writer safe regular = absurd (one_writer refl)
+  by_kind Safe e one safe regular = safe e
+  by_kind Regular e one safe regular = regular e
+  by_kind Atomic e one safe regular = absurd (one refl)
 
-  -- no read is short exactly where the register keeps what it claims
   pub holds_where_none : (claim.kind ≡ Safe → (first_wrong claim ops ≡ None) ↔ IsSafe claim ops) → (claim.kind ≡ Regular → (first_wrong claim ops ≡ None) ↔ IsRegular claim ops)
-      → (some : Bool) → some ≡ is_some_short None items → IsTrue (not some) ↔ Holds claim ops
-  holds_where_none safe regular some is =
-      let kind = by_kind claim.kind refl apart.one_writer safe regular in (
-        λ t. kind.0 (none_named (sym is ∙ not-true some t)),
-        λ holds. not_from_false some (is ∙ told.some.1 (none_found (kind.1 holds))),
-      )
+      → (none : Bool) → IsTrue none ↔ (first_wrong claim ops ≡ None) → IsTrue none ↔ Holds claim ops
+  holds_where_none safe regular none is =
+      let kind = by_kind claim.kind refl one_writer safe regular in (λ t. kind.0 (is.0 t), λ holds. is.1 (kind.1 holds))
 
 -- tests that agree on the operations of a list leave the same
 filter_alike : (p q : Op → Bool) (ops : List Op) → ((x : Op) → Contains ops x → p x ≡ q x) → filter p ops ≡ filter q ops

@@ -5,7 +5,7 @@ use Rattle.std.proofs.lemmas.Bool.{cases_lt}
 use Rattle.intervals.specs.declared.operation.Op.{Op}
 use Rattle.intervals.specs.Operation.{IsWrite, is_write}
 use Rattle.safe_regular.specs.LookUp.{BeginsFrom, IsFirst, IsFirstOf}
-use Rattle.safe_regular.proofs.Changed.{IsAmong}
+use Rattle.safe_regular.specs.Change.{IsAmong}
 
 -- from each moment on there is a first write, or there is none
 module _ (n : ℕ) where

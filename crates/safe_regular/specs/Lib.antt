@@ -6,3 +6,7 @@ pub mod Index
 pub mod Writes
 pub mod Line
 pub mod Held
+pub mod Change
+pub mod Seen
+pub mod Looks
+pub mod Rows

@@ -1,7 +1,7 @@
 -- What stands in the tree of reads and covers for the operations: each judged read at its end, each
 -- write as a cover at its beginning, and the initial value as a cover before all. Moments are counted
 -- from 1 there, so that 0 is before all. Words of the proofs; no public clause speaks of them.
-use Rattle.std.specs.Prelude.{◌≡◌, ℕ, ◌+◌, ◌<◌, ◌⊎◌, min, Bool, true, false, ◌||◌, List, Contains, Option, Some, None, IfSome, IsSome, option_map, if◌then◌else◌}
+use Rattle.std.specs.Prelude.{◌≡◌, ℕ, ◌+◌, ◌<◌, ◌⊎◌, min, Bool, true, false, ◌||◌, List, ◌∷◌, ◌++◌, length, ◌≤◌, Contains, Option, Some, None, IfSome, IsSome, option_map, if◌then◌else◌}
 use Rattle.intervals.specs.declared.operation.Op.{Op}
 use Rattle.intervals.specs.declared.operation.Moment.{Moment}
 use Rattle.intervals.specs.declared.operation.Value.TheVariants.{Nil}
@@ -254,3 +254,15 @@ pub record ComesLastUnfinished (ops : List Op) (old new : Option Op) : Type 0 wh
 -- the cover in front of the write that comes, or none where that one stays
 abbrev pub IsCoverBeforeNew : Terms → List Op → Option Op → Option Op → Option Item → Type 0
 IsCoverBeforeNew claim ops old new item = IsCoverBefore claim ops old new item ⊎ ((item ≡ None) × ComesLastUnfinished ops old new)
+
+-- the items of the operations in front are there, and that of the initial value; of so many places these have used
+-- some
+pub record AreLaid (claim : Terms) (ops front : List Op) (places : ℕ) (line : Contents) : Type 0 where
+  pub only : (x : Item) → Contains line.items x → IsItem claim ops x × ((place_of x ≡ initial_place claim) ⊎ ((o : Op) × Contains front o × IsLaid o × (place_of x ≡ place_in claim o)))
+  pub initial : (x : Item) × Contains line.items x × (place_of x ≡ initial_place claim)
+  pub each : (o : Op) → Contains front o → IsLaid o → (x : Item) × Contains line.items x × (place_of x ≡ place_in claim o)
+  pub room : places ≤ line.free + (length front + 1)
+
+-- the operation is the next to be laid
+abbrev pub IsNextOf : Terms → List Op → ℕ → Op → Contents → Type 0
+IsNextOf claim ops places op line = (front : List Op) × (rest : List Op) × (ops ≡ front ++ op ∷ rest) × AreLaid claim ops front places line

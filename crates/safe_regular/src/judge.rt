@@ -11,12 +11,10 @@ ghost use Rattle.intervals.specs.Refusal.{write_refusal, reply_to, ok_unless};
 ghost use Rattle.intervals.specs.Judging.{first_wrong as first_wrong_of};
 ghost use Rattle.safe_regular.specs.Judge.{without_write, without_read};
 
-use crate::line::{change_item, cover_before, cover_before_new, initial_item, renew};
+use crate::reads::Reads;
 use crate::writes::{Writes, check_write};
 use intervals::laws::{regular_without_wrong_reads, safe_without_wrong_reads};
 use intervals::{Claim, Edit, Kind, Memory, Op, OpId, OpTable, Refusal, Target};
-use read_tree::ReadTree;
-use read_tree::laws::{each_spot_has_a_last_cover, short_reads_are_told};
 use std::alloc::Global;
 use std::marker::Model;
 
@@ -26,7 +24,7 @@ pub struct SingleWriterJudge<'t> {
     claim: Claim,
     table: OpTable<'t>,
     writes: Writes,
-    line: ReadTree,
+    reads: Reads,
 }
 
 impl<'t> Model for SingleWriterJudge<'t> {
@@ -37,7 +35,7 @@ impl<'t> Model for SingleWriterJudge<'t> {
 
     ghost view = { λ j. record { claim = terms_of j.claim; ops = j.table.ops; prepared = j.table.prepared } };
 
-    ghost invariant = { λ j. HoldTogether (terms_of j.claim) j.table j.writes j.line };
+    ghost invariant = { λ j. HoldTogether (terms_of j.claim) j.table j.writes j.reads };
 }
 
 impl<'t> SingleWriterJudge<'t> {
@@ -47,15 +45,11 @@ impl<'t> SingleWriterJudge<'t> {
         requires known { IsTrue (terms_of claim.now).known }
         ensures { IfOk result (λ judge. judge ≡ record { claim = terms_of claim.now; ops = []; prepared = None }) }
     {
-        let mut line = ReadTree::new(alloc);
-        line.reserve(1)?;
-        line.insert(initial_item(claim, None));
-        let _ = line.has_short();
         Ok(SingleWriterJudge {
             claim: claim.try_clone(alloc)?,
             table: OpTable::new(alloc),
             writes: Writes::new(alloc),
-            line,
+            reads: Reads::new(alloc)?,
         })
     }
 
@@ -94,7 +88,7 @@ impl<'t> SingleWriterJudge<'t> {
         ensures ok { OnOk result (self.new ≡ record self.old { prepared = Some op.now }) }
         ensures err { OnErr result (self.new ≡ self.old) }
     {
-        self.line.reserve(1)?;
+        self.reads.prepare(&self.table)?;
         self.writes.hold(op)?;
         if let Err(refused) = self.table.prepare(op) {
             self.writes.release(op);
@@ -131,8 +125,7 @@ impl<'t> SingleWriterJudge<'t> {
         Ok(())
     }
 
-    /// Carries out an edit whose new operation is prepared: the item of the old operation goes, that of the
-    /// new one comes, and the covers in front of both are made anew. Those that stay as they are are left out.
+    /// Carries out an edit whose new operation is prepared.
     fn settle(&mut self, edit: &Edit<'t>, target: &Target<'t>)
         requires accepted { reply_to self.old.claim self.old.ops edit.now ≡ None }
         requires target { IsTargetOf self.old.ops edit.now target.now }
@@ -143,18 +136,8 @@ impl<'t> SingleWriterJudge<'t> {
         let new = &target.new;
         self.writes.change(old, new, &self.table.prepared());
         self.table.admit(edit, target);
-        change_item(
-            &mut self.line,
-            &self.claim,
-            &self.writes,
-            &self.table,
-            old,
-            new,
-        );
-        let left = cover_before(&self.claim, &self.writes, &self.table, &None, old);
-        let come = cover_before_new(&self.claim, &self.writes, &self.table, old, new);
-        renew(&mut self.line, left);
-        renew(&mut self.line, come);
+        self.reads
+            .change(&self.claim, &self.writes, &self.table, old, new);
     }
 
     /// Admits a write that passed its check.
@@ -227,10 +210,7 @@ impl<'t> SingleWriterJudge<'t> {
     pub fn first_wrong(&self) -> Option<Op<'t>>
         ensures { result ≡ first_wrong_of self.now.claim self.now.ops }
     {
-        each_spot_has_a_last_cover();
-        short_reads_are_told();
-        let item = self.line.first_short()?;
-        self.table.find(Some(item.id))
+        self.reads.first_wrong(&self.table)
     }
 
     /// Whether no read is wrong.
@@ -239,9 +219,7 @@ impl<'t> SingleWriterJudge<'t> {
     {
         safe_without_wrong_reads();
         regular_without_wrong_reads();
-        each_spot_has_a_last_cover();
-        short_reads_are_told();
-        !self.line.has_short()
+        self.reads.holds()
     }
 }
 

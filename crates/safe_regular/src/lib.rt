@@ -15,13 +15,19 @@
 //! definitions; the rows of `tests.rt` run these calls.
 //!
 //! Begin with `judge.rt`: its clauses are the whole promise, in the words of `intervals`. Which writes
-//! are allowed is in `writes.rt`. Reads and writes stand in one tree as reads and covers, which is in
-//! `line.rt`: a write covers the reads that it makes right, so an edit changes a few items, however many
-//! reads it makes right or wrong.
+//! are allowed is in `writes.rt`, what the reads are judged in `reads.rt`. A read is judged once, when it
+//! gets its end: by a few writes, looked at from there back (`sentence.rt`). Its row keeps what it was
+//! judged, and an edit of a write judges again the reads that it can change (`judged.rt`). Once that would
+//! take more than 64 looks, all operations are laid into one tree as reads and covers, which is in
+//! `line.rt`, and the tree serves from then on: a write covers the reads that it makes right, so an edit
+//! changes a few items, however many reads it makes right or wrong.
 #![tactic(auto)]
 
 mod judge;
+mod judged;
 mod line;
+mod reads;
+mod sentence;
 mod writes;
 
 pub use judge::SingleWriterJudge;

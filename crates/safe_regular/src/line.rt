@@ -1,20 +1,24 @@
 //! What stands in the tree of reads and covers for the operations, and how an edit changes it.
 
-ghost use Rattle.std.specs.Prelude.{◌≡◌, ◌↔◌, ◌<◌, ◌≤◌, None, Some, IfSome, IsSome, IsTrue, Contains, true};
-ghost use Rattle.intervals.specs.Judging.{is_allowed as allowed};
+ghost use Rattle.std.specs.Prelude.{◌≡◌, ◌↔◌, ◌+◌, ◌<◌, ◌≤◌, ◌++◌, ◌∷◌, ℕ, [], List, length, None, Some, IfSome, IsSome, IsTrue, Contains, true};
+ghost use Rattle.intervals.specs.Judging.{first_wrong as first_wrong_of};
+ghost use Rattle.intervals.specs.declared.operation.Op.{Op as AnOp};
 ghost use Rattle.intervals.specs.declared.shelf.Spot.{Spot as ASpot};
 ghost use Rattle.intervals.specs.Operation.{IsWrite};
 ghost use Rattle.intervals.specs.Standing.{HasDistinctIds};
-ghost use Rattle.intervals.specs.Terms.{terms_of};
+ghost use Rattle.intervals.specs.Terms.{Terms, terms_of};
 ghost use Rattle.read_tree.specs.declared.item.Item.{Item as AnItem};
 ghost use Rattle.read_tree.specs.Items.{AreInOrder, place_of, item_at};
-ghost use Rattle.safe_regular.specs.Line.{counted as counted_from_1, reach_by as reach_by_end, end_of as end_of_op, has_rows as rows_of, number_of as number_of_op, read_reach as reach_of_read, cover_reach as reach_of_cover, initial_reach as reach_of_initial, read_item as item_of_read, cover_item as item_of_write, initial_item as item_of_initial, spot_in, items_without, items_with, items_renewed, IsTaken, IsFreeFor, IsExchanged, IsRenewed, IsItem, IsItemOf, IsInFront, HasWriteAt, IsCoverBefore, AreOneCover, AreOneCoverIn, KeepsItsCover, MayBeChanged, IsChanged, ComesLastUnfinished, IsCoverBeforeNew};
-ghost use Rattle.safe_regular.specs.Held.{CanJudge};
+ghost use Rattle.safe_regular.specs.Line.{counted as counted_from_1, reach_by as reach_by_end, end_of as end_of_op, has_rows as rows_of, number_of as number_of_op, read_reach as reach_of_read, cover_reach as reach_of_cover, initial_reach as reach_of_initial, read_item as item_of_read, cover_item as item_of_write, initial_item as item_of_initial, spot_in, items_without, items_with, items_renewed, IsTaken, IsFreeFor, IsExchanged, IsRenewed, AreItems, AreLaid, IsNextOf, IsItem, IsItemOf, IsInFront, HasWriteAt, IsCoverBefore, AreOneCover, AreOneCoverIn, KeepsItsCover, MayBeChanged, IsChanged, ComesLastUnfinished, IsCoverBeforeNew};
+ghost use Rattle.safe_regular.specs.Change.{IsChangeOf};
+ghost use Rattle.safe_regular.specs.Held.{AreOneWriters, CanJudge};
 ghost use Rattle.safe_regular.specs.LookUp.{BeginsAfter, NoneFits};
 ghost use Rattle.safe_regular.specs.Writes.{AreWrites};
 
+use crate::sentence::is_allowed;
 use crate::writes::{Writes, first_after, first_from, last_before, stand_alike};
 use intervals::{Claim, Kind, Moment, Op, OpId, OpTable, Spot, Value, is_same_value};
+use read_tree::laws::{each_spot_has_a_last_cover, short_reads_are_told};
 use read_tree::{Item, ReadTree};
 
 fn counted(moment: Moment) -> u64
@@ -47,12 +51,6 @@ fn has_rows(kind: Kind) -> bool
         Kind::Regular => true,
         Kind::Atomic => true,
     }
-}
-
-fn is_allowed(claim: &Claim, value: Value) -> bool
-    ensures { result ≡ allowed (terms_of claim.now).domain (terms_of claim.now).initial value }
-{
-    claim.has_in_domain(value) || is_same_value(claim.at_first(), value)
 }
 
 fn read_reach(claim: &Claim, read: &Op) -> u64
@@ -118,7 +116,7 @@ fn cover_item(claim: &Claim, write: &Op, next: Option<Op>) -> Item
 }
 
 /// The cover of the initial value.
-pub fn initial_item(claim: &Claim, next: Option<Op>) -> Item
+fn initial_item(claim: &Claim, next: Option<Op>) -> Item
     ensures { result ≡ item_of_initial (terms_of claim.now) next.entry }
 {
     Item {
@@ -186,7 +184,7 @@ fn item_of(claim: &Claim, writes: &Writes, table: &OpTable, op: &Option<Op>) -> 
 
 /// The cover in front of a write, where values have rows: how far it covers is said by the write behind
 /// it. It is that of the other operation too where that is a write of the same beginning.
-pub fn cover_before(
+fn cover_before(
     claim: &Claim,
     writes: &Writes,
     table: &OpTable,
@@ -208,7 +206,7 @@ pub fn cover_before(
 /// The cover in front of the write that comes, where it is made anew. In front of an unfinished write that comes
 /// behind all others it stays as it is: it had no write behind it, and the one that it has now has no end, so it
 /// reaches as far as before.
-pub fn cover_before_new(
+fn cover_before_new(
     claim: &Claim,
     writes: &Writes,
     table: &OpTable,
@@ -289,10 +287,84 @@ fn cover_in_front(claim: &Claim, writes: &Writes, table: &OpTable, moment: Momen
     }
 }
 
+/// Lays the initial cover and the items of all operations into an empty tree.
+pub fn lay(line: &mut ReadTree, claim: &Claim, writes: &Writes, table: &OpTable)
+    requires judged { CanJudge table.now.ops writes.now }
+    requires apart { AreOneWriters (terms_of claim.now) table.now.ops }
+    requires empty { line.old.items ≡ [] }
+    requires room { length table.now.ops + 1 ≤ line.old.free }
+    ensures laid { AreItems (terms_of claim.now) table.now.ops line.new.items }
+    ensures free { line.old.free ≤ line.new.free + (length table.now.ops + 1) }
+{
+    let first = first_from(writes, table, Moment(0));
+    put_in(line, Some(initial_item(claim, first)));
+    let slots = table.slots();
+    for slot in slots {
+        if let Some(op) = slot {
+            lay_one(line, claim, writes, table, op);
+        }
+    }
+    let _ = line.has_short();
+}
+
+/// Lays the item of the next operation.
+fn lay_one(line: &mut ReadTree, claim: &Claim, writes: &Writes, table: &OpTable, op: &Op)
+    requires judged { CanJudge table.now.ops writes.now }
+    requires apart { AreOneWriters (terms_of claim.now) table.now.ops }
+    requires next { (places : ℕ) × (length table.now.ops + 1 ≤ places) × IsNextOf (terms_of claim.now) table.now.ops places op.now line.old }
+    ensures laid { (places : ℕ) (front rest : List AnOp) → length table.now.ops + 1 ≤ places → table.now.ops ≡ front ++ op.now ∷ rest
+        → AreLaid (terms_of claim.now) table.now.ops front places line.old → AreLaid (terms_of claim.now) table.now.ops (front ++ op.now ∷ []) places line.new }
+{
+    let item = item_of(claim, writes, table, &Some(*op));
+    put_in(line, item);
+}
+
+/// Carries an edit out that took the old operation out and put the new one in: the item of the old one goes, that
+/// of the new one comes, and the covers in front of both are made anew. Those that stay as they are are left out.
+pub fn change(
+    line: &mut ReadTree,
+    claim: &Claim,
+    writes: &Writes,
+    table: &OpTable,
+    old: &Option<Op>,
+    new: &Option<Op>,
+)
+    requires judged { CanJudge table.now.ops writes.now }
+    requires change { (ops : List AnOp) × IsChangeOf (terms_of claim.now) ops table.now.ops old.now new.now × AreItems (terms_of claim.now) ops line.old.items }
+    requires room { IsSome new.now → 0 < line.old.free }
+    ensures laid { AreItems (terms_of claim.now) table.now.ops line.new.items }
+    ensures free { new.now ≡ None → line.old.free ≤ line.new.free }
+{
+    change_item(line, claim, writes, table, old, new);
+    let left = cover_before(claim, writes, table, &None, old);
+    let come = cover_before_new(claim, writes, table, old, new);
+    renew(line, left);
+    renew(line, come);
+}
+
+/// The wrong read that ended first.
+pub fn first_wrong<'t>(line: &ReadTree, table: &OpTable<'t>) -> Option<Op<'t>>
+    ensures { (claim : Terms) → AreOneWriters claim table.now.ops → AreItems claim table.now.ops line.now.items → result ≡ first_wrong_of claim table.now.ops }
+{
+    each_spot_has_a_last_cover();
+    short_reads_are_told();
+    let item = line.first_short()?;
+    table.find(Some(item.id))
+}
+
+/// Whether no read is wrong.
+pub fn holds(line: &ReadTree) -> bool
+    ensures { (claim : Terms) (ops : List AnOp) → AreOneWriters claim ops → AreItems claim ops line.now.items → IsTrue result ↔ (first_wrong_of claim ops ≡ None) }
+{
+    each_spot_has_a_last_cover();
+    short_reads_are_told();
+    !line.has_short()
+}
+
 /// Takes the item of the old operation out, and puts that of the new one in. Where values have rows, how far
 /// a write covers is said by the write behind it and not by its own end: so the cover of a write that keeps
 /// its beginning, value and id is not touched.
-pub fn change_item(
+fn change_item(
     line: &mut ReadTree,
     claim: &Claim,
     writes: &Writes,
@@ -375,6 +447,7 @@ fn put_in(line: &mut ReadTree, item: Option<Item>)
     requires new_spot { IfSome item (λ x. item_at (place_of x) line.old.items ≡ None) }
     ensures items { line.new.items ≡ items_with item line.old.items }
     ensures free { item ≡ None → line.new.free ≡ line.old.free }
+    ensures one { line.old.free ≤ line.new.free + 1 }
 {
     if let Some(item) = item {
         line.insert(item);
@@ -391,7 +464,7 @@ fn renew_in(line: &mut ReadTree, item: Option<Item>)
 }
 
 /// Puts the item in the place of the one at its spot.
-pub fn renew(line: &mut ReadTree, item: Option<Item>)
+fn renew(line: &mut ReadTree, item: Option<Item>)
     ensures renewed { IsRenewed item line.old.items line.new.items }
     ensures order { AreInOrder line.new.items }
     ensures free { line.new.free ≡ line.old.free }

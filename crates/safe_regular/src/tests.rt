@@ -9,7 +9,7 @@ ghost use Rattle.intervals.specs.declared.operation.Op.{Op};
 use super::*;
 use intervals::{
     Act, Change, Claim, Edit, Initial, Kind, Lent, Memory, Moment, Op, OpBook, OpId, Parts,
-    Refusal, Value, Writers,
+    Refusal, Value, Writers, is_same_value, precedes,
 };
 use std::alloc::Global;
 use std::fmt::Write;
@@ -422,5 +422,154 @@ fn told_of_book<R: AllocGlobal + Abort>(rt: &R, words: &'static str) -> Result<S
 fn a_book_is_told(rt: HostRuntime) -> Result<(), Fail> {
     let found = told_of_book(&rt, "w1:0-9 r1:3- ~3-5 r2:3-4 w2:5-8 !0 w3:11-12 !9")?;
     assert!(rt; found.as_str() == "X2 OpTaken X4 MomentTaken X1 UnknownOp 3-5 11-12 ");
+    Ok(())
+}
+
+/// Numbers that seem random.
+#[derive(Drop)]
+struct Numbers {
+    state: u64,
+}
+
+impl Numbers {
+    fn next(&mut self) -> u64 {
+        self.state = self
+            .state
+            .wrapping_mul(6364136223846793005)
+            .wrapping_add(1442695040888963407);
+        self.state.wrapping_shr(33)
+    }
+
+    fn below(&mut self, limit: u64) -> u64 {
+        self.next().checked_rem(limit).unwrap_or(0)
+    }
+}
+
+/// Whether a write begins before the read ends and has not ended before the read begins.
+fn is_over(write: &Op, read: &Op) -> bool {
+    write.is_write() && write.begin.0 < read.end_number() && !precedes(write, read)
+}
+
+/// What the last write before the read left.
+fn value_before(claim: &Claim, slots: &[Option<Op>], read: &Op) -> Value {
+    let mut value = claim.at_first();
+    let mut begin = None;
+    for slot in slots {
+        if let Some(op) = slot {
+            let is_later = begin.map_or(true, |begin| begin < op.begin.0);
+            if op.is_write() && precedes(op, read) && is_later {
+                value = op.value();
+                begin = Some(op.begin.0);
+            }
+        }
+    }
+    value
+}
+
+/// Lamport's sentence, read off the operations.
+fn is_right(claim: &Claim, slots: &[Option<Op>], read: &Op) -> bool {
+    let is_safe = claim.kind == Kind::Safe;
+    for slot in slots {
+        if let Some(op) = slot {
+            if is_over(op, read) && (is_safe || is_same_value(op.value(), read.value())) {
+                return true;
+            }
+        }
+    }
+    is_same_value(value_before(claim, slots, read), read.value())
+}
+
+/// The wrong read that ended first, looked for among all.
+fn plain_fault(claim: &Claim, slots: &[Option<Op>]) -> Option<OpId> {
+    let mut fault = None;
+    let mut least = u64::MAX;
+    for slot in slots {
+        if let Some(op) = slot {
+            if op.is_judged_read() && op.end_number() < least && !is_right(claim, slots, op) {
+                fault = Some(op.id);
+                least = op.end_number();
+            }
+        }
+    }
+    fault
+}
+
+fn operation(event: u64, act: Act, begin: u64, end: Option<u64>) -> Op<'static> {
+    Op {
+        id: id(event),
+        process: 0,
+        act,
+        begin: Moment(begin),
+        end: end.map(Moment),
+        parts: Parts {
+            invocation: b"",
+            answer: None,
+            amendment: None,
+        },
+    }
+}
+
+/// An edit about the moment: a read, mostly one that ends about then, a short write, now and then long before, another
+/// end, or a withdrawal of any operation so far.
+fn random_edit(numbers: &mut Numbers, event: u64, moment: u64) -> Edit<'static> {
+    let back = match numbers.below(12) {
+        0 => numbers.below(moment.saturating_add(1)),
+        1 | 2 => numbers.below(60),
+        _ => 0,
+    };
+    let begin = moment.saturating_sub(back);
+    let value = Value::Int(match numbers.below(4) {
+        0 => 0,
+        1 => 1,
+        _ => 2,
+    });
+    let end = begin.saturating_add(1).saturating_add(numbers.below(5));
+    let late = end.saturating_add(numbers.below(40));
+    let other = id(numbers.below(event.saturating_add(1)));
+    match numbers.below(20) {
+        0 => Edit::Withdraw(other),
+        1 | 2 => Edit::Amend(
+            other,
+            Change {
+                value: Some(value),
+                begin: None,
+                end: Some(Some(Moment(late))),
+                lent: Lent::Amendment(b""),
+            },
+        ),
+        3 => Edit::Append(operation(event, Act::Write(value), begin, None)),
+        4..=7 => Edit::Append(operation(event, Act::Write(value), begin, Some(end))),
+        _ => Edit::Append(operation(event, Act::Read(value), begin, Some(late))),
+    }
+}
+
+/// After each of so many random edits the fault is the one that the operations have.
+fn edits_are_judged<R: AllocGlobal + Abort>(rt: &R, claim: &Claim, seed: u64) -> Result<(), Memory>
+    requires kind { claim.now.kind ≢ Kind.Atomic }
+    requires known { IsTrue (terms_of claim.now).known }
+{
+    let mut numbers = Numbers { state: seed };
+    let mut judge = begun(rt.alloc(), claim)?;
+    for event in 0..260u64 {
+        let edit = random_edit(&mut numbers, event, event.saturating_mul(7));
+        if refusal_of(&judge, &edit).is_none() {
+            carried_out(&mut judge, edit)?;
+        }
+        let want = plain_fault(claim, judge.operations().slots());
+        assert!(rt;
+            event_of(judge.first_fault()) == event_of(want),
+            "edit {event} of {seed}"
+        );
+    }
+    Ok(())
+}
+
+/// To be run with ample memory.
+#[test]
+fn random_edits_are_judged(rt: HostRuntime) -> Result<(), Fail> {
+    for seed in 0..40u64 {
+        edits_are_judged(&rt, &SAFE, seed)?;
+        edits_are_judged(&rt, &REGULAR, seed)?;
+    }
     Ok(())
 }

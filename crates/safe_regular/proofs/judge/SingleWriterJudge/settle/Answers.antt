@@ -1,4 +1,4 @@
-use Rattle.std.proofs.Common.{◌≡◌, ◌≤◌, ◌∙◌, List, Option, Some, None, sym, ap, subst, arith}
+use Rattle.std.proofs.Common.{◌≡◌, ◌≤◌, ◌∙◌, List, Option, Some, None, sym, ap, subst}
 use Rattle.std.specs.Prelude.{IfSome}
 use Rattle.intervals.specs.declared.operation.Op.{Op}
 use Rattle.intervals.specs.Edit.{found_by, new_op, edited, edit_id}
@@ -9,7 +9,7 @@ use Rattle.intervals.specs.Terms.{terms_of}
 use Rattle.intervals.proofs.Accepted.{edit_accepted}
 use Rattle.safe_regular.specs.Held.{Judged, CanJudge}
 use Rattle.safe_regular.specs.Writes.{AreWrites, HasPlaceIn, HoldsOnlyFor, IsAddedOf}
-use Rattle.safe_regular.proofs.Settled.{can_judge, laid_after, later_listed, may_be_changed, new_listed, only_for, room_after, room_for_new}
+use Rattle.safe_regular.proofs.Settled.{can_judge, is_change, later_listed, no_more_listed, only_for, room_after, room_for_new}
 use Rattle.safe_regular.proofs.judge.SingleWriterJudge.settle.Goals as goal
 
 pub admit-requires-clause-accepted : goal.admit-requires-clause-accepted
@@ -22,8 +22,8 @@ admit-requires-clause-accepted c =
 pub admit-requires-clause-target : goal.admit-requires-clause-target
 admit-requires-clause-target c = subst (λ (x : Judged). IsTargetOf x.ops c.args.edit.now c.args.target.now) (sym c.self.view_is) c.requires.target
 
-pub change_item-requires-clause-judged : goal.change_item-requires-clause-judged
-change_item-requires-clause-judged c =
+pub change-requires-2-clause-judged : goal.change-requires-2-clause-judged
+change-requires-2-clause-judged c =
     let claim = terms_of c.self.inside.claim in
     let ops = c.self.inside.table.ops in
     let held = c.self.invariant in
@@ -33,8 +33,8 @@ change_item-requires-clause-judged c =
     let listed : c.admit.new.self.ops ≡ edited ops c.args.edit.now = ap (λ (t : Tabled). t.ops) c.admit.ensures in
     can_judge claim ops c.args.edit.now held.apart accepted c.args.target.now.old c.args.target.now.new old_is new_is c.admit.new.self.ops listed c.self.inside.writes c.change.new.self held.shelved c.change.ensures.writes
 
-pub change_item-requires-clause-listed : goal.change_item-requires-clause-listed
-change_item-requires-clause-listed c =
+pub change-requires-2-clause-change : goal.change-requires-2-clause-change
+change-requires-2-clause-change c =
     let claim = terms_of c.self.inside.claim in
     let ops = c.self.inside.table.ops in
     let held = c.self.invariant in
@@ -42,20 +42,12 @@ change_item-requires-clause-listed c =
     let new_is : c.args.target.now.new ≡ new_op ops c.args.edit.now = subst (λ (x : Judged). c.args.target.now.new ≡ new_op x.ops c.args.edit.now) (sym c.self.view_is) c.requires.target.new in
     let old_is : c.args.target.now.old ≡ found_by ops (edit_id c.args.edit.now) = subst (λ (x : Judged). c.args.target.now.old ≡ found_by x.ops (edit_id c.args.edit.now)) (sym c.self.view_is) c.requires.target.old in
     let listed : c.admit.new.self.ops ≡ edited ops c.args.edit.now = ap (λ (t : Tabled). t.ops) c.admit.ensures in
-    new_listed claim ops c.args.edit.now held.apart accepted c.args.target.now.old c.args.target.now.new old_is new_is c.admit.new.self.ops listed
-
-pub change_item-requires-clause-change : goal.change_item-requires-clause-change
-change_item-requires-clause-change c =
-    let claim = terms_of c.self.inside.claim in
-    let ops = c.self.inside.table.ops in
-    let held = c.self.invariant in
-    let accepted : reply_to claim ops c.args.edit.now ≡ None = subst (λ (x : Judged). reply_to x.claim x.ops c.args.edit.now ≡ None) (sym c.self.view_is) c.requires.accepted in
-    let new_is : c.args.target.now.new ≡ new_op ops c.args.edit.now = subst (λ (x : Judged). c.args.target.now.new ≡ new_op x.ops c.args.edit.now) (sym c.self.view_is) c.requires.target.new in
-    let old_is : c.args.target.now.old ≡ found_by ops (edit_id c.args.edit.now) = subst (λ (x : Judged). c.args.target.now.old ≡ found_by x.ops (edit_id c.args.edit.now)) (sym c.self.view_is) c.requires.target.old in
-    let listed : c.admit.new.self.ops ≡ edited ops c.args.edit.now = ap (λ (t : Tabled). t.ops) c.admit.ensures in
-    let prepared : IfSome c.args.target.now.new (λ op. c.self.inside.table.prepared ≡ Some op) = subst (λ (x : Judged). IfSome c.args.target.now.new (λ op. x.prepared ≡ Some op)) (sym c.self.view_is) c.requires.prepared in
-    may_be_changed claim ops c.args.edit.now held.apart accepted c.args.target.now.old c.args.target.now.new old_is new_is c.admit.new.self.ops listed c.self.inside.line held.laid
-    (room_for_new c.self.inside.writes c.self.inside.line c.self.inside.table.prepared c.args.target.now.new held.room prepared)
+    let prepared : IfSome c.args.target.now.new (λ op. c.self.inside.table.prepared ≡ Some op) = subst (λ (x : Judged). IfSome c.args.target.now.new (λ op. x.prepared ≡ Some op)) (sym c.self.view_is) c.requires.prepared in (
+      ops,
+      is_change claim ops c.args.edit.now held.apart accepted c.args.target.now.old c.args.target.now.new old_is new_is c.admit.new.self.ops listed,
+      held.laid,
+      room_for_new c.self.inside.writes ops c.self.inside.reads c.self.inside.table.prepared c.args.target.now.new held.room prepared,
+    )
 
 pub invariant_of-self : goal.invariant_of-self
 invariant_of-self c =
@@ -67,20 +59,13 @@ invariant_of-self c =
     let old_is : c.args.target.now.old ≡ found_by ops (edit_id c.args.edit.now) = subst (λ (x : Judged). c.args.target.now.old ≡ found_by x.ops (edit_id c.args.edit.now)) (sym c.self.view_is) c.requires.target.old in
     let listed : c.admit.new.self.ops ≡ edited ops c.args.edit.now = ap (λ (t : Tabled). t.ops) c.admit.ensures in
     let can : CanJudge c.admit.new.self.ops c.change.new.self = can_judge claim ops c.args.edit.now held.apart accepted c.args.target.now.old c.args.target.now.new old_is new_is c.admit.new.self.ops listed c.self.inside.writes c.change.new.self held.shelved c.change.ensures.writes in
-    let free : c.args.target.now.new ≡ None → c.self.inside.line.free ≤ c.renew-2.new.line.free = λ none.
-    let first = c.change_item.ensures.free none in
-    let second = c.renew.ensures.free in
-    let third = c.renew-2.ensures.free in
-    omega (arith, first, second, third)
-    in
+    let change = is_change claim ops c.args.edit.now held.apart accepted c.args.target.now.old c.args.target.now.new old_is new_is c.admit.new.self.ops listed in
     record {
       apart = later_listed claim ops c.args.edit.now held.apart accepted c.args.target.now.old c.args.target.now.new old_is new_is c.admit.new.self.ops listed;
       shelved = can.shelved;
-      laid = laid_after claim ops c.args.edit.now held.apart accepted c.args.target.now.old c.args.target.now.new old_is new_is c.admit.new.self.ops listed c.self.inside.line held.laid
-          c.cover_before-left.result c.cover_before_new-come.result (c.cover_before-left.ensures can.shelved can.ids) (c.cover_before_new-come.ensures can.shelved can.ids)
-          c.change_item.new.line.items c.renew.new.line.items c.renew-2.new.line.items c.change_item.ensures.changed c.renew.ensures.renewed c.renew.ensures.order c.renew-2.ensures.renewed c.renew-2.ensures.order;
-      room = room_after c.self.inside.writes c.change.new.self c.self.inside.line c.renew-2.new.line c.self.inside.table.prepared c.args.target.now.new c.admit.new.self.prepared held.room
-          (subst (λ (o : Option Op). HasPlaceIn o c.change.new.self) c.prepared.ensures c.change.ensures.place) free
+      laid = c.change-2.ensures.reads;
+      room = room_after c.self.inside.writes c.change.new.self ops c.admit.new.self.ops c.self.inside.reads c.change-2.new.self c.self.inside.table.prepared c.args.target.now.new c.admit.new.self.prepared held.room
+          (subst (λ (o : Option Op). HasPlaceIn o c.change.new.self) c.prepared.ensures c.change.ensures.place) (λ none room. c.change-2.ensures.room ops (no_more_listed claim ops c.admit.new.self.ops c.args.target.now.old c.args.target.now.new change none) none room)
           (ap (λ (t : Tabled). t.prepared) c.admit.ensures ∙ ap (λ (o : Option Op). prepared_after o c.self.inside.table.prepared) (sym new_is));
       only = subst (λ (o : Option Op). HoldsOnlyFor o c.change.new.self)
           (sym (ap (λ (t : Tabled). t.prepared) c.admit.ensures ∙ ap (λ (o : Option Op). prepared_after o c.self.inside.table.prepared) (sym new_is)))
