@@ -21,19 +21,31 @@ use std::test::Fail;
 use std::thread::Threads;
 use tower_file::{Tower, TowerFault};
 
-/// A text with a number for each `%`.
+/// Adds a text with 5,000 blanks for each `~`.
+fn push_padded(whole: &mut String, text: &str) -> Result<(), AllocError> {
+    for (at, part) in text.split('~').enumerate() {
+        if at > 0 {
+            write!(whole, "{:5000}", "")?;
+        }
+        whole.push_str(part)?;
+    }
+    Ok(())
+}
+
+/// A text with a number for each `%`, and blanks for each `~`.
 fn numbered(alloc: Global, text: &str, number: usize) -> Result<String, AllocError> {
     let mut whole = String::new(alloc);
     for (at, piece) in text.split('%').enumerate() {
         if at > 0 {
             write!(whole, "{number}")?;
         }
-        whole.push_str(piece)?;
+        push_padded(&mut whole, piece)?;
     }
     Ok(whole)
 }
 
-/// The traces of a row. A line behind `N times` stands for as many. Each `%` is the trace's number, from 100 on.
+/// The traces of a row. A line behind `N times` stands for as many. Each `%` is the trace's number, from 100 on, and each `~`
+/// is 5,000 blanks.
 fn texts_of(alloc: Global, lines: &str) -> Result<Vec<String>, AllocError> {
     let mut texts = Vec::new(alloc);
     for line in lines.lines() {
@@ -310,6 +322,27 @@ fn traces_may_be_cut_anywhere(rt: HostRuntime) -> Result<(), Fail> {
             row.is_told(&rt, "open", Given::Cut(count.wrapping_mul(11)))?;
         }
         row.is_told(&rt, "open", Given::Halting)?;
+    }
+    Ok(())
+}
+
+/// Steps of each kind between long blanks, and an event whose text is long, so that pieces are put on pages whole.
+const LONG: &str =
+    "open in 1 {:levels [{:name top :registers [{:name x :kind :atomic :writers :any}]}]}
+~{:process 0 :type :invoke :f :write :value 1 :index 0} {:process 0 :type :ok :f :write :value 1 :index 1} {:ask x}~{:process 1 :type :invoke :f :read ~:value nil :index 2} #t {:process 1 :type :ok :f :read :value 2 :index 3} {:edit :amend :of 3 :value 1} {:process 2 :type :fail :f :read} 7 {:process 1 :type :invoke :f :read :value nil :index 4 :error \"e\"} {:edit :withdraw :of 0} {:ask x}~
+=> fails 2, 1 logs 0: 2 x0 holds 1, 6 P2 NoInvocation, 7 F1 NotAMap, 10 x0 fails 2,";
+
+/// Cut into two long pieces at each place in and between some elements.
+#[test]
+fn long_pieces_are_told_like_short_ones(rt: HostRuntime) -> Result<(), Fail> {
+    let row = Row::read(LONG);
+    row.is_told(&rt, "open", Given::Whole)?;
+    row.is_told(&rt, "open", Given::Bytes)?;
+    for cut in 4_990..5_060 {
+        row.is_told(&rt, "open", Given::Cut(cut))?;
+    }
+    for cut in 10_110..10_180 {
+        row.is_told(&rt, "open", Given::Cut(cut))?;
     }
     Ok(())
 }

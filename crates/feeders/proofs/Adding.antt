@@ -1,5 +1,5 @@
 -- What a feeder has added so far, by where its last element stands.
-use Rattle.std.proofs.Common.{◌≡◌, ◌≤◌, ℕ, List, [], ◌∷◌, ◌++◌, length, Result, ap, subst, arith}
+use Rattle.std.proofs.Common.{◌≤◌, ℕ, List, ◌++◌, length, Result, ap, arith}
 use Rattle.edn_reader.specs.Grammar.{Piece}
 use Rattle.edn_reader.specs.Fault.{AreElementsSoFar}
 use Rattle.edn_reader.specs.Splitting.{Splitting, StandsAfter}

@@ -1,11 +1,11 @@
 -- The end of a trace in pieces.
-use Rattle.std.proofs.Common.{◌≡◌, inl, ℕ, ◌+◌, ◌-◌, ◌≤◌, ◌<◌, List, [], ◌∷◌, ◌++◌, length, drop, Option, Some, None, Ok, Err, Result, false, refl, sym, ap, subst, ◌∙◌, arith, append-nil}
+use Rattle.std.proofs.Common.{◌≡◌, inl, ℕ, ◌-◌, ◌≤◌, List, [], ◌∷◌, ◌++◌, length, drop, Option, Some, None, Ok, Err, false, refl, sym, ap, subst, ◌∙◌, arith, append-nil}
 use Rattle.std.specs.Prelude.{MatchOption}
 use Rattle.edn_reader.specs.declared.fault.EdnFault.{EdnFault}
-use Rattle.edn_reader.specs.Grammar.{Piece, IsElement}
+use Rattle.edn_reader.specs.Grammar.{Piece}
 use Rattle.edn_reader.specs.Text.{IsText}
-use Rattle.edn_reader.specs.Fault.{AreElementsBefore, CanWantMemory, FaultOf, wanted_at}
-use Rattle.edn_reader.specs.Splitting.{EndsOn, Finishes, IsLast, IsSpan, Splitting, StandsAfter, keep, IsAfter as IsSplitUpTo}
+use Rattle.edn_reader.specs.Fault.{AreElementsBefore, CanWantMemory, FaultOf}
+use Rattle.edn_reader.specs.Splitting.{EndsOn, Splitting, StandsAfter, IsAfter as IsSplitUpTo}
 use Rattle.shards.specs.Pass.{Passed}
 use Rattle.feeders.specs.declared.intake.Intake.{Intake}
 use Rattle.feeders.specs.declared.kept.Kept.{Kept}
@@ -15,12 +15,10 @@ use Rattle.feeders.specs.declared.pending.Pending.TheVariants.{Nothing, Whole}
 use Rattle.feeders.specs.declared.progress.Progress.{Progress}
 use Rattle.feeders.specs.Broken.{AreElements, broken_by}
 use Rattle.feeders.specs.Intake.{CanGoOn, HasFed, IsAtEnd}
-use Rattle.feeders.specs.Kept.{Holds}
 use Rattle.feeders.specs.Pending.{CanSettle, CanSettleAs, IsPendingAs}
-use Rattle.feeders.specs.Progress.{HasDone, IsAhead, IsAt}
+use Rattle.feeders.specs.Progress.{IsAhead, IsAt}
 use Rattle.feeders.specs.Readers.{broke_reading}
 use Rattle.feeders.specs.Setting.{Setting}
-use Rattle.feeders.specs.Steps.{steps_of}
 use Rattle.feeders.proofs.Feeds.{broken_by_text}
 use Rattle.feeders.proofs.Holding.{from_kept}
 use Rattle.feeders.proofs.Pieces.{AllElements, ahead_none, all_fed, can_lend_last, holds_none, last_text, none_waiting, unwanted, wanted}

@@ -11,12 +11,11 @@ use Rattle.feeders.specs.declared.feeder.Course.{Course}
 use Rattle.feeders.specs.declared.feeder.Course.TheVariants.{Open, Paused, Ending, Broke, Ended}
 use Rattle.feeders.specs.declared.intake.Intake.{Intake}
 use Rattle.feeders.specs.declared.log.Line.{Line}
-use Rattle.feeders.specs.declared.log.Log.{Log}
 use Rattle.feeders.specs.declared.pending.Pending.{Pending}
 use Rattle.feeders.specs.declared.pending.Pending.TheVariants.{Nothing, Whole, Lent, Paired}
 use Rattle.feeders.specs.declared.progress.Progress.{Progress}
 use Rattle.feeders.specs.Feeding.{IsFedAs}
-use Rattle.feeders.specs.Intake.{HasBroken, HasEnded, HasFed, IsAtEnd}
+use Rattle.feeders.specs.Intake.{HasEnded, HasFed, IsAtEnd}
 use Rattle.feeders.specs.Pending.{IsPendingAs}
 use Rattle.feeders.specs.Progress.{HasDone, IsAt, IsPaired}
 use Rattle.feeders.specs.Setting.{Setting, Start, setting_of}

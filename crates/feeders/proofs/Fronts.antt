@@ -1,30 +1,61 @@
 -- The front of a piece, with which an element ended.
-use Rattle.std.proofs.Common.{◌≡◌, ℕ, ◌+◌, ◌-◌, ◌≤◌, ◌<◌, ◌^◌, List, [], ◌∷◌, ◌++◌, length, take, drop, Result, refl, sym, ap, subst, ◌∙◌, arith, length-append, length-drop}
+use Rattle.std.proofs.Common.{◌≡◌, ℕ, ◌+◌, ◌-◌, ◌≤◌, List, [], ◌∷◌, ◌++◌, length, take, drop, Option, Some, None, Result, refl, sym, ap, subst, ◌∙◌, arith, length-drop}
 use Rattle.std.proofs.Math.Seq.{drop-append-add}
-use Rattle.std.proofs.lemmas.List.{take_all}
+use Rattle.std.specs.Borrow.{Bor}
+use Rattle.std.specs.Prelude.{IfSome}
+use Rattle.std.proofs.lemmas.List.{drop-take, take_all}
 use Rattle.edn_reader.specs.Grammar.{Piece}
 use Rattle.edn_reader.specs.Splitting.{IsLast, Splitting, keep}
 use Rattle.jepsen_form.specs.declared.fault.FormFault.{FormFault}
 use Rattle.jepsen_form.specs.declared.item.Item.{Item}
+use Rattle.jepsen_form.specs.declared.item.MomentField.{MomentField}
+use Rattle.tower_file.specs.Contents.{Contents}
 use Rattle.shards.specs.Pass.{Passed}
 use Rattle.feeders.specs.declared.intake.Intake.{Intake}
 use Rattle.feeders.specs.declared.kept.Kept.{Kept}
 use Rattle.feeders.specs.declared.pending.Pending.{Pending}
 use Rattle.feeders.specs.declared.pending.Pending.TheVariants.{Whole}
 use Rattle.feeders.specs.declared.progress.Progress.{Progress}
-use Rattle.feeders.specs.Kept.{Holds}
-use Rattle.feeders.specs.Pending.{CanRead, CanReadBehind, CanSettle, CanSettleAs, IsBetween, IsPending, IsPendingAs, IsReadAs}
+use Rattle.feeders.specs.Pending.{CanReadBehind, CanSettle, CanSettleAs, IsBetween, IsItemOfLast, IsPageOf, IsPending, IsPendingAs, IsReadAs}
 use Rattle.feeders.specs.Progress.{IsAhead, IsAt}
 use Rattle.feeders.specs.Setting.{Setting}
 use Rattle.feeders.proofs.Settling.{read_ahead}
+
+-- Behind the end of what is kept stand the bytes of the front.
+pub front_behind : (kept : Kept) (front : List ℕ) (start end : ℕ) → end ≡ kept.from + length kept.bytes.items → end ≤ start
+    → drop (start - kept.from) (kept.bytes.items ++ front) ≡ drop (start - end) front
+front_behind kept front start end is low =
+    ap (λ (n : ℕ). drop n (kept.bytes.items ++ front)) (omega (arith, is, low))
+    ∙ drop-append-add kept.bytes.items front (start - end)
 
 -- The bytes of an element that lies in the front alone.
 pub front_text : (kept : Kept) (front : List ℕ) (start end : ℕ) → end ≡ kept.from + length kept.bytes.items → end ≤ start
     → drop (start - kept.from) (kept.bytes.items ++ front) ≡ take (length front - (start - end)) (drop (start - end) front)
 front_text kept front start end is low =
-    ap (λ (n : ℕ). drop n (kept.bytes.items ++ front)) (omega (arith, is, low))
-    ∙ drop-append-add kept.bytes.items front (start - end)
+    front_behind kept front start end is low
     ∙ sym (take_all (length front - (start - end)) (drop (start - end) front) (omega (arith, length-drop (start - end) front)))
+
+-- An item that was read with the element is that of its bytes, behind what is kept.
+pub item_of_front : (tower : Contents) (chosen : MomentField) (splitter : Splitting) (item : Option (Result Item FormFault)) (kept : Kept) (front : List ℕ) (start end : ℕ)
+    → end ≡ kept.from + length kept.bytes.items → splitter.ended.start ≡ start → IfSome item (λ _. end ≤ splitter.ended.start)
+    → IsItemOfLast tower chosen splitter (drop (splitter.ended.start - end) front) item
+    → IsItemOfLast tower chosen splitter (drop (start - kept.from) (kept.bytes.items ++ front)) item
+item_of_front tower chosen splitter None kept front start end is starts after read = read
+item_of_front tower chosen splitter (Some item) kept front start end is starts after read =
+    subst (λ (text : List ℕ). IsItemOfLast tower chosen splitter text (Some item))
+    (ap (λ (n : ℕ). drop (n - end) front) starts ∙ sym (front_behind kept front start end is (omega (arith, starts, after)))) read
+
+-- The part of a page is the bytes of the element, behind what is kept.
+pub page_of_front : (page : Option (Bor (List ℕ))) (kept : Kept) (piece : List ℕ) (used start end : ℕ)
+    → end ≡ kept.from + length kept.bytes.items → start ≤ end + used
+    → IfSome page (λ text. (end ≤ start) × (text.now ≡ take (used - (start - end)) (drop (start - end) piece)))
+    → IsPageOf page (drop (start - kept.from) (kept.bytes.items ++ take used piece))
+page_of_front None kept piece used start end is high on = on
+page_of_front (Some text) kept piece used start end is high on =
+    on.1
+    ∙ sym (drop-take (start - end) (used - (start - end)) piece)
+    ∙ ap (λ (n : ℕ). drop (start - end) (take n piece)) (omega (arith, on.0, high))
+    ∙ sym (front_behind kept (take used piece) start end is on.0)
 
 -- The element waits, with its bytes.
 pub whole_waits : (setting : Setting) (items : List (Result Item FormFault)) (pass : Passed) (old new : Intake) (start : ℕ) (text : List ℕ) (last : Piece)

@@ -6,9 +6,9 @@ use Rattle.std.proofs.lemmas.List.{drop-take, length-take-le, take-append-drop}
 use Rattle.edn_reader.specs.declared.fault.EdnFault.{EdnFault}
 use Rattle.edn_reader.specs.declared.fault.EdnFault.TheVariants as edn
 use Rattle.edn_reader.specs.Grammar.{Piece, IsElement}
-use Rattle.edn_reader.specs.Text.{IsFront, IsText}
+use Rattle.edn_reader.specs.Text.{IsFront}
 use Rattle.edn_reader.specs.Fault.{wanted_at}
-use Rattle.edn_reader.specs.Splitting.{Finishes, IsLast, IsSpan, KeepsFault, Splitting, StandsAfter, TakesUpTo, keep, IsAfter as IsSplitUpTo}
+use Rattle.edn_reader.specs.Splitting.{Finishes, IsLast, IsSpan, KeepsFault, Splitting, StandsAfter, TakesUpTo, keep}
 use Rattle.jepsen_form.specs.Item.{IsItem}
 use Rattle.shards.specs.Pass.{Passed}
 use Rattle.feeders.specs.declared.intake.Intake.{Intake}

@@ -1,8 +1,8 @@
 -- The element that waits goes on.
-use Rattle.std.proofs.Common.{◌≡◌, ◌≢◌, ◌⊎◌, inl, inr, ℕ, ◌+◌, ◌-◌, ◌≤◌, ◌<◌, ◌^◌, List, [], ◌∷◌, ◌++◌, length, drop, Result, Ok, Err, refl, sym, ap, subst, ◌∙◌, arith, append-nil}
+use Rattle.std.proofs.Common.{◌≡◌, ◌⊎◌, ℕ, ◌+◌, ◌≤◌, ◌<◌, ◌^◌, List, [], ◌∷◌, ◌++◌, length, Result, refl, sym, ap, subst, ◌∙◌, arith, append-nil}
 use Rattle.std.specs.List.{AllZip}
-use Rattle.edn_reader.specs.Grammar.{Piece, IsElement}
-use Rattle.edn_reader.specs.Splitting.{IsLast, Splitting, keep}
+use Rattle.edn_reader.specs.Grammar.{Piece}
+use Rattle.edn_reader.specs.Splitting.{Splitting, keep}
 use Rattle.jepsen_form.specs.declared.fault.FormFault.{FormFault}
 use Rattle.jepsen_form.specs.declared.item.Item.{Item}
 use Rattle.jepsen_form.specs.Item.{IsItem}
@@ -14,7 +14,7 @@ use Rattle.feeders.specs.declared.pending.Pending.{Pending}
 use Rattle.feeders.specs.declared.pending.Pending.TheVariants.{Nothing, Whole, Lent, Paired}
 use Rattle.feeders.specs.declared.progress.Progress.{Progress}
 use Rattle.feeders.specs.Kept.{Holds}
-use Rattle.feeders.specs.Pending.{CanRead, CanSettle, CanSettleAs, HoldsAs, IsBeside, IsBetween, IsPending, IsPendingAs, IsReadAs, IsSettled, IsToBeCarriedOut, IsToBePaired, KeepsElement, count_of}
+use Rattle.feeders.specs.Pending.{CanSettle, CanSettleAs, HoldsAs, IsBeside, IsBetween, IsPending, IsPendingAs, IsReadAs, IsSettled, IsToBeCarriedOut, IsToBePaired, KeepsElement, count_of}
 use Rattle.feeders.specs.Progress.{IsAhead, IsAt, IsPaired, PairedUpTo}
 use Rattle.feeders.specs.Setting.{Setting, Start}
 use Rattle.feeders.specs.Steps.{IsKnownStep, Taken}

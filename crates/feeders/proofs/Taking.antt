@@ -1,10 +1,10 @@
 -- A piece is taken up to the end of the next element, or to its own.
-use Rattle.std.proofs.Common.{◌≡◌, ℕ, ◌+◌, ◌-◌, ◌≤◌, ◌<◌, ◌^◌, List, [], ◌∷◌, ◌++◌, length, take, drop, Option, Some, None, Result, Err, refl, sym, ap, subst, ◌∙◌, arith, append-nil, length-append, length-drop}
+use Rattle.std.proofs.Common.{◌≡◌, ℕ, ◌+◌, ◌-◌, ◌≤◌, ◌<◌, ◌^◌, List, [], ◌∷◌, ◌++◌, length, take, drop, Option, Some, None, Result, Err, refl, sym, ap, subst, ◌∙◌, arith, length-drop}
 use Rattle.std.specs.Prelude.{MatchOption}
 use Rattle.std.proofs.lemmas.List.{length-take-le}
-use Rattle.edn_reader.specs.Grammar.{Piece, IsElement}
+use Rattle.edn_reader.specs.Grammar.{Piece}
 use Rattle.edn_reader.specs.declared.fault.EdnFault.{EdnFault}
-use Rattle.edn_reader.specs.Splitting.{IsLast, IsSpan, KeepsFault, Splitting, StandsAfter, TakesUpTo, WantsMemory, keep, TakesOn as SplitsOn}
+use Rattle.edn_reader.specs.Splitting.{IsLast, KeepsFault, Splitting, StandsAfter, TakesUpTo, WantsMemory, keep, TakesOn as SplitsOn}
 use Rattle.jepsen_form.specs.declared.fault.FormFault.{FormFault}
 use Rattle.jepsen_form.specs.declared.item.Item.{Item}
 use Rattle.shards.specs.Pass.{Passed}
@@ -17,11 +17,11 @@ use Rattle.feeders.specs.declared.log.Broken.{Broken}
 use Rattle.feeders.specs.Broken.{broken_by}
 use Rattle.feeders.specs.Intake.{CanGoOn, HasFed, HasTaken, HasUsed}
 use Rattle.feeders.specs.Kept.{Holds}
-use Rattle.feeders.specs.Pending.{CanReadBehind, CanSettle, CanSettleAs, IsBeside, IsPending, IsSettled, count_of}
+use Rattle.feeders.specs.Pending.{CanReadBehind, CanSettle, CanSettleAs, IsBeside, IsPending, count_of}
 use Rattle.feeders.specs.Progress.{IsAhead, IsAt}
 use Rattle.feeders.specs.Setting.{Setting}
 use Rattle.feeders.proofs.Holding.{drop_twice, with_piece}
-use Rattle.feeders.proofs.Pieces.{AllElements, all_fed, all_held, all_stands, can_beside, can_lend, counted_on, fed_all, fed_one, fed_settled, fed_waits, goes_on, holds_none, holds_same, known_more, none_holds, none_waiting, taken_is, told_text, took, unwanted, wanted}
+use Rattle.feeders.proofs.Pieces.{AllElements, all_fed, all_held, all_stands, can_beside, can_lend, counted_on, fed_all, fed_one, goes_on, holds_none, holds_same, known_more, none_holds, taken_is, told_text, took, unwanted, wanted}
 use Rattle.feeders.proofs.Settling.{holds_any}
 
 -- What a piece of which so much was taken says, where no element ended.

@@ -1,5 +1,5 @@
 -- What a feeder has added so far.
-use Rattle.std.specs.Prelude.{◌≡◌, ◌≤◌, ℕ, List, [], ◌++◌, length, Result}
+use Rattle.std.specs.Prelude.{◌≤◌, ℕ, List, ◌++◌, length, Result}
 use Rattle.std.specs.List.{AllZip}
 use Rattle.edn_reader.specs.Grammar.{Piece}
 use Rattle.edn_reader.specs.Fault.{AreElementsSoFar}

@@ -1,8 +1,9 @@
 -- For private clauses alone: the element that ended last, as long as its step is not carried out.
-use Rattle.std.specs.Prelude.{◌≡◌, ◌≤◌, ◌<◌, ◌+◌, ◌-◌, ◌^◌, ◌⊎◌, ℕ, List, [], ◌∷◌, ◌++◌, length, drop, Result}
+use Rattle.std.specs.Prelude.{◌≡◌, ◌≤◌, ◌<◌, ◌+◌, ◌-◌, ◌^◌, ℕ, List, [], ◌∷◌, ◌++◌, length, drop, Option, IfSome, Result}
+use Rattle.std.specs.Borrow.{Bor}
 use Rattle.std.specs.List.{AllZip}
 use Rattle.edn_reader.specs.Grammar.{Piece, IsElement}
-use Rattle.edn_reader.specs.Splitting.{IsLast, keep}
+use Rattle.edn_reader.specs.Splitting.{Splitting, IsLast, keep}
 use Rattle.tower_file.specs.Contents.{Contents}
 use Rattle.jepsen_form.specs.declared.fault.FormFault.{FormFault}
 use Rattle.jepsen_form.specs.declared.item.Item.{Item}
@@ -18,6 +19,14 @@ use Rattle.feeders.specs.declared.progress.Progress.{Progress}
 use Rattle.feeders.specs.Kept.{Holds}
 use Rattle.feeders.specs.Progress.{IsAhead, IsAt, IsPaired, PairedUpTo}
 use Rattle.feeders.specs.Setting.{Setting, Start}
+
+-- this is the item of the element that ended last, where it has this text; or none was read yet
+abbrev pub IsItemOfLast : Contents → MomentField → Splitting → List ℕ → Option (Result Item FormFault) → Type 0
+IsItemOfLast tower chosen splitting text item = IfSome item (λ item. (last : Piece) → IsLast splitting last → last.text ≡ text → IsItem tower chosen last item)
+
+-- these are the bytes of a page, where there is one
+abbrev pub IsPageOf : Option (Bor (List ℕ)) → List ℕ → Type 0
+IsPageOf page bytes = IfSome page (λ page. page.now ≡ bytes)
 
 -- an element was read so: as an item, or, where its step lends no text, it was paired at once
 abbrev pub IsReadAs : Contents → MomentField → Piece → Progress → Progress → Pending → Type 0

@@ -15,7 +15,7 @@ use crate::fed::Fed;
 use crate::intake::Intake;
 use crate::kept::Kept;
 use crate::log::{BreakCode, Broken, Log};
-use crate::pages::Pages;
+use crate::pages::{Pages, page_of};
 use crate::pending::Pending;
 use crate::progress::Progress;
 use crate::site::Site;
@@ -140,7 +140,8 @@ impl<'t> Feeder<'t> {
             tower: self.tower,
             field: self.field,
         };
-        match self.intake.take_piece(site, self.pages, pass, piece) {
+        let page = page_of(self.pages, rt, alloc, piece);
+        match self.intake.take_piece(site, self.pages, pass, piece, page) {
             Ok(true) => {
                 self.course = Course::Open;
                 Ok(())

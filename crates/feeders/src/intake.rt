@@ -12,7 +12,7 @@ ghost use Rattle.shards.specs.Plan.{Plan, claims_of};
 ghost use Rattle.feeders.specs.Ending.{MayEnd};
 ghost use Rattle.feeders.specs.Intake.{CanGoOn, GoesOver, GoesTo, HasFed, HasUsed, IsAtEnd};
 ghost use Rattle.feeders.specs.Kept.{Holds};
-ghost use Rattle.feeders.specs.Pending.{CanReadBehind, CanSettle, IsBeside, IsPending, IsSettled, IsToBeCarriedOut, IsToBePaired, count_of};
+ghost use Rattle.feeders.specs.Pending.{CanReadBehind, CanSettle, IsBeside, IsItemOfLast, IsPageOf, IsPending, IsSettled, IsToBeCarriedOut, IsToBePaired, count_of};
 ghost use Rattle.feeders.specs.Progress.{IsAhead, IsAt};
 ghost use Rattle.feeders.specs.Readers.{IsNotOfReading};
 ghost use Rattle.feeders.specs.Setting.{Setting, Start, setting_of};
@@ -20,14 +20,16 @@ ghost use Rattle.feeders.specs.Setting.{Setting, Start, setting_of};
 use crate::fault::{FeedFault, RunFault};
 use crate::kept::Kept;
 use crate::log::broken_by;
-use crate::pages::Pages;
-use crate::pending::{Pending, read_pending};
+use crate::next::take_element;
+use crate::pages::{Pages, part_of, text_on};
+use crate::pending::{Pending, hold_last, read_pending};
 use crate::progress::Progress;
 use crate::site::Site;
 use edn_reader::Splitter;
 use edn_reader::laws::each_is_element;
 use intervals::Memory;
 use jepsen_form::laws::items_name_registers_of_the_tower;
+use jepsen_form::{FormFault, Item};
 use pairing::laws::steps_are_on_named_registers;
 use shards::{Gate, Opening, Pass};
 use std::sync::Wait;
@@ -153,23 +155,28 @@ impl<'t> Intake<'t> {
         self.carry_out(site, pass)
     }
 
-    /// Takes the front of a piece, with which an element ended that begins at a place.
-    fn take_whole<O: Opening, R: Wait, G: Gate>(
+    /// Takes the front of a piece, with which an element ended that begins at a place, its text where that lies on a page,
+    /// and its item where that was read.
+    fn take_whole<'p, O: Opening, R: Wait, G: Gate>(
         &mut self,
         site: Site<'_, '_, 't, O, R, G>,
         pages: &'t Pages,
-        front: &[u8],
+        front: &'p [u8],
         start: usize,
+        page: Option<&'t [u8]>,
+        item: Option<Result<Item<'p>, FormFault>>,
     ) -> Result<(), Memory>
         requires room { vec_len self.old.kept.bytes + length front.now ≤ vec_capacity self.old.kept.bytes }
         requires ahead { IsAhead self.old.progress }
         requires can { CanReadBehind start front.now self.old }
+        requires page { IsPageOf page (drop (start - self.old.kept.from) (self.old.kept.bytes.items ++ front.now)) }
+        requires item { IsItemOfLast site.tower.now site.field self.old.splitter (drop (start - self.old.kept.from) (self.old.kept.bytes.items ++ front.now)) item }
         ensures pending { (plan : Plan) (begun : Start) (items : List (Result AnItem AFormFault)) (pass : Passed) (last : APiece)
-            → IsLast self.old.splitter last → last.text ≡ drop (start - self.old.kept.from) (self.old.kept.bytes.items ++ front.now)
+            → IsLast self.old.splitter last → last.text ≡ drop (start - self.old.kept.from) (self.old.kept.bytes.items ++ front.entry.now)
             → IsAt plan begun items self.old.progress pass
             → IsPending (setting_of plan site.entry.tower.now site.entry.field begun) items (last ∷ []) self.new pass }
         ensures can { CanSettle self.new }
-        ensures holds { (taken : List ℕ) → Holds taken self.old.kept → Holds (taken ++ front.now) self.new.kept }
+        ensures holds { (taken : List ℕ) → Holds taken self.old.kept → Holds (taken ++ front.entry.now) self.new.kept }
         ensures low { self.new.kept.from ≤ self.old.splitter.taken }
         ensures beside { (self.new.splitter ≡ self.old.splitter) × (self.new.progress.log.broken ≡ self.old.progress.log.broken) }
         ensures place { self.new.progress.place ≡ self.old.progress.place }
@@ -181,8 +188,16 @@ impl<'t> Intake<'t> {
             self.pending = Pending::Whole(start);
             return Ok(());
         }
-        let element = self.splitter.lend(&front[start - end..]);
-        match read_pending(site, pages, &mut self.progress, element) {
+        let text = &front[start - end..];
+        match hold_last(
+            site,
+            pages,
+            &mut self.progress,
+            &self.splitter,
+            text,
+            page,
+            item,
+        ) {
             Ok(pending) => {
                 self.pending = pending;
                 self.kept.restart(end + front.len());
@@ -196,19 +211,21 @@ impl<'t> Intake<'t> {
         }
     }
 
-    /// Takes a piece up to the end of the next element, whose step is carried out, or to its own, and answers how many of
-    /// its bytes were used; none where the trace broke.
+    /// Takes a piece, which lies on a page or does not, up to the end of the next element, whose step is carried out, or to
+    /// its own, and answers how many of its bytes were used; none where the trace broke.
     fn take_next<O: Opening, R: Wait, G: Gate>(
         &mut self,
         site: Site<'_, '_, 't, O, R, G>,
         pages: &'t Pages,
         pass: &mut Pass<'t>,
         piece: &[u8],
+        page: Option<&'t [u8]>,
     ) -> Result<Option<usize>, FeedFault>
         requires some { 0 < O.plan.shards }
         requires settled { self.old.pending ≡ Pending.Nothing }
         requires can { CanGoOn piece.now self.old }
         requires fits { self.old.splitter.taken + length piece.now < 2 ^ 64 }
+        requires page { IsPageOf page piece.now }
         ensures used { IfOk result (λ used. IfSome used (λ used. HasUsed piece.now self.old used self.new × (self.new.pending ≡ Pending.Nothing)
             × (0 < length piece.now → self.old.splitter.taken + self.old.progress.place < self.new.splitter.taken + self.new.progress.place))) }
         ensures goes { IfOk result (λ used. (start : Start) (bytes next : List ℕ) → HasFed (setting_of O.plan site.entry.tower.now site.entry.field start) bytes (piece.now ++ next) self.old pass.old
@@ -227,8 +244,8 @@ impl<'t> Intake<'t> {
             });
         }
         let before = self.splitter.taken() as usize;
-        let taken = match self.splitter.take(piece) {
-            Ok(taken) => taken,
+        let next = match take_element(&mut self.splitter, piece, site.field, site.tower) {
+            Ok(next) => next,
             Err(fault) => {
                 if let Some(broken) = broken_by(fault) {
                     self.progress.log.broken = Some(broken);
@@ -243,12 +260,15 @@ impl<'t> Intake<'t> {
                 });
             }
         };
-        let Some((start, _)) = taken.whole else {
+        let used = next.taken.used;
+        let Some((start, _)) = next.taken.whole else {
             self.kept.take(piece, self.splitter.keep_from() as usize);
-            return Ok(Some(taken.used));
+            return Ok(Some(used));
         };
-        let used = taken.used;
-        if let Err(memory) = self.take_whole(site, pages, &piece[..used], start as usize) {
+        let front = &piece[..used];
+        let start = start as usize;
+        let text = text_on(page, before, start, used);
+        if let Err(memory) = self.take_whole(site, pages, front, start, text, next.item) {
             return Err(FeedFault {
                 fault: RunFault::from(memory),
                 used,
@@ -260,17 +280,20 @@ impl<'t> Intake<'t> {
         }
     }
 
-    /// Takes a piece whole, and answers whether the trace goes on; it does not where it broke.
+    /// Takes a piece whole, which lies on a page or does not, and answers whether the trace goes on; it does not where it
+    /// broke.
     pub fn take_piece<O: Opening, R: Wait, G: Gate>(
         &mut self,
         site: Site<'_, '_, 't, O, R, G>,
         pages: &'t Pages,
         pass: &mut Pass<'t>,
         piece: &[u8],
+        page: Option<&'t [u8]>,
     ) -> Result<bool, FeedFault>
         requires some { 0 < O.plan.shards }
         requires can { CanGoOn piece.now self.old }
         requires fits { self.old.splitter.taken + length piece.now < 2 ^ 64 }
+        requires page { IsPageOf page piece.now }
         ensures can { result ≡ Ok true → CanGoOn [] self.new × (self.new.pending ≡ Pending.Nothing) × (self.new.splitter.taken ≡ self.old.splitter.taken + length piece.now) }
         ensures goes { IfOk result (λ on. (start : Start) (bytes : List ℕ) → HasFed (setting_of O.plan site.entry.tower.now site.entry.field start) bytes piece.now self.old pass.old
             → GoesOver on (setting_of O.plan site.entry.tower.now site.entry.field start) (bytes ++ piece.now) self.new pass.new) }
@@ -285,7 +308,8 @@ impl<'t> Intake<'t> {
         }
         let mut at = 0;
         while at < piece.len() {
-            match self.take_next(site, pages, pass, &piece[at..]) {
+            let rest = part_of(page, at, piece.len());
+            match self.take_next(site, pages, pass, &piece[at..], rest) {
                 Ok(Some(used)) => at += used,
                 Ok(None) => return Ok(false),
                 Err(failed) => {

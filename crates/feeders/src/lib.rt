@@ -19,6 +19,7 @@ mod intake;
 mod kept;
 pub mod laws;
 mod log;
+mod next;
 mod pages;
 mod pending;
 mod progress;

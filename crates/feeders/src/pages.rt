@@ -1,6 +1,7 @@
 //! Texts that outlive the piece which they came in.
 
-ghost use Rattle.std.specs.Prelude.{◌≡◌, IfOk};
+ghost use Rattle.std.specs.Prelude.{◌≡◌, ◌-◌, ◌≤◌, ℕ, List, take, drop, IfOk, IfSome};
+ghost use Rattle.feeders.specs.Pending.{IsPageOf};
 
 use boxcar::Vec as Shelf;
 use intervals::Memory;
@@ -29,4 +30,41 @@ impl Pages {
             Err(_) => Err(Memory),
         }
     }
+}
+
+/// A piece is put on a page whole from this length on. From a shorter one each text gets a page of its own.
+const WHOLE: usize = 4_096;
+
+/// The page of a piece that is long enough for one. Where memory for it is refused there is none.
+pub fn page_of<'t, R: Wait>(
+    pages: &'t Pages,
+    rt: &R,
+    alloc: Global,
+    piece: &[u8],
+) -> Option<&'t [u8]>
+    ensures { IsPageOf result piece.now }
+{
+    if piece.len() < WHOLE {
+        return None;
+    }
+    pages.push(rt, alloc, piece).ok()
+}
+
+/// The bytes of a page from one place to another.
+pub fn part_of<'t>(page: Option<&'t [u8]>, from: usize, to: usize) -> Option<&'t [u8]>
+    ensures { (bytes : List ℕ) → IsPageOf page.entry bytes → IsPageOf result (take (to - from) (drop from bytes)) }
+{
+    page?.get(from..to)
+}
+
+/// The text of an element that begins at a place, and ends with these bytes of a page, whose first has the place `base`.
+pub fn text_on<'t>(
+    page: Option<&'t [u8]>,
+    base: usize,
+    start: usize,
+    used: usize,
+) -> Option<&'t [u8]>
+    ensures { (bytes : List ℕ) → IsPageOf page.entry bytes → IfSome result (λ text. (base ≤ start) × (text.now ≡ take (used - (start - base)) (drop (start - base) bytes))) }
+{
+    part_of(page, start.checked_sub(base)?, used)
 }

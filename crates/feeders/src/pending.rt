@@ -1,14 +1,16 @@
 //! The element that ended last, until its step is carried out.
 
 ghost use Rattle.std.specs.Prelude.{◌≡◌, ◌<◌, ◌+◌, ◌^◌, ◌++◌, ◌∷◌, [], ℕ, List, Result, IfOk, OnErr, false, length};
+ghost use Rattle.edn_reader.specs.Grammar.{Piece as APiece, IsElement};
 ghost use Rattle.edn_reader.specs.Lent.{piece_of};
+ghost use Rattle.edn_reader.specs.Splitting.{IsLast};
 ghost use Rattle.jepsen_form.specs.declared.fault.FormFault.{FormFault as AFormFault};
 ghost use Rattle.jepsen_form.specs.declared.item.Item.{Item as AnItem};
-ghost use Rattle.jepsen_form.specs.Item.{answer_with};
+ghost use Rattle.jepsen_form.specs.Item.{IsItem, answer_with};
 ghost use Rattle.shards.specs.Pass.{Passed};
 ghost use Rattle.shards.specs.Plan.{Plan};
 ghost use Rattle.feeders.specs.Lending.{LendsNone, is_lent as lends};
-ghost use Rattle.feeders.specs.Pending.{IsReadAs};
+ghost use Rattle.feeders.specs.Pending.{IsItemOfLast, IsPageOf, IsReadAs};
 ghost use Rattle.feeders.specs.Progress.{IsAhead};
 ghost use Rattle.feeders.specs.Setting.{Start};
 
@@ -16,7 +18,7 @@ use crate::log::Code;
 use crate::pages::Pages;
 use crate::progress::Progress;
 use crate::site::Site;
-use edn_reader::Element;
+use edn_reader::{Element, Splitter};
 use intervals::{Edit, Memory};
 use jepsen_form::laws::one_item;
 use jepsen_form::{FormFault, Item, Stage, read_item};
@@ -36,8 +38,7 @@ pub enum Pending<'t> {
     Paired(Result<Option<Step<'t>>, Code>),
 }
 
-/// Reads an element. Where its step lends its text that is put on a page first, and the item lends it from there; where
-/// it does not the element is paired at once, since its item may not outlive its bytes.
+/// Reads an element, and holds its item.
 pub fn read_pending<'t, O: Opening, R: Wait, G: Gate>(
     site: Site<'_, '_, 't, O, R, G>,
     pages: &'t Pages,
@@ -48,10 +49,61 @@ pub fn read_pending<'t, O: Opening, R: Wait, G: Gate>(
     ensures read { IfOk result (IsReadAs site.entry.tower.now site.entry.field (piece_of element.entry) progress.old progress.new) }
     ensures kept { OnErr result (progress.new ≡ progress.old) }
 {
-    one_item();
     let item = read_item(element, site.field, site.tower);
+    hold_item(site, pages, progress, item, element.text(), None)
+}
+
+/// Holds the item of the element that ended last, which has this text, and lies on a page or does not; the item is read
+/// where it was not yet.
+pub fn hold_last<'t, 'p, O: Opening, R: Wait, G: Gate>(
+    site: Site<'_, '_, 't, O, R, G>,
+    pages: &'t Pages,
+    progress: &mut Progress<'t>,
+    splitter: &Splitter,
+    text: &'p [u8],
+    page: Option<&'t [u8]>,
+    item: Option<Result<Item<'p>, FormFault>>,
+) -> Result<Pending<'t>, Memory>
+    requires ahead { IsAhead progress.old }
+    requires fits { splitter.now.ended.start + length text.now < 2 ^ 64 }
+    requires element { (piece : APiece) × IsLast splitter.now piece × IsElement piece × (piece.text ≡ text.now) }
+    requires page { IsPageOf page text.now }
+    requires item { IsItemOfLast site.tower.now site.field splitter.now text.now item }
+    ensures read { (last : APiece) → IsLast splitter.now last → last.text ≡ text.entry.now
+        → IfOk result (IsReadAs site.entry.tower.now site.entry.field last progress.old progress.new) }
+    ensures kept { OnErr result (progress.new ≡ progress.old) }
+{
+    match item {
+        Some(item) => hold_item(site, pages, progress, item, text, page),
+        None => {
+            let item = read_item(splitter.lend(text), site.field, site.tower);
+            hold_item(site, pages, progress, item, text, page)
+        }
+    }
+}
+
+/// Holds the item of an element with this text, which it lends from a page. Where the text lies on none yet, it is put on
+/// one if its step lends it; if it does not the element is paired at once, since its item may not outlive its bytes.
+pub fn hold_item<'t, O: Opening, R: Wait, G: Gate>(
+    site: Site<'_, '_, 't, O, R, G>,
+    pages: &'t Pages,
+    progress: &mut Progress<'t>,
+    item: Result<Item, FormFault>,
+    text: &[u8],
+    page: Option<&'t [u8]>,
+) -> Result<Pending<'t>, Memory>
+    requires ahead { IsAhead progress.old }
+    requires page { IsPageOf page text.now }
+    ensures read { (piece : APiece) → piece.text ≡ text.now → IsItem site.entry.tower.now site.entry.field piece item.entry
+        → IfOk result (IsReadAs site.entry.tower.now site.entry.field piece progress.old progress.new) }
+    ensures kept { OnErr result (progress.new ≡ progress.old) }
+{
+    one_item();
+    if let Some(page) = page {
+        return Ok(Pending::Lent(from_page(item, page)));
+    }
     if is_lent(&item) {
-        let page = pages.push(site.rt, site.alloc, element.text())?;
+        let page = pages.push(site.rt, site.alloc, text)?;
         return Ok(Pending::Lent(from_page(item, page)));
     }
     let step = progress.pair(item)?;

@@ -1,4 +1,4 @@
-use Rattle.std.proofs.Common.{◌≡◌, [], ◌∷◌, ap, sym, subst, rules, ◌∙◌}
+use Rattle.std.proofs.Common.{◌≡◌, [], ◌∷◌, sym, subst, rules, ◌∙◌}
 use Rattle.feeders.specs.Progress.{AreFed, IsFed}
 use Rattle.feeders.specs.Setting.{first_start, setting_of}
 use Rattle.feeders.specs.declared.fed.Fed.{Fed}

@@ -1,4 +1,4 @@
-use Rattle.std.proofs.Common.{◌≡◌, ℕ, [], List, Some, sym, ap, subst, ◌∙◌, arith}
+use Rattle.std.proofs.Common.{◌≡◌, ℕ, [], List, Some, None, refl, sym, ap, subst, ◌∙◌, arith}
 use Rattle.edn_reader.specs.Grammar.{Piece}
 use Rattle.edn_reader.specs.Lent.{piece_of}
 use Rattle.edn_reader.specs.Text.{IsFront}
@@ -63,3 +63,9 @@ returns-in-Err-carry_out-clause-fault g c =
     let known = read_known setting c.args.trace.now c.loop-element.reader.at c.loop-element.progress c.pair.new.self c.loop-element.pass (piece_of c.in-Ok-Some.element) c.read_item.result c.in_ok-step-in-Ok-Some.step
     c.items_name_registers_of_the_tower.ensures c.steps_are_on_named_registers.ensures c.requires.of_tower c.loop-element.invariant.so_far c.read_item.ensures.item c.in_ok-step-in-Ok-Some.ensures.paired in
     c.in-Err-carry_out.ensures.fault known.0 known.1
+
+pub returns-in-Ok-None-clause-fed : goal.returns-in-Ok-None-clause-fed
+returns-in-Ok-None-clause-fed g c =
+    let setting = setting_of g.O.Opening.plan c.args.site.tower.now c.args.site.field (first_start c.args.pass.feeder) in
+    let goes = rw (c.in-Ok-None.field-0-is, c.loop-element.invariant.input) at c.in-Ok-None.ensures.end in
+    ends setting c.args.trace.now c.loop-element.reader.at c.loop-element.progress c.loop-element.pass None c.end.result c.loop-element.invariant.so_far (goes refl).1 c.end.ensures.pass c.end.ensures.lines c.end.ensures.broken

@@ -1,10 +1,9 @@
-use Rattle.std.proofs.Common.{◌≡◌, ◌⊎◌, ◌++◌, ℕ, [], List, Bool, true, false, refl, sym, subst, ◌∙◌, ap}
-use Rattle.tower_file.specs.Contents.{Contents}
+use Rattle.std.proofs.Common.{◌≡◌, ◌++◌, [], Bool, refl, sym, subst}
 use Rattle.shards.specs.Plan.{claims_of}
-use Rattle.feeders.specs.declared.feeder.Course.TheVariants.{Broke, Ended, Open}
+use Rattle.feeders.specs.declared.feeder.Course.TheVariants.{Open}
 use Rattle.feeders.specs.Feeding.{Feeding}
 use Rattle.feeders.specs.Intake.{CanGoOn, GoesOver, HasFed}
-use Rattle.feeders.specs.Setting.{Start, setting_of}
+use Rattle.feeders.specs.Setting.{setting_of}
 use Rattle.feeders.proofs.Feeds.{can_feed, fed_before}
 use Rattle.feeders.proofs.feeder.Feeder.feed.Goals as goal
 

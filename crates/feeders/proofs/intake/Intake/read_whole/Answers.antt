@@ -1,4 +1,4 @@
-use Rattle.std.proofs.Common.{◌-◌, length, drop, sym, subst, ap, ◌∙◌, arith, length-drop}
+use Rattle.std.proofs.Common.{◌-◌, length, sym, subst, ap, ◌∙◌, arith, length-drop}
 use Rattle.edn_reader.specs.Lent.{piece_of}
 use Rattle.feeders.specs.declared.pending.Pending.{Pending}
 use Rattle.feeders.specs.Pending.{CanSettleAs}

@@ -1,4 +1,4 @@
-use Rattle.std.proofs.Common.{◌≡◌, ◌≤◌, ◌∙◌, ℕ, List, [], Option, Some, None, Ok, refl, sym, subst, ap, arith}
+use Rattle.std.proofs.Common.{◌≡◌, ◌∙◌, ℕ, [], Option, Some, Ok, refl, sym, subst, ap, arith}
 use Rattle.edn_reader.specs.Splitting.{EndsOn, Splitting}
 use Rattle.feeders.specs.declared.intake.Intake.{Intake}
 use Rattle.feeders.specs.declared.pending.Pending.TheVariants.{Whole}
@@ -7,7 +7,7 @@ use Rattle.feeders.specs.Pending.{count_of}
 use Rattle.feeders.specs.Setting.{setting_of}
 use Rattle.feeders.proofs.AtEnd.{can_end_none, can_end_one, ends_at, ends_none, ends_one, wants_at_end}
 use Rattle.feeders.proofs.Pieces.{can_beside, fed_settled, fed_waits}
-use Rattle.feeders.proofs.Taking.{fed_roomed, settled_place}
+use Rattle.feeders.proofs.Taking.{settled_place}
 use Rattle.feeders.proofs.intake.Intake.take_end.Goals as goal
 
 pub returns-in-Err-clause-still : goal.returns-in-Err-clause-still

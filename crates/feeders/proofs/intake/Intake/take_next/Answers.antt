@@ -1,11 +1,11 @@
-use Rattle.std.proofs.Common.{◌≡◌, ◌≤◌, ◌∙◌, ◌++◌, ◌-◌, ◌+◌, ◌<◌, ℕ, List, [], ◌∷◌, Option, Some, None, Ok, length, take, drop, append-nil, refl, sym, subst, ap, arith, length-take-le}
+use Rattle.std.proofs.Common.{◌≤◌, ◌∙◌, ◌++◌, ◌-◌, ℕ, List, [], Option, Some, None, length, take, drop, append-nil, refl, sym, subst, ap, arith, length-take-le}
 use Rattle.edn_reader.specs.Grammar.{Piece}
-use Rattle.edn_reader.specs.Splitting.{Splitting, StandsAfter, TakesUpTo, keep}
+use Rattle.edn_reader.specs.Splitting.{StandsAfter, TakesUpTo}
 use Rattle.feeders.specs.declared.intake.Intake.{Intake}
-use Rattle.feeders.specs.Intake.{CanGoOn, HasFed, HasUsed}
-use Rattle.feeders.specs.Pending.{count_of}
+use Rattle.feeders.specs.Intake.{HasFed}
 use Rattle.feeders.specs.Setting.{setting_of}
-use Rattle.feeders.proofs.Pieces.{broke_at, counted_on, fed_along, fed_settled, fed_waits, holds_none, holds_same, known_more, taken_is}
+use Rattle.feeders.proofs.Fronts.{item_of_front, page_of_front}
+use Rattle.feeders.proofs.Pieces.{broke_at, fed_along, fed_settled, fed_waits, holds_none, holds_same, known_more, taken_is}
 use Rattle.feeders.proofs.Taking.{EndsOne, IsTaken, TookNone, can_read_behind, fed_on, fed_roomed, fed_taken, keeps_fault, settled_place, takes_all, takes_some, used_beside, used_on, used_one, wants_memory}
 use Rattle.feeders.proofs.intake.Intake.take_next.Goals as goal
 
@@ -22,8 +22,8 @@ returns-in-Some-clause-goes g c start bytes next =
     let old = c.args.self.now in
     let broken = c.in-Some.broken in
     broke_at (setting_of g.O.Opening.plan c.args.site.tower.now c.args.site.field start) bytes (c.args.piece.now ++ next) c.in-Err.fault broken old
-    (record { splitter = c.take.new.self; kept = c.make_room.new.self; progress = record old.progress { log = record { lines = old.progress.log.lines; broken = Some broken } }; pending = old.pending }) c.args.pass.now
-    c.requires.settled (keeps_fault c.in-Err.fault broken old.splitter c.take.new.self c.args.piece.now (sym c.broken_by.ensures ∙ c.in-Some.is) c.in-Err.ensures.takes bytes next)
+    (record { splitter = c.take_element.new.splitter; kept = c.make_room.new.self; progress = record old.progress { log = record { lines = old.progress.log.lines; broken = Some broken } }; pending = old.pending }) c.args.pass.now
+    c.requires.settled (keeps_fault c.in-Err.fault broken old.splitter c.take_element.new.splitter c.args.piece.now (sym c.broken_by.ensures ∙ c.in-Some.is) c.in-Err.ensures.fault bytes next)
     (sym c.broken_by.ensures ∙ c.in-Some.is) refl refl
 
 pub overflow_sub-used : goal.overflow_sub-used
@@ -31,7 +31,7 @@ overflow_sub-used g c =
     let can = c.requires.can in
     let piece : List ℕ = c.args.piece.now in
     let old = c.args.self.now.splitter in
-    let wants = wants_memory c.in-Err.fault old c.take.new.self piece (sym c.broken_by.ensures ∙ c.in_default.is) c.in-Err.ensures.takes in
+    let wants = wants_memory c.in-Err.fault old c.take_element.new.splitter piece (sym c.broken_by.ensures ∙ c.in_default.is) c.in-Err.ensures.fault in
     let goes = (wants.1 can.bytes [] can.pieces (known_more can.bytes piece [] can.pieces old can.stands)).1 in
     omega (arith, goes.0, goes.2, taken_is can.bytes piece can.pieces old can.stands, c.taken.ensures, c.taken-before.ensures)
 
@@ -40,17 +40,17 @@ slice_bounds-take-end g c =
     let can = c.requires.can in
     let piece : List ℕ = c.args.piece.now in
     let old = c.args.self.now in
-    let wants = wants_memory c.in-Err.fault old.splitter c.take.new.self piece (sym c.broken_by.ensures ∙ c.in_default.is) c.in-Err.ensures.takes in
+    let wants = wants_memory c.in-Err.fault old.splitter c.take_element.new.splitter piece (sym c.broken_by.ensures ∙ c.in_default.is) c.in-Err.ensures.fault in
     let goes = (wants.1 can.bytes [] can.pieces (known_more can.bytes piece [] can.pieces old.splitter can.stands)).1 in
     let long = taken_is can.bytes piece can.pieces old.splitter can.stands in
     sym (length-take-le (c.taken.result - c.taken-before.result) piece (omega (arith, goes.0, goes.1, goes.2, long, c.taken.ensures, c.taken-before.ensures)))
 
-pub take-requires-in-Err-clause-fits : goal.take-requires-in-Err-clause-fits
-take-requires-in-Err-clause-fits g c =
+pub take-requires-clause-fits : goal.take-requires-clause-fits
+take-requires-clause-fits g c =
     let can = c.requires.can in
     let piece : List ℕ = c.args.piece.now in
     let old = c.args.self.now in
-    let wants = wants_memory c.in-Err.fault old.splitter c.take.new.self piece (sym c.broken_by.ensures ∙ c.in_default.is) c.in-Err.ensures.takes in
+    let wants = wants_memory c.in-Err.fault old.splitter c.take_element.new.splitter piece (sym c.broken_by.ensures ∙ c.in_default.is) c.in-Err.ensures.fault in
     let goes = (wants.1 can.bytes [] can.pieces (known_more can.bytes piece [] can.pieces old.splitter can.stands)).1 in
     let long = taken_is can.bytes piece can.pieces old.splitter can.stands in
     let holds = holds_none old.pending can.bytes old.kept c.requires.settled can.holds in
@@ -62,15 +62,15 @@ returns-in-Err-clause-refused g c =
     let can = c.requires.can in
     let piece : List ℕ = c.args.piece.now in
     let old = c.args.self.now in
-    let wants = wants_memory c.in-Err.fault old.splitter c.take.new.self piece (sym c.broken_by.ensures ∙ c.in_default.is) c.in-Err.ensures.takes in
+    let wants = wants_memory c.in-Err.fault old.splitter c.take_element.new.splitter piece (sym c.broken_by.ensures ∙ c.in_default.is) c.in-Err.ensures.fault in
     let goes = (wants.1 can.bytes [] can.pieces (known_more can.bytes piece [] can.pieces old.splitter can.stands)).1 in
     let long = taken_is can.bytes piece can.pieces old.splitter can.stands in
     let used = c.taken.result - c.taken-before.result in
-    let new : Intake = record { splitter = c.take.new.self; kept = c.take-in-Err.new.self; progress = old.progress; pending = old.pending } in
+    let new : Intake = record { splitter = c.take_element.new.splitter; kept = c.take.new.self; progress = old.progress; pending = old.pending } in
     let on : TookNone piece used old new =
     takes_some piece used wants.0 old new wants.1 can (omega (arith, c.taken.ensures, c.taken-before.ensures))
-    (λ taken held. c.take-in-Err.ensures.holds taken (holds_same taken old.kept c.make_room.new.self c.make_room.ensures.kept.0 c.make_room.ensures.kept.1 held))
-    (λ low. subst (λ (n : ℕ). c.take-in-Err.new.self.from ≤ n) c.keep_from-keep.ensures (c.take-in-Err.ensures.low (omega (arith, low, c.keep_from-keep.ensures, c.make_room.ensures.kept.0))))
+    (λ taken held. c.take.ensures.holds taken (holds_same taken old.kept c.make_room.new.self c.make_room.ensures.kept.0 c.make_room.ensures.kept.1 held))
+    (λ low. subst (λ (n : ℕ). c.take.new.self.from ≤ n) c.keep_from-keep.ensures (c.take.ensures.low (omega (arith, low, c.keep_from-keep.ensures, c.make_room.ensures.kept.0))))
     refl c.requires.settled c.requires.fits in
     used_on piece used old new on c.requires.settled can
 
@@ -79,15 +79,15 @@ returns-in-Err-clause-waits g c start bytes next fed =
     let can = c.requires.can in
     let piece : List ℕ = c.args.piece.now in
     let old = c.args.self.now in
-    let wants = wants_memory c.in-Err.fault old.splitter c.take.new.self piece (sym c.broken_by.ensures ∙ c.in_default.is) c.in-Err.ensures.takes in
+    let wants = wants_memory c.in-Err.fault old.splitter c.take_element.new.splitter piece (sym c.broken_by.ensures ∙ c.in_default.is) c.in-Err.ensures.fault in
     let goes = (wants.1 can.bytes [] can.pieces (known_more can.bytes piece [] can.pieces old.splitter can.stands)).1 in
     let long = taken_is can.bytes piece can.pieces old.splitter can.stands in
     let used = c.taken.result - c.taken-before.result in
-    let new : Intake = record { splitter = c.take.new.self; kept = c.take-in-Err.new.self; progress = old.progress; pending = old.pending } in
+    let new : Intake = record { splitter = c.take_element.new.splitter; kept = c.take.new.self; progress = old.progress; pending = old.pending } in
     let on : TookNone piece used old new =
     takes_some piece used wants.0 old new wants.1 can (omega (arith, c.taken.ensures, c.taken-before.ensures))
-    (λ taken held. c.take-in-Err.ensures.holds taken (holds_same taken old.kept c.make_room.new.self c.make_room.ensures.kept.0 c.make_room.ensures.kept.1 held))
-    (λ low. subst (λ (n : ℕ). c.take-in-Err.new.self.from ≤ n) c.keep_from-keep.ensures (c.take-in-Err.ensures.low (omega (arith, low, c.keep_from-keep.ensures, c.make_room.ensures.kept.0))))
+    (λ taken held. c.take.ensures.holds taken (holds_same taken old.kept c.make_room.new.self c.make_room.ensures.kept.0 c.make_room.ensures.kept.1 held))
+    (λ low. subst (λ (n : ℕ). c.take.new.self.from ≤ n) c.keep_from-keep.ensures (c.take.ensures.low (omega (arith, low, c.keep_from-keep.ensures, c.make_room.ensures.kept.0))))
     refl c.requires.settled c.requires.fits in
     fed_on (setting_of g.O.Opening.plan c.args.site.tower.now c.args.site.field start) piece used old new c.args.pass.now bytes next on c.requires.settled fed
 
@@ -103,8 +103,8 @@ returns-in_default-whole-clause-used g c =
     let can = c.requires.can in
     let piece : List ℕ = c.args.piece.now in
     let old = c.args.self.now in
-    let used = c.in-Ok.taken.used in
-    let new : Intake = record { splitter = c.take.new.self; kept = c.take-in_default-whole.new.self; progress = old.progress; pending = old.pending } in
+    let used = c.in-Ok.next.taken.used in
+    let new : Intake = record { splitter = c.take_element.new.splitter; kept = c.take-in_default-whole.new.self; progress = old.progress; pending = old.pending } in
     let takes : (bytes next : List ℕ) (pieces : List Piece) → StandsAfter bytes (piece ++ next) pieces old.splitter → TakesUpTo bytes piece next pieces old.splitter used None new.splitter =
     λ bytes next pieces stands. subst (λ (w : Option (ℕ × ℕ)). TakesUpTo bytes piece next pieces old.splitter used w new.splitter) c.in_default-whole.is (c.in-Ok.ensures.takes bytes next pieces stands) in
     let on : TookNone piece used old new =
@@ -120,8 +120,8 @@ returns-in_default-whole-clause-goes g c start bytes next fed =
     let can = c.requires.can in
     let piece : List ℕ = c.args.piece.now in
     let old = c.args.self.now in
-    let used = c.in-Ok.taken.used in
-    let new : Intake = record { splitter = c.take.new.self; kept = c.take-in_default-whole.new.self; progress = old.progress; pending = old.pending } in
+    let used = c.in-Ok.next.taken.used in
+    let new : Intake = record { splitter = c.take_element.new.splitter; kept = c.take-in_default-whole.new.self; progress = old.progress; pending = old.pending } in
     let takes : (bytes next : List ℕ) (pieces : List Piece) → StandsAfter bytes (piece ++ next) pieces old.splitter → TakesUpTo bytes piece next pieces old.splitter used None new.splitter =
     λ bytes next pieces stands. subst (λ (w : Option (ℕ × ℕ)). TakesUpTo bytes piece next pieces old.splitter used w new.splitter) c.in_default-whole.is (c.in-Ok.ensures.takes bytes next pieces stands) in
     let on : TookNone piece used old new =
@@ -136,21 +136,41 @@ take_whole-requires-clause-can g c κs lives =
     let can = c.requires.can in
     let piece : List ℕ = c.args.piece.now in
     let old = c.args.self.now in
-    let used = c.in-Ok.taken.used in
+    let used = c.in-Ok.next.taken.used in
     let span : ℕ × ℕ = (c.in-Some-whole.start, c.in-Some-whole.field-0-1) in
-    let mid : Intake = record { splitter = c.take.new.self; kept = c.make_room.new.self; progress = old.progress; pending = old.pending } in
+    let mid : Intake = record { splitter = c.take_element.new.splitter; kept = c.make_room.new.self; progress = old.progress; pending = old.pending } in
     let ends : EndsOne piece used span old mid =
     λ bytes next pieces stands. subst (λ (w : Option (ℕ × ℕ)). TakesUpTo bytes piece next pieces old.splitter used w mid.splitter) c.in-Some-whole.is (c.in-Ok.ensures.takes bytes next pieces stands) in
     can_read_behind piece used span old mid ends c.each_is_element.ensures c.in-Ok.ensures.counted c.make_room.ensures.kept.0 c.make_room.ensures.kept.1 refl c.requires.settled can c.requires.fits
+
+pub take_whole-requires-clause-page : goal.take_whole-requires-clause-page
+take_whole-requires-clause-page g c κs lives =
+    let can = take_whole-requires-clause-can g c κs lives in
+    let piece : List ℕ = c.args.piece.now in
+    let used = c.in-Ok.next.taken.used in
+    let counted = c.in-Ok.ensures.counted in
+    let many = length-take-le used piece counted.0 in
+    page_of_front c.text_on-text.result c.make_room.new.self piece used c.in-Some-whole.start c.taken-before.result
+    (omega (arith, can.ends, many, counted.1, c.taken-before.ensures)) (omega (arith, can.high, can.ends, many, counted.1, c.taken-before.ensures))
+    (c.text_on-text.ensures piece c.requires.page)
+
+pub take_whole-requires-clause-item : goal.take_whole-requires-clause-item
+take_whole-requires-clause-item g c κs lives =
+    let can = take_whole-requires-clause-can g c κs lives in
+    let piece : List ℕ = c.args.piece.now in
+    let used = c.in-Ok.next.taken.used in
+    let counted = c.in-Ok.ensures.counted in
+    item_of_front c.args.site.tower.now c.args.site.field c.take_element.new.splitter c.in-Ok.next.item c.make_room.new.self (take used piece) c.in-Some-whole.start c.args.self.now.splitter.taken
+    (omega (arith, can.ends, length-take-le used piece counted.0, counted.1)) can.starts c.in-Ok.ensures.after c.in-Ok.ensures.item
 
 pub returns-in-Err-take_whole-clause-refused : goal.returns-in-Err-take_whole-clause-refused
 returns-in-Err-take_whole-clause-refused g c =
     let can = c.requires.can in
     let piece : List ℕ = c.args.piece.now in
     let old = c.args.self.now in
-    let used = c.in-Ok.taken.used in
+    let used = c.in-Ok.next.taken.used in
     let span : ℕ × ℕ = (c.in-Some-whole.start, c.in-Some-whole.field-0-1) in
-    let mid : Intake = record { splitter = c.take.new.self; kept = c.make_room.new.self; progress = old.progress; pending = old.pending } in
+    let mid : Intake = record { splitter = c.take_element.new.splitter; kept = c.make_room.new.self; progress = old.progress; pending = old.pending } in
     let ends : EndsOne piece used span old mid =
     λ bytes next pieces stands. subst (λ (w : Option (ℕ × ℕ)). TakesUpTo bytes piece next pieces old.splitter used w mid.splitter) c.in-Some-whole.is (c.in-Ok.ensures.takes bytes next pieces stands) in
     let new = c.take_whole.new.self in
@@ -175,9 +195,9 @@ returns-in-Err-take_whole-clause-waits g c start bytes next fed =
     let can = c.requires.can in
     let piece : List ℕ = c.args.piece.now in
     let old = c.args.self.now in
-    let used = c.in-Ok.taken.used in
+    let used = c.in-Ok.next.taken.used in
     let span : ℕ × ℕ = (c.in-Some-whole.start, c.in-Some-whole.field-0-1) in
-    let mid : Intake = record { splitter = c.take.new.self; kept = c.make_room.new.self; progress = old.progress; pending = old.pending } in
+    let mid : Intake = record { splitter = c.take_element.new.splitter; kept = c.make_room.new.self; progress = old.progress; pending = old.pending } in
     let ends : EndsOne piece used span old mid =
     λ bytes next pieces stands. subst (λ (w : Option (ℕ × ℕ)). TakesUpTo bytes piece next pieces old.splitter used w mid.splitter) c.in-Some-whole.is (c.in-Ok.ensures.takes bytes next pieces stands) in
     let new = c.take_whole.new.self in
@@ -206,9 +226,9 @@ returns-in-Ok-settle-clause-used g c =
     let can = c.requires.can in
     let piece : List ℕ = c.args.piece.now in
     let old = c.args.self.now in
-    let used = c.in-Ok.taken.used in
+    let used = c.in-Ok.next.taken.used in
     let span : ℕ × ℕ = (c.in-Some-whole.start, c.in-Some-whole.field-0-1) in
-    let mid : Intake = record { splitter = c.take.new.self; kept = c.make_room.new.self; progress = old.progress; pending = old.pending } in
+    let mid : Intake = record { splitter = c.take_element.new.splitter; kept = c.make_room.new.self; progress = old.progress; pending = old.pending } in
     let ends : EndsOne piece used span old mid =
     λ bytes next pieces stands. subst (λ (w : Option (ℕ × ℕ)). TakesUpTo bytes piece next pieces old.splitter used w mid.splitter) c.in-Some-whole.is (c.in-Ok.ensures.takes bytes next pieces stands) in
     let new = c.take_whole.new.self in
@@ -241,9 +261,9 @@ returns-in-Ok-settle-clause-goes g c start bytes next fed =
     let can = c.requires.can in
     let piece : List ℕ = c.args.piece.now in
     let old = c.args.self.now in
-    let used = c.in-Ok.taken.used in
+    let used = c.in-Ok.next.taken.used in
     let span : ℕ × ℕ = (c.in-Some-whole.start, c.in-Some-whole.field-0-1) in
-    let mid : Intake = record { splitter = c.take.new.self; kept = c.make_room.new.self; progress = old.progress; pending = old.pending } in
+    let mid : Intake = record { splitter = c.take_element.new.splitter; kept = c.make_room.new.self; progress = old.progress; pending = old.pending } in
     let ends : EndsOne piece used span old mid =
     λ bytes next pieces stands. subst (λ (w : Option (ℕ × ℕ)). TakesUpTo bytes piece next pieces old.splitter used w mid.splitter) c.in-Some-whole.is (c.in-Ok.ensures.takes bytes next pieces stands) in
     let new = c.take_whole.new.self in
@@ -275,9 +295,9 @@ returns-in-Err-settle-clause-refused g c =
     let can = c.requires.can in
     let piece : List ℕ = c.args.piece.now in
     let old = c.args.self.now in
-    let used = c.in-Ok.taken.used in
+    let used = c.in-Ok.next.taken.used in
     let span : ℕ × ℕ = (c.in-Some-whole.start, c.in-Some-whole.field-0-1) in
-    let mid : Intake = record { splitter = c.take.new.self; kept = c.make_room.new.self; progress = old.progress; pending = old.pending } in
+    let mid : Intake = record { splitter = c.take_element.new.splitter; kept = c.make_room.new.self; progress = old.progress; pending = old.pending } in
     let ends : EndsOne piece used span old mid =
     λ bytes next pieces stands. subst (λ (w : Option (ℕ × ℕ)). TakesUpTo bytes piece next pieces old.splitter used w mid.splitter) c.in-Some-whole.is (c.in-Ok.ensures.takes bytes next pieces stands) in
     let new = c.take_whole.new.self in
@@ -304,9 +324,9 @@ returns-in-Err-settle-clause-waits g c start bytes next fed =
     let can = c.requires.can in
     let piece : List ℕ = c.args.piece.now in
     let old = c.args.self.now in
-    let used = c.in-Ok.taken.used in
+    let used = c.in-Ok.next.taken.used in
     let span : ℕ × ℕ = (c.in-Some-whole.start, c.in-Some-whole.field-0-1) in
-    let mid : Intake = record { splitter = c.take.new.self; kept = c.make_room.new.self; progress = old.progress; pending = old.pending } in
+    let mid : Intake = record { splitter = c.take_element.new.splitter; kept = c.make_room.new.self; progress = old.progress; pending = old.pending } in
     let ends : EndsOne piece used span old mid =
     λ bytes next pieces stands. subst (λ (w : Option (ℕ × ℕ)). TakesUpTo bytes piece next pieces old.splitter used w mid.splitter) c.in-Some-whole.is (c.in-Ok.ensures.takes bytes next pieces stands) in
     let new = c.take_whole.new.self in
@@ -337,9 +357,9 @@ returns-in-Err-settle-clause-fault g c start bytes next fed claims =
     let can = c.requires.can in
     let piece : List ℕ = c.args.piece.now in
     let old = c.args.self.now in
-    let used = c.in-Ok.taken.used in
+    let used = c.in-Ok.next.taken.used in
     let span : ℕ × ℕ = (c.in-Some-whole.start, c.in-Some-whole.field-0-1) in
-    let mid : Intake = record { splitter = c.take.new.self; kept = c.make_room.new.self; progress = old.progress; pending = old.pending } in
+    let mid : Intake = record { splitter = c.take_element.new.splitter; kept = c.make_room.new.self; progress = old.progress; pending = old.pending } in
     let ends : EndsOne piece used span old mid =
     λ bytes next pieces stands. subst (λ (w : Option (ℕ × ℕ)). TakesUpTo bytes piece next pieces old.splitter used w mid.splitter) c.in-Some-whole.is (c.in-Ok.ensures.takes bytes next pieces stands) in
     let new = c.take_whole.new.self in

@@ -1,8 +1,8 @@
-use Rattle.std.proofs.Common.{◌≡◌, ◌≤◌, ◌<◌, ◌+◌, ◌-◌, ◌++◌, ℕ, List, [], Option, Some, None, length, take, drop, append-nil, length-drop, refl, sym, subst, ap, arith}
+use Rattle.std.proofs.Common.{◌≡◌, ◌<◌, ◌+◌, ◌-◌, ◌++◌, ℕ, List, [], Option, Some, None, length, take, drop, append-nil, refl, sym, subst, ap, arith}
 use Rattle.std.specs.Prelude.{IfSome}
 use Rattle.edn_reader.specs.Splitting.{Splitting}
 use Rattle.feeders.specs.declared.pending.Pending.TheVariants.{Nothing}
-use Rattle.feeders.specs.Intake.{CanGoOn, GoesTo, HasFed, HasUsed}
+use Rattle.feeders.specs.Intake.{GoesTo, HasFed, HasUsed}
 use Rattle.feeders.specs.Setting.{Start, setting_of}
 use Rattle.feeders.proofs.Pieces.{broke_in, can_beside, fed_along, fed_more, fed_rest, fed_settled, fed_waits, rest_is}
 use Rattle.feeders.proofs.Taking.{settled_place, used_rest, used_still}

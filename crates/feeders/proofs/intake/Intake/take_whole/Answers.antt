@@ -1,11 +1,11 @@
-use Rattle.std.proofs.Common.{◌≡◌, ◌+◌, ◌-◌, ◌≤◌, ◌++◌, [], ◌∷◌, length, drop, refl, sym, ap, ◌∙◌, arith}
-use Rattle.edn_reader.specs.Lent.{piece_of}
+use Rattle.std.proofs.Common.{◌-◌, ◌++◌, [], ◌∷◌, ℕ, List, drop, refl, subst, ◌∙◌, arith}
 use Rattle.feeders.specs.declared.intake.Intake.{Intake}
 use Rattle.feeders.specs.declared.pending.Pending.TheVariants.{Whole}
-use Rattle.feeders.specs.Setting.{setting_of}
+use Rattle.feeders.specs.Pending.{IsItemOfLast}
+use Rattle.feeders.specs.Setting.{first_start, setting_of}
 use Rattle.feeders.proofs.Fronts.{can_read_at_once, can_whole, front_text, whole_waits}
 use Rattle.feeders.proofs.Holding.{kept_on}
-use Rattle.feeders.proofs.Settling.{read_as}
+use Rattle.feeders.proofs.Settling.{read_as, read_place}
 use Rattle.feeders.proofs.intake.Intake.take_whole.Goals as goal
 
 pub returns-then-start-end-clause-pending : goal.returns-then-start-end-clause-pending
@@ -28,19 +28,58 @@ returns-then-start-end-clause-can g c =
     let on = kept_on old.kept kept front start c.take.ensures.holds c.requires.can.low low in
     can_whole old (record { splitter = old.splitter; kept = kept; progress = old.progress; pending = Whole start }) start front c.requires.can c.requires.ahead refl refl refl low on.0 on.1
 
-pub lend-element-requires-clause-element : goal.lend-element-requires-clause-element
-lend-element-requires-clause-element g c =
+pub hold_last-requires-clause-element : goal.hold_last-requires-clause-element
+hold_last-requires-clause-element g c κs lives =
     let last = c.requires.can.element in
     (last.0, last.1, last.2, last.3 ∙ front_text c.args.self.now.kept c.args.front.now c.args.start c.end-end.result (omega (arith, c.end-end.ensures)) c.if-start-end.false)
+
+pub hold_last-requires-clause-item : goal.hold_last-requires-clause-item
+hold_last-requires-clause-item g c κs lives =
+    let old = c.args.self.now in
+    subst (λ (text : List ℕ). IsItemOfLast c.args.site.tower.now c.args.site.field old.splitter text c.args.item)
+    (front_text old.kept c.args.front.now c.args.start c.end-end.result (omega (arith, c.end-end.ensures)) c.if-start-end.false)
+    c.requires.item
 
 pub returns-in-Ok-clause-pending : goal.returns-in-Ok-clause-pending
 returns-in-Ok-clause-pending g c plan begun items pass last is text at =
     let old = c.args.self.now in
     let setting = setting_of plan c.args.site.tower.now c.args.site.field begun in
     read_as c.in-Ok.pending setting items (last ∷ []) pass old.progress
-    (record { splitter = old.splitter; kept = c.restart.new.self; progress = c.read_pending.new.progress; pending = c.in-Ok.pending }) (piece_of c.lend-element.result) last
-    c.in-Ok.ensures.read
-    (c.lend-element.ensures last is (text ∙ front_text old.kept c.args.front.now c.args.start c.end-end.result (omega (arith, c.end-end.ensures)) c.if-start-end.false)) refl at
+    (record { splitter = old.splitter; kept = c.restart.new.self; progress = c.hold_last.new.progress; pending = c.in-Ok.pending }) last last
+    (c.in-Ok.ensures.read last is (text ∙ front_text old.kept c.args.front.now c.args.start c.end-end.result (omega (arith, c.end-end.ensures)) c.if-start-end.false)) refl refl at
+
+pub returns-in-Ok-clause-can : goal.returns-in-Ok-clause-can
+returns-in-Ok-clause-can g c =
+    let old = c.args.self.now in
+    let last = c.requires.can.element in
+    let setting = setting_of g.O.Opening.plan c.args.site.tower.now c.args.site.field (first_start 0) in
+    let read = c.in-Ok.ensures.read last.0 last.1 (last.3 ∙ front_text old.kept c.args.front.now c.args.start c.end-end.result (omega (arith, c.end-end.ensures)) c.if-start-end.false) in
+    let new : Intake = record { splitter = old.splitter; kept = c.restart.new.self; progress = c.hold_last.new.progress; pending = c.in-Ok.pending } in
+    can_read_at_once old new c.args.start c.args.front.now setting last.0 c.requires.can c.requires.ahead refl read
+
+pub returns-in-Ok-clause-beside : goal.returns-in-Ok-clause-beside
+returns-in-Ok-clause-beside g c =
+    let old = c.args.self.now in
+    let last = c.requires.can.element in
+    let setting = setting_of g.O.Opening.plan c.args.site.tower.now c.args.site.field (first_start 0) in
+    let read = c.in-Ok.ensures.read last.0 last.1 (last.3 ∙ front_text old.kept c.args.front.now c.args.start c.end-end.result (omega (arith, c.end-end.ensures)) c.if-start-end.false) in
+    (refl, (read_place setting last.0 old.progress c.hold_last.new.progress c.in-Ok.pending read).0)
+
+pub returns-in-Ok-clause-place : goal.returns-in-Ok-clause-place
+returns-in-Ok-clause-place g c =
+    let old = c.args.self.now in
+    let last = c.requires.can.element in
+    let setting = setting_of g.O.Opening.plan c.args.site.tower.now c.args.site.field (first_start 0) in
+    let read = c.in-Ok.ensures.read last.0 last.1 (last.3 ∙ front_text old.kept c.args.front.now c.args.start c.end-end.result (omega (arith, c.end-end.ensures)) c.if-start-end.false) in
+    (read_place setting last.0 old.progress c.hold_last.new.progress c.in-Ok.pending read).1
+
+pub returns-in-Ok-clause-count : goal.returns-in-Ok-clause-count
+returns-in-Ok-clause-count g c =
+    let old = c.args.self.now in
+    let last = c.requires.can.element in
+    let setting = setting_of g.O.Opening.plan c.args.site.tower.now c.args.site.field (first_start 0) in
+    let read = c.in-Ok.ensures.read last.0 last.1 (last.3 ∙ front_text old.kept c.args.front.now c.args.start c.end-end.result (omega (arith, c.end-end.ensures)) c.if-start-end.false) in
+    (read_place setting last.0 old.progress c.hold_last.new.progress c.in-Ok.pending read).2
 
 pub returns-in-Err-clause-pending : goal.returns-in-Err-clause-pending
 returns-in-Err-clause-pending g c plan begun items pass last is text at =
@@ -49,7 +88,7 @@ returns-in-Err-clause-pending g c plan begun items pass last is text at =
     let front = c.args.front.now in
     let kept = c.take-in-Err.new.self in
     let on = kept_on old.kept kept front start c.take-in-Err.ensures.holds c.requires.can.low (c.take-in-Err.ensures.low c.requires.can.low) in
-    whole_waits (setting_of plan c.args.site.tower.now c.args.site.field begun) items pass old (record { splitter = old.splitter; kept = kept; progress = c.read_pending.new.progress; pending = Whole start }) start
+    whole_waits (setting_of plan c.args.site.tower.now c.args.site.field begun) items pass old (record { splitter = old.splitter; kept = kept; progress = c.hold_last.new.progress; pending = Whole start }) start
     (drop (start - old.kept.from) (old.kept.bytes.items ++ front)) last is text at refl refl c.in-Err.ensures.kept on.0
 
 pub returns-in-Err-clause-can : goal.returns-in-Err-clause-can
@@ -60,4 +99,4 @@ returns-in-Err-clause-can g c =
     let kept = c.take-in-Err.new.self in
     let low = c.take-in-Err.ensures.low c.requires.can.low in
     let on = kept_on old.kept kept front start c.take-in-Err.ensures.holds c.requires.can.low low in
-    can_whole old (record { splitter = old.splitter; kept = kept; progress = c.read_pending.new.progress; pending = Whole start }) start front c.requires.can c.requires.ahead refl refl c.in-Err.ensures.kept low on.0 on.1
+    can_whole old (record { splitter = old.splitter; kept = kept; progress = c.hold_last.new.progress; pending = Whole start }) start front c.requires.can c.requires.ahead refl refl c.in-Err.ensures.kept low on.0 on.1
