@@ -33,14 +33,6 @@ pub record AreEdges (ops : List Op) (value : Value) (edges : Edges) : Type 0 whe
   pub write : AreWriteEdges ops value edges.write_begin edges.write_end
   pub read : AreReadEdges ops value edges.read_begin edges.read_end
 
--- the edges of a value that no judged operation has
-abbrev pub edges_of_nothing : Value → Edges
-edges_of_nothing value = record { value = value; write_id = None; write_begin = Before; write_end = Never; read_begin = Before; read_end = Never }
-
--- they are those edges
-abbrev pub is_of_nothing : Edges → Bool
-is_of_nothing edges = not (is_some edges.write_id) && same_edge edges.read_begin Before && same_edge edges.write_begin Before && same_edge edges.read_end Never && same_edge edges.write_end Never
-
 -- the same of a value that there may be
 abbrev pub AreEdgesAtSome : List Op → Option Value → Option Edges → Type 0
 AreEdgesAtSome ops None found = found ≡ None
@@ -51,6 +43,14 @@ AreEdgesAtSome ops (Some value) (Some edges) = AreEdges ops value edges
 pub record AreEdgesAt (ops : List Op) (first second : Option Value) (found : Option Edges × Option Edges) : Type 0 where
   pub one : AreEdgesAtSome ops first found.0
   pub other : AreEdgesAtSome ops second found.1
+
+-- the edges of a value that no judged operation has
+abbrev pub edges_of_nothing : Value → Edges
+edges_of_nothing value = record { value = value; write_id = None; write_begin = Before; write_end = Never; read_begin = Before; read_end = Never }
+
+-- the edges are those
+abbrev pub is_of_nothing : Edges → Bool
+is_of_nothing edges = not (is_some edges.write_id) && same_edge edges.read_begin Before && same_edge edges.write_begin Before && same_edge edges.read_end Never && same_edge edges.write_end Never
 
 -- an operation that there may be, where it passes the test and has the value
 abbrev pub part_of : (Op → Bool) → Value → Option Op → Option Op

@@ -15,8 +15,8 @@ use crate::index::Members;
 use intervals::{Moment, Op, OpId, Value, is_same_value};
 use zone_tree::Edge;
 
-/// What the zone of a value and its stretch are made of. Where it has no write, that begins at
-/// `Before` and ends at `Never`, and so do its reads where it has none.
+/// The id of a value's write, and what its zone and its stretch are made of. Where it has no write, that begins
+/// at `Before` and ends at `Never`, and so do its reads where it has none.
 #[derive(Clone, Copy)]
 pub struct Edges {
     pub value: Value,

@@ -37,9 +37,9 @@
 //! unwritten read, a split, an early read or a crossing excludes every arrangement by itself; an order in turn
 //! is an arrangement. Zones, edges and conflicts themselves are those of `zone_tree`.
 //!
-//! The calls are in `register.rt`. `records.rt` keeps the edges of each value: where its write begins and ends, and
-//! where the last of its reads begins and the first of them ends. `index.rt` keeps the ids of its judged operations on
-//! shelves, by their ends and their beginnings. An edit takes the edges of the two values that it may touch from
+//! The calls are in `register.rt`. `records.rt` keeps of each value which write it has and its edges: where that write
+//! begins and ends, and where the last of its reads begins and the first of them ends. `index.rt` keeps the ids of its
+//! judged reads on shelves, by their ends and their beginnings. An edit takes the edges of the two values that it may touch from
 //! their records, and asks the shelves only where a read goes that an edge was of (`edges.rt`): what it makes of
 //! them gives their zones (`zone_in.rt`) and, where they are at fault, their stretches (`stretch.rt`). It moves their
 //! zones in one tree (`moves.rt`) and their stretches in another (`stretch_moves.rt`); of each tree the root says what
