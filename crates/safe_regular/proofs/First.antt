@@ -1,12 +1,10 @@
 -- The wrong read that ended first.
-use Rattle.std.proofs.Common.{◌≡◌, ℕ, ◌≤◌, Bool, List, Option, Some, None, refl, sym, ap, ◌∙◌, arith}
-use Rattle.std.specs.Prelude.{Contains, IsTrue}
+use Rattle.std.proofs.Common.{◌≡◌, ◌≤◌, List, Option, Some, None}
+use Rattle.std.specs.Prelude.{IsTrue}
 use Rattle.std.proofs.lemmas.Bool.{and_parts}
-use Rattle.std.proofs.lemmas.List.Elements.{All-contains}
 use Rattle.intervals.specs.declared.operation.Op.{Op}
 use Rattle.intervals.specs.Terms.{Terms}
 use Rattle.intervals.specs.Operation.{IsJudgedRead, is_judged_read}
-use Rattle.intervals.specs.Least.{least_by, IsLeast}
 use Rattle.intervals.specs.Judging.{is_wrong_read, end_number, first_wrong}
 use Rattle.intervals.proofs.LeastOf.{AreTold, none_least, least_is}
 use Rattle.intervals.proofs.Members.{all_from}

@@ -1,7 +1,6 @@
 -- All operations are laid one after the other.
-use Rattle.std.proofs.Common.{◌≡◌, ℕ, suc, ◌+◌, ◌<◌, ◌≤◌, ◌⊎◌, inl, inr, true, false, List, [], ◌∷◌, ◌++◌, length, Option, Some, None, refl, sym, ap, subst, ◌∙◌, arith, length-append}
-use Rattle.std.specs.Prelude.{Contains, IfSome, IsSome}
-use Rattle.std.specs.List.{AllPairs}
+use Rattle.std.proofs.Common.{◌≡◌, ℕ, ◌+◌, ◌<◌, ◌≤◌, inl, inr, true, false, List, [], ◌∷◌, ◌++◌, length, Option, Some, None, refl, sym, ap, subst, ◌∙◌, arith, length-append}
+use Rattle.std.specs.Prelude.{Contains, IfSome}
 use Rattle.std.proofs.lemmas.List.Elements.{All-contains, Contains-append_left, Contains-append_right, Contains-push, Contains-push_cases}
 use Rattle.intervals.specs.declared.operation.Op.{Op}
 use Rattle.intervals.specs.declared.shelf.Spot.{Spot}
@@ -16,7 +15,7 @@ use Rattle.read_tree.specs.declared.item.Item.{Item}
 use Rattle.read_tree.specs.Items.{AreInOrder, Contents, item_at, place_of}
 use Rattle.safe_regular.specs.Held.{AreOneWriters}
 use Rattle.safe_regular.specs.LookUp.{BeginsFrom, IsFirstOf}
-use Rattle.safe_regular.specs.Line.{AreItems, AreLaid, IsFreeFor, IsItem, IsItemOf, IsLaid, initial_item, initial_place, items_with, place_in}
+use Rattle.safe_regular.specs.Line.{AreItems, AreLaid, IsFreeFor, IsItemOf, IsLaid, initial_item, initial_place, items_with, place_in}
 use Rattle.safe_regular.proofs.Exchanged.{is_exchanged, place_is_new}
 use Rattle.safe_regular.proofs.Told.{initial_away, items_told, of_which, op_away}
 

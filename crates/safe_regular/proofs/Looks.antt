@@ -1,11 +1,10 @@
 -- The writes looked at from a read's end back tell whether the read is wrong.
-use Rattle.std.proofs.Common.{◌≡◌, ◌≢◌, ℕ, ◌<◌, ◌≤◌, ◌⊎◌, inl, inr, Bool, true, false, not, ◌&&◌, List, Option, Some, None, Decides, refl, sym, ap, subst, ◌∙◌, arith}
-use Rattle.std.specs.Prelude.{All, Contains, IfSome, IsTrue, if◌then◌else◌}
+use Rattle.std.proofs.Common.{◌≡◌, ◌≢◌, ℕ, ◌<◌, ◌≤◌, inl, inr, Bool, true, false, not, ◌&&◌, List, Option, Some, None, Decides, refl, sym, ap, subst, ◌∙◌, arith}
+use Rattle.std.specs.Prelude.{Contains}
 use Rattle.std.proofs.lemmas.Bool.{cases_Bool, cases_lt}
 use Rattle.std.proofs.lemmas.Bool.Decides.{Decides-and, Decides-not, not_from_Decides}
 use Rattle.std.proofs.lemmas.List.Elements.{All-contains}
-use Rattle.intervals.specs.declared.claim.Kind.{Kind}
-use Rattle.intervals.specs.declared.claim.Kind.TheVariants.{Safe, Regular, Atomic}
+use Rattle.intervals.specs.declared.claim.Kind.TheVariants.{Safe, Regular}
 use Rattle.intervals.specs.declared.operation.Op.{Op}
 use Rattle.intervals.specs.declared.operation.Value.{Value}
 use Rattle.intervals.specs.Judging.{end_number, is_allowed, is_regular_read, is_safe_read, is_wrong_read}

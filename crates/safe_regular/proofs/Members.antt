@@ -1,10 +1,8 @@
 -- Where the operations of a list do not meet, its writes are apart and its reads end one by one.
-use Rattle.std.proofs.Common.{◌≡◌, ℕ, ◌<◌, ◌⊎◌, inl, inr, true, List, length, Option, Some, None, refl, sym, ap, subst, ◌∙◌, arith}
-use Rattle.std.specs.Prelude.{Contains, is_some, slice_index_or}
-use Rattle.std.specs.List.{AllPairs}
+use Rattle.std.proofs.Common.{◌≡◌, ℕ, ◌<◌, ◌⊎◌, inl, inr, true, List, Option, Some, None, refl, sym, ap, ◌∙◌, arith}
+use Rattle.std.specs.Prelude.{Contains, is_some}
 use Rattle.std.specs.Option.{option_map_or}
-use Rattle.std.proofs.lemmas.Bool.{cases_order, and_parts}
-use Rattle.std.proofs.lemmas.List.{get_or_default}
+use Rattle.std.proofs.lemmas.Bool.{and_parts}
 use Rattle.std.proofs.lemmas.List.Elements.{All-contains}
 use Rattle.intervals.specs.declared.operation.Op.{Op}
 use Rattle.intervals.specs.declared.operation.Moment.{Moment}
@@ -12,7 +10,7 @@ use Rattle.intervals.specs.Operation.{Precedes, Overlaps, IsWrite, IsJudgedRead,
 use Rattle.intervals.specs.Judging.{end_number}
 use Rattle.intervals.specs.Standing.{ShareNoMoment, HasDistinctMoments, HasEndsAfterBeginnings, HasNoOverlappingWrites}
 use Rattle.intervals.proofs.Agreement.{Decides-precedes}
-use Rattle.intervals.proofs.Members.{one_or_so, same_moment, begin_apart, share_none}
+use Rattle.intervals.proofs.Members.{one_or_so, begin_apart, share_none}
 use Rattle.safe_regular.specs.Apart.{EndsAfterBeginning, AreApart, HasDistinctEnds}
 use Rattle.safe_regular.proofs.Apart.{either_way, begins_before}
 

@@ -1,19 +1,17 @@
 -- Rows that are put in, found and judged again.
-use Rattle.std.proofs.Common.{◌≡◌, ◌≢◌, ℕ, suc, ◌+◌, ◌-◌, ◌<◌, ◌≤◌, ◌⊎◌, inl, inr, Bool, true, false, List, length, refl, sym, ap, subst, ◌∙◌, get_or, arith}
+use Rattle.std.proofs.Common.{◌≡◌, ◌≢◌, ℕ, ◌+◌, ◌-◌, ◌<◌, ◌≤◌, ◌⊎◌, inl, inr, false, List, length, refl, sym, ap, subst, ◌∙◌, get_or, arith}
 use Rattle.std.specs.Prelude.{Contains}
 use Rattle.std.specs.List.{insert}
 use Rattle.std.proofs.lemmas.Bool.{cases_eq, cases_lt, cases_order}
 use Rattle.std.proofs.Math.ListN.{set}
 use Rattle.std.proofs.lemmas.List.{get_or-set_same, get_or-set_other, get_or_default, length-set}
 use Rattle.std.proofs.lemmas.List.Edits.{length-insert, get_or-insert_below, get_or-insert_at, get_or-insert_above}
-use Rattle.std.proofs.lemmas.List.Elements.{Contains-get_or}
 use Rattle.std.specs.List.Sorted.{IsNonDecreasingBy}
 use Rattle.intervals.specs.declared.operation.Op.{Op}
-use Rattle.intervals.specs.declared.operation.OpId.{OpId}
 use Rattle.intervals.specs.Terms.{Terms}
 use Rattle.safe_regular.specs.declared.judged.JudgedRead.{JudgedRead}
 use Rattle.safe_regular.specs.declared.judged.JudgedReads.{JudgedReads}
-use Rattle.safe_regular.specs.Rows.{AreJudgedAgain, AreKept, AreRising, EndFrom, IsNoneWrong, IsPlaceOf, IsPut, IsRight, IsWrongAt}
+use Rattle.safe_regular.specs.Rows.{AreJudgedAgain, AreKept, AreRising, EndFrom, IsNoneWrong, IsPlaceOf, IsPut, IsRight}
 
 abbrev pub end_in : List JudgedRead → ℕ → JudgedRead → ℕ
 end_in rows k d = (get_or rows k d).end.0

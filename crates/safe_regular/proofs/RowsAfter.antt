@@ -1,5 +1,5 @@
 -- Rows of operations after an edit, and what they tell.
-use Rattle.std.proofs.Common.{◌≡◌, ◌≢◌, ◌↔◌, ℕ, ◌<◌, ◌≤◌, ◌⊎◌, inl, inr, Bool, true, false, ◌&&◌, ◌==◌, List, [], length, Option, Some, None, Decides, refl, sym, ap, subst, ◌∙◌, get_or, eqb-true, eq-eqb, arith}
+use Rattle.std.proofs.Common.{◌≡◌, ◌↔◌, ℕ, ◌<◌, ◌≤◌, ◌⊎◌, inl, inr, true, false, ◌&&◌, ◌==◌, List, length, Option, Some, None, refl, sym, ap, subst, ◌∙◌, get_or, eqb-true, eq-eqb, arith}
 use Rattle.std.specs.Prelude.{Contains, IsTrue, Vec}
 use Rattle.std.specs.declared.alloc.Global.{Global}
 use Rattle.std.specs.Option.{option_map_or}
@@ -17,7 +17,7 @@ use Rattle.intervals.specs.Terms.{Terms}
 use Rattle.intervals.proofs.Ids.{Decides-same_id_is, found_again, found_stands, same_id-refl}
 use Rattle.safe_regular.specs.declared.judged.JudgedRead.{JudgedRead}
 use Rattle.safe_regular.specs.declared.judged.JudgedReads.{JudgedReads}
-use Rattle.safe_regular.specs.Change.{IsAmong, IsChangeOf}
+use Rattle.safe_regular.specs.Change.{IsChangeOf}
 use Rattle.safe_regular.specs.First.{IsFirstEnded}
 use Rattle.safe_regular.specs.Held.{AreOneWriters}
 use Rattle.safe_regular.specs.Rows.{AreJudged, AreJudgedAgain, AreKept, AreRising, HasRow, IsEndOf, IsNoneWrong, IsPutFor, IsRight, IsWrongAt, is_wrong_row}

@@ -1,7 +1,6 @@
 -- Which writes decide how a read is judged, and which edits leave that alone.
-use Rattle.std.proofs.Common.{◌≡◌, ◌<◌, ◌≤◌, ◌⊎◌, inl, inr, Bool, true, false, not, ◌&&◌, List, Option, Some, None, Decides, refl, sym, ap, subst, ◌∙◌, arith}
-use Rattle.std.specs.Prelude.{All, Any, Contains, IsTrue}
-use Rattle.std.proofs.lemmas.Bool.{both_ways}
+use Rattle.std.proofs.Common.{◌≡◌, ◌<◌, ◌≤◌, inl, inr, Bool, not, ◌&&◌, List, Option, refl, sym, ap, subst, ◌∙◌, arith}
+use Rattle.std.specs.Prelude.{Contains}
 use Rattle.std.proofs.lemmas.Bool.Decides.{same_from_decides, Decides-like}
 use Rattle.std.proofs.lemmas.List.Elements.{All-contains}
 use Rattle.intervals.specs.declared.claim.Kind.{Kind}
@@ -15,8 +14,8 @@ use Rattle.intervals.specs.Terms.{Terms}
 use Rattle.intervals.proofs.Agreement.{Decides-is_regular_read, Decides-is_safe_read}
 use Rattle.intervals.proofs.Members.{all_from}
 use Rattle.safe_regular.specs.Apart.{AreApart}
-use Rattle.safe_regular.specs.Change.{IsAmong, IsChangeOf}
-use Rattle.safe_regular.specs.Seen.{AreOneTo, AreSeenIn, IsBehind, IsSeenIn, LeavesAlone}
+use Rattle.safe_regular.specs.Change.{IsChangeOf}
+use Rattle.safe_regular.specs.Seen.{AreSeenIn, IsBehind, IsSeenIn, LeavesAlone}
 use Rattle.safe_regular.proofs.Apart.{begins_before}
 use Rattle.safe_regular.proofs.Nearest.{IsReadAmong, read_among}
 use Rattle.safe_regular.proofs.Told.{writes_apart}

@@ -1,6 +1,6 @@
 -- What is known of the writes that were looked at to judge a read. Words of the proofs; no public clause
 -- speaks of them.
-use Rattle.std.specs.Prelude.{◌≡◌, ◌≢◌, ℕ, ◌<◌, ◌≤◌, Bool, true, not, ◌&&◌, List, Contains, Option, Some, None, if◌then◌else◌}
+use Rattle.std.specs.Prelude.{◌≢◌, ℕ, ◌<◌, ◌≤◌, Bool, true, not, ◌&&◌, List, Contains, Option, Some, None, if◌then◌else◌}
 use Rattle.intervals.specs.declared.operation.Op.{Op}
 use Rattle.intervals.specs.Judging.{end_number, is_allowed}
 use Rattle.intervals.specs.Operation.{Precedes, IsWrite, precedes, same_value, value_of}

@@ -367,8 +367,9 @@ fn is_wrong_row(claim: &Claim, writes: &Writes, table: &OpTable, row: &JudgedRea
     }
 }
 
-/// The moment from which on reads that end are to be judged again. Those that end before it see the same writes, and
-/// so do all that began by the latest moment, where a write keeps its beginning and value and ended no earlier.
+/// The moment from which on reads that end are to be judged again: the first beginning of the two writes. A read that
+/// ended before it sees the same writes. There is no such moment where a write keeps its beginning and value, and neither
+/// end is before the moment after which no read began.
 fn first_changed(old: &Option<Op>, new: &Option<Op>, latest: Moment) -> u64
     ensures { (r : AnOp) → r.begin.0 ≤ latest.0 → end_number r < result → LeavesAlone r old.now new.now }
 {

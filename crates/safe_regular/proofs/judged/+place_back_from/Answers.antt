@@ -1,4 +1,4 @@
-use Rattle.std.proofs.Common.{ℕ, ◌-◌, ◌<◌, false, length, arith}
+use Rattle.std.proofs.Common.{◌-◌, ◌<◌, false, length, arith}
 use Rattle.safe_regular.specs.declared.judged.JudgedRead.{JudgedRead}
 use Rattle.safe_regular.proofs.Rows.{at_default, from_one_before, place_here}
 use Rattle.safe_regular.proofs.judged.+place_back_from.Goals as goal

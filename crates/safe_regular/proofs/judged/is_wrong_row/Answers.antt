@@ -1,5 +1,5 @@
-use Rattle.std.proofs.Common.{◌≡◌, ◌∙◌, Bool, Some, true, sym, subst}
-use Rattle.std.specs.Prelude.{Contains, IfSome}
+use Rattle.std.proofs.Common.{◌≡◌, ◌∙◌, Bool, Some, sym, subst}
+use Rattle.std.specs.Prelude.{IfSome}
 use Rattle.intervals.specs.Edit.{found_by}
 use Rattle.intervals.specs.Operation.{IsJudgedRead}
 use Rattle.intervals.specs.Terms.{terms_of}

@@ -1,6 +1,4 @@
-use Rattle.std.proofs.Common.{◌≡◌, ◌≢◌, ◌<◌, length}
-use Rattle.safe_regular.specs.declared.judged.JudgedRead.{JudgedRead}
-use Rattle.safe_regular.proofs.Rows.{behind_place, end_in, insert_put, insert_rising, set_put}
+use Rattle.safe_regular.proofs.Rows.{behind_place, insert_put, insert_rising, set_put}
 use Rattle.safe_regular.proofs.judged.put_row.Goals as goal
 
 pub returns-then-is_end_at-clause-put : goal.returns-then-is_end_at-clause-put

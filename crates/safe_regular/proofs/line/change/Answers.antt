@@ -1,4 +1,3 @@
-use Rattle.std.proofs.Common.{◌≡◌, ◌≤◌, None, arith}
 use Rattle.intervals.specs.Terms.{terms_of}
 use Rattle.safe_regular.proofs.Settled.{laid_after, may_be_changed, new_listed}
 use Rattle.safe_regular.proofs.line.change.Goals as goal

@@ -1,7 +1,6 @@
-use Rattle.std.proofs.Common.{◌≡◌, ◌≢◌, sym, subst, rules}
+use Rattle.std.proofs.Common.{◌≢◌, sym, subst, rules}
 use Rattle.intervals.specs.declared.claim.Kind.TheVariants.{Atomic}
 use Rattle.intervals.specs.Terms.{Terms}
-use Rattle.safe_regular.specs.Line.{AreItems}
 use Rattle.safe_regular.proofs.judge.SingleWriterJudge.new.Goals as goal
 
 pub invariant_of-result : goal.invariant_of-result

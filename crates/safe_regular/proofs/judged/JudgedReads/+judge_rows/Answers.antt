@@ -1,4 +1,4 @@
-use Rattle.std.proofs.Common.{◌≡◌, ◌+◌, ◌<◌, false, length, arith}
+use Rattle.std.proofs.Common.{◌+◌, ◌<◌, false, length, arith}
 use Rattle.intervals.specs.Terms.{terms_of}
 use Rattle.safe_regular.specs.declared.judged.JudgedRead.{JudgedRead}
 use Rattle.safe_regular.proofs.Rows.{end_in, here_is, judged_from, kept_rising, place_next}

@@ -1,9 +1,4 @@
-use Rattle.std.proofs.Common.{◌≡◌, ◌≤◌, ◌∙◌, List, ap, subst, sym, arith}
 use Rattle.intervals.specs.Terms.{terms_of}
-use Rattle.safe_regular.specs.declared.judged.JudgedRead.{JudgedRead}
-use Rattle.safe_regular.specs.declared.judged.JudgedReads.{JudgedReads}
-use Rattle.safe_regular.specs.Rows.{AreJudged}
-use Rattle.safe_regular.proofs.Rows.{kept_rising}
 use Rattle.safe_regular.proofs.RowsAfter.{judged_after}
 use Rattle.safe_regular.proofs.judged.JudgedReads.change.Goals as goal
 

@@ -1,4 +1,4 @@
-use Rattle.std.proofs.Common.{◌∙◌, ◌≤◌, length, sym}
+use Rattle.std.proofs.Common.{◌∙◌, sym}
 use Rattle.safe_regular.proofs.RowsAfter.{first_told, none_told}
 use Rattle.safe_regular.proofs.judged.JudgedReads.first_wrong.Goals as goal
 

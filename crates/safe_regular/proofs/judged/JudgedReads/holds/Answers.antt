@@ -1,4 +1,4 @@
-use Rattle.std.proofs.Common.{◌≤◌, length, leb-true, le-leb, arith}
+use Rattle.std.proofs.Common.{leb-true, le-leb, arith}
 use Rattle.safe_regular.proofs.RowsAfter.{is_none_told}
 use Rattle.safe_regular.proofs.judged.JudgedReads.holds.Goals as goal
 

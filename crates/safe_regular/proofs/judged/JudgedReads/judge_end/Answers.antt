@@ -1,9 +1,8 @@
 use Rattle.std.proofs.Common.{◌≡◌, ◌∙◌, ℕ, Option, Some, None, sym, subst}
 use Rattle.intervals.specs.declared.operation.Op.{Op}
 use Rattle.intervals.specs.Judging.{end_number}
-use Rattle.intervals.specs.Terms.{Terms, terms_of}
-use Rattle.safe_regular.specs.declared.judged.JudgedRead.{JudgedRead}
-use Rattle.safe_regular.specs.Rows.{AreJudgedAgain, IsEndOf}
+use Rattle.intervals.specs.Terms.{terms_of}
+use Rattle.safe_regular.specs.Rows.{IsEndOf}
 use Rattle.safe_regular.proofs.Rows.{judged_those}
 use Rattle.safe_regular.proofs.judged.JudgedReads.judge_end.Goals as goal
 
