@@ -410,8 +410,9 @@ fn a_reading_ends_at_its_limit(rt: HostRuntime) -> Result<(), Fail> {
     Ok(())
 }
 
-/// To be run with each allocation refused in turn.
+/// To be run with each allocation refused in turn. Where that of a page is refused, its texts get pages of their own.
 #[test]
 fn a_run_is_told_again_where_memory_is_refused(rt: HostRuntime) -> Result<(), Fail> {
-    each_is_told(&rt, MEMORY)
+    each_is_told(&rt, MEMORY)?;
+    Row::read(LONG).is_told(&rt, "open", Given::Cut(5_030))
 }
