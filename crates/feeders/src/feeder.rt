@@ -15,7 +15,8 @@ use crate::fed::Fed;
 use crate::intake::Intake;
 use crate::kept::Kept;
 use crate::log::{BreakCode, Broken, Log};
-use crate::pages::{Pages, page_of};
+use crate::pages::Pages;
+use crate::paging::Paging;
 use crate::pending::Pending;
 use crate::progress::Progress;
 use crate::site::Site;
@@ -54,6 +55,7 @@ pub struct Feeder<'t> {
     tower: &'t Tower,
     pages: &'t Pages,
     intake: Intake<'t>,
+    paging: Paging,
     course: Course,
 }
 
@@ -95,6 +97,7 @@ impl<'t> Feeder<'t> {
                 progress: Progress::new(alloc, feeder),
                 pending: Pending::Nothing,
             },
+            paging: Paging::new(),
             course: Course::Open,
         }
     }
@@ -140,7 +143,7 @@ impl<'t> Feeder<'t> {
             tower: self.tower,
             field: self.field,
         };
-        let page = page_of(self.pages, rt, alloc, piece);
+        let page = self.paging.page_of(self.pages, rt, alloc, pass, piece);
         match self.intake.take_piece(site, self.pages, pass, piece, page) {
             Ok(true) => {
                 self.course = Course::Open;

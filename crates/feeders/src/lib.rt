@@ -21,6 +21,7 @@ pub mod laws;
 mod log;
 mod next;
 mod pages;
+mod paging;
 mod pending;
 mod progress;
 mod run;

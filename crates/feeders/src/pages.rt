@@ -32,24 +32,6 @@ impl Pages {
     }
 }
 
-/// A piece is put on a page whole from this length on. From a shorter one each text gets a page of its own.
-const WHOLE: usize = 4_096;
-
-/// The page of a piece that is long enough for one. Where memory for it is refused there is none.
-pub fn page_of<'t, R: Wait>(
-    pages: &'t Pages,
-    rt: &R,
-    alloc: Global,
-    piece: &[u8],
-) -> Option<&'t [u8]>
-    ensures { IsPageOf result piece.now }
-{
-    if piece.len() < WHOLE {
-        return None;
-    }
-    pages.push(rt, alloc, piece).ok()
-}
-
 /// The bytes of a page from one place to another.
 pub fn part_of<'t>(page: Option<&'t [u8]>, from: usize, to: usize) -> Option<&'t [u8]>
     ensures { (bytes : List ℕ) → IsPageOf page.entry bytes → IsPageOf result (take (to - from) (drop from bytes)) }
