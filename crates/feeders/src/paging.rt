@@ -10,14 +10,14 @@ use std::sync::Wait;
 /// A piece is long from this length on. From a shorter one each text gets a page of its own.
 const LONG: usize = 4_096;
 
-/// A long piece is put on a page where the one before it gave an entry for each so many of its bytes: so what lies on pages
-/// and is not lent grows with the entries, and not with what is skipped.
+/// A long piece is put on a page where it has no more than so many bytes for each entry that came since the one before it
+/// began, or is the first: so what lies on pages and is not lent grows with the entries, and not with what is skipped.
 const BYTES_AN_ENTRY: u64 = 256;
 
 /// There are no more shards.
 const SHARDS: u32 = 64;
 
-/// The length of a feeder's last long piece, and how many entries the feeder had submitted before it.
+/// The length of a feeder's last long piece, 0 where there was none, and how many entries the feeder had submitted before it.
 #[derive(Clone, Copy)]
 pub struct Paging {
     length: usize,
@@ -48,7 +48,8 @@ impl Paging {
         }
         let submitted = submitted_by(pass);
         let entries = submitted.saturating_sub(self.submitted);
-        let is_dense = self.length as u64 <= entries.saturating_mul(BYTES_AN_ENTRY);
+        let is_dense = self.length == 0
+            || piece.len() as u64 <= entries.saturating_mul(BYTES_AN_ENTRY);
         *self = Paging {
             length: piece.len(),
             submitted,
