@@ -9,7 +9,7 @@ use Rattle.std.proofs.lemmas.Option.{none-some, same_Some}
 use Rattle.intervals.specs.declared.operation.Op.{Op}
 use Rattle.intervals.specs.declared.operation.RegId.{RegId}
 use Rattle.intervals.specs.declared.edit.Edit.{Edit}
-use Rattle.intervals.specs.Terms.{Terms, Claimed, unedited}
+use Rattle.intervals.specs.Terms.{ClaimModel, RegisterState, unedited}
 use Rattle.intervals.specs.Bare.{bare, bare_edit, bare_held}
 use Rattle.intervals.specs.Refusal.{reply_to, standing}
 use Rattle.register_book.specs.declared.reply.Reply.{Reply}
@@ -17,13 +17,13 @@ use Rattle.register_book.specs.Reply.{IsReply}
 use Rattle.pairing.specs.declared.step.Step.TheVariants as steps
 use Rattle.tower_file.specs.Alone.{alone_claim, alone_tower}
 use Rattle.shards.specs.declared.entry.Entry.{Entry}
-use Rattle.shards.specs.declared.entry.Numbered.{Numbered}
+use Rattle.shards.specs.declared.entry.NumberedEntry.{NumberedEntry}
 use Rattle.shards.specs.Plan.{Plan, plan_of}
 use Rattle.shards.specs.Plain.{PlainEntry, plain_numbered}
 use Rattle.shards.specs.Journal.{IsAnswered, IsLegalJournal, edits_of, is_of, is_accepted, left_by}
 use Rattle.shards.specs.Merge.{numbered, is_numbered_by, entries_of}
 use Rattle.shards.specs.Steps.{entry_of, numbered_entry}
-use Rattle.feeders.specs.Steps.{Taken}
+use Rattle.feeders.specs.Steps.{StepResult}
 use Rattle.feeders.specs.Doings.{Doing, refused, nothing, entered, answered, taken_of, entered_in}
 use Rattle.commands.specs.Verdict.{edit_to, standing_after, IsRefused}
 use Rattle.commands.proofs.AloneReplies.{same_bare, refusal_of, reply_after, one_reply, after_front, front_of}
@@ -34,11 +34,11 @@ abbrev pub alone_plan : Plan
 alone_plan = plan_of 0 alone_tower 1 1
 
 -- the edits of steps
-abbrev pub edits_after : List Taken → List Edit
+abbrev pub edits_after : List StepResult → List Edit
 edits_after taken = filter_map (edit_to 0) taken
 
 -- all are of the one register
-known_is : (n : ℕ) (claim : Terms) → slice_get alone_plan.claims n ≡ Some claim → (n ≡ 0) × (claim ≡ alone_claim)
+known_is : (n : ℕ) (claim : ClaimModel) → slice_get alone_plan.claims n ≡ Some claim → (n ≡ 0) × (claim ≡ alone_claim)
 known_is zero claim known = (refl, sym (same_Some alone_claim claim known))
 known_is (suc n) claim known = absurd (none-some claim known)
 
@@ -51,7 +51,7 @@ pub all_entries : (number : ℕ) (journal : List Entry) → AllByRecursion (λ e
 all_entries number [] all = refl
 all_entries number (entry ∷ journal) all =
     ap (λ (by : Bool). if by then record { number = number; entry = entry } ∷ filter (is_numbered_by 0) (numbered (number + 1) journal) else filter (is_numbered_by 0) (numbered (number + 1) journal)) (eq-eqb entry.feeder 0 all.0)
-    ∙ ap (λ (rest : List Numbered). record { number = number; entry = entry } ∷ rest) (all_entries (number + 1) journal all.1)
+    ∙ ap (λ (rest : List NumberedEntry). record { number = number; entry = entry } ∷ rest) (all_entries (number + 1) journal all.1)
 
 -- an entry of the register adds its edit
 edits_pushed : (front : List Entry) (entry : Entry) → entry.register.0 ≡ 0 → edits_of 0 (front ++ entry ∷ []) ≡ edits_of 0 front ++ entry.edit ∷ []
@@ -61,13 +61,13 @@ edits_pushed front entry own =
     ∙ ap (λ (same : Bool). edits_of 0 front ++ map (λ (e : Entry). e.edit) (if same then entry ∷ [] else [])) (eq-eqb entry.register.0 0 own)
 
 -- a step without an edit adds none
-edits_kept : (before : List Taken) (step : Taken) → edit_to 0 step ≡ None → edits_after (before ++ step ∷ []) ≡ edits_after before
+edits_kept : (before : List StepResult) (step : StepResult) → edit_to 0 step ≡ None → edits_after (before ++ step ∷ []) ≡ edits_after before
 edits_kept before step none =
     filter_map-append (edit_to 0) before (step ∷ [])
     ∙ ap (λ (o : Option Edit). edits_after before ++ cons_option o []) none
     ∙ append-nil (edits_after before)
 
-edits_more : (before : List Taken) (step : Taken) (edit : Edit) → edit_to 0 step ≡ Some edit → edits_after (before ++ step ∷ []) ≡ edits_after before ++ edit ∷ []
+edits_more : (before : List StepResult) (step : StepResult) (edit : Edit) → edit_to 0 step ≡ Some edit → edits_after (before ++ step ∷ []) ≡ edits_after before ++ edit ∷ []
 edits_more before step edit some =
     filter_map-append (edit_to 0) before (step ∷ [])
     ∙ ap (λ (o : Option Edit). edits_after before ++ cons_option o []) some
@@ -104,21 +104,21 @@ own_entry front entry rest legal =
 
 -- the edits of the journal are those of the steps, but for their texts; and each doing is a refusal where its
 -- step is refused
-pub record Runs (before : List Taken) (front journal : List Entry) (doings : List Doing) : Type 0 where
+pub record Runs (before : List StepResult) (front journal : List Entry) (doings : List Doing) : Type 0 where
   pub edits : map bare_edit (edits_of 0 (front ++ journal)) ≡ map bare_edit (edits_after (before ++ map taken_of doings))
   pub replied : AreReplied before doings
 
-later : (before : List Taken) (step : Taken) (steps : List Taken) → (before ++ step ∷ []) ++ steps ≡ before ++ step ∷ steps
+later : (before : List StepResult) (step : StepResult) (steps : List StepResult) → (before ++ step ∷ []) ++ steps ≡ before ++ step ∷ steps
 later before step steps = append_assoc before (step ∷ []) steps
 
-without : (before : List Taken) (front journal : List Entry) (doing : Doing) (doings : List Doing) → (IsTrue (is_refusing doing) ↔ IsRefused before (taken_of doing))
+without : (before : List StepResult) (front journal : List Entry) (doing : Doing) (doings : List Doing) → (IsTrue (is_refusing doing) ↔ IsRefused before (taken_of doing))
     → Runs (before ++ taken_of doing ∷ []) front journal doings → Runs before front journal (doing ∷ doings)
 without before front journal doing doings here runs = record {
-  edits = runs.edits ∙ ap (λ (t : List Taken). map bare_edit (edits_after t)) (later before (taken_of doing) (map taken_of doings));
+  edits = runs.edits ∙ ap (λ (t : List StepResult). map bare_edit (edits_after t)) (later before (taken_of doing) (map taken_of doings));
   replied = (here, runs.replied);
 }
 
-pushed : (before : List Taken) (front : List Entry) (entry : Entry) (register : RegId) (edit : Edit) (number : ℕ) (reply : Reply)
+pushed : (before : List StepResult) (front : List Entry) (entry : Entry) (register : RegId) (edit : Edit) (number : ℕ) (reply : Reply)
     → map bare_edit (edits_of 0 front) ≡ map bare_edit (edits_after before) → IsOne entry register edit reply
     → map bare_edit (edits_of 0 (front ++ entry ∷ [])) ≡ map bare_edit (edits_after (before ++ taken_of (entered register edit number reply) ∷ []))
 pushed before front entry register edit number reply edits one =
@@ -131,19 +131,19 @@ pushed before front entry register edit number reply edits one =
 
 module _
     (stands : (journal : List Entry) → IsLegalJournal alone_plan 0 journal → left_by journal 0 alone_claim ≡ standing (unedited alone_claim) (edits_of 0 journal))
-    (reply_is : (claim : Terms) (ops : List Op) (edit : Edit) → reply_to claim (map bare ops) (bare_edit edit) ≡ reply_to claim ops edit)
+    (reply_is : (claim : ClaimModel) (ops : List Op) (edit : Edit) → reply_to claim (map bare ops) (bare_edit edit) ≡ reply_to claim ops edit)
     (stood : (edits : List Edit) → bare_held (standing (unedited alone_claim) (map bare_edit edits)) ≡ bare_held (standing (unedited alone_claim) edits)) where
   replied_entry : (front : List Entry) (entry : Entry) (rest : List Entry) → IsLegalJournal alone_plan 0 (front ++ entry ∷ rest)
       → not (is_accepted entry.reply) ≡ is_some (reply_after (standing (unedited alone_claim) (edits_of 0 front)) entry.edit)
   replied_entry front entry rest legal =
       let is : IsAnswered alone_plan 0 front entry = after_front (IsAnswered alone_plan 0) [] front entry rest legal in
       let known : (entry.register.0 ≡ 0) × (is.claim ≡ alone_claim) = known_is entry.register.0 is.claim is.known in
-      let here : IsReply (left_by front entry.register.0 alone_claim) entry.edit entry.reply = subst (λ (c : Terms). IsReply (left_by front entry.register.0 c) entry.edit entry.reply) known.1 is.reply in
+      let here : IsReply (left_by front entry.register.0 alone_claim) entry.edit entry.reply = subst (λ (c : ClaimModel). IsReply (left_by front entry.register.0 c) entry.edit entry.reply) known.1 is.reply in
       let zero_here : IsReply (left_by front 0 alone_claim) entry.edit entry.reply = subst (λ (n : ℕ). IsReply (left_by front n alone_claim) entry.edit entry.reply) known.0 here in
       refusal_of (left_by front 0 alone_claim) entry.edit entry.reply zero_here
-      ∙ ap (λ (held : Claimed). is_some (reply_after held entry.edit)) (stands front (front_of (IsAnswered alone_plan 0) [] front (entry ∷ rest) legal))
+      ∙ ap (λ (held : RegisterState). is_some (reply_after held entry.edit)) (stands front (front_of (IsAnswered alone_plan 0) [] front (entry ∷ rest) legal))
 
-  entering : (before : List Taken) (front : List Entry) (entry : Entry) (journal : List Entry) (register : RegId) (edit : Edit) (number : ℕ) (reply : Reply) (doings : List Doing)
+  entering : (before : List StepResult) (front : List Entry) (entry : Entry) (journal : List Entry) (register : RegId) (edit : Edit) (number : ℕ) (reply : Reply) (doings : List Doing)
       → IsLegalJournal alone_plan 0 (front ++ entry ∷ journal) → map bare_edit (edits_of 0 front) ≡ map bare_edit (edits_after before) → IsOne entry register edit reply
       → Runs (before ++ taken_of (entered register edit number reply) ∷ []) (front ++ entry ∷ []) journal doings
       → Runs before front (entry ∷ journal) (entered register edit number reply ∷ doings)
@@ -155,16 +155,16 @@ module _
       record {
         edits = ap (λ (l : List Entry). map bare_edit (edits_of 0 l)) (sym (append_assoc front (entry ∷ []) journal))
             ∙ rest.edits
-            ∙ ap (λ (t : List Taken). map bare_edit (edits_after t)) (later before (taken_of (entered register edit number reply)) (map taken_of doings));
+            ∙ ap (λ (t : List StepResult). map bare_edit (edits_after t)) (later before (taken_of (entered register edit number reply)) (map taken_of doings));
         replied = (((λ is. sym same ∙ is), (λ is. same ∙ is)), rest.replied);
       }
 
-  runs : (place : ℕ) (before : List Taken) (front journal : List Entry) (doings : List Doing) → IsLegalJournal alone_plan 0 (front ++ journal)
+  runs : (place : ℕ) (before : List StepResult) (front journal : List Entry) (doings : List Doing) → IsLegalJournal alone_plan 0 (front ++ journal)
       → map bare_edit (edits_of 0 front) ≡ map bare_edit (edits_after before)
       → map plain_numbered (numbered place journal) ≡ map plain_numbered (entered_in 1 0 0 doings)
       → Runs before front journal doings
   runs place before front [] [] legal edits same = record {
-    edits = ap (λ (l : List Entry). map bare_edit (edits_of 0 l)) (append-nil front) ∙ edits ∙ ap (λ (t : List Taken). map bare_edit (edits_after t)) (sym (append-nil before));
+    edits = ap (λ (l : List Entry). map bare_edit (edits_of 0 l)) (append-nil front) ∙ edits ∙ ap (λ (t : List StepResult). map bare_edit (edits_after t)) (sym (append-nil before));
     replied = tt;
   }
   runs place before front (entry ∷ journal) [] legal edits same = cc

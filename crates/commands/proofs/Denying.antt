@@ -1,20 +1,20 @@
--- The parts of a text between its commas.
+-- The parts of a text between its commas, and the codes that they name.
 use Rattle.std.proofs.Common.{◌≡◌, ◌==◌, ◌<◌, ◌+◌, ℕ, suc, Bool, true, false, List, [], ◌∷◌, ◌++◌, length, take, drop, cond, not, subst, append_assoc, refl, sym, ap, ◌∙◌, arith}
 use Rattle.std.specs.List.{position_or_len, after_first, AllZip}
 use native.Mathlib.Numerals.{unary_clauses}
-use Rattle.commands.specs.Denied.{IsNoteNamed, at_front, parts_of}
+use Rattle.commands.specs.Denied.{IsNoteNamed, at_front, comma_parts}
 
 abbrev pub is_comma : ℕ → Bool
 is_comma byte = byte == 44
 
 no_comma_by : (byte : ℕ) (text : List ℕ) (at : Bool) → (byte == 44) ≡ at → position_or_len is_comma (byte ∷ text) ≡ length (byte ∷ text)
-    → (position_or_len is_comma text ≡ length text → parts_of text ≡ text ∷ []) → parts_of (byte ∷ text) ≡ (byte ∷ text) ∷ []
+    → (position_or_len is_comma text ≡ length text → comma_parts text ≡ text ∷ []) → comma_parts (byte ∷ text) ≡ (byte ∷ text) ∷ []
 no_comma_by byte text true at is more = absurd cc
 no_comma_by byte text false at is more =
     let less : 1 + position_or_len is_comma text ≡ length (byte ∷ text) = subst (λ (found : Bool). cond (not found) (1 + position_or_len is_comma text) 0 ≡ length (byte ∷ text)) at is in
     rw (at, more (omega (arith, less))) refl
 
-pub no_comma : (text : List ℕ) → position_or_len is_comma text ≡ length text → parts_of text ≡ text ∷ []
+pub no_comma : (text : List ℕ) → position_or_len is_comma text ≡ length text → comma_parts text ≡ text ∷ []
 no_comma [] is = refl
 no_comma (byte ∷ text) is = no_comma_by byte text (byte == 44) refl is (no_comma text)
 
@@ -22,21 +22,21 @@ later : (byte : ℕ) (text : List ℕ) → (byte == 44) ≡ false → position_o
 later byte text at = rw at (omega arith)
 
 at_comma_by : (byte : ℕ) (text : List ℕ) (at : Bool) → (byte == 44) ≡ at → position_or_len is_comma (byte ∷ text) < length (byte ∷ text)
-    → (position_or_len is_comma text < length text → parts_of text ≡ take (position_or_len is_comma text) text ∷ parts_of (after_first is_comma text))
-    → parts_of (byte ∷ text) ≡ take (position_or_len is_comma (byte ∷ text)) (byte ∷ text) ∷ parts_of (drop (position_or_len is_comma (byte ∷ text) + 1) (byte ∷ text))
+    → (position_or_len is_comma text < length text → comma_parts text ≡ take (position_or_len is_comma text) text ∷ comma_parts (after_first is_comma text))
+    → comma_parts (byte ∷ text) ≡ take (position_or_len is_comma (byte ∷ text)) (byte ∷ text) ∷ comma_parts (drop (position_or_len is_comma (byte ∷ text) + 1) (byte ∷ text))
 at_comma_by byte text true at within more = rw at refl
 at_comma_by byte text false at within more =
     let place = later byte text at in
     let within_rest : position_or_len is_comma text < length text = omega (arith, place, within) in
     rw (place, at, more within_rest) (simp unary_clauses refl)
 
-pub at_comma : (text : List ℕ) → position_or_len is_comma text < length text → parts_of text ≡ take (position_or_len is_comma text) text ∷ parts_of (after_first is_comma text)
+pub at_comma : (text : List ℕ) → position_or_len is_comma text < length text → comma_parts text ≡ take (position_or_len is_comma text) text ∷ comma_parts (after_first is_comma text)
 at_comma [] within = absurd (omega (arith, within))
 at_comma (byte ∷ text) within = at_comma_by byte text (byte == 44) refl within (at_comma text)
 
--- these are codes of the first words, and the rest has the others
+-- codes of the first words, while the rest of the text has the others
 abbrev pub HasFirst : List ℕ → List ℕ → List (List ℕ) → Type 0
-HasFirst whole rest denied = (words : List (List ℕ)) × AllZip IsNoteNamed words denied × (words ++ parts_of rest ≡ parts_of whole)
+HasFirst whole rest denied = (words : List (List ℕ)) × AllZip IsNoteNamed words denied × (words ++ comma_parts rest ≡ comma_parts whole)
 
 one_more : {A B : Type 0} (R : A → B → Type 0) (words : List A) (codes : List B) (word : A) (code : B) → AllZip R words codes → R word code → AllZip R (words ++ word ∷ []) (codes ++ code ∷ [])
 one_more R [] [] word code all named = (named, tt)
@@ -53,10 +53,10 @@ goes_on whole rest word more code old new has within word_is more_is named new_i
     let words = has.0 in (
       words ++ word ∷ [],
       subst (λ (codes : List (List ℕ)). AllZip IsNoteNamed (words ++ word ∷ []) codes) (sym new_is) (one_more IsNoteNamed words old word code has.1 named),
-      append_assoc words (word ∷ []) (parts_of more) ∙ ap (λ (parts : List (List ℕ)). words ++ parts) (rw (word_is, more_is) (sym (at_comma rest within))) ∙ has.2,
+      append_assoc words (word ∷ []) (comma_parts more) ∙ ap (λ (parts : List (List ℕ)). words ++ parts) (rw (word_is, more_is) (sym (at_comma rest within))) ∙ has.2,
     )
 
-pub ends : (whole rest code : List ℕ) (old new : List (List ℕ)) → HasFirst whole rest old → position_or_len is_comma rest ≡ length rest → IsNoteNamed rest code → new ≡ old ++ code ∷ [] → AllZip IsNoteNamed (parts_of whole) new
+pub ends : (whole rest code : List ℕ) (old new : List (List ℕ)) → HasFirst whole rest old → position_or_len is_comma rest ≡ length rest → IsNoteNamed rest code → new ≡ old ++ code ∷ [] → AllZip IsNoteNamed (comma_parts whole) new
 ends whole rest code old new has none named new_is =
     let words = has.0 in
     subst (λ (parts : List (List ℕ)). AllZip IsNoteNamed parts new) (ap (λ (parts : List (List ℕ)). words ++ parts) (sym (no_comma rest none)) ∙ has.2)

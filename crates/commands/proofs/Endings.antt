@@ -4,9 +4,9 @@ use Rattle.std.specs.Prelude.{IfSome, is_some}
 use Rattle.std.specs.Io.KnownBytes.{Appends}
 use Rattle.intervals.specs.declared.operation.RegId.{RegId}
 use Rattle.jepsen_form.specs.declared.item.MomentField.{MomentField}
-use Rattle.tower_file.specs.Contents.{Contents}
+use Rattle.tower_file.specs.Contents.{TowerModel}
 use Rattle.tower_file.specs.Tower.{IsTowerOf}
-use Rattle.shards.specs.Closing.{Ended}
+use Rattle.shards.specs.Closing.{ClosedShard}
 use Rattle.feeders.specs.declared.log.Log.{Log}
 use Rattle.feeders.specs.Readers.{AreReadOf}
 use Rattle.feeders.specs.Run.{IsRun}
@@ -15,15 +15,15 @@ use Rattle.commands.specs.declared.safe.Audit.{Audit}
 use Rattle.commands.specs.Audit.{IsAudit}
 use Rattle.commands.specs.Status.{status_of}
 use Rattle.commands.specs.Verdict.{IsAudited, verdict_line}
-use Rattle.commands.specs.Checked.{IsChecked, IsNamed, IsPrinted, IsStatus, field_of}
+use Rattle.commands.specs.Checked.{IsChecked, IsNamed, IsPrinted, IsStatus, chosen_field}
 use Rattle.commands.specs.Shown.{IsShown}
 
 -- `AreTheir known` says that the files hold these texts
-pub checked : (held : Option (List ℕ)) (asked : AskedCheck) (tower : Contents) (order : Option RegId) (closed : List Ended) (logs : List Log) (chosen : MomentField) (lefts : List (Option (List ℕ))) (AreTheir : List (List ℕ) → Type 0) (status : ℕ) (old new : Option (List ℕ))
+pub checked : (held : Option (List ℕ)) (asked : AskedCheck) (tower : TowerModel) (order : Option RegId) (closed : List ClosedShard) (logs : List Log) (chosen : MomentField) (lefts : List (Option (List ℕ))) (AreTheir : List (List ℕ) → Type 0) (status : ℕ) (old new : Option (List ℕ))
     → IfSome held (λ file. IsTowerOf file tower)
     → IsNamed tower asked.order order
     → ((known : List (List ℕ)) → AreTheir known → lefts ≡ map (λ text. Some text) known)
-    → chosen ≡ field_of asked.moments
+    → chosen ≡ chosen_field asked.moments
     → ((read : List (List ℕ)) × AreReadOf lefts logs read × IsRun tower chosen asked.shards read closed logs)
     → ((text : List ℕ) × IsPrinted asked.form tower closed logs order text × Appends old new text)
     → IsStatus tower closed logs asked.least asked.least_each status
@@ -67,12 +67,12 @@ audited (Some input) audit status old new is written status_is = record {
   status_is = status_is;
 }
 
--- the same of a picture
-pub shown : (held : Option (List ℕ)) (asked : AskedShow) (tower : Contents) (register : Option RegId) (closed : List Ended) (logs : List Log) (chosen : MomentField) (lefts : List (Option (List ℕ))) (AreTheir : List (List ℕ) → Type 0) (text : List ℕ) (status : ℕ) (old new : Option (List ℕ))
+-- what `show` has written, with `AreTheir` as for `checked`
+pub shown : (held : Option (List ℕ)) (asked : AskedShow) (tower : TowerModel) (register : Option RegId) (closed : List ClosedShard) (logs : List Log) (chosen : MomentField) (lefts : List (Option (List ℕ))) (AreTheir : List (List ℕ) → Type 0) (text : List ℕ) (status : ℕ) (old new : Option (List ℕ))
     → IfSome held (λ file. IsTowerOf file tower)
     → IsNamed tower asked.register register
     → ((known : List (List ℕ)) → AreTheir known → lefts ≡ map (λ text. Some text) known)
-    → chosen ≡ field_of asked.moments
+    → chosen ≡ chosen_field asked.moments
     → ((read : List (List ℕ)) × AreReadOf lefts logs read × IsRun tower chosen 1 read closed logs)
     → Appends old new text
     → IsStatus tower closed logs 0 0 status

@@ -3,12 +3,12 @@ use Rattle.std.proofs.Common.{◌≡◌, ◌∙◌, ◌<◌, ℕ, zero, suc, ◌
 use Rattle.std.proofs.lemmas.List.{length-map, map_more, take_all}
 use Rattle.std.specs.Prelude.{IfSome}
 use Rattle.std.specs.Borrow.{Bor}
-use Rattle.tower_file.specs.Contents.{Contents}
+use Rattle.tower_file.specs.Contents.{TowerModel}
 use Rattle.tower_file.specs.Tower.{IsTowerOf}
 use Rattle.commands.specs.Run.{AreHeld}
 
 -- the tower that the bytes say is that of the file
-pub said : (held : Option (List ℕ)) (bytes input : List ℕ) (tower : Contents) → IfSome held (λ known. bytes ≡ known) → input ≡ bytes → IsTowerOf input tower → IfSome held (λ file. IsTowerOf file tower)
+pub said : (held : Option (List ℕ)) (bytes input : List ℕ) (tower : TowerModel) → IfSome held (λ known. bytes ≡ known) → input ≡ bytes → IsTowerOf input tower → IfSome held (λ file. IsTowerOf file tower)
 said None bytes input tower read same says = search rules
 said (Some known) bytes input tower read same says = subst (λ (b : List ℕ). IsTowerOf b tower) (same ∙ read) says
 
@@ -34,7 +34,7 @@ pub as_some : (held : Option (List ℕ)) (bytes : List ℕ) → IfSome held (λ 
 as_some None bytes is = search rules
 as_some (Some known) bytes is = ap Some is
 
--- one more file, behind those that were opened
+-- one more file, after those that were opened
 pub open_more : (files later : List ℕ → Option (List ℕ)) (names : List (Bor (List ℕ))) (lefts : List (Option (List ℕ))) (known : List (List ℕ)) (left : Option (List ℕ)) (i : ℕ) (d : Bor (List ℕ)) → i < length names → later ≡ files → IfSome (later (get_or names i d).now) (λ bytes. left ≡ Some bytes) → (AreHeld files (map (λ name. name.now) names) known → lefts ≡ map (λ text. Some text) (take i known)) → AreHeld files (map (λ name. name.now) names) known → lefts ++ left ∷ [] ≡ map (λ text. Some text) (take (i + 1) known)
 open_more files later names lefts known left i d within stays opened so_far held =
     let many = as_many files names known held in
@@ -42,11 +42,11 @@ open_more files later names lefts known left i d within stays opened so_far held
     let at : later (get_or names i d).now ≡ Some (get_or known i []) = ap (λ (f : List ℕ → Option (List ℕ)). f (get_or names i d).now) stays ∙ held_at files names known i d within held in
     rw (so_far held, is_known _ left _ at opened) (sym (map_more (λ text. Some text) known i [] inside))
 
--- all of them
+-- all files that were opened
 pub all_opened : (files : List ℕ → Option (List ℕ)) (names : List (Bor (List ℕ))) (known : List (List ℕ)) → AreHeld files (map (λ name. name.now) names) known → take (length names) known ≡ known
 all_opened files names known held = subst (λ (n : ℕ). take n known ≡ known) (as_many files names known held) (take_all (length known) known (omega arith))
 
--- the same files hold the same
+-- files that are unchanged hold what they held
 pub held_later : (files later : List ℕ → Option (List ℕ)) (names others : List (Bor (List ℕ))) (known : List (List ℕ)) → later ≡ files → others ≡ names → AreHeld files (map (λ name. name.now) names) known → AreHeld later (map (λ name. name.now) others) known
 held_later files later names others known stays same held = rw (stays, same) held
 

@@ -1,7 +1,7 @@
--- What is said on standard error of a run that broke off.
+-- What is printed on standard error of a run that broke off.
 use Rattle.std.specs.Prelude.{List, ℕ, [], ◌∷◌, ◌++◌, Option, Some, None, codes}
 use Rattle.std.specs.Borrow.{Bor}
-use Rattle.shards.specs.Code.{code_of}
+use Rattle.shards.specs.Code.{shard_fault_code}
 use Rattle.feeders.specs.declared.fault.RunFault.{RunFault}
 use Rattle.feeders.specs.declared.fault.RunFault.TheVariants as runs
 use Rattle.report.specs.declared.fault.ReportFault.{ReportFault}
@@ -12,7 +12,7 @@ use Rattle.commands.specs.declared.input.InputFault.{InputFault}
 use Rattle.commands.specs.declared.input.InputFault.TheVariants as inputs
 use Rattle.report.specs.Names.{printed}
 
--- the line of a fault; the text of a usage fault is clap's
+-- the line that says why a run broke off; none for a usage fault, whose text is clap's
 abbrev pub complaint_of : CommandFault → Option (List ℕ)
 complaint_of (Usage error) = None
 complaint_of TooManyTraces = Some (codes "regaudit: too many traces" ++ 10 ∷ [])
@@ -20,23 +20,23 @@ complaint_of (Unreadable name) = Some (codes "regaudit: cannot read " ++ printed
 complaint_of (Tower code) = Some (codes "regaudit: tower " ++ code.now ++ 10 ∷ [])
 complaint_of (NoRegister name) = Some (codes "regaudit: no register " ++ printed name.now ++ 10 ∷ [])
 complaint_of (NoCode name) = Some (codes "regaudit: no code " ++ printed name.now ++ codes "; regaudit explain lists them" ++ 10 ∷ [])
-complaint_of (Shard fault) = Some (codes "regaudit: " ++ code_of fault ++ 10 ∷ [])
+complaint_of (Shard fault) = Some (codes "regaudit: " ++ shard_fault_code fault ++ 10 ∷ [])
 complaint_of Memory = Some (codes "regaudit: out of memory" ++ 10 ∷ [])
 complaint_of Unwritable = Some (codes "regaudit: cannot write" ++ 10 ∷ [])
 
--- an input of that name that was not read whole, as a command's fault: it cannot be read, or memory is wanting
+-- the fault of a command that could not read the input of this name whole, or had no memory for it
 abbrev pub unread : Bor (List ℕ) → InputFault → CommandFault
 unread name inputs.Memory = Memory
 unread name inputs.Failed = Unreadable name
 unread name inputs.TooLong = Unreadable name
 unread name inputs.TooManyCalls = Unreadable name
 
--- a run's fault as a command's: a shard's refusal stays that one
+-- the fault of a command whose run broke off: out of memory, or what a shard refused
 abbrev pub broken_off : RunFault → CommandFault
 broken_off runs.Memory = Memory
 broken_off (runs.Shard fault) = Shard fault
 
--- a report's fault as a command's
+-- the fault of a command whose report was not written: out of memory, or the output failed
 abbrev pub unreported : ReportFault → CommandFault
 unreported reports.Memory = Memory
 unreported reports.Write = Unwritable

@@ -6,21 +6,21 @@ use Rattle.texts.specs.declared.notes.Note.{Note as ANote}
 use Rattle.texts.specs.declared.topic.Topic.TheVariants.{Note}
 use Rattle.texts.specs.Topics.{topic_code, topic_of}
 
--- a byte at the front of the first part
+-- the parts with one byte more at the beginning of the first
 abbrev pub at_front : ℕ → List Text → List Text
 at_front byte [] = (byte ∷ []) ∷ []
 at_front byte (part ∷ parts) = (byte ∷ part) ∷ parts
 
 -- the parts of a text between its commas
-abbrev pub parts_of : Text → List Text
-parts_of [] = [] ∷ []
-parts_of (byte ∷ text) = if byte == 44 then [] ∷ parts_of text else at_front byte (parts_of text)
+abbrev pub comma_parts : Text → List Text
+comma_parts [] = [] ∷ []
+comma_parts (byte ∷ text) = if byte == 44 then [] ∷ comma_parts text else at_front byte (comma_parts text)
 
--- the word names a note, in capitals or not, and this is its code
+-- the word names a note, in capitals or not, and this is the note's code
 abbrev pub IsNoteNamed : Text → Text → Type 0
 IsNoteNamed word code = (note : ANote) × (topic_of word ≡ Some (Note note)) × (code ≡ topic_code (Note note))
 
--- these are the codes of the notes that a text names, with commas between them; none where there is no text
+-- the codes of the notes that an optional text names, with commas between them
 abbrev pub AreDenied : Option Text → List Text → Type 0
 AreDenied None denied = denied ≡ []
-AreDenied (Some text) denied = AllZip IsNoteNamed (parts_of text) denied
+AreDenied (Some text) denied = AllZip IsNoteNamed (comma_parts text) denied

@@ -1,11 +1,13 @@
-pub mod Input
+-- words of the public clauses
 pub mod Complaint
 pub mod Status
 pub mod Verdict
-pub mod Audit
 pub mod Checked
 pub mod Denied
 pub mod Looked
 pub mod Printed
 pub mod Run
 pub mod Shown
+-- words of private clauses
+pub mod Input
+pub mod Audit

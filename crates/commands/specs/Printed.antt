@@ -1,42 +1,42 @@
 -- What the commands that print a text wrote.
 use Rattle.std.specs.Prelude.{◌≡◌, ℕ, List, [], ◌∷◌, ◌++◌, Option, Some, None, codes}
 use Rattle.std.specs.Io.KnownBytes.{Appends}
-use Rattle.texts.specs.declared.entry.Entry.{Entry}
+use Rattle.texts.specs.declared.entry.Explanation.{Explanation}
 use Rattle.texts.specs.declared.topic.Topic.{Topic}
 use Rattle.texts.specs.Printing.{AreLines, entry_text}
 use Rattle.texts.specs.Topics.{all_topics, topic_code, topic_of}
 
--- a text was written
+-- a text was written, and the status is 0
 abbrev pub IsPrintedText : List ℕ → ℕ → Option (List ℕ) → Option (List ℕ) → Type 0
 IsPrintedText text status old new = Appends old new text × (status ≡ 0)
 
--- what is said of a word was written: its topic has one, and the entry of that topic's code was written
+-- what `explain` did with a word: it names a topic, and the entry of that topic's code was written
 pub record IsExplainedWord (word : List ℕ) (status : ℕ) (old new : Option (List ℕ)) : Type 0 where
   pub topic : Topic
   pub named : topic_of word ≡ Some topic
-  pub entry : Entry
+  pub entry : Explanation
   pub of_topic : entry.code.now ≡ topic_code topic
   pub written : IsPrintedText (entry_text entry) status old new
 
--- a line of each topic was written
+-- what `explain` did without a word: a line of each topic was written
 pub record IsListOfTopics (status : ℕ) (old new : Option (List ℕ)) : Type 0 where
   pub text : List ℕ
   pub lines : AreLines all_topics text
   pub written : IsPrintedText text status old new
 
--- what is said of the word that is asked for was written, or of none a line of each topic
+-- what `explain` did: the entry of the word was written, or a line of each topic where no word was given
 abbrev pub IsExplained : Option (List ℕ) → ℕ → Option (List ℕ) → Option (List ℕ) → Type 0
 IsExplained (Some word) status old new = IsExplainedWord word status old new
 IsExplained None status old new = IsListOfTopics status old new
 
--- a manual: some help, whose words are the command line's, and a line of each topic behind it
+-- the text of a manual: some help, whose words are the command line's, and then a line of each topic
 pub record IsManualText (text : List ℕ) : Type 0 where
   pub help : List ℕ
   pub lines : List ℕ
   pub are : AreLines all_topics lines
   pub parts : text ≡ help ++ lines
 
--- a manual was written
+-- what `manual` did: the text of a manual was written
 pub record IsManual (status : ℕ) (old new : Option (List ℕ)) : Type 0 where
   pub text : List ℕ
   pub is : IsManualText text

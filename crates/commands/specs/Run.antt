@@ -2,21 +2,21 @@
 use Rattle.std.specs.Prelude.{◌≡◌, ℕ, List, map, Option, Some, None, IfSome}
 use Rattle.std.specs.Io.KnownBytes.{Appends}
 use Rattle.clap.specs.Words.{Text}
-use Rattle.tower_file.specs.Contents.{Contents}
+use Rattle.tower_file.specs.Contents.{TowerModel}
 use Rattle.tower_file.specs.Tower.{IsTowerOf}
 use Rattle.report.specs.Listing.{tower_lines}
 use Rattle.texts.specs.declared.version.TheConstants.{VERSION}
 use Rattle.words.specs.Completion.{script_for}
-use Rattle.words.specs.Words.{Asked, Safe, Check, Show, Lint, Tower, Explain, Version, Manual, Completion, IsFaultless, asked}
+use Rattle.words.specs.Words.{Asked, Safe, Check, Show, Lint, Tower, Explain, Version, Manual, Completion, IsWellFormed, asked}
 use Rattle.commands.specs.Printed.{IsExplained, IsManual, IsPrintedText}
 use Rattle.commands.specs.Verdict.{IsAudited}
 use Rattle.commands.specs.Checked.{IsChecked}
 use Rattle.commands.specs.Looked.{IsLooked}
 use Rattle.commands.specs.Shown.{IsShown}
 
--- a tower file was listed: the lines of the tower that it says were written
+-- what `tower` did: the lines of the tower that the file says were written
 pub record IsListed (file : List ℕ) (status : ℕ) (old new : Option (List ℕ)) : Type 0 where
-  pub tower : Contents
+  pub tower : TowerModel
   pub says : IsTowerOf file tower
   pub written : Appends old new (tower_lines tower)
   pub status_is : status ≡ 0
@@ -25,7 +25,7 @@ pub record IsListed (file : List ℕ) (status : ℕ) (old new : Option (List ℕ
 abbrev pub AreHeld : (Text → Option (List ℕ)) → List Text → List (List ℕ) → Type 0
 AreHeld files names texts = map files names ≡ map (λ text. Some text) texts
 
--- a command was carried out, over files and a standard input whose bytes are known
+-- the command was carried out, over files and a standard input whose bytes are known
 abbrev pub IsCarriedOut : Asked → (Text → Option (List ℕ)) → Option (List ℕ) → ℕ → Option (List ℕ) → Option (List ℕ) → Type 0
 IsCarriedOut (Safe None) files input status old new = IfSome input (λ bytes. IsAudited bytes status old new)
 IsCarriedOut (Safe (Some name)) files input status old new = IfSome (files name) (λ bytes. IsAudited bytes status old new)
@@ -41,13 +41,13 @@ IsCarriedOut Manual files input status old new = IsManual status old new
 IsCarriedOut (Completion shell) files input status old new = IsPrintedText (script_for shell) status old new
 IsCarriedOut (Tower name) files input status old new = IfSome (files name) (λ bytes. IsListed bytes status old new)
 
--- these words ask for the command `safe` on standard input, and have no fault
+-- the words are well formed and ask for `safe` on standard input
 abbrev pub WantInput : List Text → Type 0
-WantInput words = (asked words ≡ Some (Safe None)) × IsFaultless words
+WantInput words = (asked words ≡ Some (Safe None)) × IsWellFormed words
 
--- these words have no fault and ask for a command, and it was carried out
+-- the words are well formed and ask for a command, and it was carried out
 pub record IsDone (words : List Text) (files : Text → Option (List ℕ)) (input : Option (List ℕ)) (status : ℕ) (old new : Option (List ℕ)) : Type 0 where
   pub command : Asked
-  pub faultless : IsFaultless words
+  pub faultless : IsWellFormed words
   pub asks : asked words ≡ Some command
   pub carried_out : IsCarriedOut command files input status old new

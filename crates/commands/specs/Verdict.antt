@@ -3,7 +3,7 @@ use Rattle.std.specs.Prelude.{◌≡◌, ◌↔◌, ◌==◌, ℕ, Bool, false, 
 use Rattle.std.specs.Io.KnownBytes.{Appends}
 use Rattle.intervals.specs.declared.claim.Kind.{Kind}
 use Rattle.intervals.specs.declared.edit.Edit.{Edit}
-use Rattle.intervals.specs.Terms.{Claimed, unedited}
+use Rattle.intervals.specs.Terms.{RegisterState, unedited}
 use Rattle.intervals.specs.Kind.{Holds}
 use Rattle.intervals.specs.Refusal.{reply_to, standing}
 use Rattle.jepsen_form.specs.declared.fault.FormFault.{FormFault}
@@ -13,56 +13,56 @@ use Rattle.pairing.specs.declared.step.Step.TheVariants as steps
 use Rattle.tower_file.specs.Alone.{alone_claim, alone_tower}
 use Rattle.feeders.specs.declared.log.Broken.{Broken}
 use Rattle.feeders.specs.Readers.{IsReadOf}
-use Rattle.feeders.specs.Steps.{AreItems, Taken, steps_of}
+use Rattle.feeders.specs.Steps.{AreItemsOfTrace, StepResult, steps_of}
 use Rattle.report.specs.Section.{register_line}
 use Rattle.commands.specs.Status.{status_of}
 
--- the edit of a step, where it goes to the register of this number
-abbrev pub edit_to : ℕ → Taken → Option Edit
+-- the edit of a step, where the step is an edit of the register of this number
+abbrev pub edit_to : ℕ → StepResult → Option Edit
 edit_to number (Err code) = None
 edit_to number (Ok None) = None
 edit_to number (Ok (Some (steps.Edit register edit))) = if register.0 == number then Some edit else None
 edit_to number (Ok (Some (steps.Ask register))) = None
 
--- the register as steps leave it
-abbrev pub standing_after : List Taken → Claimed
+-- the one register as steps leave it: its claim, and the operations that stand
+abbrev pub standing_after : List StepResult → RegisterState
 standing_after taken = standing (unedited alone_claim) (filter_map (edit_to 0) taken)
 
--- a step behind these is refused: by its element's form, by the pairing, or by the register as it stands
-abbrev pub IsRefused : List Taken → Taken → Type 0
+-- a step after these is refused: for its element's form, by the pairing, or by the register as it is then
+abbrev pub IsRefused : List StepResult → StepResult → Type 0
 IsRefused before (Err code) = Unit {0}
 IsRefused before (Ok None) = ⊥
 IsRefused before (Ok (Some (steps.Edit register edit))) = IsSome (reply_to (standing_after before).claim (standing_after before).ops edit)
 IsRefused before (Ok (Some (steps.Ask register))) = ⊥
 
 -- one of the steps is refused
-pub record HasRefused (taken : List Taken) : Type 0 where
-  pub before : List Taken
-  pub step : Taken
-  pub rest : List Taken
+pub record HasRefused (taken : List StepResult) : Type 0 where
+  pub before : List StepResult
+  pub step : StepResult
+  pub rest : List StepResult
   pub parts : taken ≡ before ++ step ∷ rest
   pub refused : IsRefused before step
 
--- the kind that the register claims to be after these elements, the verdict on what stands then, how much
--- stands, and whether one of them was refused
+-- what is said of the one register after these elements: its kind, its verdict, how many operations stand, and whether
+-- an element was refused
 pub record IsVerdict (items : List (Result Item FormFault)) (kind : Kind) (holds refused : Bool) (operations : ℕ) : Type 0 where
   pub kind_is : kind ≡ (standing_after (steps_of 0 items)).claim.kind
   pub verdict : IsTrue holds ↔ Holds (standing_after (steps_of 0 items)).claim (standing_after (steps_of 0 items)).ops
   pub count : operations ≡ length (standing_after (steps_of 0 items)).ops
   pub refusals : IsTrue refused ↔ HasRefused (steps_of 0 items)
 
--- the line of the register, with its line end
+-- the line of the one register, which is named r
 abbrev pub verdict_line : Kind → Bool → ℕ → List ℕ
 verdict_line kind holds operations = register_line (codes "r") kind holds operations
 
--- an input was audited up to its end or its first fault, as far as it was read: whole, or a front of it where its
--- reading broke off; the line was written, and the status says what it says
+-- what `safe` did: an input was judged up to its end or its first fault, as far as it was read (all, or a prefix
+-- where the reading broke off); the line of the register was written, and the status is that of the verdict
 pub record IsAudited (input : List ℕ) (status : ℕ) (old new : Option (List ℕ)) : Type 0 where
   pub broken : Option Broken
   pub read : List ℕ
   pub is_read : IsReadOf (Some input) broken read
   pub items : List (Result Item FormFault)
-  pub are : AreItems alone_tower Index read broken items
+  pub are : AreItemsOfTrace alone_tower Index read broken items
   pub kind : Kind
   pub holds : Bool
   pub refused : Bool

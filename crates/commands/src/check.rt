@@ -5,7 +5,7 @@ ghost use Rattle.std.specs.Io.KnownBytes.{Appends};
 ghost use Rattle.report.specs.Finding.{IsOfTower};
 ghost use Rattle.tower_file.specs.Tower.{IsTowerOf};
 ghost use Rattle.words.specs.Words.{asked_check};
-ghost use Rattle.commands.specs.Checked.{IsChecked, IsNamed, IsPrinted, IsStatus, field_of as field_of_moments};
+ghost use Rattle.commands.specs.Checked.{IsChecked, IsNamed, IsPrinted, IsStatus, chosen_field};
 ghost use Rattle.commands.specs.Run.{AreHeld};
 
 use crate::fault::CommandFault;
@@ -23,14 +23,14 @@ use std::mem::forget;
 use std::sync::Wait;
 use std::thread::Threads;
 use tower_file::Tower;
-use words::{Check, Form, Moments};
+use words::{Check, MomentKey, ReportForm};
 
-/// The most traces that a run may have.
+/// The most traces of one run.
 pub const TRACE_LIMIT: usize = 256;
 
-/// Audits the registers of a tower by traces as they are read, and writes the report, also where a trace or its
+/// Judges the registers of a tower by traces while these are read, and writes the report, also where a trace or its
 /// reading breaks off. The faults come in this order: too many traces, the tower file, the register whose order is
-/// asked for, the traces that cannot be opened in turn, the run, the writing. All are opened before any is read.
+/// asked for, a trace that cannot be opened, the run, the writing. All traces are opened before any is read.
 pub fn check<'a, A: AllocGlobal + Threads + Wait + Sync, F: Files, W: Write>(
     rt: &A,
     asked: &Check<'a>,
@@ -73,7 +73,7 @@ pub fn check<'a, A: AllocGlobal + Threads + Wait + Sync, F: Files, W: Write>(
     };
     match print(rt, asked.form, &tower, &run, order, out) {
         Ok(()) => {
-            // The command is over: to take the run down, node by node, would cost a tenth of its time.
+            // The command is over: to free the run, node by node, would cost a tenth of its time.
             forget(run);
             forget(pages);
             Ok(status)
@@ -82,7 +82,7 @@ pub fn check<'a, A: AllocGlobal + Threads + Wait + Sync, F: Files, W: Write>(
     }
 }
 
-/// The tower of a file.
+/// The tower that a file says.
 pub fn read_tower<'a, F: Files>(
     alloc: Global,
     files: &mut F,
@@ -99,7 +99,7 @@ pub fn read_tower<'a, F: Files>(
     }
 }
 
-/// The register of that name, where one is asked for.
+/// The register of this name, where a name is given.
 pub fn named<'a>(tower: &Tower, name: Option<&'a str>) -> Result<Option<RegId>, CommandFault<'a>>
     ensures named { IfOk result (IsNamed tower.now (option_map (λ name. name.now) name.entry)) }
     ensures within { IfOk result (λ found. IfSome found (λ id. id.0 < length tower.now.registers)) }
@@ -114,19 +114,19 @@ pub fn named<'a>(tower: &Tower, name: Option<&'a str>) -> Result<Option<RegId>, 
     }
 }
 
-pub fn field_of(moments: Moments) -> MomentField
-    ensures { result ≡ field_of_moments moments }
+pub fn field_of(moments: MomentKey) -> MomentField
+    ensures { result ≡ chosen_field moments }
 {
     match moments {
-        Moments::Index => MomentField::Index,
-        Moments::Time => MomentField::Time,
+        MomentKey::Index => MomentField::Index,
+        MomentKey::Time => MomentField::Time,
     }
 }
 
-/// Writes what is asked for of a run.
+/// Writes the report or the summary of a run.
 fn print<A: AllocGlobal + Threads + Wait + Sync, W: Write>(
     rt: &A,
-    form: Form,
+    form: ReportForm,
     tower: &Tower,
     run: &Run,
     order: Option<RegId>,
@@ -138,12 +138,12 @@ fn print<A: AllocGlobal + Threads + Wait + Sync, W: Write>(
     ensures memory { result ≡ Err ReportFault.Memory → out.new ≡ out.old }
 {
     match form {
-        Form::Report => report(rt, rt.alloc(), tower, run, order, out),
-        Form::Summary => summary(rt.alloc(), tower, run, out),
+        ReportForm::Report => report(rt, rt.alloc(), tower, run, order, out),
+        ReportForm::Summary => summary(rt.alloc(), tower, run, out),
     }
 }
 
-/// The status of a run in which so many operations are to stand in all registers together, and in each.
+/// The status of a run, where at least so many operations have to stand in all registers together, and in each.
 pub fn status_after(
     alloc: Global,
     least: u64,

@@ -1,4 +1,4 @@
-//! The program's commands, over files, a standard input and two outputs.
+//! A run of the program: its words, its command and its status.
 
 ghost use Rattle.std.specs.Prelude.{◌≡◌, ◌≢◌, IsErr, IfOk, IfErr, IfSome, MatchResult, None, map};
 ghost use Rattle.std.specs.Result.{IsOkAnd};
@@ -25,12 +25,13 @@ use std::{env, io};
 use texts::VERSION;
 use words::{Command, read_words};
 
-/// Carries out the command that the words ask for, as the system hands them over, of which the
-/// first is the program's name. What is found goes to `out`. The status is 1 where a register
-/// fails, else 3 where an element was refused, else 0. It is 2 where a trace or its reading broke off, whose line or
-/// report is written all the same, and where the words ask for no command or are no text, a trace cannot be opened,
-/// a tower file cannot be read or has a fault, memory was refused or `out` could not be written,
-/// which is said on `err`. The memory of the command's run is left to the process, which is to end next.
+/// Carries out the command that the words ask for. The words are as the system hands them over; the first is the
+/// program's name. What is found goes to `out`. The status is 2 where a trace or its reading broke off, whose line or
+/// report is written nevertheless, else 1 where a register fails, else 3 where an element was refused, else 4 where
+/// fewer operations stand than are asked for, else 0; that of `lint` goes by the grades of what it found. It is 2,
+/// too, where `err` says why there is no report: the words ask for no command or are no text, a file cannot be opened
+/// or read or has a fault, memory was refused, or `out` could not be written. The memory of the run is left to the
+/// process, which is to end next.
 pub fn run<
     A: AllocGlobal + Threads + Wait + Sync,
     S: AsStr + Drop,
@@ -53,7 +54,7 @@ pub fn run<
     }
 }
 
-/// The command `safe` on standard input.
+/// Carries out `safe` on standard input.
 pub fn run_safe<A: AllocGlobal + Threads + Wait + Sync, R: Read + Send, W: Write, E: Write>(
     rt: &A,
     input: &mut R,
@@ -67,7 +68,7 @@ pub fn run_safe<A: AllocGlobal + Threads + Wait + Sync, R: Read + Send, W: Write
     conclude(rt, outcome, err)
 }
 
-/// The status of a run; why it broke off is said on standard error.
+/// The status of a run. Why a run broke off is written to standard error.
 pub fn conclude<'a, A: AllocGlobal, E: Write>(
     rt: &A,
     outcome: Result<u8, CommandFault<'a>>,
@@ -84,8 +85,7 @@ pub fn conclude<'a, A: AllocGlobal, E: Write>(
     }
 }
 
-/// What the words ask for, or why the run broke off: then `out` is as it was, unless it was `out`
-/// that could not be written.
+/// Carries out what the words ask for. Where the run breaks off `out` is as it was, unless `out` could not be written.
 pub fn run_words<
     'a,
     A: AllocGlobal + Threads + Wait + Sync,
@@ -148,7 +148,7 @@ fn list<'a, A: AllocGlobal, F: Files, W: Write>(
     print(text.as_str(), out)
 }
 
-/// The words of the command line, the program's name among them.
+/// The words of the command line; the first is the program's name.
 pub fn words_of<R: Env + AllocGlobal>(rt: &R) -> io::Result<Vec<String>> {
     Ok(env::args(rt)?.collect(rt.alloc())?)
 }

@@ -1,4 +1,4 @@
-//! Codes of notes that are to count as warnings.
+//! The codes of notes that are to count as warnings.
 
 ghost use Rattle.std.specs.Prelude.{◌≡◌, ◌≢◌, ◌++◌, ◌∷◌, [], IfOk, IfErr, OnOk, map, option_map};
 ghost use Rattle.clap.specs.Words.{Text};
@@ -8,7 +8,7 @@ use crate::fault::CommandFault;
 use std::alloc::Global;
 use texts::Topic;
 
-/// The codes that a text names, with commas between them.
+/// The codes of the notes that a text names, with commas between them. A word that names no note is a fault.
 pub fn denied_codes<'a>(
     alloc: Global,
     text: Option<&'a str>,
@@ -29,7 +29,7 @@ pub fn denied_codes<'a>(
     Ok(denied)
 }
 
-/// Puts the code of the note that a word names behind the others.
+/// Adds the code of the note that a word names.
 fn push_code<'a>(denied: &mut Vec<&'static str>, word: &'a str) -> Result<(), CommandFault<'a>>
     ensures named { OnOk result ((code : Text) × IsNoteNamed word.entry.now code × (map (λ code. code.now) denied.new.items ≡ map (λ code. code.now) denied.old.items ++ code ∷ [])) }
     ensures quiet { IfErr result (λ fault. fault ≢ CommandFault.Unwritable) }

@@ -19,8 +19,8 @@ use std::sync::Wait;
 use std::thread::Threads;
 use words::Show;
 
-/// Audits the registers of a tower as `check` does, and writes a picture of one of them, or a page of those that fail.
-/// The faults come as those of `check` do.
+/// Judges the registers of a tower as `check` does, and writes a picture of one of them, or a page of those that fail.
+/// The faults come in the order of those of `check`.
 pub fn draw<'a, A: AllocGlobal + Threads + Wait + Sync, F: Files, W: Write>(
     rt: &A,
     asked: &Show<'a>,
@@ -65,7 +65,7 @@ pub fn draw<'a, A: AllocGlobal + Threads + Wait + Sync, F: Files, W: Write>(
     };
     match write_text(out, text.as_str()) {
         Ok(()) => {
-            // As in `check`, the run is not taken down.
+            // As in `check`, the run is not freed.
             forget(run);
             forget(pages);
             Ok(status)

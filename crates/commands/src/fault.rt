@@ -1,7 +1,7 @@
-//! Why a run broke off.
+//! Why a run of the program broke off, and what is printed of it.
 
 ghost use Rattle.std.specs.Prelude.{◌≡◌, ◌≢◌, ◌∷◌, ◌++◌, [], Some, IfOk, IfSome, codes, string_bytes};
-ghost use Rattle.tower_file.specs.Tower.{code_of};
+ghost use Rattle.tower_file.specs.Tower.{tower_fault_code};
 ghost use Rattle.commands.specs.Complaint.{broken_off, complaint_of, unread, unreported};
 
 use crate::input::InputFault;
@@ -19,13 +19,14 @@ pub enum CommandFault<'a> {
     /// The words ask for no command, or for help.
     Usage(clap::Error),
     TooManyTraces,
-    /// A file that cannot be opened, or a tower file that cannot be read or is too long.
+    /// A file that cannot be opened; or one that has to be read whole, a tower file or a trace of `lint`, and cannot be
+    /// or is too long.
     Unreadable(&'a str),
     /// A tower file with a fault, by its code.
     Tower(&'static str),
-    /// The tower has no register of the name whose order is asked for.
+    /// The tower has no register of the name that `--order` or `--register` gives.
     NoRegister(&'a str),
-    /// No code and no word of a report has the name that is to be explained.
+    /// The name is that of no code and no word of a report; with `--deny`, that of no note.
     NoCode(&'a str),
     /// A shard refused an edit, a question or the end.
     Shard(ShardFault),
@@ -43,7 +44,7 @@ impl<'a> CommandFault<'a> {
         }
     }
 
-    /// Want of memory while the words were read is want of memory.
+    /// The fault of words that ask for no command, or for which memory was refused.
     pub fn of_words(error: clap::Error) -> CommandFault<'a> {
         if error.kind() == clap::error::ErrorKind::OutOfMemory {
             CommandFault::Memory
@@ -65,7 +66,7 @@ impl<'a> CommandFault<'a> {
     }
 
     pub fn of_tower(fault: TowerFault) -> CommandFault<'a>
-        ensures code { fault ≢ TowerFault.Memory → complaint_of result ≡ Some (codes "regaudit: tower " ++ code_of fault ++ 10 ∷ []) }
+        ensures code { fault ≢ TowerFault.Memory → complaint_of result ≡ Some (codes "regaudit: tower " ++ tower_fault_code fault ++ 10 ∷ []) }
         ensures memory { fault ≡ TowerFault.Memory → result ≡ CommandFault.Memory }
     {
         match fault {
@@ -95,7 +96,7 @@ impl<'a> CommandFault<'a> {
     }
 }
 
-/// Says why a run broke off, in one write. Where there is no memory for it, that is said.
+/// Writes why a run broke off, in one write. Where memory is refused for that, it writes that the run is out of memory.
 pub fn say<E: Write>(alloc: Global, fault: CommandFault<'_>, err: &mut E) {
     let _ = match complaint(alloc, &fault) {
         Ok(text) => err.write_all(text.as_bytes()),
@@ -103,7 +104,7 @@ pub fn say<E: Write>(alloc: Global, fault: CommandFault<'_>, err: &mut E) {
     };
 }
 
-/// What is said on standard error.
+/// The text that is written to standard error.
 fn complaint(alloc: Global, fault: &CommandFault<'_>) -> Result<String, AllocError>
     ensures { IfOk result (λ text. IfSome (complaint_of fault.now) (λ said. string_bytes text ≡ said)) }
 {

@@ -1,4 +1,4 @@
-//! Files by their names.
+//! Files, opened and read by their names.
 
 ghost use Rattle.std.specs.Prelude.{◌≡◌, ◌≢◌, ℕ, List, Option, Some, None, IfOk, IfErr, IfSome, map, length, vec_len};
 ghost use Rattle.commands.specs.Run.{AreHeld};
@@ -9,7 +9,7 @@ use std::alloc::Global;
 use std::io::Read;
 use std::{fs, rt};
 
-/// A file that cannot be opened.
+/// The file cannot be opened.
 #[derive(Clone, Copy, Debug, PartialEq, Eq)]
 pub struct Missing;
 
@@ -25,7 +25,7 @@ pub trait Files {
         ensures stays { held self.new ≡ held self.old };
 }
 
-/// The files of the machine that the program runs on.
+/// The files of the machine on which the program runs.
 #[derive(Drop)]
 pub struct HostFiles<'r, R: rt::Files> {
     rt: &'r R,

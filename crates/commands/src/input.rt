@@ -2,7 +2,7 @@
 
 ghost use Rattle.std.specs.Prelude.{◌≡◌, ◌≤◌, ◌<◌, ◌+◌, ◌^◌, Ok, Err, IfOk, IfSome, OnOk, length, take, vec_len};
 ghost use Rattle.std.specs.Io.KnownBytes.{IsAtEnd};
-ghost use Rattle.commands.specs.Input.{IfMore, TakesOn};
+ghost use Rattle.commands.specs.Input.{IfMore, GivesBytes};
 
 use std::alloc::{AllocError, Global};
 use std::io::{ErrorKind, Read};
@@ -16,7 +16,7 @@ const CALL_LIMIT: u32 = 16_777_216;
 /// Why an input was not read whole.
 #[derive(Clone, Copy, Debug, PartialEq, Eq)]
 pub enum InputFault {
-    /// A reading failed.
+    /// A read call failed.
     Failed,
     /// It has more than 1,073,741,824 bytes.
     TooLong,
@@ -25,10 +25,10 @@ pub enum InputFault {
     Memory,
 }
 
-/// How many bytes are asked for in one read call.
+/// How many bytes one read call asks for, but for the last before the limit.
 const CHUNK: usize = 65_536;
 
-/// All the bytes that a reader has left. A reading that is interrupted is tried again.
+/// All the bytes that a reader has left. A read call that is interrupted is made again.
 pub fn read_whole<R: Read>(alloc: Global, input: &mut R) -> Result<Vec<u8>, InputFault>
     ensures whole { IfOk result (λ bytes. IfSome (R.remaining input.old) (λ left. bytes.items ≡ left)) }
     ensures within { IfOk result (λ bytes. vec_len bytes ≤ 2 ^ 30) }
@@ -38,7 +38,7 @@ pub fn read_whole<R: Read>(alloc: Global, input: &mut R) -> Result<Vec<u8>, Inpu
     read_within(alloc, input, CALL_LIMIT)
 }
 
-/// The same in at most so many read calls.
+/// All the bytes that a reader has left, in at most so many read calls.
 pub fn read_within<R: Read>(alloc: Global, input: &mut R, calls: u32) -> Result<Vec<u8>, InputFault>
     ensures whole { IfOk result (λ bytes. IfSome (R.remaining input.old) (λ left. bytes.items ≡ left)) }
     ensures within { IfOk result (λ bytes. vec_len bytes ≤ 2 ^ 30) }
@@ -48,8 +48,8 @@ pub fn read_within<R: Read>(alloc: Global, input: &mut R, calls: u32) -> Result<
     let mut used = 0;
     for _ in 0..calls {
         match read_more(input, &mut bytes, used)? {
-            Turn::More(count) => used += count,
-            Turn::End => {
+            ReadStep::More(count) => used += count,
+            ReadStep::End => {
                 bytes.truncate(used);
                 return Ok(bytes);
             }
@@ -58,21 +58,25 @@ pub fn read_within<R: Read>(alloc: Global, input: &mut R, calls: u32) -> Result<
     Err(InputFault::TooManyCalls)
 }
 
-/// What one read call found: so many bytes more, none where it was interrupted.
+/// What one read call found: so many more bytes, 0 where it was interrupted, or the end.
 #[derive(Clone, Copy, Debug, PartialEq, Eq)]
-enum Turn {
+enum ReadStep {
     More(usize),
     End,
 }
 
-/// One read call: its bytes go behind those that are used, in place.
-fn read_more<R: Read>(input: &mut R, bytes: &mut Vec<u8>, used: usize) -> Result<Turn, InputFault>
+/// Makes one read call, whose bytes go after the used ones, in place.
+fn read_more<R: Read>(
+    input: &mut R,
+    bytes: &mut Vec<u8>,
+    used: usize,
+) -> Result<ReadStep, InputFault>
     requires used { used ≤ vec_len bytes.old }
     requires within { used ≤ BYTE_LIMIT }
-    ensures more { IfOk result (λ turn. IfMore turn (λ count. TakesOn (R.remaining input.old) (R.remaining input.new) (take used bytes.old.items) (take (used + count) bytes.new.items))) }
+    ensures more { IfOk result (λ turn. IfMore turn (λ count. GivesBytes (R.remaining input.old) (R.remaining input.new) (take used bytes.old.items) (take (used + count) bytes.new.items))) }
     ensures limit { IfOk result (λ turn. IfMore turn (λ count. (used + count ≤ BYTE_LIMIT) × (used + count ≤ vec_len bytes.new))) }
-    ensures end { result ≡ Ok Turn.End → IsAtEnd (R.remaining input.old) }
-    ensures all { result ≡ Ok Turn.End → take used bytes.new.items ≡ take used bytes.old.items }
+    ensures end { result ≡ Ok ReadStep.End → IsAtEnd (R.remaining input.old) }
+    ensures all { result ≡ Ok ReadStep.End → take used bytes.new.items ≡ take used bytes.old.items }
     ensures too_long { result ≡ Err InputFault.TooLong → IfSome (R.remaining input.old) (λ left. BYTE_LIMIT < used + length left) }
 {
     if make_room(bytes, used).is_err() {
@@ -81,7 +85,7 @@ fn read_more<R: Read>(input: &mut R, bytes: &mut Vec<u8>, used: usize) -> Result
     read_behind(input, bytes.as_mut_slice(), used)
 }
 
-/// Room behind the used bytes for all that is asked for in one read call.
+/// Makes room after the used bytes for all that one read call asks for.
 fn make_room(bytes: &mut Vec<u8>, used: usize) -> Result<(), AllocError>
     requires used { used ≤ vec_len bytes.old }
     requires within { used ≤ BYTE_LIMIT }
@@ -95,25 +99,29 @@ fn make_room(bytes: &mut Vec<u8>, used: usize) -> Result<(), AllocError>
     bytes.resize(end, 0)
 }
 
-/// One read call into what lies behind the used bytes.
-fn read_behind<R: Read>(input: &mut R, bytes: &mut [u8], used: usize) -> Result<Turn, InputFault>
+/// Makes one read call into the bytes after the used ones.
+fn read_behind<R: Read>(
+    input: &mut R,
+    bytes: &mut [u8],
+    used: usize,
+) -> Result<ReadStep, InputFault>
     requires room { used < length bytes.old }
     requires within { used ≤ BYTE_LIMIT }
-    ensures more { IfOk result (λ turn. IfMore turn (λ count. TakesOn (R.remaining input.old) (R.remaining input.new) (take used bytes.old) (take (used + count) bytes.new))) }
+    ensures more { IfOk result (λ turn. IfMore turn (λ count. GivesBytes (R.remaining input.old) (R.remaining input.new) (take used bytes.old) (take (used + count) bytes.new))) }
     ensures limit { IfOk result (λ turn. IfMore turn (λ count. (used + count ≤ BYTE_LIMIT) × (used + count ≤ length bytes.new))) }
-    ensures end { result ≡ Ok Turn.End → IsAtEnd (R.remaining input.old) }
-    ensures all { result ≡ Ok Turn.End → take used bytes.new ≡ take used bytes.old }
+    ensures end { result ≡ Ok ReadStep.End → IsAtEnd (R.remaining input.old) }
+    ensures all { result ≡ Ok ReadStep.End → take used bytes.new ≡ take used bytes.old }
     ensures too_long { result ≡ Err InputFault.TooLong → IfSome (R.remaining input.old) (λ left. BYTE_LIMIT < used + length left) }
 {
     match input.read(&mut bytes[used..]) {
-        Ok(0) => Ok(Turn::End),
+        Ok(0) => Ok(ReadStep::End),
         Ok(count) => {
             if count > BYTE_LIMIT - used {
                 return Err(InputFault::TooLong);
             }
-            Ok(Turn::More(count))
+            Ok(ReadStep::More(count))
         }
-        Err(error) if error.kind() == ErrorKind::Interrupted => Ok(Turn::More(0)),
+        Err(error) if error.kind() == ErrorKind::Interrupted => Ok(ReadStep::More(0)),
         Err(_) => Err(InputFault::Failed),
     }
 }

@@ -5,9 +5,9 @@
 //! let status = run(rt, words_of(rt), files, &mut input, &mut out, &mut err);
 //! ```
 //!
-//! The program `regaudit` is this call over the machine, and `rows` makes it for each row of data.
-//! Begin with `commands`: `run_words` carries out what words ask for, and `conclude` says why that
-//! broke off. `specs/Run.antt` says what a run did, `specs/Verdict.antt` what it printed.
+//! The program `regaudit` is this call over the machine, and `rows` makes it for each row of data. Begin with
+//! `commands`: `run_words` carries out what words ask for, and `conclude` reports why that broke off.
+//! `specs/Run.antt` says what a run did, `specs/Verdict.antt` what it printed of one register.
 #![tactic(auto)]
 
 mod check;

@@ -4,8 +4,8 @@ ghost use Rattle.std.specs.Prelude.{◌≡◌, ◌≢◌, ◌≤◌, ◌⊎◌, 
 ghost use Rattle.clap.specs.Words.{Text};
 ghost use Rattle.tower_file.specs.Alone.{alone_tower};
 ghost use Rattle.words.specs.Words.{asked_lint};
-ghost use Rattle.commands.specs.Checked.{field_of as field_of_moments};
-ghost use Rattle.commands.specs.Looked.{AreFindings, AreOfTower, IsLooked, IsOfFault, IsTold};
+ghost use Rattle.commands.specs.Checked.{chosen_field};
+ghost use Rattle.commands.specs.Looked.{AreFindingsOfRun, AreOfTower, IsLooked, IsOfFault, IsPrintedAsAsked};
 ghost use Rattle.lint.specs.Tower.{HasNotesAlone, IsOneFault};
 ghost use Rattle.lint.specs.declared.finding.TraceFindings.{TraceFindings};
 ghost use Rattle.commands.specs.Run.{AreHeld};
@@ -16,7 +16,7 @@ use crate::fault::CommandFault;
 use crate::files::{Files, read_file, read_files};
 use crate::safe::the_tower;
 use crate::write::write_text;
-use lint::{Findings, Form, Source, lint, lint_fault, lint_tower, push_findings};
+use lint::{Findings, Format, SourceText, lint, lint_fault, lint_tower, push_findings};
 use std::alloc::{AllocError, Global};
 use std::io::Write;
 use std::sync::Wait;
@@ -30,9 +30,9 @@ struct Told {
     status: u8,
 }
 
-/// Says what is amiss in a tower file and in traces, which are read in turn. Where the tower file has a fault, no trace is
-/// looked at. The faults come in this order: too many traces, a code that is no note's, a tower file or a trace that
-/// cannot be read in turn, the run, the writing.
+/// Finds what is amiss in a tower file and in traces, which are read in turn, and writes it. Where the tower file has a
+/// fault, no trace is looked at, though all are read. The faults come in this order: too many traces, a code that is no
+/// note's, the tower file or a trace that cannot be read, the run, the writing.
 pub fn look<'a, A: AllocGlobal + Wait, F: Files, W: Write>(
     rt: &A,
     asked: &Lint<'a>,
@@ -63,7 +63,7 @@ pub fn look<'a, A: AllocGlobal + Wait, F: Files, W: Write>(
     }
 }
 
-/// The bytes of a file that is named; none where none is.
+/// The bytes of the file that is named; empty where none is.
 fn read_named<'a, F: Files>(
     alloc: Global,
     files: &mut F,
@@ -79,7 +79,7 @@ fn read_named<'a, F: Files>(
     }
 }
 
-/// What is found in the traces by the tower of the one register of `safe`.
+/// What is found in the traces by the tower of `safe`, with its one register.
 fn tell_alone<'a, A: AllocGlobal + Wait>(
     rt: &A,
     asked: &Lint<'a>,
@@ -89,8 +89,8 @@ fn tell_alone<'a, A: AllocGlobal + Wait>(
     requires most { length slices.now ≤ 256 }
     requires names { length asked.now.traces.items ≡ length slices.now }
     ensures told { IfOk result (λ told. (found : List TraceFindings)
-        × AreFindings alone_tower (field_of_moments asked.now.moments) (map (λ slice. slice.now) slices.entry.now) found
-        × IsTold (asked_lint asked.now) denied.entry.now (asked_lint asked.now).traces found (string_bytes told.text) told.status) }
+        × AreFindingsOfRun alone_tower (chosen_field asked.now.moments) (map (λ slice. slice.now) slices.entry.now) found
+        × IsPrintedAsAsked (asked_lint asked.now) denied.entry.now (asked_lint asked.now).traces found (string_bytes told.text) told.status) }
     ensures quiet { IfErr result (λ fault. fault ≢ CommandFault.Unwritable) }
 {
     let alloc = rt.alloc();
@@ -104,7 +104,7 @@ fn tell_alone<'a, A: AllocGlobal + Wait>(
     tell(alloc, asked, &sources, &found, denied)
 }
 
-/// What is found in the traces by the tower that a file says, and in that file.
+/// What is found in the traces by the tower that a file says, and in that file; or the file's fault.
 fn tell_by<'a, A: AllocGlobal + Wait>(
     rt: &A,
     asked: &Lint<'a>,
@@ -117,7 +117,7 @@ fn tell_by<'a, A: AllocGlobal + Wait>(
     requires names { length asked.now.traces.items ≡ length slices.now }
     ensures told { IfOk result (λ told. (names : List Text) × (found : List TraceFindings)
         × (AreOfTower (asked_lint asked.now) name.now file.now (map (λ slice. slice.now) slices.entry.now) names found ⊎ IsOfFault name.now file.now names found)
-        × IsTold (asked_lint asked.now) denied.entry.now names found (string_bytes told.text) told.status) }
+        × IsPrintedAsAsked (asked_lint asked.now) denied.entry.now names found (string_bytes told.text) told.status) }
     ensures quiet { IfErr result (λ fault. fault ≢ CommandFault.Unwritable) }
 {
     match Tower::read_located(rt.alloc(), file) {
@@ -126,7 +126,7 @@ fn tell_by<'a, A: AllocGlobal + Wait>(
     }
 }
 
-/// What is found in the traces by a tower, and notes on its file.
+/// What is found in the traces by a tower, and the notes on its file.
 fn tell_tower<'a, A: AllocGlobal + Wait>(
     rt: &A,
     asked: &Lint<'a>,
@@ -139,8 +139,8 @@ fn tell_tower<'a, A: AllocGlobal + Wait>(
     requires most { length slices.now ≤ 256 }
     requires names { length asked.now.traces.items ≡ length slices.now }
     ensures told { IfOk result (λ told. (in_traces : List TraceFindings) × (in_file : List TraceFindings)
-        × AreFindings tower.now (field_of_moments asked.now.moments) (map (λ slice. slice.now) slices.entry.now) in_traces × HasNotesAlone in_file
-        × IsTold (asked_lint asked.now) denied.entry.now ((asked_lint asked.now).traces ++ name.now ∷ []) (in_traces ++ in_file) (string_bytes told.text) told.status) }
+        × AreFindingsOfRun tower.now (chosen_field asked.now.moments) (map (λ slice. slice.now) slices.entry.now) in_traces × HasNotesAlone in_file
+        × IsPrintedAsAsked (asked_lint asked.now) denied.entry.now ((asked_lint asked.now).traces ++ name.now ∷ []) (in_traces ++ in_file) (string_bytes told.text) told.status) }
     ensures quiet { IfErr result (λ fault. fault ≢ CommandFault.Unwritable) }
 {
     let alloc = rt.alloc();
@@ -158,7 +158,7 @@ fn tell_tower<'a, A: AllocGlobal + Wait>(
     tell(alloc, asked, &sources, &found, denied)
 }
 
-/// The fault of a tower file alone.
+/// The fault of a tower file, which is all that is found.
 fn tell_fault<'a>(
     alloc: Global,
     asked: &Lint<'a>,
@@ -168,7 +168,7 @@ fn tell_fault<'a>(
     denied: &[&str],
 ) -> Result<Told, CommandFault<'a>>
     ensures told { IfOk result (λ told. (found : List TraceFindings) × (located.fault ≢ TowerFault.Memory) × IsOneFault file.now located.fault located.span found
-        × IsTold (asked_lint asked.now) denied.entry.now (name.now ∷ []) found (string_bytes told.text) told.status) }
+        × IsPrintedAsAsked (asked_lint asked.now) denied.entry.now (name.now ∷ []) found (string_bytes told.text) told.status) }
     ensures quiet { IfErr result (λ fault. fault ≢ CommandFault.Unwritable) }
 {
     if located.fault == TowerFault::Memory {
@@ -184,16 +184,16 @@ fn tell_fault<'a>(
     tell(alloc, asked, &sources, &found, denied)
 }
 
-/// The findings in these files as they are asked for.
+/// The findings in these files in the form that is asked for, and the status.
 fn tell<'a>(
     alloc: Global,
     asked: &Lint<'a>,
-    sources: &[Source],
+    sources: &[SourceText],
     found: &Findings,
     denied: &[&str],
 ) -> Result<Told, CommandFault<'a>>
     requires each { length sources.now ≡ length found.now.traces.items }
-    ensures told { IfOk result (λ told. IsTold (asked_lint asked.now) denied.entry.now (map (λ source. source.name.now) sources.now) found.now.traces.items (string_bytes told.text) told.status) }
+    ensures told { IfOk result (λ told. IsPrintedAsAsked (asked_lint asked.now) denied.entry.now (map (λ source. source.name.now) sources.now) found.now.traces.items (string_bytes told.text) told.status) }
     ensures quiet { IfErr result (λ fault. fault ≢ CommandFault.Unwritable) }
 {
     let mut text = String::new(alloc);
@@ -215,7 +215,7 @@ fn findings<'a, A: AllocGlobal + Wait>(
     slices: &[&[u8]],
 ) -> Result<Findings, CommandFault<'a>>
     requires most { length slices.now ≤ 256 }
-    ensures found { IfOk result (λ found. AreFindings tower.now (field_of_moments asked.now.moments) (map (λ slice. slice.now) slices.entry.now) found.traces.items) }
+    ensures found { IfOk result (λ found. AreFindingsOfRun tower.now (chosen_field asked.now.moments) (map (λ slice. slice.now) slices.entry.now) found.traces.items) }
     ensures quiet { IfErr result (λ fault. fault ≢ CommandFault.Unwritable) }
 {
     let alloc = rt.alloc();
@@ -241,20 +241,20 @@ fn slices_of(alloc: Global, texts: &[Vec<u8>]) -> Result<Vec<&[u8]>, AllocError>
     Ok(slices)
 }
 
-/// The files with their names, and one more.
+/// The files with their names, and the file of this name after them.
 fn with_file<'t>(
     alloc: Global,
     names: &[&'t str],
     slices: &[&'t [u8]],
     name: &'t str,
     file: &'t [u8],
-) -> Result<Vec<Source<'t>>, AllocError>
+) -> Result<Vec<SourceText<'t>>, AllocError>
     requires { length names.now ≡ length slices.now }
     ensures many { IfOk result (λ sources. length sources.items ≡ length slices.entry.now + 1) }
     ensures names { IfOk result (λ sources. map (λ source. source.name.now) sources.items ≡ map (λ name. name.now) names.entry.now ++ name.entry.now ∷ []) }
 {
     let mut sources = sources_of(alloc, names, slices)?;
-    sources.push(Source { name, text: file })?;
+    sources.push(SourceText { name, text: file })?;
     Ok(sources)
 }
 
@@ -263,14 +263,14 @@ fn sources_of<'t>(
     alloc: Global,
     names: &[&'t str],
     slices: &[&'t [u8]],
-) -> Result<Vec<Source<'t>>, AllocError>
+) -> Result<Vec<SourceText<'t>>, AllocError>
     requires { length names.now ≡ length slices.now }
     ensures many { IfOk result (λ sources. length sources.items ≡ length slices.entry.now) }
     ensures names { IfOk result (λ sources. map (λ source. source.name.now) sources.items ≡ map (λ name. name.now) names.entry.now) }
 {
     let mut sources = Vec::new(alloc);
     for number in 0..names.len() {
-        sources.push(Source {
+        sources.push(SourceText {
             name: names[number],
             text: slices[number],
         })?;
@@ -278,13 +278,13 @@ fn sources_of<'t>(
     Ok(sources)
 }
 
-fn form_of(form: LintForm) -> Form
-    ensures { form ≡ LintForm.Short → result ≡ Form.Short }
+fn form_of(form: LintForm) -> Format
+    ensures { form ≡ LintForm.Short → result ≡ Format.Short }
 {
     match form {
-        LintForm::Human => Form::Human,
-        LintForm::Short => Form::Short,
-        LintForm::GitHub => Form::Github,
-        LintForm::Json => Form::Json,
+        LintForm::Human => Format::Human,
+        LintForm::Short => Format::Short,
+        LintForm::GitHub => Format::Github,
+        LintForm::Json => Format::Json,
     }
 }

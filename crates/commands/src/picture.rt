@@ -1,4 +1,4 @@
-//! What `show` draws.
+//! The text of a picture that `show` draws.
 
 ghost use Rattle.std.specs.Prelude.{◌↔◌, ◌<◌, IfSome, IsTrue, length};
 ghost use Rattle.report.specs.Finding.{IsOfTower};
@@ -17,9 +17,10 @@ use timeline::Extent;
 use tower_file::Tower;
 use words::{Picture, Show};
 
-/// How many cells a line has, and how many units a row, where it is not said.
+/// How many characters a line has where no width is given.
 const CELLS: u32 = 100;
 
+/// How many units a row of a drawing has where no width is given.
 const UNITS: u32 = 1000;
 
 /// The text of a picture of one register, or of a page of all registers that fail.
@@ -49,7 +50,7 @@ pub fn picture(
     Ok(text)
 }
 
-/// What is drawn of a tower without registers.
+/// What is drawn of a tower that has no register.
 fn without_register(picture: Picture) -> &'static str {
     match picture {
         Picture::Svg => {
@@ -59,7 +60,7 @@ fn without_register(picture: Picture) -> &'static str {
     }
 }
 
-/// The register that is drawn: the one that is named, else the first to blame, else, where none fails, the first with an
+/// The register that is drawn: the one that is named, else the first culprit, else, where none fails, the first with an
 /// operation, else the first; none where the tower has none.
 fn drawn(tower: &Tower, closed: &Closed, named: Option<RegId>, to_blame: &[RegId]) -> Option<RegId>
     ensures { IsDrawn tower.now closed.now named to_blame.now result }
@@ -135,7 +136,7 @@ fn push_subject(
     Ok(())
 }
 
-/// A page of all registers that fail, of which those to blame are seen at once; of one that holds where none does.
+/// A page of all registers that fail, with the culprits unfolded; where none fails, of one that holds.
 fn push_page(
     text: &mut String,
     alloc: Global,
@@ -199,7 +200,7 @@ fn push_part(
     Ok(())
 }
 
-/// An order that explains the operations of a register, where it is atomic and holds.
+/// An order that explains the operations of a register that is atomic and holds; of any other register an empty list.
 fn order_of(alloc: Global, book: &RegisterBook) -> Result<Vec<OpId>, Memory> {
     match book.order(alloc)? {
         Some(order) => Ok(order),
@@ -257,7 +258,7 @@ fn extent_of(asked: &Show) -> Extent {
     }
 }
 
-/// The width that is asked for, or this one.
+/// The width that is asked for, or the usual one.
 fn width_of(asked: &Show, usual: u32) -> u32 {
     match asked.width {
         Some(width) => match u32::try_from(width) {

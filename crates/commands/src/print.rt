@@ -21,7 +21,7 @@ pub fn print<'a, W: Write>(text: &str, out: &mut W) -> Result<u8, CommandFault<'
     }
 }
 
-/// Writes what a code or a word of a report means, or a line of each.
+/// Writes what a code or a word of a report means, or a line of each where no code is given.
 pub fn explain<'a, W: Write>(
     alloc: Global,
     code: Option<&'a str>,
@@ -65,7 +65,7 @@ fn explain_all<'a, W: Write>(alloc: Global, out: &mut W) -> Result<u8, CommandFa
     }
 }
 
-/// Writes the help of all commands, and a line of each code.
+/// Writes the help of all commands, and then a line of each code.
 pub fn print_manual<'a, W: Write>(alloc: Global, out: &mut W) -> Result<u8, CommandFault<'a>>
     ensures printed { IfOk result (λ status. IsManual status (W.contents out.old) (W.contents out.new)) }
     ensures quiet { IfErr result (λ fault. fault ≢ CommandFault.Unwritable → out.new ≡ out.old) }

@@ -2,7 +2,7 @@
 
 ghost use Rattle.std.specs.Prelude.{◌≡◌, ◌≢◌, ◌↔◌, ◌∷◌, [], IfOk, IfErr, IfSome, IsSome, Some, IsTrue, length, string_bytes};
 ghost use Rattle.intervals.specs.Kind.{Holds};
-ghost use Rattle.intervals.specs.Terms.{Claimed};
+ghost use Rattle.intervals.specs.Terms.{RegisterState};
 ghost use Rattle.tower_file.specs.Alone.{alone_tower};
 ghost use Rattle.shards.specs.Closing.{book_of};
 ghost use Rattle.feeders.specs.declared.log.Log.{Log as ALog};
@@ -29,8 +29,8 @@ use std::unreachable;
 use tower_file::laws::text_of_one_register;
 use tower_file::{Tower, one_register};
 
-/// What is said of the trace of one register: the kind that it claims to be, whether it keeps that, how many
-/// operations stand, whether an element was refused, and where the trace broke.
+/// What is found of the one register: the kind that it claims to be, whether it holds, how many operations stand,
+/// whether an element was refused, and where the trace broke.
 #[derive(Clone, Copy, Debug)]
 pub struct Audit {
     pub kind: Kind,
@@ -40,7 +40,7 @@ pub struct Audit {
     pub broken: Option<Broken>,
 }
 
-/// Judges a trace as it is read, and writes the line of its register, also where the reading breaks off.
+/// Judges a trace while it is read, and writes the line of its register, also where the reading breaks off.
 pub fn judge<'a, A: AllocGlobal + Threads + Wait + Sync, S: Read + Drop + Send, W: Write>(
     rt: &A,
     reader: S,
@@ -59,8 +59,8 @@ pub fn judge<'a, A: AllocGlobal + Threads + Wait + Sync, S: Read + Drop + Send, 
     }
 }
 
-/// Reads a trace up to its end or to where it breaks, as the only feeder of the register, in one shard, and judges
-/// what stands then.
+/// Reads a trace up to its end or to where it breaks, as the only feeder of the register, in one shard, and judges the
+/// operations that stand then.
 fn audit_trace<'a, A: AllocGlobal + Threads + Wait + Sync, S: Read + Drop + Send>(
     rt: &A,
     reader: S,
@@ -95,13 +95,13 @@ fn audit_trace<'a, A: AllocGlobal + Threads + Wait + Sync, S: Read + Drop + Send
         Err(fault) => return Err(CommandFault::of_run(fault)),
     };
     let audit = verdict_of(&run);
-    // As in `check`, the run is not taken down.
+    // As in `check`, the run is not freed.
     forget(run);
     forget(pages);
     Ok(audit)
 }
 
-/// The tower of the register, read from its text; none where memory is refused.
+/// The tower of the one register, read from its text; none where memory is refused.
 pub fn the_tower(alloc: Global) -> Option<Tower>
     ensures { IfSome result (λ tower. tower ≡ alone_tower) }
 {
@@ -112,13 +112,13 @@ pub fn the_tower(alloc: Global) -> Option<Tower>
     }
 }
 
-/// What a run of one trace over one register says of it.
+/// What is found of the one register by a run of one trace.
 fn verdict_of(run: &Run) -> Audit
     requires one { length run.now.logs.items ≡ 1 }
     requires there { IsSome (book_of run.now.closed 0) }
-    ensures kind { (held : Claimed) → book_of run.now.closed 0 ≡ Some held → result.kind ≡ held.claim.kind }
-    ensures holds { (held : Claimed) → book_of run.now.closed 0 ≡ Some held → IsTrue result.holds ↔ Holds held.claim held.ops }
-    ensures operations { (held : Claimed) → book_of run.now.closed 0 ≡ Some held → result.operations ≡ length held.ops }
+    ensures kind { (held : RegisterState) → book_of run.now.closed 0 ≡ Some held → result.kind ≡ held.claim.kind }
+    ensures holds { (held : RegisterState) → book_of run.now.closed 0 ≡ Some held → IsTrue result.holds ↔ Holds held.claim held.ops }
+    ensures operations { (held : RegisterState) → book_of run.now.closed 0 ≡ Some held → result.operations ≡ length held.ops }
     ensures refused { (log : ALog) → run.now.logs.items ≡ log ∷ [] → result.refused ≡ has_refused log }
     ensures broken { (log : ALog) → run.now.logs.items ≡ log ∷ [] → result.broken ≡ log.broken }
 {
@@ -135,7 +135,7 @@ fn verdict_of(run: &Run) -> Audit
     }
 }
 
-/// The line of the register.
+/// The line of the one register.
 fn verdict_text(alloc: Global, audit: &Audit) -> Result<String, AllocError>
     ensures { IfOk result (λ text. string_bytes text ≡ verdict_line audit.now.kind audit.now.holds audit.now.operations) }
 {

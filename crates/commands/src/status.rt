@@ -64,7 +64,7 @@ fn is_refused_in(line: &Line) -> bool
     }
 }
 
-/// Whether fewer operations stand in all registers together, or in some register, than is asked for.
+/// Whether fewer operations stand in all registers together than `least`, or in some register than `least_each`.
 pub fn has_too_few(
     alloc: Global,
     tower: &Tower,

@@ -1,4 +1,4 @@
-//! What no row of data shows: readings and writings that fail or are cut, limits, and want of memory.
+//! What no row of data shows: readings and writings that fail or are cut, limits, and refused memory.
 
 use crate::commands::{conclude, run, run_safe, run_words};
 use crate::fault::CommandFault;
@@ -29,8 +29,8 @@ const TOWER: &[u8] = b"{:levels [{:name top :registers [{:name x :kind :atomic :
 const UNFINISHED: &[u8] = b"{:process 0 :type :invoke :f :write :value 1 :index 0}
 {:index 0";
 
-/// A reader of some bytes, in pieces of a size. Its first calls are interrupted, or each second one,
-/// or one call fails.
+/// A reader of some bytes, which gives at most `piece` of them at a time. Its first calls are interrupted, or each
+/// second one, or one call fails.
 #[derive(Clone, Copy)]
 struct Source<'t> {
     bytes: &'t [u8],
@@ -83,7 +83,7 @@ impl Read for Source<'_> {
     }
 }
 
-/// What the command `safe` writes to its outputs, and its status.
+/// What the command `safe` writes to its outputs, with its status.
 fn told<A: AllocGlobal + Threads + Wait + Sync>(
     rt: &A,
     mut input: Source<'_>,
@@ -94,7 +94,7 @@ fn told<A: AllocGlobal + Threads + Wait + Sync>(
     joined(out, &err, status)
 }
 
-/// Two outputs and a status.
+/// Two outputs and a status, in one text.
 fn joined(mut out: Vec<u8>, err: &[u8], status: u8) -> Result<String, Fail> {
     out.extend_from_slice(err)?;
     let mut text = String::from_utf8(out)?;
@@ -138,8 +138,8 @@ fn a_reading_that_breaks_off_has_its_line(rt: HostRuntime) -> Result<(), Fail> {
     Ok(())
 }
 
-/// A tower file, and then empty traces, whatever their names. The file of a place, from 1, is another one, or
-/// cannot be opened.
+/// A tower file, and then empty traces, whatever their names. The file that is opened at `place`, from 1, is another
+/// one, or cannot be opened.
 #[derive(Drop)]
 struct InTurn {
     opened: u32,
@@ -159,7 +159,7 @@ impl Files for InTurn {
     }
 }
 
-/// What `check` writes to its outputs of two traces, and its status, where the file of a place is another one.
+/// What `check` writes to its outputs of two traces, with its status, where the file at `place` is another one.
 fn checked<A: AllocGlobal + Threads + Wait + Sync>(
     rt: &A,
     place: u32,
@@ -178,7 +178,7 @@ fn checked<A: AllocGlobal + Threads + Wait + Sync>(
     joined(out, &err, status)
 }
 
-/// A tower file that fails at one of its calls leaves nothing to be judged, and so does a trace that cannot be opened.
+/// Where a tower file fails at one of its calls, or a trace cannot be opened, nothing is judged and nothing written.
 #[test]
 fn nothing_is_written_of_what_cannot_be_judged(rt: HostRuntime) -> Result<(), Fail> {
     for (place, other, wanted) in [
@@ -206,7 +206,7 @@ fn nothing_is_written_of_what_cannot_be_judged(rt: HostRuntime) -> Result<(), Fa
     Ok(())
 }
 
-/// A reading of a trace that breaks off at any of its calls is told in the report, and what was read is judged.
+/// A trace whose reading breaks off at any of its calls is reported as broken, and what was read is judged.
 #[test]
 fn a_trace_that_fails_at_any_call_is_told(rt: HostRuntime) -> Result<(), Fail> {
     for (call, wanted) in [
@@ -224,7 +224,7 @@ fn a_trace_that_fails_at_any_call_is_told(rt: HostRuntime) -> Result<(), Fail> {
     Ok(())
 }
 
-/// Interrupted calls are made again as often as calls may be made, and then the reading breaks off.
+/// Interrupted calls are made again until no more calls may be made, and then the reading breaks off.
 #[test]
 fn a_reading_that_is_always_interrupted_is_told(rt: HostRuntime) -> Result<(), Fail> {
     for (halts, wanted) in [
@@ -248,7 +248,7 @@ fn the_call_that_finds_the_end_counts(rt: HostRuntime) -> Result<(), Fail> {
     Ok(())
 }
 
-/// A writer that takes one write, whatever its length, and counts them. Its flush may fail.
+/// A writer that takes one write, whatever its length, and fails at the next. Its flush may fail.
 #[derive(Drop)]
 struct Once {
     writes: u32,
@@ -379,8 +379,8 @@ fn the_65_537th_register_is_too_many(rt: HostRuntime) -> Result<(), Fail> {
     Ok(())
 }
 
-/// To be run with each allocation refused in turn: the run says so and has written nothing, and the
-/// same run again gives what it would have given.
+/// To be run with each allocation refused in turn: the run writes its text, or it reports that memory was refused and
+/// writes nothing, and then the next run writes its text.
 #[test]
 fn refused_memory_is_told(rt: HostRuntime) -> Result<(), Fail> {
     for (words, text, status) in [
@@ -398,8 +398,8 @@ fn refused_memory_is_told(rt: HostRuntime) -> Result<(), Fail> {
     Ok(())
 }
 
-/// Whether the run found the memory that it wanted and wrote its text, or said that memory was
-/// refused and wrote nothing. Its outputs take none.
+/// Whether the run had the memory that it needed and wrote its text, or reported that memory was refused and wrote
+/// nothing. The outputs need no memory.
 fn is_carried_out<A: AllocGlobal + Threads + Wait + Sync>(
     rt: &A,
     words: &[&str],
@@ -430,8 +430,8 @@ fn is_carried_out<A: AllocGlobal + Threads + Wait + Sync>(
     None
 }
 
-/// The register that fails is to blame, and there is memory to say so. To be run with each allocation refused in turn:
-/// the same call again then says so.
+/// The register that fails is a culprit, and there is memory to find that. To be run with each allocation refused in
+/// turn: where it was refused, the next call finds it.
 #[test]
 fn a_failing_register_is_a_culprit(rt: HostRuntime) -> Result<(), Fail> {
     let alloc = rt.alloc();

@@ -1,11 +1,11 @@
-//! Writes a text.
+//! Writes a text to an output.
 
 ghost use Rattle.std.specs.Prelude.{OnOk};
 ghost use Rattle.std.specs.Io.KnownBytes.{Appends};
 
 use std::io::{self, Write};
 
-/// One write, and one flush.
+/// Writes a text in one write, with one flush after it.
 pub fn write_text<W: Write>(out: &mut W, text: &str) -> io::Result<()>
     ensures { OnOk result (Appends (W.contents out.old) (W.contents out.new) text.now) }
 {

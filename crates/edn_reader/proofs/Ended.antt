@@ -1,4 +1,4 @@
--- What stands behind an element that ended: it ends the tags before it too.
+-- What is open after an element that ended: it ends the tags before it too.
 use Rattle.std.proofs.Common.{◌≡◌, ℕ, suc, ◌+◌, ◌-◌, ◌<◌, ◌≤◌, Bool, true, false, cond, List, [], ◌∷◌, ◌++◌, length, take, drop, Some, refl, sym, ap, subst, ◌∙◌, arith, length-append}
 use Rattle.std.proofs.Math.Seq.{take-append_seam, drop-append_seam}
 use Rattle.edn_reader.specs.declared.element.ElementKind.{ElementKind}
@@ -9,7 +9,7 @@ use Rattle.edn_reader.specs.declared.step.Span.{Span}
 use Rattle.edn_reader.specs.declared.token.Token.TheVariants.{Opens}
 use Rattle.edn_reader.specs.declared.token.Opener.{Opener}
 use Rattle.edn_reader.specs.declared.token.Opener.TheVariants as openers
-use Rattle.edn_reader.specs.Grammar.{Piece, IsToken, IsGap, nothing, discarded, IsElementAt, tagged, IsElements, waits}
+use Rattle.edn_reader.specs.Grammar.{ElementModel, IsToken, IsGap, nothing, discarded, IsElementAt, tagged, IsElements, waits}
 use Rattle.edn_reader.specs.Text.{IsText, StandsOpen, outermost, opened}
 use Rattle.edn_reader.specs.Taking.{Taken, on, ends, fails, with_one, is_tag, behind_tag, completed, piece_in}
 use Rattle.edn_reader.proofs.Places.{moved_element, moved_elements, moved_stands, core_within}
@@ -23,31 +23,31 @@ left_behind front rest bytes q e n =
     let k : q ≡ length front = omega arith in
     sym (rw (k, e) (drop-append_seam front rest))
 
-pub elements_left : {room q : ℕ} {pieces : List Piece} {input rest : List ℕ} → IsElements room 0 input pieces q rest → rest ≡ drop q input
+pub elements_left : {room q : ℕ} {pieces : List ElementModel} {input rest : List ℕ} → IsElements room 0 input pieces q rest → rest ≡ drop q input
 elements_left {q = q} {input = input} {rest = rest} els =
     let m = moved_elements els rest (λ h. h, λ h. h, λ h. h) in left_behind m.2.front rest input q m.2.here m.2.place
 
-pub stands_left : {q : ℕ} {pieces : List Piece} {opens : List Open} {input rest : List ℕ} → StandsOpen input pieces opens q rest → rest ≡ drop q input
+pub stands_left : {q : ℕ} {pieces : List ElementModel} {opens : List Open} {input rest : List ℕ} → StandsOpen input pieces opens q rest → rest ≡ drop q input
 stands_left {q = q} {input = input} {rest = rest} s =
     let m = moved_stands s rest (λ h. h, λ h. h, λ h. h) in left_behind m.2.front rest input q m.2.here m.2.place
 
--- At the end of the input the place is its length.
-pub stands_end : {q : ℕ} {pieces : List Piece} {opens : List Open} {input rest : List ℕ} → StandsOpen input pieces opens q rest → q + length rest ≡ length input
+-- a place and the number of bytes left there make the length of the input
+pub stands_end : {q : ℕ} {pieces : List ElementModel} {opens : List Open} {input rest : List ℕ} → StandsOpen input pieces opens q rest → q + length rest ≡ length input
 stands_end {q = q} {input = input} {rest = rest} s =
     let m = moved_stands s rest (λ h. h, λ h. h, λ h. h) in omega (arith, m.2.place, ap length m.2.here, length-append m.2.front rest)
 
-pub stands_room : {q : ℕ} {pieces : List Piece} (opens : List Open) {input rest : List ℕ} → StandsOpen input pieces opens q rest → length opens ≤ 64
+pub stands_room : {q : ℕ} {pieces : List ElementModel} (opens : List Open) {input rest : List ℕ} → StandsOpen input pieces opens q rest → length opens ≤ 64
 stands_room [] s = omega arith
 stands_room (item ∷ opens) (opened s token full inside) = omega (arith, full)
 
-pub stands_text : {p : ℕ} {pieces : List Piece} {input : List ℕ} → StandsOpen input pieces [] p [] → IsText input pieces
+pub stands_text : {p : ℕ} {pieces : List ElementModel} {input : List ℕ} → StandsOpen input pieces [] p [] → IsText input pieces
 stands_text {p} {pieces} {input} (outermost {place = at} els gap) =
     (at, p, subst (λ (r : List ℕ). IsElements 64 0 input pieces at r) (elements_left els) els, subst (λ (r : List ℕ). IsGap 64 at r p []) (elements_left els) gap)
 
 -- ---- an element that ended
 
--- What is taken says this of the input up to a place, with the bytes that are left there.
-abbrev pub Stands : List ℕ → List Piece → ℕ → List ℕ → Taken → Type 0
+-- what a token led to says this of the input up to a place and of the bytes that are left there
+abbrev pub Stands : List ℕ → List ElementModel → ℕ → List ℕ → Taken → Type 0
 Stands input pieces q b (on opens) = StandsOpen input pieces opens q b
 Stands input pieces q b (ends span) =
     (span.start ≤ span.core.start) × (span.core.start < span.end) × (span.end ≡ q) × IsElements 64 0 input (pieces ++ piece_in input span ∷ []) q b
@@ -59,7 +59,7 @@ record Text (input : List ℕ) (p q : ℕ) (a b : List ℕ) : Type 0 where
   whole : a ≡ bytes ++ b
   taken : bytes ≡ take (q - p) (drop p input)
 
-text_of : {room p q : ℕ} {kind : ElementKind} {core : Core} {input a b : List ℕ} {pieces : List Piece} {opens : List Open} → StandsOpen input pieces opens p a → IsElementAt room kind core p a q b → Text input p q a b
+text_of : {room p q : ℕ} {kind : ElementKind} {core : Core} {input a b : List ℕ} {pieces : List ElementModel} {opens : List Open} → StandsOpen input pieces opens p a → IsElementAt room kind core p a q b → Text input p q a b
 text_of {p = p} {q = q} {input = input} {a = a} {b = b} stands element =
     let m = (moved_element element b (λ h. h)).place in
     let long : q - p ≡ length m.front = omega (arith, m.place) in
@@ -69,7 +69,7 @@ text_of {p = p} {q = q} {input = input} {a = a} {b = b} stands element =
       taken = sym (ap (take (q - p)) (sym (stands_left stands)) ∙ ap (take (q - p)) m.here ∙ ap (λ (n : ℕ). take n (m.front ++ b)) long ∙ take-append_seam m.front b);
     }
 
-completed_by : (input : List ℕ) (pieces : List Piece) (q : ℕ) (b : List ℕ) (t w : Bool) (x : Taken) (y z : List Open)
+completed_by : (input : List ℕ) (pieces : List ElementModel) (q : ℕ) (b : List ℕ) (t w : Bool) (x : Taken) (y z : List Open)
     → (t ≡ true → Stands input pieces q b x) → (t ≡ false → w ≡ true → Stands input pieces q b (on y)) → (w ≡ false → Stands input pieces q b (on z))
     → (t ≡ true → w ≡ true) → Stands input pieces q b (cond t x (cond w (on y) (on z)))
 completed_by input pieces q b true w x y z f g h k = f refl
@@ -100,8 +100,8 @@ is_the_discard openers.Set e w = absurd cc
 is_the_discard openers.Tag e w = absurd cc
 is_the_discard openers.Discard e w = refl
 
--- A discard with its element is a gap.
-discard_over : {q : ℕ} {input a b : List ℕ} {pieces : List Piece} {item : Open} {opens : List Open} {kind : ElementKind} {core : Core} (p : ℕ) → waits item.opener ≡ true → item.opener ≡ openers.Discard
+-- a discard with its element is a gap
+discard_over : {q : ℕ} {input a b : List ℕ} {pieces : List ElementModel} {item : Open} {opens : List Open} {kind : ElementKind} {core : Core} (p : ℕ) → waits item.opener ≡ true → item.opener ≡ openers.Discard
     → StandsOpen input pieces (item ∷ opens) p a → ((room : ℕ) → room + suc (length opens) ≡ 64 → IsElementAt room kind core p a q b) → StandsOpen input pieces opens q b
 discard_over {q} {b = b} {item = item} {opens = opens} p w e stands element =
     let s = stands_waited w stands in
@@ -110,8 +110,8 @@ discard_over {q} {b = b} {item = item} {opens = opens} p w e stands element =
     let same : suc s.room ≡ room = omega (arith, s.full, fit) in
     subst (λ (n : ℕ). IsGap n item.place s.bytes q b) same (discarded token s.gap (element s.room s.full) nothing))
 
--- A tag with its element is an element.
-tag_over : {q : ℕ} {input a b : List ℕ} {pieces : List Piece} {item : Open} {opens : List Open} {kind : ElementKind} {core : Core} (p : ℕ) (w : waits item.opener ≡ true) → item.opener ≡ openers.Tag
+-- a tag with its element is an element
+tag_over : {q : ℕ} {input a b : List ℕ} {pieces : List ElementModel} {item : Open} {opens : List Open} {kind : ElementKind} {core : Core} (p : ℕ) (w : waits item.opener ≡ true) → item.opener ≡ openers.Tag
     → (s : Waited input pieces item opens p a) → ((room : ℕ) → room + suc (length opens) ≡ 64 → IsElementAt room kind core p a q b)
     → (room : ℕ) → room + length opens ≡ 64 → IsElementAt room Tagged core item.place s.bytes q b
 tag_over {q} {b = b} {item = item} {opens = opens} {core = core} p w e s element room fit =
@@ -119,7 +119,7 @@ tag_over {q} {b = b} {item = item} {opens = opens} {core = core} p w e s element
     let same : suc s.room ≡ room = omega (arith, s.full, fit) in
     subst (λ (n : ℕ). IsElementAt n Tagged core item.place s.bytes q b) same (tagged token s.gap (element s.room s.full))
 
-pub stands_completed : {input b : List ℕ} {pieces : List Piece} (opens : List Open) (span : Span) (a : List ℕ) → StandsOpen input pieces opens span.start a
+pub stands_completed : {input b : List ℕ} {pieces : List ElementModel} (opens : List Open) (span : Span) (a : List ℕ) → StandsOpen input pieces opens span.start a
     → ((room : ℕ) → room + length opens ≡ 64 → IsElementAt room span.kind span.core span.start a span.end b) → Stands input pieces span.end b (completed span opens)
 unfolding completed
 stands_completed {input} {b} {pieces} [] span a stands element =
@@ -143,8 +143,8 @@ stands_completed {input} {b} {pieces} (item ∷ opens) span a stands element =
 
 -- ---- what is open then
 
-pub next_stands : (input : List ℕ) (pieces : List Piece) (q : ℕ) (b : List ℕ) (t : Taken) (next : List Open × List Span) → goes t ≡ Some next → Stands input pieces q b t
-    → (others : List Piece) × StandsOpen input others next.0 q b
+pub next_stands : (input : List ℕ) (pieces : List ElementModel) (q : ℕ) (b : List ℕ) (t : Taken) (next : List Open × List Span) → goes t ≡ Some next → Stands input pieces q b t
+    → (others : List ElementModel) × StandsOpen input others next.0 q b
 next_stands input pieces q b (on opens) next e s =
     let same : opens ≡ next.0 = cc in (pieces, subst (λ (x : List Open). StandsOpen input pieces x q b) same s)
 next_stands input pieces q b (ends span) next e s =
@@ -152,9 +152,9 @@ next_stands input pieces q b (ends span) next e s =
     (pieces ++ piece_in input span ∷ [], subst (λ (x : List Open). StandsOpen input (pieces ++ piece_in input span ∷ []) x q b) same (outermost s.3 nothing))
 next_stands input pieces q b (fails fault) next e s = absurd cc
 
--- One more element, wherever it stands.
-pub stands_more : {input a b : List ℕ} {pieces : List Piece} (opens : List Open) (span : Span) → StandsOpen input pieces opens span.start a
+-- one more element, outermost or not
+pub stands_more : {input a b : List ℕ} {pieces : List ElementModel} (opens : List Open) (span : Span) → StandsOpen input pieces opens span.start a
     → ((room : ℕ) → room + length opens ≡ 64 → IsElementAt room span.kind span.core span.start a span.end b)
-    → (others : List Piece) × StandsOpen input others (settled span opens).0 span.end b
+    → (others : List ElementModel) × StandsOpen input others (settled span opens).0 span.end b
 stands_more {input} {a} {b} {pieces} opens span stands element =
     next_stands input pieces span.end b (completed span opens) (settled span opens) (settles span opens) (stands_completed opens span a stands element)

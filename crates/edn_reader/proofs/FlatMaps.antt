@@ -1,4 +1,4 @@
--- A map of words at the front of bytes: from the places that were found to the grammar.
+-- A map of words that bytes begin with: the grammar has what was found at the indices.
 use Rattle.std.proofs.Common.{◌≡◌, ◌≢◌, inl, inr, ℕ, suc, ◌+◌, ◌-◌, ◌<◌, ◌≤◌, ◌^◌, Bool, true, false, not, cond, eqb, List, [], ◌∷◌, ◌++◌, length, get_or, take, drop, refl, sym, ap, subst, ◌∙◌, arith, length-drop}
 use Rattle.std.proofs.lemmas.List.{append-nil, drop-drop, drop-take, take-append-drop, length-take-le}
 use Rattle.std.proofs.lemmas.Bool.Decides.{nat_tests}
@@ -13,9 +13,9 @@ use Rattle.edn_reader.specs.declared.token.Token.{Token}
 use Rattle.edn_reader.specs.declared.token.Token.TheVariants.{Opens, Closes}
 use Rattle.edn_reader.specs.declared.token.Opener.TheVariants as openers
 use Rattle.edn_reader.specs.Bytes.{class_of, is_run, is_plain, is_white, stretch}
-use Rattle.edn_reader.specs.Grammar.{Piece, untagged, IsStretch, IsTag, opener_of, IsToken, white, run, opening, tag, close, is_odd, IsGap, nothing, skipped, IsElementAt, leaf, bracketed, tagged, IsElements, none, next, IsElement}
+use Rattle.edn_reader.specs.Grammar.{ElementModel, untagged, IsStretch, IsTag, opener_of, IsToken, white, run, opening, tag, close, is_odd, IsGap, nothing, skipped, IsElementAt, leaf, bracketed, tagged, IsElements, none, next, IsElement}
 use Rattle.edn_reader.specs.Pairs.{in_turn, HasPairs}
-use Rattle.edn_reader.specs.Flat.{IsWordAt, IsValueAt, piece_at, WordsTo, IsVectorFrom, IsCoreAt, kind_with, HasRead, IsBraceAt, IsFirst}
+use Rattle.edn_reader.specs.Flat.{IsWordAt, IsValueAt, piece_at, WordsTo, IsVectorFrom, IsCoreAt, kind_with, HasRead, IsBraceAt, BeginsWithElement}
 use Rattle.edn_reader.proofs.Lexing.{white_class, plain_class}
 use Rattle.edn_reader.proofs.Places.{Follows, Replaced, replaced_then, follows_before, follows_same, cancel_end, moved_token, moved_gap, moved_element, moved_elements}
 use Rattle.edn_reader.proofs.Prefixes.{replaced_behind}
@@ -46,13 +46,13 @@ run_to bytes base at end place =
     subst (λ (q : ℕ). IsStretch is_run (base + at) (drop at bytes) q (drop end bytes)) there
     (subst (λ (xs : List ℕ). IsStretch is_run (base + at) (drop at bytes) (base + at + size) xs) rest (stretch_here is_run (base + at) (drop at bytes)))
 
--- A run behind the first byte.
+-- a run after its first byte
 run_behind : (bytes : List ℕ) (base at end : ℕ) → end ≡ at + 1 + stretch is_run (drop (at + 1) bytes) → IsStretch is_run (suc (base + at)) (drop (at + 1) bytes) (base + end) (drop end bytes)
 run_behind bytes base at end place =
     let from : base + (at + 1) ≡ suc (base + at) = omega arith in
     subst (λ (p : ℕ). IsStretch is_run p (drop (at + 1) bytes) (base + end) (drop end bytes)) from (run_to bytes base (at + 1) end place)
 
--- A token, by its first byte.
+-- a token, by its first byte
 token_here : {token : Token} {q : ℕ} {rest : List ℕ} (bytes : List ℕ) (base at : ℕ) → at < length bytes → IsToken token (base + at) (get_or bytes at 0 ∷ drop (at + 1) bytes) q rest → IsToken token (base + at) (drop at bytes) q rest
 token_here {token} {q} {rest} bytes base at lt is = subst (λ (xs : List ℕ). IsToken token (base + at) xs q rest) (sym (drop_here bytes at lt)) is
 
@@ -67,14 +67,14 @@ word_at bytes at end lt plain place le other = (
 pub value_of_word : (bytes : List ℕ) (at end : ℕ) → IsWordAt bytes at end → IsValueAt bytes at kinds.Atom end
 value_of_word bytes at end word = (word.0, omega (arith, word.1), λ base room. leaf (word.2 base))
 
--- The bytes from a place up to another, and those behind.
+-- the bytes from one index to another, and those after
 split_at : (bytes : List ℕ) (from to : ℕ) → from ≤ to → drop from bytes ≡ take (to - from) (drop from bytes) ++ drop to bytes
 split_at bytes from to le =
     let place : from + (to - from) ≡ to = omega (arith, le) in
     sym (take-append-drop (to - from) (drop from bytes))
     ∙ ap (λ (xs : List ℕ). take (to - from) (drop from bytes) ++ xs) (drop-drop (to - from) from bytes ∙ ap (λ (n : ℕ). drop n bytes) place)
 
--- What leads from a place to another, with other bytes behind, has the bytes between them.
+-- a derivation from one index to another, with other bytes after it, leads over the bytes between them
 front_between : {p q : ℕ} {d e : List ℕ} (bytes : List ℕ) (from to : ℕ) → from ≤ to → (m : Replaced p (drop from bytes) q (drop to bytes) d e) → m.front ≡ take (to - from) (drop from bytes)
 front_between bytes from to le m = cancel_end m.front (take (to - from) (drop from bytes)) (drop to bytes) (sym m.here ∙ split_at bytes from to le)
 
@@ -116,7 +116,7 @@ closes_curly : (b : ℕ) → b ≡ 125 → class_of b ≡ classes.Closes Curly
 unfolding class_of
 closes_curly b e = rw e refl
 
--- A bracket that opens at a place.
+-- a bracket that opens at an index
 opens_at : {bracket : Bracket} (bytes : List ℕ) (base at : ℕ) → at < length bytes → class_of (get_or bytes at 0) ≡ classes.Opens bracket
     → IsToken (Opens (opener_of bracket)) (base + at) (drop at bytes) (suc (base + at)) (drop (at + 1) bytes)
 opens_at bytes base at lt is = token_here bytes base at lt (opening is)
@@ -194,19 +194,19 @@ map_first map fits start core lt opens at =
       within = omega (arith, at, lt);
     }
 
-in_turn-more : (pairs : List (Piece × Piece)) (key value : Piece) → in_turn (pairs ++ (key, value) ∷ []) ≡ (in_turn pairs ++ key ∷ []) ++ value ∷ []
+in_turn-more : (pairs : List (ElementModel × ElementModel)) (key value : ElementModel) → in_turn (pairs ++ (key, value) ∷ []) ≡ (in_turn pairs ++ key ∷ []) ++ value ∷ []
 in_turn-more [] key value = refl
-in_turn-more (pair ∷ pairs) key value = ap (λ (pieces : List Piece). pair.0 ∷ pair.1 ∷ pieces) (in_turn-more pairs key value)
+in_turn-more (pair ∷ pairs) key value = ap (λ (pieces : List ElementModel). pair.0 ∷ pair.1 ∷ pieces) (in_turn-more pairs key value)
 
-in_turn-even : (pairs : List (Piece × Piece)) → is_odd (in_turn pairs) ≡ false
+in_turn-even : (pairs : List (ElementModel × ElementModel)) → is_odd (in_turn pairs) ≡ false
 in_turn-even [] = refl
 in_turn-even (pair ∷ pairs) = ap (λ (odd : Bool). not (not odd)) (in_turn-even pairs)
 
--- The same map, read up to another place.
+-- the map, read up to another index
 abbrev pub read_to : FlatMap → ℕ → FlatMap
 read_to map at = record { bytes = map.bytes; base = map.base; start = map.start; core = map.core; at = at }
 
-pub map_next : (map : FlatMap) (pairs : List (Piece × Piece)) (key_at key_end value_at value_end : ℕ) (kind : ElementKind) → HasRead map pairs
+pub map_next : (map : FlatMap) (pairs : List (ElementModel × ElementModel)) (key_at key_end value_at value_end : ℕ) (kind : ElementKind) → HasRead map pairs
     → key_at ≡ map.at + stretch is_white (drop map.at map.bytes.now) → IsWordAt map.bytes.now key_at key_end
     → value_at ≡ key_end + stretch is_white (drop key_end map.bytes.now) → IsValueAt map.bytes.now value_at kind value_end
     → HasRead (read_to map value_end) (pairs ++ (piece_at map.bytes.now map.base kinds.Atom key_at key_end, piece_at map.bytes.now map.base kind value_at value_end) ∷ [])
@@ -221,7 +221,7 @@ map_next map pairs key_at key_end value_at value_end kind read key_place key val
       core = read.core;
       bracket = read.bracket;
       elements = λ room.
-          subst (λ (pieces : List Piece). IsElements (suc room) (suc (base + map.core)) (drop (suc map.core) bytes) pieces (base + value_end) (drop value_end bytes)) (sym (in_turn-more pairs first second))
+          subst (λ (pieces : List ElementModel). IsElements (suc room) (suc (base + map.core)) (drop (suc map.core) bytes) pieces (base + value_end) (drop value_end bytes)) (sym (in_turn-more pairs first second))
           (elements_more second
           (elements_more first (read.elements room) (gap_white bytes base (suc room) map.at key_at key_place) (leaf (key.2 base)) (split_at bytes key_at key_end (omega (arith, key.0))))
           (gap_white bytes base (suc room) key_end value_at value_place) (value.2 base room) (split_at bytes value_at value_end (omega (arith, value.0))));
@@ -231,8 +231,8 @@ map_next map pairs key_at key_end value_at value_end kind read key_place key val
 
 -- ---- a map that ends
 
--- The map up to its brace, behind which other bytes stand.
-record Closed (map : FlatMap) (pairs : List (Piece × Piece)) (brace room : ℕ) (behind : List ℕ) : Type 0 where
+-- the map up to its brace, with other bytes after that
+record Closed (map : FlatMap) (pairs : List (ElementModel × ElementModel)) (brace room : ℕ) (behind : List ℕ) : Type 0 where
   bytes : List ℕ
   left : List ℕ
   beyond : List ℕ
@@ -244,7 +244,7 @@ record Closed (map : FlatMap) (pairs : List (Piece × Piece)) (brace room : ℕ)
   place : Replaced (map.base + map.core) (drop map.core map.bytes.now) (suc (map.base + brace)) (drop (suc brace) map.bytes.now) bytes behind
   begins : Follows (drop map.core map.bytes.now) bytes
 
-closed : (map : FlatMap) (pairs : List (Piece × Piece)) (brace room : ℕ) (behind : List ℕ) → HasRead map pairs → IsBraceAt map brace → Closed map pairs brace room behind
+closed : (map : FlatMap) (pairs : List (ElementModel × ElementModel)) (brace room : ℕ) (behind : List ℕ) → HasRead map pairs → IsBraceAt map brace → Closed map pairs brace room behind
 closed map pairs brace room behind read (low, lt, is, gap) =
     let bytes = map.bytes.now in
     let last = get_or bytes brace 0 in
@@ -275,18 +275,18 @@ closed map pairs brace room behind read (low, lt, is, gap) =
       begins = t.begins;
     }
 
-element_closed : (map : FlatMap) (pairs : List (Piece × Piece)) (brace room : ℕ) (behind : List ℕ) (c : Closed map pairs brace room behind)
+element_closed : (map : FlatMap) (pairs : List (ElementModel × ElementModel)) (brace room : ℕ) (behind : List ℕ) (c : Closed map pairs brace room behind)
     → IsElementAt (suc (suc room)) kinds.Map (record { kind = kinds.Map; start = map.base + map.core }) (map.base + map.core) c.bytes (suc (map.base + brace)) behind
 element_closed map pairs brace room behind c = bracketed c.opens c.elements c.gap (close c.closes) refl (in_turn-even pairs)
 
--- The map with its tag.
+-- the map with its tag, if it has one
 record Whole (map : FlatMap) (brace : ℕ) (behind : List ℕ) : Type 0 where
   bytes : List ℕ
   element : IsElementAt 64 (kind_with map.start map.core) (record { kind = kinds.Map; start = map.base + map.core }) (map.base + map.start) bytes (suc (map.base + brace)) behind
   place : Replaced (map.base + map.start) (drop map.start map.bytes.now) (suc (map.base + brace)) (drop (suc brace) map.bytes.now) bytes behind
   begins : Follows (drop map.start map.bytes.now) bytes
 
-whole_by : (map : FlatMap) (pairs : List (Piece × Piece)) (brace : ℕ) (behind : List ℕ) → HasRead map pairs → IsBraceAt map brace → IsCoreAt map.bytes.now map.start map.core → Whole map brace behind
+whole_by : (map : FlatMap) (pairs : List (ElementModel × ElementModel)) (brace : ℕ) (behind : List ℕ) → HasRead map pairs → IsBraceAt map brace → IsCoreAt map.bytes.now map.start map.core → Whole map brace behind
 whole_by map pairs brace behind read closes (inl same) =
     let c = closed map pairs brace 62 behind read closes in
     let core : Core = record { kind = kinds.Map; start = map.base + map.core } in
@@ -314,8 +314,8 @@ whole_by map pairs brace behind read closes (inr named) =
       begins = t.begins;
     }
 
--- The element that ends with a brace.
-abbrev pub map_piece : FlatMap → ℕ → Piece
+-- the element that is the map up to a brace
+abbrev pub map_piece : FlatMap → ℕ → ElementModel
 map_piece map brace = record {
   kind = kind_with map.start map.core;
   start = map.base + map.start;
@@ -323,7 +323,7 @@ map_piece map brace = record {
   core = record { kind = kinds.Map; start = map.base + map.core };
 }
 
--- The same, where the kind and the end were computed.
+-- the element that is the map up to a brace, where its kind and its end were computed
 pub made_piece : (map : FlatMap) (brace end : ℕ) (kind : ElementKind) → kind ≡ kind_with map.start map.core → end ≡ suc brace
     → record { kind = kind; start = map.base + map.start; text = take (end - map.start) (drop map.start map.bytes.now); core = record { kind = kinds.Map; start = map.base + map.core } } ≡ map_piece map brace
 made_piece map brace end kind same ends =
@@ -339,10 +339,10 @@ core_low bytes start core (inr named) = omega (arith, named.before)
 text_size : (map : FlatMap) (brace : ℕ) → map.start ≤ brace → brace < length map.bytes.now → length (map_piece map brace).text ≡ suc brace - map.start
 text_size map brace low lt = length-take-le (suc brace - map.start) (drop map.start map.bytes.now) (omega (arith, low, lt, length-drop map.start map.bytes.now))
 
-brace_high : (map : FlatMap) (pairs : List (Piece × Piece)) (brace : ℕ) → HasRead map pairs → IsBraceAt map brace → map.start ≤ brace
+brace_high : (map : FlatMap) (pairs : List (ElementModel × ElementModel)) (brace : ℕ) → HasRead map pairs → IsBraceAt map brace → map.start ≤ brace
 brace_high map pairs brace read closes = omega (arith, core_low map.bytes.now map.start map.core read.core, read.behind, closes.0)
 
-first_behind : (map : FlatMap) (pairs : List (Piece × Piece)) (brace : ℕ) (behind : List ℕ) → HasRead map pairs → IsBraceAt map brace
+first_behind : (map : FlatMap) (pairs : List (ElementModel × ElementModel)) (brace : ℕ) (behind : List ℕ) → HasRead map pairs → IsBraceAt map brace
     → IsElements 64 map.base (map.bytes.now ++ behind) (map_piece map brace ∷ []) (suc (map.base + brace)) (drop (suc brace) map.bytes.now ++ behind)
 first_behind map pairs brace behind read closes =
     let bytes = map.bytes.now in
@@ -354,7 +354,7 @@ first_behind map pairs brace behind read closes =
     let all : g.0 ≡ bytes ++ behind = replaced_behind behind (replaced_then g.2 w.place) in
     subst (λ (xs : List ℕ). IsElements 64 map.base xs (map_piece map brace ∷ []) (suc (map.base + brace)) (rest ++ behind)) all (next g.1 w.element text none)
 
-pub map_is_first : (map : FlatMap) (pairs : List (Piece × Piece)) (brace : ℕ) → HasRead map pairs → IsBraceAt map brace → IsFirst map.bytes.now map.base (map_piece map brace)
+pub map_is_first : (map : FlatMap) (pairs : List (ElementModel × ElementModel)) (brace : ℕ) → HasRead map pairs → IsBraceAt map brace → BeginsWithElement map.bytes.now map.base (map_piece map brace)
 map_is_first map pairs brace read closes =
     let bytes = map.bytes.now in
     let low = brace_high map pairs brace read closes in
@@ -373,14 +373,14 @@ map_is_first map pairs brace read closes =
           (subst (λ (n : ℕ). IsElements 64 map.base (bytes ++ behind) (map_piece map brace ∷ []) (suc (map.base + brace)) (drop n bytes ++ behind)) used (first_behind map pairs brace behind read closes)),
     )
 
-pub map_is_element : (map : FlatMap) (pairs : List (Piece × Piece)) (brace : ℕ) → HasRead map pairs → IsBraceAt map brace → IsElement (map_piece map brace)
+pub map_is_element : (map : FlatMap) (pairs : List (ElementModel × ElementModel)) (brace : ℕ) → HasRead map pairs → IsBraceAt map brace → IsElement (map_piece map brace)
 map_is_element map pairs brace read closes =
     let w = whole_by map pairs brace [] read closes read.core in
     let front = front_between map.bytes.now map.start (suc brace) (omega (arith, brace_high map pairs brace read closes)) w.place in
     let text : w.bytes ≡ (map_piece map brace).text = w.place.there ∙ append-nil w.place.front ∙ front in
     (suc (map.base + brace), subst (λ (xs : List ℕ). IsElementAt 64 (kind_with map.start map.core) (map_piece map brace).core (map.base + map.start) xs (suc (map.base + brace)) []) text w.element)
 
-pub map_has_pairs : (map : FlatMap) (pairs : List (Piece × Piece)) (brace : ℕ) → HasRead map pairs → IsBraceAt map brace → HasPairs (map_piece map brace) pairs
+pub map_has_pairs : (map : FlatMap) (pairs : List (ElementModel × ElementModel)) (brace : ℕ) → HasRead map pairs → IsBraceAt map brace → HasPairs (map_piece map brace) pairs
 map_has_pairs map pairs brace read closes =
     let bytes = map.bytes.now in
     let c = closed map pairs brace 62 [] read closes in

@@ -1,4 +1,4 @@
--- Digits from left to right.
+-- Digits from left to right, and that more of them make a number no less.
 use Rattle.std.proofs.Common.{◌≡◌, ℕ, ◌+◌, ◌-◌, ◌*◌, ◌<◌, ◌≤◌, Bool, true, false, cond, List, [], ◌∷◌, length, drop, get_or, Option, Some, None, refl, sym, ap, ◌∙◌, arith}
 use Rattle.std.proofs.Math.ListN.{drop_of_length-le}
 use Rattle.edn_reader.specs.Integer.{is_digit, is_suffix, digits_after}
@@ -23,7 +23,7 @@ digits_past xs i value le =
     let whole : drop i xs ≡ [] = drop_of_length-le xs le in
     digits_ended value (drop i xs) (λ h. absurd (omega (arith, ap length whole)))
 
--- More digits make no less.
+-- more digits make a number no less
 digits_grow_by : (t s : Bool) (value more n : ℕ) (r : Option ℕ) → (r ≡ Some n → more ≤ n) → value ≤ more → cond t r (cond s (Some value) None) ≡ Some n → value ≤ n
 digits_grow_by true s value more n r h le e = omega (arith, h e)
 digits_grow_by false true value more n r h le e = let same : value ≡ n = cc in omega (arith, same)

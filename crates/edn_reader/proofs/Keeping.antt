@@ -1,4 +1,4 @@
--- The place of the outermost that is open never falls, and an element that ended begins there.
+-- The place of the outermost thing open never falls, and an element that ends begins no earlier than that.
 use Rattle.std.proofs.Common.{◌≡◌, ℕ, ◌+◌, ◌≤◌, Bool, true, false, cond, eqb, ◌&&◌, List, [], ◌∷◌, length, drop, refl, sym, ap, subst, ◌∙◌, arith}
 use Rattle.edn_reader.specs.declared.bytes.Bracket.{Bracket}
 use Rattle.edn_reader.specs.declared.fault.EdnFault.{EdnFault}
@@ -10,7 +10,7 @@ use Rattle.edn_reader.specs.declared.step.Span.{Span}
 use Rattle.edn_reader.specs.declared.token.Token.{Token}
 use Rattle.edn_reader.specs.declared.token.Token.TheVariants as tokens
 use Rattle.edn_reader.specs.declared.token.Opener.{Opener}
-use Rattle.edn_reader.specs.Grammar.{Piece, fits, waits, is_paired, kind_of}
+use Rattle.edn_reader.specs.Grammar.{ElementModel, fits, waits, is_paired, kind_of}
 use Rattle.edn_reader.specs.Text.{within, waiting, StandsIn, StandsOpen, outermost, opened}
 use Rattle.edn_reader.specs.Token.{lexed}
 use Rattle.edn_reader.specs.Resuming.{resumed, last}
@@ -20,7 +20,7 @@ use Rattle.edn_reader.proofs.Places.{gap_forward, token_forward, elements_forwar
 use Rattle.edn_reader.proofs.Reading.{StandsAt}
 use Rattle.edn_reader.proofs.Leading.{stands_led}
 
--- What is open stands before a place, each before what opened in it.
+-- what is open began no later than a place, each no later than what opened in it
 abbrev pub Rising : List Open → ℕ → Type 0
 Rising [] place = Unit {0}
 Rising (item ∷ opens) place = (item.place ≤ place) × Rising opens item.place
@@ -29,7 +29,7 @@ pub inside_forward : {opener : Opener} {room p q : ℕ} {a b : List ℕ} {odd : 
 inside_forward (within w els gap) = omega (arith, elements_forward els, gap_forward gap)
 inside_forward (waiting w gap) = gap_forward gap
 
-pub rising_stands : {p : ℕ} {input rest : List ℕ} {pieces : List Piece} {opens : List Open} → StandsOpen input pieces opens p rest → Rising opens p
+pub rising_stands : {p : ℕ} {input rest : List ℕ} {pieces : List ElementModel} {opens : List Open} → StandsOpen input pieces opens p rest → Rising opens p
 rising_stands (outermost els gap) = tt
 rising_stands (opened s token room inside) = (omega (arith, token_forward token, inside_forward inside), rising_stands s)
 
@@ -45,7 +45,7 @@ pub rising_up : (opens : List Open) (p q : ℕ) → p ≤ q → Rising opens p �
 rising_up [] p q le r = tt
 rising_up (item ∷ opens) p q le r = (omega (arith, r.0, le), r.1)
 
--- What was taken keeps this place: what is open goes on from it, or an element begins there.
+-- what a token led to begins no earlier than the place kept: what is open then, or the element that ended
 abbrev Keeps : ℕ → ℕ → Taken → Type 0
 Keeps keep end (on opens) = keep ≤ outer opens end
 Keeps keep end (ends span) = keep ≤ span.start
@@ -96,8 +96,8 @@ on_keeps token start end opens after le r e = subst (Keeps (outer opens start) e
 pub ends_keeps : (token : Token) (start end : ℕ) (opens : List Open) (span : Span) → start ≤ end → Rising opens start → taken token start end opens ≡ ends span → outer opens start ≤ span.start
 ends_keeps token start end opens span le r e = subst (Keeps (outer opens start) end) e (keeps token start end opens le r)
 
--- Where tokens lead on.
-pub led_keeps : (input : List ℕ) (pieces : List Piece) (from end : ℕ) (opens after : List Open) → StandsAt input pieces opens from → LeadsOn input from opens end after → outer opens from ≤ outer after end
+-- where tokens lead on, the place of the outermost does not fall
+pub led_keeps : (input : List ℕ) (pieces : List ElementModel) (from end : ℕ) (opens after : List Open) → StandsAt input pieces opens from → LeadsOn input from opens end after → outer opens from ≤ outer after end
 led_keeps input pieces from end opens after s stays = omega arith
 led_keeps input pieces from end opens after s (by_token {at = at} {inner = inner} led lt e) =
     let size = (lexed (drop at input)).1 in
@@ -107,7 +107,7 @@ led_keeps input pieces from end opens after s (by_token {at = at} {inner = inner
       on_keeps (lexed (drop at input)).0 at (at + size) inner after (omega arith) (rising_stands (stands_led input pieces from at opens inner s led)) e,
     )
 
--- ---- behind what has begun
+-- ---- after what has begun
 
 gap_on : (start end : ℕ) (opens after : List Open) → taken tokens.Gap start end opens ≡ on after → opens ≡ after
 unfolding taken
@@ -117,7 +117,7 @@ gap_ends : (start end : ℕ) (opens : List Open) (span : Span) → taken tokens.
 unfolding taken
 gap_ends start end opens span e = cc
 
--- What would be a gap if the bytes ended here is one, whatever follows.
+-- a part that would be a gap if the bytes ended here is one, whatever follows
 pub gap_stays : (part : Part) (rest : List ℕ) → last part ≡ tokens.Gap → (resumed part rest).0 ≡ tokens.Gap
 gap_stays parts.Nothing rest e = absurd cc
 gap_stays parts.Comment rest e = refl
@@ -145,7 +145,7 @@ kept_ends (tokens.Opens opener) token start at end opens span g le r t = ends_ke
 kept_ends (tokens.Closes bracket) token start at end opens span g le r t = ends_keeps token start end opens span le r t
 kept_ends tokens.Unfinished token start at end opens span g le r t = ends_keeps token start end opens span le r t
 
--- A gap that has begun makes no element, so its own bytes are not kept.
+-- a gap that has begun makes no element, so its own bytes are not kept
 pub part_on : (part : Part) (start at end : ℕ) (rest : List ℕ) (token : Token) (opens after : List Open) → (resumed part rest).0 ≡ token → start ≤ at → at ≤ end → Rising opens start
     → taken token start end opens ≡ on after → outer opens (kept_token (last part) start at) ≤ outer after end
 part_on part start at end rest token opens after e le high r t = kept_on (last part) token start at end opens after (λ g. sym e ∙ gap_stays part rest g) le high r t
@@ -154,7 +154,7 @@ pub part_ends : (part : Part) (start at end : ℕ) (rest : List ℕ) (token : To
     → taken token start end opens ≡ ends span → outer opens (kept_token (last part) start at) ≤ span.start
 part_ends part start at end rest token opens span e le r t = kept_ends (last part) token start at end opens span (λ g. sym e ∙ gap_stays part rest g) le r t
 
--- A part that goes on keeps no less.
+-- a part is kept from its start or later, and the place kept does not fall as it goes on
 pub token_low : (token : Token) (start at : ℕ) → start ≤ at → start ≤ kept_token token start at
 token_low tokens.Gap start at le = le
 token_low (tokens.Leaf kind) start at le = omega arith

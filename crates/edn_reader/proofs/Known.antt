@@ -1,13 +1,13 @@
--- An element that is known before it is taken: where a splitter stands between elements, reading tells it.
+-- An element that is known before it is taken: between elements, taking it says what taking its bytes would say.
 use Rattle.std.proofs.Common.{◌≡◌, ℕ, ◌+◌, ◌-◌, ◌≤◌, List, [], ◌∷◌, ◌++◌, length, take, drop, Ok, Some, sym, ap, subst, ◌∙◌, arith}
 use Rattle.std.proofs.lemmas.List.{take_at}
 use Rattle.edn_reader.specs.declared.nesting.Open.{Open}
 use Rattle.edn_reader.specs.declared.resume.Part.TheVariants.{Nothing}
 use Rattle.edn_reader.specs.declared.step.Span.{Span}
 use Rattle.edn_reader.specs.declared.tokens.Reached.TheVariants.{Ended}
-use Rattle.edn_reader.specs.Flat.{IsFirst}
-use Rattle.edn_reader.specs.Grammar.{Piece, IsGap, IsElementAt, IsElements, none, next}
-use Rattle.edn_reader.specs.Splitting.{Splitting, IsBetweenElements, TakesOn}
+use Rattle.edn_reader.specs.Flat.{BeginsWithElement}
+use Rattle.edn_reader.specs.Grammar.{ElementModel, IsGap, IsElementAt, IsElements, none, next}
+use Rattle.edn_reader.specs.Splitting.{SplitterModel, IsBetweenElements, TakesOn}
 use Rattle.edn_reader.specs.Taking.{piece_in, span_of}
 use Rattle.edn_reader.specs.Text.{StandsOpen, outermost, opened}
 use Rattle.edn_reader.specs.Within.{OneMore, ReadsPiece, kept}
@@ -18,16 +18,16 @@ use Rattle.edn_reader.proofs.Reading.{elements_within}
 use Rattle.edn_reader.proofs.Splitting.{takes_element}
 use Rattle.edn_reader.proofs.Steps.{gap_then, elements_more}
 
-record FirstElement (base : ℕ) (bytes : List ℕ) (piece : Piece) (end : ℕ) (rest : List ℕ) : Type 0 where
+record FirstElement (base : ℕ) (bytes : List ℕ) (piece : ElementModel) (end : ℕ) (rest : List ℕ) : Type 0 where
   left : List ℕ
   gap : IsGap 64 base bytes piece.start left
   element : IsElementAt 64 piece.kind piece.core piece.start left end rest
   whole : left ≡ piece.text ++ rest
 
-first_element : {base end : ℕ} {bytes rest : List ℕ} {piece : Piece} → IsElements 64 base bytes (piece ∷ []) end rest → FirstElement base bytes piece end rest
+first_element : {base end : ℕ} {bytes rest : List ℕ} {piece : ElementModel} → IsElements 64 base bytes (piece ∷ []) end rest → FirstElement base bytes piece end rest
 first_element (next {left = left} gap element whole none) = record { left = left; gap = gap; element = element; whole = whole }
 
-one_more : {base : ℕ} {input bytes rest : List ℕ} {pieces : List Piece} {opens : List Open} (found : Piece) → StandsOpen input pieces opens base bytes → opens ≡ []
+one_more : {base : ℕ} {input bytes rest : List ℕ} {pieces : List ElementModel} {opens : List Open} (found : ElementModel) → StandsOpen input pieces opens base bytes → opens ≡ []
     → FirstElement base bytes found (found.start + length found.text) rest → OneMore input pieces (span_of found)
 one_more {input = input} {pieces = pieces} found (outermost els gap) empty first =
     let end = found.start + length found.text in
@@ -42,12 +42,12 @@ one_more {input = input} {pieces = pieces} found (outermost els gap) empty first
       core.0,
       core.1,
       elements_within all,
-      subst (λ (piece : Piece). IsElements 64 0 input (pieces ++ piece ∷ []) end (drop end input)) same
+      subst (λ (piece : ElementModel). IsElements 64 0 input (pieces ++ piece ∷ []) end (drop end input)) same
           (subst (λ (xs : List ℕ). IsElements 64 0 input (pieces ++ found ∷ []) end xs) (elements_left all) all),
     )
 one_more found (opened stands token room inside) empty first = absurd cc
 
-reads_known : (piece : List ℕ) (old : Splitting) (found : Piece) → IsBetweenElements old → IsFirst piece old.taken found → ReadsPiece piece old.taken old.begun old.opens (Ok (Ended (span_of found))) old.opens
+reads_known : (piece : List ℕ) (old : SplitterModel) (found : ElementModel) → IsBetweenElements old → BeginsWithElement piece old.taken found → ReadsPiece piece old.taken old.begun old.opens (Ok (Ended (span_of found))) old.opens
 reads_known piece old found (empty, here) first input behind pieces is stands =
     let open_here : StandsOpen input pieces old.opens old.taken (drop old.taken input) = subst (λ (n : ℕ). StandsOpen input pieces old.opens n (drop n input)) here stands.stands in
     let open_piece : StandsOpen input pieces old.opens old.taken (piece ++ behind) = subst (λ (xs : List ℕ). StandsOpen input pieces old.opens old.taken xs) is.1 open_here in
@@ -55,7 +55,7 @@ reads_known piece old found (empty, here) first input behind pieces is stands =
     let low : kept [] old.begun old.taken ≤ old.taken = token_high _ old.begun.start old.taken (omega (arith, here)) in
     (one_more found open_piece empty (first_element (first.3 behind)), omega (arith, none_open, low, first.0))
 
-pub takes_known : (piece : List ℕ) (old : Splitting) (found : Piece) (span : Span) → span ≡ span_of found → IsBetweenElements old → IsFirst piece old.taken found
+pub takes_known : (piece : List ℕ) (old : SplitterModel) (found : ElementModel) (span : Span) → span ≡ span_of found → IsBetweenElements old → BeginsWithElement piece old.taken found
     → TakesOn piece old (Ok (record { used = span.end - old.taken; whole = Some (span.start, span.end) }))
     (record { taken = span.end; begun = record { start = span.end; part = Nothing }; opens = old.opens; fault = old.fault; ended = span })
 takes_known piece old found span same between first =

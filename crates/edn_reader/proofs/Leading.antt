@@ -1,4 +1,4 @@
--- What is plain within a bracket: how the tokens lead over it.
+-- What is plain within a bracket, white bytes and plain runs: how the tokens lead over it.
 use Rattle.std.proofs.Common.{◌≡◌, ◌≢◌, ℕ, ◌+◌, ◌<◌, ◌≤◌, Bool, true, false, not, cond, List, [], ◌∷◌, ◌++◌, length, get_or, drop, Some, None, refl, sym, ap, subst, ◌∙◌, arith, length-drop, length-append}
 use Rattle.std.proofs.lemmas.List.{drop-drop}
 use Rattle.edn_reader.specs.declared.bytes.ByteClass.TheVariants.{White, Plain}
@@ -7,7 +7,7 @@ use Rattle.edn_reader.specs.declared.nesting.Open.{Open}
 use Rattle.edn_reader.specs.declared.token.Token.{Token}
 use Rattle.edn_reader.specs.declared.token.Token.TheVariants.{Gap, Leaf}
 use Rattle.edn_reader.specs.Bytes.{class_of, is_plain, is_white, is_run, stretch}
-use Rattle.edn_reader.specs.Grammar.{Piece, waits}
+use Rattle.edn_reader.specs.Grammar.{ElementModel, waits}
 use Rattle.edn_reader.specs.Token.{found_at, lexed}
 use Rattle.edn_reader.specs.Taking.{taken, on, plain_span, LeadsOn, stays, by_token, IsPieceAt, LeadsOver, LeadsWithin, item_odd, with_odd, odd_inside}
 use Rattle.edn_reader.proofs.Lexing.{lexed_by, white_class, plain_class}
@@ -15,7 +15,7 @@ use Rattle.edn_reader.proofs.Reading.{StandsAt, stands_next, one_ended}
 use Rattle.edn_reader.proofs.Stretches.{along, drop_here, drop_before}
 use Rattle.edn_reader.proofs.Resuming.{stretch_stays}
 
--- One token more, as it was found.
+-- one token more, as it was found
 token_on : (input : List ℕ) (from at end : ℕ) (token : Token) (size : ℕ) (opens inner after : List Open) → at < length input → lexed (drop at input) ≡ (token, size) → at + size ≡ end
     → taken token at end inner ≡ on after → LeadsOn input from opens at inner → LeadsOn input from opens end after
 token_on input from at end token size opens inner after lt is place e led =
@@ -26,7 +26,7 @@ token_on input from at end token size opens inner after lt is place e led =
     ap (λ (t : Token). taken t at (at + (lexed (drop at input)).1) inner) token_is ∙ ap (λ (n : ℕ). taken token at n inner) ends ∙ e in
     subst (λ (n : ℕ). LeadsOn input from opens n after) ends (by_token led lt same)
 
--- An element within a bracket is one more of it.
+-- an element within a bracket is one more of its elements
 one_more_inside : (place end : ℕ) (odd : Bool) (item : Open) (opens : List Open) → waits item.opener ≡ false
     → taken (Leaf Atom) place end (item_odd odd item ∷ opens) ≡ on (item_odd (not odd) item ∷ opens)
 unfolding taken
@@ -38,9 +38,9 @@ gap_on : (place end : ℕ) (opens : List Open) → taken Gap place end opens ≡
 unfolding taken
 gap_on place end opens = refl
 
--- ---- places of a piece
+-- ---- indices of a chunk
 
--- What is left of the input at a place of a piece.
+-- what is left of the input at an index of a chunk
 pub in_piece : (input piece behind : List ℕ) (base at : ℕ) → IsPieceAt input base piece behind → at ≤ length piece → drop (base + at) input ≡ drop at piece ++ behind
 in_piece input piece behind base at is le = sym (drop-drop at base input) ∙ ap (drop at) is.1 ∙ drop_before at piece behind le
 
@@ -55,7 +55,7 @@ left_here input piece behind base at is lt =
 
 -- ---- what is plain
 
--- A white byte more.
+-- one white byte more
 white_on : (piece : List ℕ) (from at end : ℕ) (before odd : Bool) → at < length piece → is_white (get_or piece at 0) ≡ true → end ≡ at + 1
     → LeadsWithin piece from before at odd → LeadsWithin piece from before end odd
 white_on piece from at end before odd lt white place led item opens w input base behind is =
@@ -65,14 +65,14 @@ white_on piece from at end before odd lt white place led item opens w input base
     (ap lexed (left_here input piece behind base at is lt) ∙ lexed_by b rest White (white_class (class_of b) white)) (omega (arith, place))
     (gap_on (base + at) (base + end) (item_odd odd item ∷ opens)) (led item opens w input base behind is)
 
--- The white bytes that go on there more.
+-- all the white bytes that follow
 pub whites_on : (piece : List ℕ) (from at end : ℕ) (before odd : Bool) → end ≡ at + stretch is_white (drop at piece) → LeadsWithin piece from before at odd → LeadsWithin piece from before end odd
 whites_on piece from at end before odd ends led =
     let after : LeadsWithin piece from before (at + stretch is_white (drop at piece)) odd =
     along (λ n. LeadsWithin piece from before n odd) is_white piece (λ i lt white h. white_on piece from i (i + 1) before odd lt white refl h) (stretch is_white (drop at piece)) at refl led in
     subst (λ (n : ℕ). LeadsWithin piece from before n odd) (sym ends) after
 
--- An element of one run more, which ends within the piece.
+-- one element of one run more, which ends within the chunk
 pub run_on : (piece : List ℕ) (from at end : ℕ) (before odd : Bool) → at < length piece → is_plain (get_or piece at 0) ≡ true → end ≡ at + 1 + stretch is_run (drop (at + 1) piece)
     → end ≤ length piece → end ≢ length piece → LeadsWithin piece from before at odd → LeadsWithin piece from before end (not odd)
 run_on piece from at end before odd lt plain place le other led item opens w input base behind is =
@@ -95,7 +95,7 @@ inside_by piece from end odd odd_then false item opens e is led =
     let same : item.odd ≡ odd = cc in
     subst (λ (o : Bool). LeadsOver piece from (item_odd o item ∷ opens) end (item_odd odd_then item ∷ opens)) (sym same) (led item opens e)
 
--- What leads within each bracket leads within the innermost.
+-- what leads within each bracket leads within the innermost one
 pub leads_inside : (piece : List ℕ) (from end : ℕ) (odd odd_then : Bool) (opens after : List Open) → odd_inside opens ≡ Some odd
     → LeadsWithin piece from odd end odd_then → after ≡ with_odd odd_then opens → LeadsOver piece from opens end after
 leads_inside piece from end odd odd_then [] after is led same = absurd cc
@@ -105,8 +105,8 @@ leads_inside piece from end odd odd_then (item ∷ opens) after is led same =
 pub leads_nowhere : (piece : List ℕ) (from : ℕ) (opens : List Open) → LeadsOver piece from opens from opens
 leads_nowhere piece from opens input base behind is = stays
 
--- Where tokens lead on, what stood open does so too.
-pub stands_led : (input : List ℕ) (pieces : List Piece) (from end : ℕ) (opens after : List Open) → StandsAt input pieces opens from → LeadsOn input from opens end after → StandsAt input pieces after end
+-- tokens lead from what is open at one place to what is open at another
+pub stands_led : (input : List ℕ) (pieces : List ElementModel) (from end : ℕ) (opens after : List Open) → StandsAt input pieces opens from → LeadsOn input from opens end after → StandsAt input pieces after end
 stands_led input pieces from end opens after s stays = s
 stands_led input pieces from end opens after s (by_token {at = at} {inner = inner} led lt e) =
     stands_next input pieces at (found_at at (lexed (drop at input))) inner after lt (stands_led input pieces from at opens inner s led) refl e

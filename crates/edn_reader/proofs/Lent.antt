@@ -1,5 +1,5 @@
--- What is lent is what the grammar says. A fact that is kept with an element or a view says only that there is a proof
--- of it; the reader decides it, and so there is one to use.
+-- What is lent is what the grammar says. A fact kept with an element or a view says only that some proof of it exists;
+-- the reader decides the fact, and so there is a proof to use.
 use Rattle.std.proofs.Common.{◌≡◌, ◌+◌, ◌-◌, ◌<◌, ◌&&◌, ◌≤◌, ⊎_elim, ℕ, zero, suc, false, List, [], ◌∷◌, ◌++◌, drop, Option, Some, None, MatchOption, refl, sym, ap, subst, ◌∙◌, arith}
 use Rattle.std.proofs.Math.Logic.{∥∥₁_elim, ∥∥₁_map}
 use Rattle.std.proofs.Props.{props}
@@ -17,7 +17,7 @@ use Rattle.edn_reader.specs.declared.token.Opener.TheVariants as openers
 use Rattle.edn_reader.specs.declared.view.MapView.{MapView}
 use Rattle.edn_reader.specs.declared.view.VectorView.{VectorView}
 use Rattle.edn_reader.specs.Bytes.{class_of}
-use Rattle.edn_reader.specs.Grammar.{Piece, untagged, white, opening, opener_of, kind_of, is_paired, is_odd, IsGap, nothing, skipped, bracketed, none, next, IsElement}
+use Rattle.edn_reader.specs.Grammar.{ElementModel, untagged, white, opening, opener_of, kind_of, is_paired, is_odd, IsGap, nothing, skipped, bracketed, none, next, IsElement}
 use Rattle.edn_reader.specs.Lent.{piece_of, PartsLeft, HoldsParts, part_bytes, NextPart, MembersLeft, PairsLeft}
 use Rattle.edn_reader.specs.Pairs.{PartsFrom, HasParts, HoldsMembers, in_turn, HoldsPairs}
 use Rattle.edn_reader.specs.Skipping.{IsInside}
@@ -43,20 +43,20 @@ gap_of_spaces (suc n) place bytes =
     let same : suc place + n ≡ place + suc n = omega arith in
     subst (λ (p : ℕ). IsGap 64 place (32 ∷ spaces n ++ bytes) p bytes) same (skipped (white white_space) (gap_of_spaces n (suc place) bytes))
 
--- The element alone in an input, where it stands.
-abbrev alone : Piece → List ℕ
+-- an input in which the element is alone, at its place, after white bytes
+abbrev alone : ElementModel → List ℕ
 alone piece = spaces piece.start ++ piece.text
 
-alone_text : (piece : Piece) → IsElement piece → IsText (alone piece) (piece ∷ [])
+alone_text : (piece : ElementModel) → IsElement piece → IsText (alone piece) (piece ∷ [])
 alone_text piece h =
     let place : 0 + piece.start ≡ piece.start = omega arith in
     let gap : IsGap 64 0 (alone piece) piece.start piece.text = subst (λ (p : ℕ). IsGap 64 0 (alone piece) p piece.text) place (gap_of_spaces piece.start 0 piece.text) in
     stands_text (outermost (next gap h.1 (sym (append-nil piece.text)) none) nothing)
 
-pub decided : (piece : Piece) → ∥ IsElement piece ∥₁ → IsElement piece
+pub decided : (piece : ElementModel) → ∥ IsElement piece ∥₁ → IsElement piece
 decided piece some =
     ⊎_elim
-    (λ (text : (pieces : List Piece) × IsText (alone piece) pieces).
+    (λ (text : (pieces : List ElementModel) × IsText (alone piece) pieces).
     let at_most_one : IsProp (text.0 ≡ piece ∷ []) = hlevel props in
     let same : text.0 ≡ piece ∷ [] = ∥∥₁_elim some at_most_one (λ h. one_division (alone piece) text.0 (piece ∷ []) text.1 (alone_text piece h)) in
     let low : 64 ≤ 64 = omega arith in
@@ -70,18 +70,18 @@ decided piece some =
 pub lent_is_element : (element : Element) → IsElement (piece_of element)
 lent_is_element element = decided (piece_of element) element.whole
 
--- What is behind the tags of an element is one too.
-pub untagged_whole : (piece : Piece) → ∥ IsElement piece ∥₁ → ∥ IsElement (untagged piece) ∥₁
+-- an element without its tags is one too
+pub untagged_whole : (piece : ElementModel) → ∥ IsElement piece ∥₁ → ∥ IsElement (untagged piece) ∥₁
 untagged_whole piece some = ∥∥₁_map some (untagged_is_element piece)
 
 -- ---- elements and pairs up to a bracket, by a proof
 
-odd_not : (pairs : List (Piece × Piece)) → is_odd (in_turn pairs) ≡ false
+odd_not : (pairs : List (ElementModel × ElementModel)) → is_odd (in_turn pairs) ≡ false
 odd_not [] = refl
 odd_not (pair ∷ pairs) = rw (odd_not pairs) refl
 
--- What has this bracket before it, at the place before.
-abbrev with_bracket : Bracket → ℕ → ℕ → List ℕ → Piece
+-- the element that the bytes make with this bracket before them, at the place before
+abbrev with_bracket : Bracket → ℕ → ℕ → List ℕ → ElementModel
 with_bracket bracket byte place bytes = record {
   kind = kind_of (opener_of bracket);
   start = place;
@@ -89,11 +89,11 @@ with_bracket bracket byte place bytes = record {
   core = record { kind = kind_of (opener_of bracket); start = place };
 }
 
-bracket_element : (bracket : Bracket) (byte : ℕ) → OneByte bracket byte → (place : ℕ) (bytes : List ℕ) (pieces : List Piece) → PartsFrom (opener_of bracket) (suc place) bytes pieces
+bracket_element : (bracket : Bracket) (byte : ℕ) → OneByte bracket byte → (place : ℕ) (bytes : List ℕ) (pieces : List ElementModel) → PartsFrom (opener_of bracket) (suc place) bytes pieces
     → is_paired (opener_of bracket) && is_odd pieces ≡ false → IsElement (with_bracket bracket byte place bytes)
 bracket_element bracket byte one place bytes pieces h even = (h.after, bracketed (opening one.opens) h.elements h.gap h.close h.closes even)
 
-inside_bracket : (bracket : Bracket) (byte place : ℕ) (bytes : List ℕ) (pieces : List Piece) → HasParts (opener_of bracket) (with_bracket bracket byte place bytes) pieces → PartsFrom (opener_of bracket) (suc place) bytes pieces
+inside_bracket : (bracket : Bracket) (byte place : ℕ) (bytes : List ℕ) (pieces : List ElementModel) → HasParts (opener_of bracket) (with_bracket bracket byte place bytes) pieces → PartsFrom (opener_of bracket) (suc place) bytes pieces
 inside_bracket bracket byte place bytes pieces h =
     let o = opened_by bracket h.opens refl in
     let none_before : place - place ≡ 0 = omega arith in
@@ -117,32 +117,32 @@ decided_members (suc place) bytes behind some =
     let found = has_parts Square piece (decided piece there) refl in
     (found.0, inside_bracket Square 91 place bytes found.0 found.1)
 
-pub pairs_there : (view : MapView) → (pairs : List (Piece × Piece)) × PairsLeft view pairs
+pub pairs_there : (view : MapView) → (pairs : List (ElementModel × ElementModel)) × PairsLeft view pairs
 pairs_there view = decided_pairs view.parts.at view.parts.left.now view.behind view.whole
 
-pub members_there : (view : VectorView) → (members : List Piece) × MembersLeft view members
+pub members_there : (view : VectorView) → (members : List ElementModel) × MembersLeft view members
 members_there view = decided_members view.parts.at view.parts.left.now view.behind view.whole
 
 -- ---- views of an element
 
-pub pairs_inside : (parts : Parts) (piece : Piece) → IsInside (Some parts) piece kinds.Map 123 → IsElement piece → HoldsPairs parts.at parts.left.now
+pub pairs_inside : (parts : Parts) (piece : ElementModel) → IsInside (Some parts) piece kinds.Map 123 → IsElement piece → HoldsPairs parts.at parts.left.now
 pairs_inside parts piece inside h =
     let found = has_pairs piece h inside.0 in
     (found.0, (parts_of_inside Curly 123 curly parts piece inside (in_turn found.0)).0 found.1)
 
-pub members_inside : (parts : Parts) (piece : Piece) → IsInside (Some parts) piece kinds.Vector 91 → IsElement piece → HoldsMembers parts.at parts.left.now
+pub members_inside : (parts : Parts) (piece : ElementModel) → IsInside (Some parts) piece kinds.Vector 91 → IsElement piece → HoldsMembers parts.at parts.left.now
 members_inside parts piece inside h =
     let found = has_parts Square piece h inside.0 in
     (found.0, (parts_of_inside Square 91 square parts piece inside found.0).0 found.1)
 
 -- ---- what is left after each call
 
--- What is found is an element.
-found_whole : (opener : Opener) (old after : Parts) (found : Piece) (pieces : List Piece) → PartsLeft opener old pieces → FoundPart opener found after pieces → IsElement found
+-- what was found is an element
+found_whole : (opener : Opener) (old after : Parts) (found : ElementModel) (pieces : List ElementModel) → PartsLeft opener old pieces → FoundPart opener found after pieces → IsElement found
 found_whole opener old after found [] h n = absurd n
 found_whole opener old after found (piece ∷ pieces) h n = subst IsElement (sym n.0) (parts_are_elements h).0
 
-pub found_is_element : (old after : Parts) (found : Piece) → ∥ HoldsParts old ∥₁ → ((opener : Opener) (pieces : List Piece) → PartsLeft opener old pieces → FoundPart opener found after pieces) → ∥ IsElement found ∥₁
+pub found_is_element : (old after : Parts) (found : ElementModel) → ∥ HoldsParts old ∥₁ → ((opener : Opener) (pieces : List ElementModel) → PartsLeft opener old pieces → FoundPart opener found after pieces) → ∥ IsElement found ∥₁
 found_is_element old after found some f = ∥∥₁_map some (λ h. found_whole h.0 old after found h.1 h.2 (f h.0 h.1 h.2))
 
 pub of_pairs : (parts : Parts) → ∥ HoldsPairs parts.at parts.left.now ∥₁ → ∥ HoldsParts parts ∥₁
@@ -152,16 +152,16 @@ pub of_members : (parts : Parts) → ∥ HoldsMembers parts.at parts.left.now �
 of_members parts some = ∥∥₁_map some (λ h. (openers.Vector, h.0, h.1))
 
 abbrev Gives : Opener → Parts → Option Element → Parts → Type 0
-Gives opener old given after = (pieces : List Piece) → PartsLeft opener old pieces → NextPart opener given after pieces
+Gives opener old given after = (pieces : List ElementModel) → PartsLeft opener old pieces → NextPart opener given after pieces
 
-value_after : (old middle : Parts) (key : Element) → Gives openers.Map old (Some key) middle → (pairs : List (Piece × Piece)) → PartsLeft openers.Map old (in_turn pairs) → HoldsParts middle
+value_after : (old middle : Parts) (key : Element) → Gives openers.Map old (Some key) middle → (pairs : List (ElementModel × ElementModel)) → PartsLeft openers.Map old (in_turn pairs) → HoldsParts middle
 value_after old middle key first [] h = absurd (first [] h)
 value_after old middle key first (pair ∷ pairs) h = (openers.Map, pair.1 ∷ in_turn pairs, (first (pair.0 ∷ pair.1 ∷ in_turn pairs) h).1)
 
 pub value_left : (old middle : Parts) (key : Element) → Gives openers.Map old (Some key) middle → ∥ HoldsPairs old.at old.left.now ∥₁ → ∥ HoldsParts middle ∥₁
 value_left old middle key first some = ∥∥₁_map some (λ h. value_after old middle key first h.0 h.1)
 
-pairs_after : (old middle after : Parts) (key value : Element) → Gives openers.Map old (Some key) middle → Gives openers.Map middle (Some value) after → (pairs : List (Piece × Piece))
+pairs_after : (old middle after : Parts) (key value : Element) → Gives openers.Map old (Some key) middle → Gives openers.Map middle (Some value) after → (pairs : List (ElementModel × ElementModel))
     → PartsLeft openers.Map old (in_turn pairs) → HoldsPairs after.at after.left.now
 pairs_after old middle after key value first second [] h = absurd (first [] h)
 pairs_after old middle after key value first second (pair ∷ pairs) h = (pairs, (second (pair.1 ∷ in_turn pairs) (first (pair.0 ∷ pair.1 ∷ in_turn pairs) h).1).1)
@@ -171,7 +171,7 @@ pub pairs_left : (old middle after : Parts) (key value : Element) → Gives open
 pairs_left old middle after key value first second some = ∥∥₁_map some (λ h. pairs_after old middle after key value first second h.0 h.1)
 
 members_after : (old after : Parts) (given : Option Element) → Gives openers.Vector old given after → MatchOption given (after ≡ old) (λ element. part_bytes after < part_bytes old)
-    → (members : List Piece) → PartsLeft openers.Vector old members → HoldsMembers after.at after.left.now
+    → (members : List ElementModel) → PartsLeft openers.Vector old members → HoldsMembers after.at after.left.now
 members_after old after None first same members h = (members, subst (λ (parts : Parts). PartsLeft openers.Vector parts members) (sym same) h)
 members_after old after (Some member) first less [] h = absurd (first [] h)
 members_after old after (Some member) first less (piece ∷ members) h = (members, (first (piece ∷ members) h).1)
@@ -180,7 +180,7 @@ pub members_left : (old after : Parts) (given : Option Element) → Gives opener
     → ∥ HoldsMembers old.at old.left.now ∥₁ → ∥ HoldsMembers after.at after.left.now ∥₁
 members_left old after given first goes some = ∥∥₁_map some (λ h. members_after old after given first goes h.0 h.1)
 
--- A view of a vector is what it has left.
+-- what a view of a vector has left determines the view
 same_view : (view : VectorView) (parts : Parts) → view.parts ≡ parts → (behind : 0 < parts.at) (whole : ∥ HoldsMembers parts.at parts.left.now ∥₁) → record { parts = parts; behind = behind; whole = whole } ≡ view
 same_view view parts same =
     let Same : Parts → Type 0 = λ p. (behind : 0 < p.at) (whole : ∥ HoldsMembers p.at p.left.now ∥₁) → record { parts = p; behind = behind; whole = whole } ≡ view in

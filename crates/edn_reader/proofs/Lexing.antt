@@ -1,4 +1,4 @@
--- Tokens: what the grammar says of the function that finds them, and back.
+-- Tokens: the function that finds them (`lexed`) and the grammar (`IsToken`) agree, each way.
 use Rattle.std.proofs.Common.{◌≡◌, ◌≢◌, ℕ, suc, ◌+◌, ◌<◌, ◌≤◌, Bool, true, false, cond, eqb, List, [], ◌∷◌, ◌++◌, length, get_or, drop, Option, Some, None, refl, sym, ap, subst, ◌∙◌, arith}
 use Rattle.std.proofs.lemmas.Bool.Decides.{nat_tests}
 use Rattle.edn_reader.specs.declared.bytes.ByteClass.{ByteClass}
@@ -12,10 +12,10 @@ use Rattle.edn_reader.specs.declared.token.Token.TheVariants.{Gap, Leaf, Opens a
 use Rattle.edn_reader.specs.declared.token.Opener.TheVariants as openers
 use Rattle.edn_reader.specs.Bytes.{class_of, is_run, is_plain_class, is_white, is_white_class, is_in_comment, Ends, stretch}
 use Rattle.edn_reader.specs.Grammar.{ended, IsTag, IsToken, white, comment, run, hashed, character, text, hash_text, opening, set, discard, tag, close}
-use Rattle.edn_reader.specs.Token.{quoted_length, text_token, quoted, tag_token, hash_token, after_hash, after_backslash, class_token, lexed, found_at}
+use Rattle.edn_reader.specs.Token.{quoted_length, text_token, quoted_token, tag_token, hash_token, after_hash, after_backslash, class_token, lexed, found_at}
 use Rattle.edn_reader.proofs.Stretches.{drop_here, stretch_here, stretch_place, stretch_rest, stretch_within, quoted_is, quoted_here, quoted_within, ending}
 
--- What a derivation of a token says of the function.
+-- what a derivation of a token says of the function
 pub record Lexed (token : Token) (p : ℕ) (a : List ℕ) (q : ℕ) (b : List ℕ) : Type 0 where
   pub token_is : (lexed a).0 ≡ token
   pub place : p + (lexed a).1 ≡ q
@@ -42,14 +42,14 @@ backslash_alone : after_backslash [] ≡ (Unfinished, 1)
 unfolding after_backslash
 backslash_alone = refl
 
-quoted_by : (n : ℕ) (bytes : List ℕ) (size : ℕ) → quoted_length bytes ≡ Some size → quoted n bytes ≡ (Leaf Text, n + size)
+quoted_by : (n : ℕ) (bytes : List ℕ) (size : ℕ) → quoted_length bytes ≡ Some size → quoted_token n bytes ≡ (Leaf Text, n + size)
 quoted_by n bytes size e = ap (text_token n bytes) e
 
 pub underscore : class_of 95 ≡ Plain
 unfolding class_of
 underscore = refl
 
--- A # before a byte that begins no other token begins a tag.
+-- a # begins a tag where the byte after it makes nothing else of it
 pub tagged_by : (k : ByteClass) (c : ℕ) (bytes : List ℕ) → k ≢ Hash → k ≢ Quote → k ≢ Opens Curly → c ≢ 95 → hash_token k c bytes ≡ tag_token (c ∷ bytes)
 tagged_by Hash c bytes u v w x = absurd (u refl)
 tagged_by Quote c bytes u v w x = absurd (v refl)
@@ -118,7 +118,7 @@ lexed_token (close {b = b} {rest = rest} {bracket = bracket} e) = lexed_as 1 (le
 
 -- ---- from the function to a derivation
 
--- What is found is a token.
+-- the token that was found is one by the grammar
 abbrev IsFound : ℕ → List ℕ → Token × ℕ → Type 0
 IsFound p a x = IsToken x.0 p a (p + x.1) (drop x.1 a)
 
@@ -138,7 +138,7 @@ found_tag p b bytes e i =
     let n = stretch is_run bytes in
     found_as (1 + n) (tag e i (stretch_here is_run (suc p) bytes)) (omega arith) (sym (drop_one b n bytes))
 
--- A byte of another class than those that make something else of a #.
+-- a byte whose class makes nothing else of a # makes it a tag
 is_tag : (c : ℕ) (bytes : List ℕ) (k : ByteClass) → class_of c ≡ k → k ≢ Hash → k ≢ Quote → k ≢ Opens Curly → k ≢ Plain → IsTag (c ∷ bytes)
 is_tag c bytes k e u v w x = (λ h. u (sym e ∙ h), λ h. v (sym e ∙ h), λ h. w (sym e ∙ h), λ h. x (sym e ∙ (ap class_of h ∙ underscore)))
 
@@ -198,13 +198,13 @@ unfolding lexed
 found_here p [] u = absurd (u refl)
 found_here p (b ∷ bytes) u = found_class p b bytes (class_of b) refl u
 
--- And back: what the function finds is a token.
+-- a token that the function finds, unless it is unfinished, is one by the grammar
 pub token_lexed : (p : ℕ) (a : List ℕ) (t : Token) → (lexed a).0 ≡ t → t ≢ Unfinished → IsToken t p a (p + (lexed a).1) (drop (lexed a).1 a)
 token_lexed p a t e u = subst (λ (token : Token). IsToken token p a (p + (lexed a).1) (drop (lexed a).1 a)) e (found_here p a (λ h. u (sym e ∙ h)))
 
 -- ---- how long a token is
 
--- A token lies within so many bytes, has one, and takes them all where it is unfinished.
+-- a token takes a byte or more and at most so many, and all of them where it is unfinished
 pub record Fits (n : ℕ) (x : Token × ℕ) : Type 0 where
   pub within : x.1 ≤ n
   pub some : 0 < x.1
@@ -214,7 +214,7 @@ fits_text : (opened : ℕ) (bytes : List ℕ) (o : Option ℕ) → 0 < opened �
 fits_text opened bytes None some e = record { within = omega arith; some = omega arith; all = λ h. refl }
 fits_text opened bytes (Some n) some e = record { within = omega (arith, quoted_within bytes n e); some = omega arith; all = λ h. absurd cc }
 
--- Any token but an unfinished one.
+-- any token but an unfinished one
 fits_token : (n size : ℕ) (token : Token) → size ≤ n → 0 < size → token ≢ Unfinished → Fits n (token, size)
 fits_token n size token within some u = record { within = within; some = some; all = λ h. absurd (u h) }
 
@@ -278,15 +278,15 @@ pub lexed_some : (a : List ℕ) → 0 < length a → 0 < (lexed a).1
 lexed_some [] some = absurd (omega arith)
 lexed_some (b ∷ bytes) some = (fits_here b bytes).some
 
--- An unfinished token goes up to the end of the bytes.
+-- an unfinished token goes up to the end of the bytes
 pub unfinished_long : (a : List ℕ) → (lexed a).0 ≡ Unfinished → (lexed a).1 ≡ length a
 unfinished_long [] e = ap (λ (x : Token × ℕ). x.1) lexed_nothing
 unfinished_long (b ∷ bytes) e = omega (arith, (fits_here b bytes).all e)
 
 -- ---- how an unfinished token goes on
 
--- An unfinished token can be finished: with these bytes behind it, it is an element without parts, whatever follows
--- that is no run byte.
+-- some bytes that make an unfinished token an element without parts when they are added at its end, whatever follows
+-- that is no run byte
 pub record Finishing (a : List ℕ) : Type 0 where
   pub kind : ElementKind
   pub tail : List ℕ

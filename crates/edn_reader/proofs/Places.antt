@@ -1,5 +1,4 @@
--- A derivation leads over the bytes in front of what it leaves, and over the same bytes in front of anything else
--- that goes on as little with what stands there.
+-- A derivation holds with another rest after its bytes too, if that rest goes on with them as little.
 use Rattle.std.proofs.Common.{◌≡◌, ℕ, zero, suc, ◌+◌, ◌<◌, ◌≤◌, Bool, List, [], ◌∷◌, ◌++◌, length, refl, sym, ap, subst, ◌∙◌, append_assoc, arith, length-append}
 use Rattle.edn_reader.specs.declared.element.ElementKind.{ElementKind}
 use Rattle.edn_reader.specs.declared.element.Core.{Core}
@@ -7,14 +6,15 @@ use Rattle.edn_reader.specs.declared.nesting.Open.{Open}
 use Rattle.edn_reader.specs.declared.token.Token.{Token}
 use Rattle.edn_reader.specs.declared.token.Token.TheVariants.{Gap, Leaf, Opens, Closes, Unfinished}
 use Rattle.edn_reader.specs.Bytes.{is_run, is_in_comment, Ends}
-use Rattle.edn_reader.specs.Grammar.{Piece, IsStretch, ended, more, IsQuoted, closing, taken, other, IsTag, IsToken, white, comment, run, hashed, character, text, hash_text, opening, set, discard, tag, close, IsGap, nothing, skipped, discarded, IsElementAt, leaf, bracketed, tagged, IsElements, none, next}
+use Rattle.edn_reader.specs.Grammar.{ElementModel, IsStretch, ended, more, IsQuoted, closing, taken, other, IsTag, IsToken, white, comment, run, hashed, character, text, hash_text, opening, set, discard, tag, close, IsGap, nothing, skipped, discarded, IsElementAt, leaf, bracketed, tagged, IsElements, none, next}
 use Rattle.edn_reader.specs.Text.{within, waiting, StandsOpen, outermost, opened}
 
--- What the one list goes on with, the other goes on with too: a run, a comment, or neither; and a # makes a tag before both.
+-- where the first bytes do not go on with a run or a comment, the second ones do not; and where a # before the first
+-- ones begins a tag, it does before the second ones
 abbrev pub Follows : List ℕ → List ℕ → Type 0
 Follows b e = (Ends is_run b → Ends is_run e) × (Ends is_in_comment b → Ends is_in_comment e) × (IsTag b → IsTag e)
 
--- From place p to place q, with the bytes before and after, and those before and after once the rest is replaced.
+-- the bytes that lead from place p to place q, with one rest after them and with another
 pub record Replaced (p : ℕ) (bytes : List ℕ) (q : ℕ) (rest : List ℕ) (others : List ℕ) (other_rest : List ℕ) : Type 0 where
   pub front : List ℕ
   pub here : bytes ≡ front ++ rest
@@ -42,7 +42,7 @@ follows_front : (front a b : List ℕ) → Follows a b → Follows (front ++ a) 
 follows_front [] a b f = f
 follows_front (x ∷ front) a b f = (λ h. h, λ h. h, λ h. h)
 
--- In front of what follows alike, the same bytes follow alike.
+-- the same bytes before two rests that follow alike follow alike too
 pub follows_before : {p q : ℕ} {a b d e : List ℕ} → Replaced p a q b d e → Follows b e → Follows a d
 follows_before {a = a} {b = b} {d = d} {e = e} x f =
     subst (λ (s : List ℕ). Follows s d) (sym x.here) (subst (λ (s : List ℕ). Follows (x.front ++ b) s) (sym x.there) (follows_front x.front b e f))
@@ -50,7 +50,7 @@ follows_before {a = a} {b = b} {d = d} {e = e} x f =
 pub follows_same : (x : ℕ) (a b : List ℕ) → Follows (x ∷ a) (x ∷ b)
 follows_same x a b = (λ h. h, λ h. h, λ h. h)
 
--- cancels what stands at the end of two lists
+-- two lists with one end that are equal are equal without it
 pub cancel_end : (a b c : List ℕ) → a ++ c ≡ b ++ c → a ≡ b
 cancel_end [] [] c e = refl
 cancel_end [] (y ∷ b) c e = absurd (omega (arith, ap length e, length-append (y ∷ b) c))
@@ -74,7 +74,7 @@ moved_quoted (taken {b = x} {c = y} h g) e =
 moved_quoted (other {b = x} h k g) e =
     let m = moved_quoted g e in (x ∷ m.0, other h k m.1, replaced_more x m.2)
 
--- What a token asks of what replaces the rest.
+-- what a token asks of the rest that replaces another
 abbrev pub Needs : Token → List ℕ → List ℕ → Type 0
 Needs Gap b e = Ends is_in_comment b → Ends is_in_comment e
 Needs (Leaf kind) b e = Ends is_run b → Ends is_run e
@@ -89,7 +89,7 @@ needed (Opens opener) b e f = f
 needed (Closes bracket) b e f = tt
 needed Unfinished b e f = tt
 
--- A token begins with the same byte.
+-- the token with another rest, which begins with the same byte
 pub record MovedToken (t : Token) (p : ℕ) (a : List ℕ) (q : ℕ) (b : List ℕ) (e : List ℕ) : Type 0 where
   pub bytes : List ℕ
   pub token : IsToken t p bytes q e
@@ -190,7 +190,7 @@ mutual
       let t = moved_token token h.0 (follows_before h.2 m.begins) in
       record { bytes = t.bytes; element = tagged t.token h.1 m.element; place = replaced_then t.place (replaced_then h.2 m.place); begins = t.begins }
 
-  pub moved_elements : {room p q : ℕ} {pieces : List Piece} {a b : List ℕ} → IsElements room p a pieces q b → (e : List ℕ) → Follows b e
+  pub moved_elements : {room p q : ℕ} {pieces : List ElementModel} {a b : List ℕ} → IsElements room p a pieces q b → (e : List ℕ) → Follows b e
       → (d : List ℕ) × IsElements room p d pieces q e × Replaced p a q b d e
   moved_elements {p = p} {b = b} none e f = (e, none, replaced_none p b e)
   moved_elements (next {beyond = beyond} {piece = piece} gap element whole els) e f =
@@ -200,7 +200,7 @@ mutual
       let same : n.place.front ≡ piece.text = cancel_end n.place.front piece.text beyond (sym n.place.here ∙ whole) in
       (g.0, next g.1 n.element (n.place.there ∙ ap (λ (s : List ℕ). s ++ m.0) same) m.1, replaced_then g.2 (replaced_then n.place m.2))
 
-pub moved_stands : {input : List ℕ} {pieces : List Piece} {opens : List Open} {q : ℕ} {b : List ℕ} → StandsOpen input pieces opens q b → (e : List ℕ) → Follows b e
+pub moved_stands : {input : List ℕ} {pieces : List ElementModel} {opens : List Open} {q : ℕ} {b : List ℕ} → StandsOpen input pieces opens q b → (e : List ℕ) → Follows b e
     → (others : List ℕ) × StandsOpen others pieces opens q e × Replaced 0 input q b others e
 moved_stands (outermost els gap) e f =
     let g = moved_gap gap e f in
@@ -231,7 +231,7 @@ mutual
   wider_one (bracketed token els gap last fit even) = bracketed token (wider_elements els) (wider_gap gap) last fit even
   wider_one (tagged token before element) = tagged token (wider_gap before) (wider_one element)
 
-  pub wider_elements : {room p q : ℕ} {pieces : List Piece} {a b : List ℕ} → IsElements room p a pieces q b → IsElements (suc room) p a pieces q b
+  pub wider_elements : {room p q : ℕ} {pieces : List ElementModel} {a b : List ℕ} → IsElements room p a pieces q b → IsElements (suc room) p a pieces q b
   wider_elements none = none
   wider_elements (next gap element whole els) = next (wider_gap gap) (wider_one element) whole (wider_elements els)
 
@@ -252,7 +252,7 @@ token_forward {t = t} {b = b} token = (moved_token token b (needed t b b (λ h. 
 element_forward : {room p q : ℕ} {kind : ElementKind} {core : Core} {a b : List ℕ} → IsElementAt room kind core p a q b → p ≤ q
 element_forward {b = b} element = let m = moved_element element b (λ h. h) in omega (arith, m.place.place)
 
-pub elements_forward : {room p q : ℕ} {pieces : List Piece} {a b : List ℕ} → IsElements room p a pieces q b → p ≤ q
+pub elements_forward : {room p q : ℕ} {pieces : List ElementModel} {a b : List ℕ} → IsElements room p a pieces q b → p ≤ q
 elements_forward {b = b} els = let m = moved_elements els b (λ h. h, λ h. h, λ h. h) in omega (arith, m.2.place)
 
 pub core_within : {room p q : ℕ} {kind : ElementKind} {core : Core} {a b : List ℕ} → IsElementAt room kind core p a q b → (p ≤ core.start) × (core.start < q)

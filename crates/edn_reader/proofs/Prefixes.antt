@@ -5,7 +5,7 @@ use Rattle.edn_reader.specs.declared.element.ElementKind.{ElementKind}
 use Rattle.edn_reader.specs.declared.element.Core.{Core}
 use Rattle.edn_reader.specs.declared.element.ElementKind.TheVariants.{Tagged}
 use Rattle.edn_reader.specs.Bytes.{stretch}
-use Rattle.edn_reader.specs.Grammar.{Piece, IsStretch, ended, more, run, hashed, character, text, hash_text, IsElementAt, leaf, bracketed, tagged, IsElements, none, next}
+use Rattle.edn_reader.specs.Grammar.{ElementModel, IsStretch, ended, more, run, hashed, character, text, hash_text, IsElementAt, leaf, bracketed, tagged, IsElements, none, next}
 use Rattle.edn_reader.specs.Text.{IsFront, IsText, outermost}
 use Rattle.edn_reader.specs.Fault.{IsBeginning, AreElementsBefore, AreElementsSoFar}
 use Rattle.edn_reader.specs.Prefixes.{is_run_kind, with_bytes, GoesOnAs, ArePrefix}
@@ -14,13 +14,13 @@ use Rattle.edn_reader.proofs.Stretches.{stretch_here, stretch_within}
 use Rattle.edn_reader.proofs.Unique.{ending_end, front_fewer, agree}
 use Rattle.edn_reader.proofs.Ended.{elements_left}
 
--- ---- bytes with more behind them
+-- ---- bytes with more after them
 
 follows_some : (a b : List ℕ) → 0 < length a → Follows a (a ++ b)
 follows_some [] b some = absurd (omega arith)
 follows_some (x ∷ a) b some = (λ h. h, λ h. h, λ h. h)
 
--- What has more behind it has more behind all of it.
+-- what comes after the rest comes after all of the bytes
 pub replaced_behind : {p q : ℕ} {a b d : List ℕ} (behind : List ℕ) → Replaced p a q b d (b ++ behind) → d ≡ a ++ behind
 replaced_behind {b = b} behind m = m.there ∙ sym (append_assoc m.front b behind) ∙ ap (λ (s : List ℕ). s ++ behind) (sym m.here)
 
@@ -30,16 +30,16 @@ element_some {b = b} element =
     let within = core_within element in
     omega (arith, within.0, within.1, m.place, ap length m.here, length-append m.front b)
 
-elements_some : {room p q : ℕ} {a b : List ℕ} {piece : Piece} {pieces : List Piece} → IsElements room p a (piece ∷ pieces) q b → 0 < length a
+elements_some : {room p q : ℕ} {a b : List ℕ} {piece : ElementModel} {pieces : List ElementModel} → IsElements room p a (piece ∷ pieces) q b → 0 < length a
 elements_some {b = b} (next {beyond = beyond} gap element whole els) =
     let some = element_some element in
     let m = (moved_elements (next gap element whole els) b (λ h. h, λ h. h, λ h. h)).2 in
     let within = core_within element in
     omega (arith, within.0, within.1, gap_forward gap, elements_forward els, m.place, ap length m.here, length-append m.front b)
 
--- ---- one element with nothing left, and more behind it
+-- ---- one element with nothing left, and with more after it
 
--- A stretch goes on with some of what is behind it.
+-- a stretch takes some of the bytes after it
 record LongerStretch (test : ℕ → Bool) (p : ℕ) (a : List ℕ) (q : ℕ) (behind : List ℕ) : Type 0 where
   added : List ℕ
   rest : List ℕ
@@ -59,7 +59,7 @@ longer_stretch {test} {p} (ended h) behind =
 longer_stretch (more w g) behind =
     let m = longer_stretch g behind in record { added = m.added; rest = m.rest; parts = m.parts; stretch_is = more w m.stretch_is }
 
--- An element ends there too; or its core is a run, which goes on with some of what is behind it.
+-- an element ends where it did; or its core is a run, which takes some of the bytes after it
 record Longer (room : ℕ) (kind : ElementKind) (core : Core) (p : ℕ) (a : List ℕ) (q : ℕ) (behind : List ℕ) : Type 0 where
   added : List ℕ
   rest : List ℕ
@@ -67,7 +67,7 @@ record Longer (room : ℕ) (kind : ElementKind) (core : Core) (p : ℕ) (a : Lis
   element : IsElementAt room kind core p (a ++ behind) (q + length added) rest
   goes : (added ≡ []) ⊎ (is_run_kind core.kind ≡ true)
 
--- It ends there.
+-- an element that ends where it did
 ends_there : {room p q : ℕ} {kind : ElementKind} {core : Core} {a : List ℕ} (d behind : List ℕ) → IsElementAt room kind core p d q behind → Replaced p a q [] d behind → Longer room kind core p a q behind
 ends_there {room} {p} {q} {kind} {core} {a} d behind element m =
     let place : q ≡ q + length {A = ℕ} [] = omega arith in
@@ -109,22 +109,22 @@ longer {p = p} {q = q} {core = core} (tagged {room = room} {beyond = beyond} tok
       goes = m.goes;
     }
 
--- ---- elements with nothing left, and more behind them
+-- ---- elements with nothing left, and with more after them
 
--- The same elements, the last of which may go on.
-record Onward (room : ℕ) (p : ℕ) (a : List ℕ) (pieces : List Piece) (behind : List ℕ) : Type 0 where
-  all : List Piece
+-- the elements with more bytes after them: the last may be longer, and others may follow it
+record Onward (room : ℕ) (p : ℕ) (a : List ℕ) (pieces : List ElementModel) (behind : List ℕ) : Type 0 where
+  all : List ElementModel
   end : ℕ
   left : List ℕ
   elements : IsElements room p (a ++ behind) all end left
   prefix : ArePrefix pieces all
 
-goes_on : (piece : Piece) (added : List ℕ) → (added ≡ []) ⊎ (is_run_kind piece.core.kind ≡ true) → GoesOnAs piece (with_bytes piece added)
+goes_on : (piece : ElementModel) (added : List ℕ) → (added ≡ []) ⊎ (is_run_kind piece.core.kind ≡ true) → GoesOnAs piece (with_bytes piece added)
 goes_on piece added (inl none_added) =
     inl (sym (ap (with_bytes piece) none_added ∙ ap (λ (x : List ℕ). record { kind = piece.kind; start = piece.start; text = x; core = piece.core }) (append-nil piece.text)))
 goes_on piece added (inr run_is) = inr (run_is, added, refl)
 
-onward : {room p q : ℕ} {a : List ℕ} (pieces : List Piece) → IsElements room p a pieces q [] → (behind : List ℕ) → Onward room p a pieces behind
+onward : {room p q : ℕ} {a : List ℕ} (pieces : List ElementModel) → IsElements room p a pieces q [] → (behind : List ℕ) → Onward room p a pieces behind
 onward {p = p} [] none behind = record { all = []; end = p; left = behind; elements = none; prefix = tt }
 onward {room} {p} {q} {a} (piece ∷ []) (next {left = left} gap element whole none) behind =
     let m = longer element behind in
@@ -156,18 +156,18 @@ onward {room} {p} {q} {a} (piece ∷ second ∷ pieces) (next {left = left} {bey
 
 -- ---- the elements before a fault
 
-prefix_more : (pieces all rest : List Piece) → ArePrefix pieces all → ArePrefix pieces (all ++ rest)
+prefix_more : (pieces all rest : List ElementModel) → ArePrefix pieces all → ArePrefix pieces (all ++ rest)
 prefix_more [] all rest h = tt
 prefix_more (piece ∷ pieces) [] rest h = absurd h
 prefix_more (piece ∷ []) (other ∷ all) rest h = h
 prefix_more (piece ∷ second ∷ pieces) (other ∷ all) rest h = (h.0, prefix_more (second ∷ pieces) all rest h.1)
 
-pub prefix_same : (pieces rest : List Piece) → ArePrefix pieces (pieces ++ rest)
+pub prefix_same : (pieces rest : List ElementModel) → ArePrefix pieces (pieces ++ rest)
 prefix_same [] rest = tt
 prefix_same (piece ∷ []) rest = inl refl
 prefix_same (piece ∷ second ∷ pieces) rest = (refl, prefix_same (second ∷ pieces) rest)
 
-front_onward : (bytes behind : List ℕ) (pieces : List Piece) (at : ℕ) (left : List ℕ) → IsElements 64 0 bytes pieces at left → Onward 64 0 bytes pieces behind
+front_onward : (bytes behind : List ℕ) (pieces : List ElementModel) (at : ℕ) (left : List ℕ) → IsElements 64 0 bytes pieces at left → Onward 64 0 bytes pieces behind
 front_onward bytes behind pieces at [] front = onward pieces front behind
 front_onward bytes behind pieces at (x ∷ left) front =
     let m = moved_elements front ((x ∷ left) ++ behind) (follows_some (x ∷ left) behind (omega arith)) in
@@ -179,17 +179,17 @@ front_onward bytes behind pieces at (x ∷ left) front =
       prefix = subst (ArePrefix pieces) (append-nil pieces) (prefix_same pieces []);
     }
 
-pub elements_before : (bytes behind : List ℕ) (pieces all : List Piece) → AreElementsBefore bytes pieces → AreElementsBefore (bytes ++ behind) all → ArePrefix pieces all
+pub elements_before : (bytes behind : List ℕ) (pieces all : List ElementModel) → AreElementsBefore bytes pieces → AreElementsBefore (bytes ++ behind) all → ArePrefix pieces all
 elements_before bytes behind pieces all (at, front, longest) (there, whole, most) =
     let o = front_onward bytes behind pieces at (drop at bytes) front in
     let begins = most o.all o.end (subst (λ (left : List ℕ). IsElements 64 0 (bytes ++ behind) o.all o.end left) (elements_left o.elements) o.elements) in
     subst (ArePrefix pieces) (sym begins.1) (prefix_more pieces o.all begins.0 o.prefix)
 
-pub elements_so_far : (bytes behind : List ℕ) (pieces all : List Piece) → AreElementsSoFar bytes [] pieces → AreElementsBefore (bytes ++ behind) all → IsBeginning pieces all
+pub elements_so_far : (bytes behind : List ℕ) (pieces all : List ElementModel) → AreElementsSoFar bytes [] pieces → AreElementsBefore (bytes ++ behind) all → IsBeginning pieces all
 elements_so_far bytes behind pieces all ((at, low, front), longest) (there, whole, most) = most pieces at (front behind)
 
-pub elements_of_text : (input : List ℕ) (pieces : List Piece) → IsText input pieces → AreElementsBefore input pieces
+pub elements_of_text : (input : List ℕ) (pieces : List ElementModel) → IsText input pieces → AreElementsBefore input pieces
 elements_of_text input pieces (at, after, front, gap) = (at, front, longest) where
-  longest : (others : List Piece) (there : ℕ) → IsFront input others there → IsBeginning others pieces
+  longest : (others : List ElementModel) (there : ℕ) → IsFront input others there → IsBeginning others pieces
   longest others there other =
       agree others pieces (omega arith) (omega arith) other front (front_fewer (omega arith) other (ending_end (outermost front gap)))

@@ -16,7 +16,7 @@ use Rattle.edn_reader.specs.declared.token.Token.TheVariants as tokens
 use Rattle.edn_reader.specs.declared.token.Opener.{Opener}
 use Rattle.edn_reader.specs.declared.token.Opener.TheVariants as openers
 use Rattle.edn_reader.specs.Bytes.{class_of}
-use Rattle.edn_reader.specs.Grammar.{Piece, IsToken, opening, set, discard, tag, close, nothing, skipped, IsElementAt, leaf, IsElements, none, waits, fits, is_paired, kind_of}
+use Rattle.edn_reader.specs.Grammar.{ElementModel, IsToken, opening, set, discard, tag, close, nothing, skipped, IsElementAt, leaf, IsElements, none, waits, fits, is_paired, kind_of}
 use Rattle.edn_reader.specs.Text.{IsFront, IsText, StandsOpen, outermost, opened}
 use Rattle.edn_reader.specs.Fault.{by_bracket, by_hash, Refuses, too_deep, closing, FaultOf, wanted_at, CanWantMemory, MemoryOnlyThere, AreElementsBefore, innermost}
 use Rattle.edn_reader.specs.Token.{found_at, lexed}
@@ -32,38 +32,38 @@ use Rattle.edn_reader.proofs.Viable.{fault_refused, ending_refused, fault_open_e
 
 -- ---- one token
 
--- A fault of the input, and the run up to it.
-pub record Fails (input : List ℕ) (pieces : List Piece) (fault : EdnFault) : Type 0 where
+-- a fault of the input, and the run up to it
+pub record Fails (input : List ℕ) (pieces : List ElementModel) (fault : EdnFault) : Type 0 where
   pub met : FaultOf input fault
   pub place : ℕ
   pub bytes : List ℕ
   pub opens : List Open
   pub ending : Ending input place bytes opens pieces
 
-abbrev pub Says : List ℕ → List Piece → ℕ → List ℕ → Taken → Type 0
+abbrev pub Says : List ℕ → List ElementModel → ℕ → List ℕ → Taken → Type 0
 Says input pieces q b (on opens) = StandsOpen input pieces opens q b
 Says input pieces q b (ends span) =
     (span.start ≤ span.core.start) × (span.core.start < span.end) × (span.end ≡ q) × IsElements 64 0 input (pieces ++ piece_in input span ∷ []) q b
 Says input pieces q b (fails fault) = Fails input pieces fault
 
-says_refused : {p at : ℕ} {input a : List ℕ} {pieces : List Piece} {opens : List Open} {fault : EdnFault} → StandsOpen input pieces opens p a → Refuses opens p a at fault → Fails input pieces fault
+says_refused : {p at : ℕ} {input a : List ℕ} {pieces : List ElementModel} {opens : List Open} {fault : EdnFault} → StandsOpen input pieces opens p a → Refuses opens p a at fault → Fails input pieces fault
 says_refused {p} {a = a} {opens = opens} s r = record { met = fault_refused s r; place = p; bytes = a; opens = opens; ending = ending_refused s r }
 
--- What was completed never fails.
+-- an element that ended is never a fault
 never_fails : (span : Span) (opens : List Open) (fault : EdnFault) → completed span opens ≡ fails fault → ⊥
 never_fails span opens fault e = let both : Some (settled span opens) ≡ None = sym (settles span opens) ∙ ap goes e in absurd cc
 
-says_stands : (input : List ℕ) (pieces : List Piece) (q : ℕ) (b : List ℕ) (t : Taken) → ((fault : EdnFault) → t ≡ fails fault → ⊥) → Stands input pieces q b t → Says input pieces q b t
+says_stands : (input : List ℕ) (pieces : List ElementModel) (q : ℕ) (b : List ℕ) (t : Taken) → ((fault : EdnFault) → t ≡ fails fault → ⊥) → Stands input pieces q b t → Says input pieces q b t
 says_stands input pieces q b (on opens) h s = s
 says_stands input pieces q b (ends span) h s = s
 says_stands input pieces q b (fails fault) h s = absurd (h fault refl)
 
-says_completed : {input b : List ℕ} {pieces : List Piece} (opens : List Open) (span : Span) (a : List ℕ) → StandsOpen input pieces opens span.start a
+says_completed : {input b : List ℕ} {pieces : List ElementModel} (opens : List Open) (span : Span) (a : List ℕ) → StandsOpen input pieces opens span.start a
     → ((room : ℕ) → room + length opens ≡ 64 → IsElementAt room span.kind span.core span.start a span.end b) → Says input pieces span.end b (completed span opens)
 says_completed {input} {b} {pieces} opens span a s element =
     says_stands input pieces span.end b (completed span opens) (never_fails span opens) (stands_completed opens span a s element)
 
--- What opens while 64 are open.
+-- what opens while 64 are open is refused
 deep_refused : {opener : Opener} {p q : ℕ} {a b : List ℕ} {opens : List Open} → IsToken (tokens.Opens opener) p a q b → length opens ≡ 64
     → (at : ℕ) × Refuses opens p a at (faults.TooDeep p)
 unfolding class_of
@@ -75,7 +75,7 @@ deep_refused {p = p} (discard {c = c} v w) full =
 deep_refused {p = p} (tag {bytes = []} v n g) full = absurd n
 deep_refused {p = p} (tag {bytes = c ∷ bytes} v n g) full = (suc p, too_deep full (by_hash v n.0 n.1))
 
-says_opened : {p q : ℕ} {input a b : List ℕ} {pieces : List Piece} (opener : Opener) (opens : List Open) (t : Bool) → eqb (length opens) 64 ≡ t → StandsOpen input pieces opens p a → IsToken (tokens.Opens opener) p a q b
+says_opened : {p q : ℕ} {input a b : List ℕ} {pieces : List ElementModel} (opener : Opener) (opens : List Open) (t : Bool) → eqb (length opens) 64 ≡ t → StandsOpen input pieces opens p a → IsToken (tokens.Opens opener) p a q b
     → Says input pieces q b (cond t (fails (faults.TooDeep p)) (on (record { place = p; opener = opener; odd = false } ∷ opens)))
 says_opened opener opens true e s token =
     let full : length opens ≡ 64 = grind (arith, nat_tests) in says_refused s (deep_refused token full).1
@@ -97,24 +97,24 @@ closing_of (close {b = x} e) = record { byte = x; is = e; bytes = refl }
 refuses_at : {p at : ℕ} {a b : List ℕ} {opens : List Open} {fault : EdnFault} → a ≡ b → Refuses opens p b at fault → Refuses opens p a at fault
 refuses_at {p} {at} {opens = opens} {fault = fault} e r = subst (λ (x : List ℕ). Refuses opens p x at fault) (sym e) r
 
-says_before : {p q : ℕ} {input a b : List ℕ} {pieces : List Piece} {bracket : Bracket} (item inner : Open) (opens : List Open) (t : Bool) → fits inner.opener bracket ≡ t → waits item.opener ≡ true → innermost opens ≡ Some inner
+says_before : {p q : ℕ} {input a b : List ℕ} {pieces : List ElementModel} {bracket : Bracket} (item inner : Open) (opens : List Open) (t : Bool) → fits inner.opener bracket ≡ t → waits item.opener ≡ true → innermost opens ≡ Some inner
     → StandsOpen input pieces (item ∷ opens) p a → Closing bracket p a q b → Fails input pieces (cond t (faults.TagWithoutElement item.place) (faults.WrongClose p))
 says_before item inner opens true f w e s c = says_refused s (refuses_at c.bytes (closing c.is (rw (w, e, f, w) refl)))
 says_before item inner opens false f w e s c = says_refused s (refuses_at c.bytes (closing c.is (rw (w, e, f) refl)))
 
-says_waiting : {p q : ℕ} {input a b : List ℕ} {pieces : List Piece} {bracket : Bracket} (item : Open) (opens : List Open) (o : Option Open) → innermost opens ≡ o → waits item.opener ≡ true
+says_waiting : {p q : ℕ} {input a b : List ℕ} {pieces : List ElementModel} {bracket : Bracket} (item : Open) (opens : List Open) (o : Option Open) → innermost opens ≡ o → waits item.opener ≡ true
     → StandsOpen input pieces (item ∷ opens) p a → Closing bracket p a q b → Fails input pieces (fault_before p bracket item o)
 says_waiting item opens None e w s c = says_refused s (refuses_at c.bytes (closing c.is (rw (w, e) refl)))
 says_waiting {bracket = bracket} item opens (Some inner) e w s c = says_before item inner opens (fits inner.opener bracket) refl w e s c
 
-says_paired : {p q : ℕ} {input a b : List ℕ} {pieces : List Piece} {bracket : Bracket} (item : Open) (opens : List Open) (t : Bool) → is_paired item.opener && item.odd ≡ t → waits item.opener ≡ false → fits item.opener bracket ≡ true
+says_paired : {p q : ℕ} {input a b : List ℕ} {pieces : List ElementModel} {bracket : Bracket} (item : Open) (opens : List Open) (t : Bool) → is_paired item.opener && item.odd ≡ t → waits item.opener ≡ false → fits item.opener bracket ≡ true
     → StandsOpen input pieces (item ∷ opens) p a → IsToken (tokens.Closes bracket) p a q b → Says input pieces q b (cond t (fails (faults.OddMap p)) (completed (plain_span (kind_of item.opener) item.place q) opens))
 says_paired item opens true e w f s token = let c = closing_of token in says_refused s (refuses_at c.bytes (closing c.is (rw (w, f, w, e) refl)))
 says_paired {q = q} item opens false e w f s token =
     let c = stands_closed w s token f e in
     says_completed opens (plain_span (kind_of item.opener) item.place q) c.bytes c.before c.element
 
-says_closed_by : {p q : ℕ} {input a b : List ℕ} {pieces : List Piece} {bracket : Bracket} (item : Open) (opens : List Open) (w f : Bool) → waits item.opener ≡ w → fits item.opener bracket ≡ f
+says_closed_by : {p q : ℕ} {input a b : List ℕ} {pieces : List ElementModel} {bracket : Bracket} (item : Open) (opens : List Open) (w f : Bool) → waits item.opener ≡ w → fits item.opener bracket ≡ f
     → StandsOpen input pieces (item ∷ opens) p a → IsToken (tokens.Closes bracket) p a q b
     → Says input pieces q b (cond w (fails (fault_before p bracket item (innermost opens)))
     (cond f (cond (is_paired item.opener && item.odd) (fails (faults.OddMap p)) (completed (plain_span (kind_of item.opener) item.place q) opens)) (fails (faults.WrongClose p))))
@@ -122,7 +122,7 @@ says_closed_by item opens true f w g s token = says_waiting item opens (innermos
 says_closed_by item opens false true w g s token = says_paired item opens (is_paired item.opener && item.odd) refl w g s token
 says_closed_by item opens false false w g s token = let c = closing_of token in says_refused s (refuses_at c.bytes (closing c.is (rw (w, g) refl)))
 
-says_closed : {p q : ℕ} {input a b : List ℕ} {pieces : List Piece} (bracket : Bracket) (opens : List Open) → StandsOpen input pieces opens p a → IsToken (tokens.Closes bracket) p a q b
+says_closed : {p q : ℕ} {input a b : List ℕ} {pieces : List ElementModel} (bracket : Bracket) (opens : List Open) → StandsOpen input pieces opens p a → IsToken (tokens.Closes bracket) p a q b
     → Says input pieces q b (closed p q bracket opens)
 unfolding closed
 says_closed bracket [] s token = let c = closing_of token in says_refused s (refuses_at c.bytes (closing c.is refl))
@@ -130,7 +130,7 @@ says_closed bracket (item ∷ opens) s token = says_closed_by item opens (waits 
 
 -- ---- each token
 
-says_unfinished : {p : ℕ} {input a : List ℕ} {pieces : List Piece} (opens : List Open) → StandsOpen input pieces opens p a → 0 < length a → (lexed a).0 ≡ tokens.Unfinished
+says_unfinished : {p : ℕ} {input a : List ℕ} {pieces : List ElementModel} (opens : List Open) → StandsOpen input pieces opens p a → 0 < length a → (lexed a).0 ≡ tokens.Unfinished
     → Fails input pieces (faults.Truncated (p + (lexed a).1))
 unfolding taken
 says_unfinished {p} {input} {a} {pieces} opens s some e =
@@ -139,7 +139,7 @@ says_unfinished {p} {input} {a} {pieces} opens s some e =
     let long : p + length a ≡ p + (lexed a).1 = ap (λ (n : ℕ). p + n) (sym (unfinished_long a e)) in
     record { met = subst (λ (n : ℕ). FaultOf input (faults.Truncated n)) long met; place = p; bytes = a; opens = opens; ending = ending_stands s stuck }
 
-token_by : (input : List ℕ) (pieces : List Piece) (opens : List Open) (p : ℕ) (a : List ℕ) (t : Token) → (lexed a).0 ≡ t → StandsOpen input pieces opens p a → 0 < length a
+token_by : (input : List ℕ) (pieces : List ElementModel) (opens : List Open) (p : ℕ) (a : List ℕ) (t : Token) → (lexed a).0 ≡ t → StandsOpen input pieces opens p a → 0 < length a
     → Says input pieces (p + (lexed a).1) (drop (lexed a).1 a) (taken t p (p + (lexed a).1) opens)
 unfolding taken
 token_by input pieces opens p a tokens.Gap e s some = let token = token_lexed p a tokens.Gap e (λ h. cc) in stands_gap s (λ room fit. skipped token nothing)
@@ -152,30 +152,30 @@ token_by input pieces opens p a (tokens.Closes bracket) e s some =
     says_closed bracket opens s (token_lexed p a (tokens.Closes bracket) e (λ h. cc))
 token_by input pieces opens p a tokens.Unfinished e s some = says_unfinished opens s some e
 
-pub says : (input : List ℕ) (pieces : List Piece) (opens : List Open) (p : ℕ) (a : List ℕ) → StandsOpen input pieces opens p a → 0 < length a
+pub says : (input : List ℕ) (pieces : List ElementModel) (opens : List Open) (p : ℕ) (a : List ℕ) → StandsOpen input pieces opens p a → 0 < length a
     → Says input pieces (p + (lexed a).1) (drop (lexed a).1 a) (front_taken p a opens)
 says input pieces opens p a s some = token_by input pieces opens p a (lexed a).0 refl s some
 
 -- ---- what the next token says
 
--- What stands open before a place of the input.
-abbrev pub StandsAt : List ℕ → List Piece → List Open → ℕ → Type 0
+-- what is open at a place of the input
+abbrev pub StandsAt : List ℕ → List ElementModel → List Open → ℕ → Type 0
 StandsAt input pieces opens at = StandsOpen input pieces opens at (drop at input)
 
 some_left : (input : List ℕ) (at : ℕ) → at < length input → 0 < length (drop at input)
 some_left input at lt = omega (arith, length-drop at input, lt)
 
--- The token that was found is the one at the front.
+-- the token that was found is the first of the bytes
 found_front : (input : List ℕ) (at : ℕ) (found : Found) (opens : List Open) → found ≡ found_at at (lexed (drop at input)) → taken found.token at found.end opens ≡ front_taken at (drop at input) opens
 found_front input at found opens e = ap (λ (f : Found). taken f.token at f.end opens) e
 
-said : (input : List ℕ) (pieces : List Piece) (at : ℕ) (found : Found) (opens : List Open) (t : Taken) → at < length input → StandsAt input pieces opens at → found ≡ found_at at (lexed (drop at input))
+said : (input : List ℕ) (pieces : List ElementModel) (at : ℕ) (found : Found) (opens : List Open) (t : Taken) → at < length input → StandsAt input pieces opens at → found ≡ found_at at (lexed (drop at input))
     → taken found.token at found.end opens ≡ t → Says input pieces (at + (lexed (drop at input)).1) (drop (lexed (drop at input)).1 (drop at input)) t
 said input pieces at found opens t lt s e f =
     subst (Says input pieces (at + (lexed (drop at input)).1) (drop (lexed (drop at input)).1 (drop at input))) (sym (found_front input at found opens e) ∙ f)
     (says input pieces opens at (drop at input) s (some_left input at lt))
 
-pub stands_next : (input : List ℕ) (pieces : List Piece) (at : ℕ) (found : Found) (opens after : List Open) → at < length input → StandsAt input pieces opens at → found ≡ found_at at (lexed (drop at input))
+pub stands_next : (input : List ℕ) (pieces : List ElementModel) (at : ℕ) (found : Found) (opens after : List Open) → at < length input → StandsAt input pieces opens at → found ≡ found_at at (lexed (drop at input))
     → taken found.token at found.end opens ≡ on after → StandsAt input pieces after found.end
 stands_next input pieces at found opens after lt s e f =
     let now = said input pieces at found opens (on after) lt s e f in
@@ -183,10 +183,10 @@ stands_next input pieces at found opens after lt s e f =
     let rest : drop (lexed (drop at input)).1 (drop at input) ≡ drop found.end input = stands_left now ∙ ap (λ (n : ℕ). drop n input) place in
     subst (λ (n : ℕ). StandsOpen input pieces after n (drop found.end input)) place (subst (λ (b : List ℕ). StandsOpen input pieces after (at + (lexed (drop at input)).1) b) rest now)
 
-pub elements_within : {q : ℕ} {pieces : List Piece} {input rest : List ℕ} → IsElements 64 0 input pieces q rest → q ≤ length input
+pub elements_within : {q : ℕ} {pieces : List ElementModel} {input rest : List ℕ} → IsElements 64 0 input pieces q rest → q ≤ length input
 elements_within {rest = rest} els = let m = moved_elements els rest (λ h. h, λ h. h, λ h. h) in omega (arith, m.2.place, ap length m.2.here, length-append m.2.front rest)
 
--- An element ends where its last token ends.
+-- an element ends where its last token ends
 ends_by : (t w : Bool) (x : Taken) (y z : List Open) (s : Span) (n : ℕ) → (x ≡ ends s → s.end ≡ n) → cond t x (cond w (on y) (on z)) ≡ ends s → s.end ≡ n
 ends_by true w x y z s n h e = h e
 ends_by false true x y z s n h e = absurd cc
@@ -222,7 +222,7 @@ taken_ends (tokens.Opens opener) p q opens s e = absurd (opened_never (eqb (leng
 taken_ends (tokens.Closes bracket) p q opens s e = closed_ends p q bracket opens s e
 taken_ends tokens.Unfinished p q opens s e = absurd cc
 
-pub element_next : (input : List ℕ) (pieces : List Piece) (at : ℕ) (found : Found) (span : Span) (opens : List Open) → at < length input → StandsAt input pieces opens at
+pub element_next : (input : List ℕ) (pieces : List ElementModel) (at : ℕ) (found : Found) (span : Span) (opens : List Open) → at < length input → StandsAt input pieces opens at
     → found ≡ found_at at (lexed (drop at input)) → taken found.token at found.end opens ≡ ends span → OneMore input pieces span
 element_next input pieces at found span opens lt s e f =
     let now = said input pieces at found opens (ends span) lt s e f in
@@ -230,30 +230,30 @@ element_next input pieces at found span opens lt s e f =
     subst (λ (n : ℕ). IsElements 64 0 input (pieces ++ piece_in input span ∷ []) n (drop (lexed (drop at input)).1 (drop at input))) (sym now.2) now.3 in
     (now.0, now.1, elements_within there, subst (λ (b : List ℕ). IsElements 64 0 input (pieces ++ piece_in input span ∷ []) span.end b) (elements_left there) there)
 
--- The elements that have ended before what stands open.
-pub front_of : {p : ℕ} {input rest : List ℕ} {pieces : List Piece} {opens : List Open} → StandsOpen input pieces opens p rest → (at : ℕ) × IsFront input pieces at
+-- the elements that have ended before what is open are those of a prefix
+pub front_of : {p : ℕ} {input rest : List ℕ} {pieces : List ElementModel} {opens : List Open} → StandsOpen input pieces opens p rest → (at : ℕ) × IsFront input pieces at
 front_of {input = input} {pieces = pieces} (outermost {place = at} els gap) = (at, subst (λ (b : List ℕ). IsElements 64 0 input pieces at b) (elements_left els) els)
 front_of (opened s token room inside) = front_of s
 
-before_fault : (input : List ℕ) (pieces : List Piece) (fault : EdnFault) → (at : ℕ) × IsFront input pieces at → Fails input pieces fault → FaultOf input fault × AreElementsBefore input pieces
+before_fault : (input : List ℕ) (pieces : List ElementModel) (fault : EdnFault) → (at : ℕ) × IsFront input pieces at → Fails input pieces fault → FaultOf input fault × AreElementsBefore input pieces
 before_fault input pieces fault (from, front) f = (
   f.met,
   (from, front, λ others there h. agree others pieces (omega arith) (omega arith) h front (front_fewer (omega arith) h f.ending)),
 )
 
-pub fault_next : (input : List ℕ) (pieces : List Piece) (at : ℕ) (found : Found) (fault : EdnFault) (opens : List Open) → at < length input → StandsAt input pieces opens at
+pub fault_next : (input : List ℕ) (pieces : List ElementModel) (at : ℕ) (found : Found) (fault : EdnFault) (opens : List Open) → at < length input → StandsAt input pieces opens at
     → found ≡ found_at at (lexed (drop at input)) → taken found.token at found.end opens ≡ fails fault → FaultOf input fault × AreElementsBefore input pieces
 fault_next input pieces at found fault opens lt s e f = before_fault input pieces fault (front_of s) (said input pieces at found opens (fails fault) lt s e f)
 
--- What opens at a place where 64 are open is refused, whatever more of it follows.
-pub full_fails : (input : List ℕ) (pieces : List Piece) (at : ℕ) (opener : Opener) (opens : List Open) → StandsAt input pieces opens at → (lexed (drop at input)).0 ≡ tokens.Opens opener → length opens ≡ 64
+-- what opens at a place where 64 are open is refused, whatever more of it follows
+pub full_fails : (input : List ℕ) (pieces : List ElementModel) (at : ℕ) (opener : Opener) (opens : List Open) → StandsAt input pieces opens at → (lexed (drop at input)).0 ≡ tokens.Opens opener → length opens ≡ 64
     → FaultOf input (faults.TooDeep at) × AreElementsBefore input pieces
 full_fails input pieces at opener opens s is full =
     let token = token_lexed at (drop at input) (tokens.Opens opener) is (λ h. cc) in
     before_fault input pieces (faults.TooDeep at) (front_of s) (says_refused s (deep_refused token full).1)
 
--- Where a growth was refused.
-pub memory_next : (input : List ℕ) (pieces : List Piece) (at : ℕ) (found : Found) (fault : EdnFault) (opens after : List Open) → StandsAt input pieces opens at
+-- where a growth was refused, memory may be refused
+pub memory_next : (input : List ℕ) (pieces : List ElementModel) (at : ℕ) (found : Found) (fault : EdnFault) (opens after : List Open) → StandsAt input pieces opens at
     → found ≡ found_at at (lexed (drop at input)) → GrowthRefused found.token at opens fault after → MemoryOnlyThere input pieces fault
 memory_next input pieces at found fault opens after s e refused =
     let left = drop at input in
@@ -275,14 +275,14 @@ memory_next input pieces at found fault opens after s e refused =
 nothing_left : (at : ℕ) (input : List ℕ) → length input ≤ at → drop at input ≡ []
 nothing_left at input le = drop_of_length-le input le
 
--- At the end of the input it is a text where nothing is open, and else ends too early.
-pub text_end : (input : List ℕ) (pieces : List Piece) (at : ℕ) → length input ≤ at → StandsAt input pieces [] at → IsText input pieces
+-- at its end the input is a text where nothing is open, and else it ends too early
+pub text_end : (input : List ℕ) (pieces : List ElementModel) (at : ℕ) → length input ≤ at → StandsAt input pieces [] at → IsText input pieces
 text_end input pieces at le s = stands_text (subst (λ (r : List ℕ). StandsOpen input pieces [] at r) (nothing_left at input le) s)
 
-fails_open : {p : ℕ} {input : List ℕ} {pieces : List Piece} {item : Open} {opens : List Open} → StandsOpen input pieces (item ∷ opens) p [] → Fails input pieces (faults.Truncated p)
+fails_open : {p : ℕ} {input : List ℕ} {pieces : List ElementModel} {item : Open} {opens : List Open} → StandsOpen input pieces (item ∷ opens) p [] → Fails input pieces (faults.Truncated p)
 fails_open {p} {item = item} {opens = opens} s = record { met = fault_open_end s; place = p; bytes = []; opens = item ∷ opens; ending = ending_end s }
 
-pub open_end : (input : List ℕ) (pieces : List Piece) (at : ℕ) (item : Open) (opens : List Open) → length input ≤ at → StandsAt input pieces (item ∷ opens) at
+pub open_end : (input : List ℕ) (pieces : List ElementModel) (at : ℕ) (item : Open) (opens : List Open) → length input ≤ at → StandsAt input pieces (item ∷ opens) at
     → FaultOf input (faults.Truncated at) × AreElementsBefore input pieces
 open_end input pieces at item opens le s =
     before_fault input pieces (faults.Truncated at) (front_of s) (fails_open (subst (λ (r : List ℕ). StandsOpen input pieces (item ∷ opens) at r) (nothing_left at input le) s))
@@ -290,17 +290,17 @@ open_end input pieces at item opens le s =
 -- ---- every input is a text or has a fault
 
 abbrev pub Settled : List ℕ → Type 0
-Settled input = ((pieces : List Piece) × IsText input pieces) ⊎ ((fault : EdnFault) × FaultOf input fault)
+Settled input = ((pieces : List ElementModel) × IsText input pieces) ⊎ ((fault : EdnFault) × FaultOf input fault)
 
 abbrev Later : List ℕ → ℕ → Type 0
-Later input fuel = (pieces : List Piece) (opens : List Open) (p : ℕ) (a : List ℕ) → length a ≤ fuel → StandsOpen input pieces opens p a → Settled input
+Later input fuel = (pieces : List ElementModel) (opens : List Open) (p : ℕ) (a : List ℕ) → length a ≤ fuel → StandsOpen input pieces opens p a → Settled input
 
-settle_token : (fuel : ℕ) (input : List ℕ) (pieces : List Piece) (q : ℕ) (b : List ℕ) → length b ≤ fuel → Later input fuel → (t : Taken) → Says input pieces q b t → Settled input
+settle_token : (fuel : ℕ) (input : List ℕ) (pieces : List ElementModel) (q : ℕ) (b : List ℕ) → length b ≤ fuel → Later input fuel → (t : Taken) → Says input pieces q b t → Settled input
 settle_token fuel input pieces q b le later (on opens) s = later pieces opens q b le s
 settle_token fuel input pieces q b le later (ends span) s = later (pieces ++ piece_in input span ∷ []) [] q b le (outermost s.3 nothing)
 settle_token fuel input pieces q b le later (fails fault) s = inr (fault, s.met)
 
-settle_end : (input : List ℕ) (pieces : List Piece) (opens : List Open) (p : ℕ) → StandsOpen input pieces opens p [] → Settled input
+settle_end : (input : List ℕ) (pieces : List ElementModel) (opens : List Open) (p : ℕ) → StandsOpen input pieces opens p [] → Settled input
 settle_end input pieces [] p s = inl (pieces, stands_text s)
 settle_end input pieces (item ∷ opens) p s = inr (faults.Truncated p, fault_open_end s)
 

@@ -1,5 +1,4 @@
--- The tokens one after another, and what is open and what was given behind each: a derivation is a run of them,
--- and from one place there is one run.
+-- Runs of tokens, with what is open and given after each: a derivation is a run, and from one place there is one run.
 use Rattle.std.proofs.Common.{◌≡◌, ◌⊎◌, inl, inr, ℕ, suc, ◌+◌, ◌≤◌, Bool, true, false, not, cond, eqb, ◌&&◌, List, [], ◌∷◌, ◌++◌, length, drop, Option, Some, None, refl, sym, ap, subst, ◌∙◌, append_assoc, arith}
 use Rattle.std.proofs.lemmas.Bool.Decides.{nat_tests}
 use Rattle.std.proofs.lemmas.List.{append-nil}
@@ -15,19 +14,19 @@ use Rattle.edn_reader.specs.declared.token.Token.{Token}
 use Rattle.edn_reader.specs.declared.token.Token.TheVariants.{Gap, Leaf, Opens, Closes}
 use Rattle.edn_reader.specs.declared.token.Opener.{Opener}
 use Rattle.edn_reader.specs.declared.token.Opener.TheVariants as openers
-use Rattle.edn_reader.specs.Grammar.{Piece, IsToken, IsGap, nothing, skipped, discarded, IsElementAt, leaf, bracketed, tagged, IsElements, none, next, is_odd, waits, fits, is_paired, kind_of}
+use Rattle.edn_reader.specs.Grammar.{ElementModel, IsToken, IsGap, nothing, skipped, discarded, IsElementAt, leaf, bracketed, tagged, IsElements, none, next, is_odd, waits, fits, is_paired, kind_of}
 use Rattle.edn_reader.specs.Text.{within, waiting, StandsOpen, outermost, opened}
 use Rattle.edn_reader.specs.Token.{lexed}
 use Rattle.edn_reader.specs.Taking.{Taken, on, ends, fails, with_one, is_tag, behind_tag, completed, plain_span, closed, taken}
 use Rattle.edn_reader.proofs.Lexing.{lexed_token}
 
--- What is open and what is given next; none where it fails.
+-- what is open and what is given after a token; none where it fails
 abbrev pub goes : Taken → Option (List Open × List Span)
 goes (on opens) = Some (opens, [])
 goes (ends span) = Some ([], span ∷ [])
 goes (fails fault) = None
 
--- What the token at the front leads to.
+-- what the first token of the bytes leads to
 abbrev pub front_taken : ℕ → List ℕ → List Open → Taken
 front_taken p a opens = taken (lexed a).0 p (p + (lexed a).1) opens
 
@@ -40,7 +39,7 @@ pub leads_then : {p q r : ℕ} {a b c : List ℕ} {ao bo co : List Open} {ag bg 
 leads_then here more = more
 leads_then (further after e run) more = further after e (leads_then run more)
 
--- From one place there is one run.
+-- from one place there is one run: of two, one goes on from where the other ends
 pub one_run : {p q r : ℕ} {a b c : List ℕ} {ao bo co : List Open} {ag bg cg : List Span} → Leads p a ao ag q b bo bg → Leads p a ao ag r c co cg
     → Leads q b bo bg r c co cg ⊎ Leads r c co cg q b bo bg
 one_run here y = inl y
@@ -50,13 +49,13 @@ one_run {p} {q} {r} {a} {b} {c} {ao} {bo} {co} {ag} {bg} {cg} (further after e r
     let same : other ≡ after = cc in
     one_run run (subst (λ (x : List Open × List Span). Leads (p + (lexed a).1) (drop (lexed a).1 a) x.0 (ag ++ x.1) r c co cg) same more)
 
--- What was given stays given.
+-- what was given stays given
 pub given_more : {p q : ℕ} {a b : List ℕ} {ao bo : List Open} {ag bg : List Span} → Leads p a ao ag q b bo bg → (more : List Span) × (bg ≡ ag ++ more)
 given_more {ag = ag} here = ([], sym (append-nil ag))
 given_more {ag = ag} (further after e run) =
     let m = given_more run in (after.1 ++ m.0, m.1 ∙ append_assoc ag after.1 m.0)
 
--- A run ends where a token fails.
+-- a run goes no further than where a token fails: the two ends are one
 pub record Same (p : ℕ) (a : List ℕ) (ao : List Open) (ag : List Span) (q : ℕ) (b : List ℕ) (bo : List Open) (bg : List Span) : Type 0 where
   pub place : p ≡ q
   pub bytes : a ≡ b
@@ -101,7 +100,7 @@ unfolding taken
 leads_opening {p} room opener opens given token fit =
     leads_same (append-nil given) (leads_token opens given (fresh p opener ∷ opens, []) token (ap (λ (t : Bool). goes (cond t (fails (TooDeep p)) (on (fresh p opener ∷ opens)))) (not_full opens room fit)))
 
--- What is open and what is given behind an element.
+-- what is open and what is given after an element
 unfoldable pub settled : Span → List Open → List Open × List Span
 settled span [] = ([], span ∷ [])
 settled span (item ∷ opens) = cond (is_tag item.opener) (settled (behind_tag item span) opens) (cond (waits item.opener) (opens, []) (with_one item ∷ opens, []))
@@ -173,8 +172,8 @@ leads_leaf : {p q : ℕ} {a b : List ℕ} {kind : ElementKind} (opens : List Ope
 unfolding taken
 leads_leaf {p} {q} {kind = kind} opens given token = leads_token opens given (settled (plain_span kind p q) opens) token (settles (plain_span kind p q) opens)
 
--- A bracket with so many elements more.
-abbrev pub counted_in : List Piece → Open → Open
+-- a bracket with these elements more in it
+abbrev pub counted_in : List ElementModel → Open → Open
 counted_in [] item = item
 counted_in (piece ∷ pieces) item = counted_in pieces (with_one item)
 
@@ -182,7 +181,7 @@ not-not : (t : Bool) → not (not t) ≡ t
 not-not true = refl
 not-not false = refl
 
-counted_odd : (pieces : List Piece) (p : ℕ) (opener : Opener) (t : Bool)
+counted_odd : (pieces : List ElementModel) (p : ℕ) (opener : Opener) (t : Bool)
     → counted_in pieces (record { place = p; opener = opener; odd = t }) ≡ record { place = p; opener = opener; odd = cond t (not (is_odd pieces)) (is_odd pieces) }
 counted_odd [] p opener true = refl
 counted_odd [] p opener false = refl
@@ -190,7 +189,7 @@ counted_odd (piece ∷ pieces) p opener true =
     counted_odd pieces p opener false ∙ ap (λ (t : Bool). record { place = p; opener = opener; odd = t }) (sym (not-not (is_odd pieces)))
 counted_odd (piece ∷ pieces) p opener false = counted_odd pieces p opener true
 
-inside_as : {p q place : ℕ} {a b : List ℕ} {opener : Opener} (pieces : List Piece) (opens : List Open) (given : List Span)
+inside_as : {p q place : ℕ} {a b : List ℕ} {opener : Opener} (pieces : List ElementModel) (opens : List Open) (given : List Span)
     → Leads p a (fresh place opener ∷ opens) given q b (counted_in pieces (fresh place opener) ∷ opens) given
     → Leads p a (fresh place opener ∷ opens) given q b (record { place = place; opener = opener; odd = is_odd pieces } ∷ opens) given
 inside_as {p} {q} {place} {a} {b} {opener} pieces opens given run =
@@ -221,7 +220,7 @@ mutual
       (leads_then (leads_gap before deep given (omega arith))
       (leads_settled (settled (span_at kind core begins after) deep) (settled (span_at Tagged core place after) opens) (settled_tag kind core begins place after opens) (leads_element element deep given (omega arith))))
 
-  pub leads_inside : {room p q : ℕ} {pieces : List Piece} {a b : List ℕ} → IsElements room p a pieces q b → (item : Open) (opens : List Open) (given : List Span) → waits item.opener ≡ false
+  pub leads_inside : {room p q : ℕ} {pieces : List ElementModel} {a b : List ℕ} → IsElements room p a pieces q b → (item : Open) (opens : List Open) (given : List Span) → waits item.opener ≡ false
       → room + suc (length opens) ≤ 64 → Leads p a (item ∷ opens) given q b (counted_in pieces item ∷ opens) given
   leads_inside none item opens given w fit = here
   leads_inside (next {ended = over} {piece = piece} gap element whole els) item opens given w fit =
@@ -230,8 +229,8 @@ mutual
       (leads_then (leads_same (append-nil given) (leads_settled (settled span (item ∷ opens)) (with_one item ∷ opens, []) (settled_inside span item opens w) (leads_element element (item ∷ opens) given (omega arith))))
       (leads_inside els (with_one item) opens given w fit))
 
--- Outermost elements are given, as many as there are.
-pub record Outermost (p : ℕ) (a : List ℕ) (given : List Span) (q : ℕ) (b : List ℕ) (opens : List Open) (pieces : List Piece) : Type 0 where
+-- a run that gives as many outermost elements as there are
+pub record Outermost (p : ℕ) (a : List ℕ) (given : List Span) (q : ℕ) (b : List ℕ) (opens : List Open) (pieces : List ElementModel) : Type 0 where
   pub spans : List Span
   pub run : Leads p a [] given q b opens (given ++ spans)
   pub many : length spans ≡ length pieces
@@ -245,7 +244,7 @@ pub leads_outermost_element : {room p q : ℕ} {kind : ElementKind} {core : Core
 leads_outermost_element {p = p} {q = q} {kind = kind} {core = core} element given fit =
     leads_settled (settled (span_at kind core p q) []) ([], span_at kind core p q ∷ []) (settled_outermost (span_at kind core p q)) (leads_element element [] given (omega arith))
 
-pub leads_outermost : {room p q : ℕ} {pieces : List Piece} {a b : List ℕ} → IsElements room p a pieces q b → (given : List Span) → room ≤ 64 → Outermost p a given q b [] pieces
+pub leads_outermost : {room p q : ℕ} {pieces : List ElementModel} {a b : List ℕ} → IsElements room p a pieces q b → (given : List Span) → room ≤ 64 → Outermost p a given q b [] pieces
 leads_outermost {p = p} {a = a} none given fit =
     record { spans = []; run = subst (λ (g : List Span). Leads p a [] given p a [] g) (sym (append-nil given)) here; many = refl }
 leads_outermost {p = p} {q = q} {a = a} {b = b} (next {ended = over} {beyond = beyond} {piece = piece} gap element whole els) given fit =
@@ -258,7 +257,7 @@ leads_outermost {p = p} {q = q} {a = a} {b = b} (next {ended = over} {beyond = b
       many = omega (arith, rest.many);
     }
 
-pub leads_stands : {p : ℕ} {input a : List ℕ} {pieces : List Piece} {opens : List Open} → StandsOpen input pieces opens p a → Outermost 0 input [] p a opens pieces
+pub leads_stands : {p : ℕ} {input a : List ℕ} {pieces : List ElementModel} {opens : List Open} → StandsOpen input pieces opens p a → Outermost 0 input [] p a opens pieces
 leads_stands (outermost els gap) =
     let o = leads_outermost els [] (omega arith) in
     record { spans = o.spans; run = leads_then o.run (leads_gap gap [] o.spans (omega arith)); many = o.many }

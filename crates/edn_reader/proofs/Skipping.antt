@@ -1,4 +1,4 @@
--- The ways over elements, gaps and tags by tokens alone.
+-- Ways over elements, gaps and tags, by tokens alone.
 use Rattle.std.proofs.Common.{◌≡◌, ◌≢◌, ◌⊎◌, inl, inr, ℕ, zero, suc, pred, ◌+◌, ◌-◌, ◌<◌, ◌≤◌, true, false, List, [], length, get_or, drop, Some, refl, sym, ap, subst, ◌∙◌, arith}
 use Rattle.std.proofs.Math.ListN.{drop_of_length-le}
 use Rattle.std.proofs.lemmas.Bool.{cases_lt}
@@ -6,48 +6,48 @@ use Rattle.std.proofs.lemmas.List.{drop-drop, drop_at}
 use Rattle.edn_reader.specs.declared.bytes.Bracket.{Bracket}
 use Rattle.edn_reader.specs.declared.element.ElementKind.{ElementKind}
 use Rattle.edn_reader.specs.declared.element.Core.{Core}
-use Rattle.edn_reader.specs.declared.skip.Counts.{Counts}
-use Rattle.edn_reader.specs.declared.skip.Front.{Front}
+use Rattle.edn_reader.specs.declared.lookahead.OpenCounts.{OpenCounts}
+use Rattle.edn_reader.specs.declared.lookahead.Lookahead.{Lookahead}
 use Rattle.edn_reader.specs.declared.token.Found.{Found}
 use Rattle.edn_reader.specs.declared.token.Token.{Token}
 use Rattle.edn_reader.specs.declared.token.Token.TheVariants.{Gap, Leaf, Opens, Closes, Unfinished}
 use Rattle.edn_reader.specs.declared.token.Opener.{Opener}
 use Rattle.edn_reader.specs.declared.token.Opener.TheVariants as openers
-use Rattle.edn_reader.specs.Grammar.{Piece, IsGap, nothing, skipped, discarded, IsElementAt, leaf, bracketed, tagged, IsElements, none, next, fits}
+use Rattle.edn_reader.specs.Grammar.{ElementModel, IsGap, nothing, skipped, discarded, IsElementAt, leaf, bracketed, tagged, IsElements, none, next, fits}
 use Rattle.edn_reader.specs.Bytes.{is_white, stretch}
 use Rattle.edn_reader.specs.Token.{lexed}
-use Rattle.edn_reader.specs.Skipping.{counted, ended_at, ended_one, wanted_at, closed_at, opened_with, kind_token, is_tag_token, Stands, NoGap, SkipsElement, SkipsGap, SkipsTags}
+use Rattle.edn_reader.specs.Skipping.{counts_after, ended_at, ended_one, one_more_wanted, closed_at, opened_with, kind_token, is_tag_token, HasToken, NoGap, SkipsElement, SkipsGap, SkipsTags}
 use Rattle.edn_reader.proofs.Lexing.{Lexed, lexed_token, white_here}
 use Rattle.edn_reader.proofs.Places.{Replaced, moved_gap, moved_element, wider_element}
 use Rattle.edn_reader.proofs.Stretches.{along}
 
 -- ---- the ends of elements
 
-abbrev pub counts_of : ℕ → ℕ → Counts
+abbrev pub counts_of : ℕ → ℕ → OpenCounts
 counts_of brackets elements = record { brackets = brackets; elements = elements }
 
--- From a place with so much to end, the tokens lead to another place, where nothing is.
-pub data Scans : Counts → ℕ → List ℕ → ℕ → List ℕ → Type 0 where
-  done : {counts : Counts} {p : ℕ} {a : List ℕ} → counts.brackets + counts.elements ≡ 0 → Scans counts p a p a
-  further : {counts : Counts} {p q : ℕ} {a b : List ℕ} → 0 < counts.brackets + counts.elements
-      → Scans (counted (lexed a).0 counts) (p + (lexed a).1) (drop (lexed a).1 a) q b → Scans counts p a q b
+-- from a place with so much to end, the tokens lead to another place, where nothing is left to end
+pub data Scans : OpenCounts → ℕ → List ℕ → ℕ → List ℕ → Type 0 where
+  done : {counts : OpenCounts} {p : ℕ} {a : List ℕ} → counts.brackets + counts.elements ≡ 0 → Scans counts p a p a
+  further : {counts : OpenCounts} {p q : ℕ} {a b : List ℕ} → 0 < counts.brackets + counts.elements
+      → Scans (counts_after (lexed a).0 counts) (p + (lexed a).1) (drop (lexed a).1 a) q b → Scans counts p a q b
 
-over_token : {token : Token} {counts : Counts} {p q r : ℕ} {a b c : List ℕ} → Lexed token p a q b → 0 < counts.brackets + counts.elements → Scans (counted token counts) q b r c → Scans counts p a r c
+over_token : {token : Token} {counts : OpenCounts} {p q r : ℕ} {a b c : List ℕ} → Lexed token p a q b → 0 < counts.brackets + counts.elements → Scans (counts_after token counts) q b r c → Scans counts p a r c
 over_token {token} {counts} {p} {q} {r} {a} {b} {c} l busy h =
-    let placed : Scans (counted token counts) (p + (lexed a).1) b r c = subst (λ (n : ℕ). Scans (counted token counts) n b r c) (sym l.place) h in
-    let rested : Scans (counted token counts) (p + (lexed a).1) (drop (lexed a).1 a) r c = subst (λ (x : List ℕ). Scans (counted token counts) (p + (lexed a).1) x r c) (sym l.rest) placed in
-    further busy (subst (λ (t : Token). Scans (counted t counts) (p + (lexed a).1) (drop (lexed a).1 a) r c) (sym l.token_is) rested)
+    let placed : Scans (counts_after token counts) (p + (lexed a).1) b r c = subst (λ (n : ℕ). Scans (counts_after token counts) n b r c) (sym l.place) h in
+    let rested : Scans (counts_after token counts) (p + (lexed a).1) (drop (lexed a).1 a) r c = subst (λ (x : List ℕ). Scans (counts_after token counts) (p + (lexed a).1) x r c) (sym l.rest) placed in
+    further busy (subst (λ (t : Token). Scans (counts_after t counts) (p + (lexed a).1) (drop (lexed a).1 a) r c) (sym l.token_is) rested)
 
-wanted_busy : (brackets elements : ℕ) → 0 < (wanted_at brackets elements).brackets + (wanted_at brackets elements).elements
+wanted_busy : (brackets elements : ℕ) → 0 < (one_more_wanted brackets elements).brackets + (one_more_wanted brackets elements).elements
 wanted_busy zero elements = omega arith
 wanted_busy (suc brackets) elements = omega arith
 
-wanted_ended : (brackets elements : ℕ) → counts_of brackets elements ≡ ended_one (wanted_at brackets elements)
+wanted_ended : (brackets elements : ℕ) → counts_of brackets elements ≡ ended_one (one_more_wanted brackets elements)
 wanted_ended zero elements = refl
 wanted_ended (suc brackets) elements = refl
 
--- What opens and holds elements counts as a bracket.
-opened_bracket : (opener : Opener) (bracket : Bracket) (counts : Counts) → fits opener bracket ≡ true → counts_of (suc counts.brackets) counts.elements ≡ opened_with opener counts
+-- an opener that a bracket closes counts as a bracket
+opened_bracket : (opener : Opener) (bracket : Bracket) (counts : OpenCounts) → fits opener bracket ≡ true → counts_of (suc counts.brackets) counts.elements ≡ opened_with opener counts
 opened_bracket openers.List bracket counts e = refl
 opened_bracket openers.Vector bracket counts e = refl
 opened_bracket openers.Map bracket counts e = refl
@@ -56,27 +56,27 @@ opened_bracket openers.Tag bracket counts e = absurd cc
 opened_bracket openers.Discard bracket counts e = absurd cc
 
 mutual
-  over_gap : {room p q r : ℕ} {a b c : List ℕ} (counts : Counts) → IsGap room p a q b → 0 < counts.brackets + counts.elements → Scans counts q b r c → Scans counts p a r c
+  over_gap : {room p q r : ℕ} {a b c : List ℕ} (counts : OpenCounts) → IsGap room p a q b → 0 < counts.brackets + counts.elements → Scans counts q b r c → Scans counts p a r c
   over_gap counts nothing busy h = h
   over_gap counts (skipped token gap) busy h = over_token (lexed_token token) busy (over_gap counts gap busy h)
   over_gap {r = r} {c = c} counts (discarded {ends = ends} {behind = behind} token inside element gap) busy h =
-      let wanted = wanted_at counts.brackets counts.elements in
+      let wanted = one_more_wanted counts.brackets counts.elements in
       let more : 0 < wanted.brackets + wanted.elements = wanted_busy counts.brackets counts.elements in
       let after : Scans counts ends behind r c = over_gap counts gap busy h in
       over_token (lexed_token token) busy (over_gap wanted inside more
-      (over_element wanted element more (subst (λ (k : Counts). Scans k ends behind r c) (wanted_ended counts.brackets counts.elements) after)))
+      (over_element wanted element more (subst (λ (k : OpenCounts). Scans k ends behind r c) (wanted_ended counts.brackets counts.elements) after)))
 
-  over_element : {room p q r : ℕ} {kind : ElementKind} {core : Core} {a b c : List ℕ} (counts : Counts) → IsElementAt room kind core p a q b → 0 < counts.brackets + counts.elements
+  over_element : {room p q r : ℕ} {kind : ElementKind} {core : Core} {a b c : List ℕ} (counts : OpenCounts) → IsElementAt room kind core p a q b → 0 < counts.brackets + counts.elements
       → Scans (ended_one counts) q b r c → Scans counts p a r c
   over_element counts (leaf token) busy h = over_token (lexed_token token) busy h
   over_element {r = r} {c = c} counts (bracketed {inner = inner} {left = left} {opener = opener} {bracket = bracket} token inside gap last fit even) busy h =
       let deeper : 0 < suc counts.brackets + counts.elements = omega arith in
       let behind : Scans (counts_of (suc counts.brackets) counts.elements) inner left r c =
       over_elements counts.brackets counts.elements inside (over_gap (counts_of (suc counts.brackets) counts.elements) gap deeper (over_token (lexed_token last) deeper h)) in
-      over_token (lexed_token token) busy (subst (λ (k : Counts). Scans k inner left r c) (opened_bracket opener bracket counts fit) behind)
+      over_token (lexed_token token) busy (subst (λ (k : OpenCounts). Scans k inner left r c) (opened_bracket opener bracket counts fit) behind)
   over_element counts (tagged token gap element) busy h = over_token (lexed_token token) busy (over_gap counts gap busy (over_element counts element busy h))
 
-  over_elements : {room p q r : ℕ} {pieces : List Piece} {a b c : List ℕ} (brackets elements : ℕ) → IsElements room p a pieces q b
+  over_elements : {room p q r : ℕ} {pieces : List ElementModel} {a b c : List ℕ} (brackets elements : ℕ) → IsElements room p a pieces q b
       → Scans (counts_of (suc brackets) elements) q b r c → Scans (counts_of (suc brackets) elements) p a r c
   over_elements brackets elements none h = h
   over_elements brackets elements (next gap element text others) h =
@@ -91,7 +91,7 @@ ended_bound : (brackets elements : ℕ) → (ended_at brackets elements).bracket
 ended_bound zero elements = omega (arith, pred_less elements)
 ended_bound (suc brackets) elements = omega arith
 
-wanted_bound : (brackets elements : ℕ) → (wanted_at brackets elements).brackets + (wanted_at brackets elements).elements ≤ brackets + elements + 1
+wanted_bound : (brackets elements : ℕ) → (one_more_wanted brackets elements).brackets + (one_more_wanted brackets elements).elements ≤ brackets + elements + 1
 wanted_bound zero elements = omega arith
 wanted_bound (suc brackets) elements = omega arith
 
@@ -99,7 +99,7 @@ closed_bound : (brackets elements : ℕ) → (closed_at brackets elements).brack
 closed_bound zero elements = omega arith
 closed_bound (suc brackets) elements = omega (arith, ended_bound brackets elements)
 
-pub counted_bound : (token : Token) (counts : Counts) → (counted token counts).brackets + (counted token counts).elements ≤ counts.brackets + counts.elements + 1
+pub counted_bound : (token : Token) (counts : OpenCounts) → (counts_after token counts).brackets + (counts_after token counts).elements ≤ counts.brackets + counts.elements + 1
 counted_bound Gap counts = omega arith
 counted_bound (Leaf kind) counts = ended_bound counts.brackets counts.elements
 counted_bound (Opens openers.List) counts = omega arith
@@ -111,48 +111,48 @@ counted_bound (Opens openers.Discard) counts = wanted_bound counts.brackets coun
 counted_bound (Closes bracket) counts = closed_bound counts.brackets counts.elements
 counted_bound Unfinished counts = omega arith
 
--- What leads from the first place to the end of an element leads there from the second one, with so much to end.
-abbrev pub Scanned : List ℕ → ℕ → ℕ → Counts → Type 0
+-- what leads from the first index to the end of an element leads there from the second one, with so much to end
+abbrev pub Scanned : List ℕ → ℕ → ℕ → OpenCounts → Type 0
 Scanned bytes from at counts =
     (start after : ℕ) (rest : List ℕ) → Scans (counts_of 0 1) start (drop from bytes) after rest → (other : ℕ) × (other + from ≡ start + at) × Scans counts other (drop at bytes) after rest
 
--- One token further.
-one_further : {counts : Counts} {p q : ℕ} {a b : List ℕ} → Scans counts p a q b → 0 < counts.brackets + counts.elements
-    → Scans (counted (lexed a).0 counts) (p + (lexed a).1) (drop (lexed a).1 a) q b
+-- one token further
+one_further : {counts : OpenCounts} {p q : ℕ} {a b : List ℕ} → Scans counts p a q b → 0 < counts.brackets + counts.elements
+    → Scans (counts_after (lexed a).0 counts) (p + (lexed a).1) (drop (lexed a).1 a) q b
 one_further (done e) busy = absurd (omega arith)
 one_further (further more h) busy = h
 
-pub scanned_more : (bytes : List ℕ) (from at end : ℕ) (counts more : Counts) → Scanned bytes from at counts → 0 < counts.brackets + counts.elements
-    → more ≡ counted (lexed (drop at bytes)).0 counts → end ≡ at + (lexed (drop at bytes)).1 → Scanned bytes from end more
+pub scanned_more : (bytes : List ℕ) (from at end : ℕ) (counts more : OpenCounts) → Scanned bytes from at counts → 0 < counts.brackets + counts.elements
+    → more ≡ counts_after (lexed (drop at bytes)).0 counts → end ≡ at + (lexed (drop at bytes)).1 → Scanned bytes from end more
 scanned_more bytes from at end counts more scanned busy e f start after rest h =
     let k = scanned start after rest h in
     let token = lexed (drop at bytes) in
     let left : drop token.1 (drop at bytes) ≡ drop end bytes = drop-drop token.1 at bytes ∙ ap (λ (n : ℕ). drop n bytes) (sym f) in
-    let step : Scans (counted token.0 counts) (k.0 + token.1) (drop token.1 (drop at bytes)) after rest = one_further k.2 busy in (
+    let step : Scans (counts_after token.0 counts) (k.0 + token.1) (drop token.1 (drop at bytes)) after rest = one_further k.2 busy in (
       k.0 + token.1,
       omega (arith, k.1, f),
-      subst (λ (c : Counts). Scans c (k.0 + token.1) (drop end bytes) after rest) (sym e) (subst (λ (x : List ℕ). Scans (counted token.0 counts) (k.0 + token.1) x after rest) left step),
+      subst (λ (c : OpenCounts). Scans c (k.0 + token.1) (drop end bytes) after rest) (sym e) (subst (λ (x : List ℕ). Scans (counts_after token.0 counts) (k.0 + token.1) x after rest) left step),
     )
 
--- The first token.
-pub scanned_first : (bytes : List ℕ) (front : Front) (counts : Counts) → Stands bytes front → counts ≡ counted front.found.token (counts_of 0 1) → Scanned bytes front.at front.found.end counts
+-- the first token
+pub scanned_first : (bytes : List ℕ) (front : Lookahead) (counts : OpenCounts) → HasToken bytes front → counts ≡ counts_after front.found.token (counts_of 0 1) → Scanned bytes front.at front.found.end counts
 scanned_first bytes front counts s e =
     scanned_more bytes front.at front.at front.found.end (counts_of 0 1) counts (λ start after rest h. (start, refl, h)) (omega arith)
-    (e ∙ ap (λ (f : Found). counted f.token (counts_of 0 1)) s.found) (ap (λ (f : Found). f.end) s.found)
+    (e ∙ ap (λ (f : Found). counts_after f.token (counts_of 0 1)) s.found) (ap (λ (f : Found). f.end) s.found)
 
 lexed_nothing : lexed [] ≡ (Unfinished, 0)
 unfolding lexed
 lexed_nothing = refl
 
--- Where nothing is left, or nothing to end, it goes no further.
-scans_last : {counts : Counts} {p q : ℕ} {a b : List ℕ} → Scans counts p a q b → a ≡ [] → p ≡ q
+-- where no byte is left, or nothing is to end, it goes no further
+scans_last : {counts : OpenCounts} {p q : ℕ} {a b : List ℕ} → Scans counts p a q b → a ≡ [] → p ≡ q
 scans_last (done e) last = refl
 scans_last {p = p} (further {a = a} more h) last =
     let none_long : (lexed a).1 ≡ 0 = ap (λ (x : List ℕ). (lexed x).1) last ∙ ap (λ (t : Token × ℕ). t.1) lexed_nothing in
     let still : drop (lexed a).1 a ≡ [] = ap (λ (n : ℕ). drop n a) none_long ∙ last in
     omega (arith, none_long, scans_last h still)
 
-scans_none : {counts : Counts} {p q : ℕ} {a b : List ℕ} → Scans counts p a q b → counts.brackets + counts.elements ≡ 0 → p ≡ q
+scans_none : {counts : OpenCounts} {p q : ℕ} {a b : List ℕ} → Scans counts p a q b → counts.brackets + counts.elements ≡ 0 → p ≡ q
 scans_none (done e) nothing_left = refl
 scans_none (further more h) nothing_left = absurd (omega arith)
 
@@ -160,7 +160,7 @@ scans_element : {room other p r q : ℕ} {kind : ElementKind} {core : Core} {a b
 scans_element gap element =
     let one : 0 < 0 + 1 = omega arith in over_gap (counts_of 0 1) gap one (over_element (counts_of 0 1) element one (done refl))
 
-pub skips_element : (bytes : List ℕ) (from at : ℕ) (counts : Counts) → Scanned bytes from at counts → (at < length bytes → counts.brackets + counts.elements ≡ 0) → SkipsElement bytes from at
+pub skips_element : (bytes : List ℕ) (from at : ℕ) (counts : OpenCounts) → Scanned bytes from at counts → (at < length bytes → counts.brackets + counts.elements ≡ 0) → SkipsElement bytes from at
 skips_element bytes from at counts scanned over room start begins after kind core left rest gap element =
     let k = scanned start after rest (scans_element gap element) in
     let last : k.0 ≡ after = reached k.0 after rest k.2 (cases_lt at (length bytes)) in
@@ -187,13 +187,13 @@ gap_forward {b = b} gap = omega (arith, (moved_gap gap b (λ h. h, λ h. h, λ h
 element_forward : {room p q : ℕ} {kind : ElementKind} {core : Core} {a b : List ℕ} → IsElementAt room kind core p a q b → p ≤ q
 element_forward {b = b} element = omega (arith, (moved_element element b (λ h. h)).place.place)
 
--- The same between two indices of a list.
+-- the bytes that are left, between two indices of a list
 between : (bytes left : List ℕ) (from end n : ℕ) → left ≡ drop from bytes → from + n ≡ end → drop n left ≡ drop end bytes
 between bytes left from end n here at = ap (drop n) here ∙ drop-drop n from bytes ∙ ap (λ (i : ℕ). drop i bytes) at
 
 -- ---- the end of a gap
 
--- What is left of a gap from the first place, at the second one.
+-- a gap from the first index on is, from the second one on, a gap with the same end
 abbrev pub GapLeft : List ℕ → ℕ → ℕ → Type 0
 GapLeft bytes from at =
     (room start after : ℕ) (rest : List ℕ) → IsGap room start (drop from bytes) after rest → NoGap (lexed rest).0
@@ -266,7 +266,7 @@ skips_gap bytes from at left white discard room start after rest gap clear =
     let last : k.1 ≡ after = stop_gap k.3 white discard in
     omega (arith, k.2, last)
 
--- No token begins at the end.
+-- no token begins at the end of the bytes
 pub none_at_end : (bytes : List ℕ) (at : ℕ) → length bytes ≤ at → (lexed (drop at bytes)).0 ≡ Unfinished
 none_at_end bytes at le = ap (λ (x : List ℕ). (lexed x).0) (drop_of_length-le bytes le) ∙ ap (λ (t : Token × ℕ). t.0) lexed_nothing
 
@@ -280,7 +280,7 @@ opener_no_gap openers.Set bracket e = tt
 opener_no_gap openers.Tag bracket e = tt
 opener_no_gap openers.Discard bracket e = absurd cc
 
--- No gap begins where an element does.
+-- no gap begins where an element does
 pub element_no_gap : {room p q : ℕ} {kind : ElementKind} {core : Core} {a b : List ℕ} → IsElementAt room kind core p a q b → NoGap (lexed a).0
 element_no_gap (leaf {kind = kind} token) = subst NoGap (sym (lexed_token token).token_is) tt
 element_no_gap (bracketed {opener = opener} {bracket = bracket} token inside gap last fit even) = subst NoGap (sym (lexed_token token).token_is) (opener_no_gap opener bracket fit)
@@ -291,7 +291,7 @@ element_kind (leaf token) = ap kind_token (lexed_token token).token_is
 element_kind (bracketed token inside gap last fit even) = ap kind_token (lexed_token token).token_is
 element_kind (tagged token gap element) = ap kind_token (lexed_token token).token_is
 
--- What is left of an element from the first place, at the second one.
+-- an element from the first index on is, from the second one on, an element with the same core and end
 abbrev pub TagsLeft : List ℕ → ℕ → ℕ → Type 0
 TagsLeft bytes from at =
     (room start after : ℕ) (kind : ElementKind) (core : Core) (rest : List ℕ) → IsElementAt room kind core start (drop from bytes) after rest
@@ -338,25 +338,25 @@ skips_tags bytes from at left other room start after kind core rest element =
 
 -- ---- tokens that are met
 
--- What stands at a place is the token there.
-pub stands_token : (bytes : List ℕ) (front : Front) (at : ℕ) → Stands bytes front → front.at ≡ at → (lexed (drop at bytes)).0 ≡ front.found.token
+-- the token that was looked at is the one at the index
+pub stands_token : (bytes : List ℕ) (front : Lookahead) (at : ℕ) → HasToken bytes front → front.at ≡ at → (lexed (drop at bytes)).0 ≡ front.found.token
 stands_token bytes front at s e = ap (λ (n : ℕ). (lexed (drop n bytes)).0) (sym e) ∙ sym (ap (λ (f : Found). f.token) s.found)
 
-pub stands_end : (bytes : List ℕ) (front : Front) (at : ℕ) → Stands bytes front → front.at ≡ at → front.found.end ≡ at + (lexed (drop at bytes)).1
+pub stands_end : (bytes : List ℕ) (front : Lookahead) (at : ℕ) → HasToken bytes front → front.at ≡ at → front.found.end ≡ at + (lexed (drop at bytes)).1
 stands_end bytes front at s e = ap (λ (f : Found). f.end) s.found ∙ ap (λ (n : ℕ). n + (lexed (drop n bytes)).1) e
 
--- At the end of the bytes there is no element to go over.
+-- at the end of the bytes there is no element to go over
 pub skips_nothing : (bytes : List ℕ) (from : ℕ) → length bytes ≤ from → SkipsElement bytes from from
 skips_nothing bytes from le = skips_element bytes from from (counts_of 0 1) (λ start after rest h. (start, refl, h)) (λ lt. absurd (omega arith))
 
--- A gap ends at a token that is of none.
-pub gap_met : (bytes : List ℕ) (from at : ℕ) (front : Front) → GapLeft bytes from at → Stands bytes front → front.at ≡ at
+-- a gap ends at a token that begins none
+pub gap_met : (bytes : List ℕ) (from at : ℕ) (front : Lookahead) → GapLeft bytes from at → HasToken bytes front → front.at ≡ at
     → (front.found.token ≡ Gap → ⊥) → (front.found.token ≡ Opens openers.Discard → ⊥) → SkipsGap bytes from front.at
 gap_met bytes from at front left s e white discard =
     let token = stands_token bytes front at s e in
     subst (SkipsGap bytes from) (sym e) (skips_gap bytes from at left (λ f. white (sym token ∙ f)) (λ f. discard (sym token ∙ f)))
 
--- Or at the end of the bytes.
+-- a gap ends at the end of the bytes too
 pub gap_at_end : (bytes : List ℕ) (from at : ℕ) → GapLeft bytes from at → at ≤ length bytes → length bytes ≤ at → SkipsGap bytes from (length bytes)
 gap_at_end bytes from at left low high =
     let last = none_at_end bytes at high in
@@ -375,31 +375,31 @@ tag_is (Opens openers.Discard) e = absurd cc
 tag_is (Closes bracket) e = absurd cc
 tag_is Unfinished e = absurd cc
 
--- A token that is a whole element has no tag before it.
-pub leaf_core : (bytes : List ℕ) (front : Front) (kind : ElementKind) → Stands bytes front → front.found.token ≡ Leaf kind → SkipsTags bytes front.at front.at
+-- a token that is a whole element has no tag before it
+pub leaf_core : (bytes : List ℕ) (front : Lookahead) (kind : ElementKind) → HasToken bytes front → front.found.token ≡ Leaf kind → SkipsTags bytes front.at front.at
 leaf_core bytes front kind s is =
     skips_tags bytes front.at front.at (λ room start after k core rest h. (room, start, k, refl, h))
     (λ e. let both : Leaf kind ≡ Opens openers.Tag = sym is ∙ sym (stands_token bytes front front.at s refl) ∙ e in absurd cc)
 
--- And it ends where the token does.
-pub leaf_end : (bytes : List ℕ) (front : Front) (kind : ElementKind) → Stands bytes front → front.found.token ≡ Leaf kind → SkipsElement bytes front.at front.found.end
+-- an element that is one token ends where the token does
+pub leaf_end : (bytes : List ℕ) (front : Lookahead) (kind : ElementKind) → HasToken bytes front → front.found.token ≡ Leaf kind → SkipsElement bytes front.at front.found.end
 leaf_end bytes front kind s is =
     skips_element bytes front.at front.found.end (counts_of 0 0)
-    (scanned_first bytes front (counts_of 0 0) s (sym (ap (λ (t : Token). counted t (counts_of 0 1)) is))) (λ lt. refl)
+    (scanned_first bytes front (counts_of 0 0) s (sym (ap (λ (t : Token). counts_after t (counts_of 0 1)) is))) (λ lt. refl)
 
--- One tag further.
-pub tags_on : (bytes : List ℕ) (from end : ℕ) (front : Front) → TagsLeft bytes from front.at → Stands bytes front → is_tag_token front.found.token ≡ true
+-- one tag further
+pub tags_on : (bytes : List ℕ) (from end : ℕ) (front : Lookahead) → TagsLeft bytes from front.at → HasToken bytes front → is_tag_token front.found.token ≡ true
     → SkipsGap bytes front.found.end end → front.found.end ≤ end → TagsLeft bytes from end
 tags_on bytes from end front left s t skips le =
     tags_tag bytes from front.at front.found.end end left (stands_token bytes front front.at s refl ∙ tag_is front.found.token t) (stands_end bytes front front.at s refl) skips le
 
--- The tags end at another token.
-pub tags_met : (bytes : List ℕ) (from : ℕ) (front : Front) → TagsLeft bytes from front.at → Stands bytes front → is_tag_token front.found.token ≡ false → SkipsTags bytes from front.at
+-- the tags end at a token that is not of a tag
+pub tags_met : (bytes : List ℕ) (from : ℕ) (front : Lookahead) → TagsLeft bytes from front.at → HasToken bytes front → is_tag_token front.found.token ≡ false → SkipsTags bytes from front.at
 tags_met bytes from front left s t =
     skips_tags bytes from front.at left
     (λ e. let both : false ≡ true = sym t ∙ ap is_tag_token (sym (stands_token bytes front front.at s refl) ∙ e) in absurd cc)
 
--- Or at the end of the bytes.
+-- the tags end at the end of the bytes too
 pub tags_at_end : (bytes : List ℕ) (from : ℕ) → TagsLeft bytes from (length bytes) → SkipsTags bytes from (length bytes)
 tags_at_end bytes from left =
     let last = none_at_end bytes (length bytes) (omega arith) in
@@ -407,7 +407,7 @@ tags_at_end bytes from left =
 
 -- ---- the core of an element
 
--- The core of an element begins so many bytes behind it, and is an element.
+-- the core of an element begins so many bytes after the start of the element, and is an element
 pub record CoreAt (room : ℕ) (core : Core) (p : ℕ) (a : List ℕ) (q : ℕ) (b : List ℕ) : Type 0 where
   pub ahead : ℕ
   pub place : p + ahead ≡ core.start

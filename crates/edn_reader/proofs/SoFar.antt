@@ -1,4 +1,4 @@
--- What a splitter has told are the elements that have ended in the bytes that it has taken, whatever follows them.
+-- What a splitter has given are the elements that have ended in the bytes that it has taken, whatever follows them.
 use Rattle.std.proofs.Common.{◌≡◌, ◌⊎◌, inl, inr, ℕ, ◌+◌, ◌-◌, ◌<◌, ◌≤◌, List, [], ◌∷◌, ◌++◌, length, get_or, take, drop, refl, sym, ap, subst, ◌∙◌, append_assoc, arith, append-nil, length-append, length-drop}
 use Rattle.std.proofs.lemmas.List.{take-append-drop, take-append-le}
 use Rattle.std.proofs.lemmas.Bool.{cases_lt}
@@ -7,11 +7,11 @@ use Rattle.edn_reader.specs.declared.element.Core.{Core}
 use Rattle.edn_reader.specs.declared.nesting.Open.{Open}
 use Rattle.edn_reader.specs.declared.step.Span.{Span}
 use Rattle.edn_reader.specs.declared.token.Token.{Token}
-use Rattle.edn_reader.specs.Grammar.{Piece, IsElement, IsElementAt, IsElements, none, next}
+use Rattle.edn_reader.specs.Grammar.{ElementModel, IsElement, IsElementAt, IsElements, none, next}
 use Rattle.edn_reader.specs.Text.{IsFront, StandsOpen, outermost, opened}
 use Rattle.edn_reader.specs.Fault.{IsBeginning, AreElementsSoFar}
 use Rattle.edn_reader.specs.Token.{lexed}
-use Rattle.edn_reader.specs.Splitting.{Splitting, IsAfter, StandsAfter}
+use Rattle.edn_reader.specs.Splitting.{SplitterModel, IsAfter, StandsAfter}
 use Rattle.edn_reader.proofs.Places.{Follows, Replaced, cancel_end, core_within, follows_same, gap_forward, moved_element, moved_stands, token_forward}
 use Rattle.edn_reader.proofs.Lexing.{lexed_some}
 use Rattle.edn_reader.proofs.Stretches.{drop_before, drop_here, from_index}
@@ -23,8 +23,8 @@ use Rattle.edn_reader.proofs.Reading.{elements_within, front_of}
 
 -- ---- where elements end
 
--- The place behind the last of these elements, or another where there are none.
-abbrev place_behind : ℕ → List Piece → ℕ
+-- the place after the last of these elements, or this place where there are none
+abbrev place_behind : ℕ → List ElementModel → ℕ
 place_behind place [] = place
 place_behind place (piece ∷ pieces) = place_behind (piece.start + length piece.text) pieces
 
@@ -34,18 +34,18 @@ one_ends {b = b} text element whole =
     let same : m.front ≡ text = cancel_end m.front text b (sym m.here ∙ whole) in
     omega (arith, m.place, ap length same)
 
--- The core of an element stands within it.
-pub core_inside : (piece : Piece) → IsElement piece → (piece.start ≤ piece.core.start) × (piece.core.start ≤ piece.start + length piece.text)
+-- the core of an element begins within it
+pub core_inside : (piece : ElementModel) → IsElement piece → (piece.start ≤ piece.core.start) × (piece.core.start ≤ piece.start + length piece.text)
 core_inside piece (after, element) =
     let within = core_within element in
     (within.0, omega (arith, within.1, one_ends piece.text element (sym (append-nil piece.text))))
 
-elements_end : {room p q : ℕ} {a b : List ℕ} (pieces : List Piece) → IsElements room p a pieces q b → q ≡ place_behind p pieces
+elements_end : {room p q : ℕ} {a b : List ℕ} (pieces : List ElementModel) → IsElements room p a pieces q b → q ≡ place_behind p pieces
 elements_end [] none = refl
 elements_end (piece ∷ pieces) (next gap element whole els) = elements_end pieces els ∙ ap (λ (n : ℕ). place_behind n pieces) (one_ends piece.text element whole)
 
--- The elements that have ended before what stands open end no later.
-front_low : {p : ℕ} {input rest : List ℕ} {pieces : List Piece} {opens : List Open} → StandsOpen input pieces opens p rest → place_behind 0 pieces ≤ p
+-- the elements that have ended before a place end no later than that
+front_low : {p : ℕ} {input rest : List ℕ} {pieces : List ElementModel} {opens : List Open} → StandsOpen input pieces opens p rest → place_behind 0 pieces ≤ p
 front_low {pieces = pieces} (outermost els gap) = omega (arith, elements_end pieces els, gap_forward gap)
 front_low (opened s token room inside) = omega (arith, front_low s, token_forward token, inside_forward inside)
 
@@ -55,13 +55,13 @@ forward : {p q : ℕ} {a b : List ℕ} {ao bo : List Open} {ag bg : List Span} �
 forward here = omega arith
 forward (further after e run) = omega (arith, forward run)
 
--- A run has gone nowhere, or past its first token.
+-- a run has given nothing more, or has gone past its first token
 past_token : {p q : ℕ} {a b : List ℕ} {ao bo : List Open} {ag bg : List Span} → Leads p a ao ag q b bo bg → (ag ≡ bg) ⊎ (p + (lexed a).1 ≤ q)
 past_token here = inl refl
 past_token (further after e run) = inr (forward run)
 
--- A front that ends sooner than the next token has no more elements than stand before that token.
-fewer : {p there : ℕ} {input a : List ℕ} {pieces others : List Piece} {opens : List Open} → StandsOpen input pieces opens p a → there < p + (lexed a).1 → IsFront input others there
+-- a prefix that ends before the end of the next token has no more elements than have ended before that token
+fewer : {p there : ℕ} {input a : List ℕ} {pieces others : List ElementModel} {opens : List Open} → StandsOpen input pieces opens p a → there < p + (lexed a).1 → IsFront input others there
     → length others ≤ length pieces
 fewer stands sooner front =
     let o = leads_stands stands in
@@ -76,8 +76,8 @@ fewer stands sooner front =
 
 -- ---- the elements so far
 
--- Where a token has begun among the bytes, what stands before it stands so whatever follows them.
-stands_still : (bytes coming : List ℕ) (pieces : List Piece) (splitting : Splitting) → StandsAfter bytes coming pieces splitting → splitting.begun.start < length bytes → (behind : List ℕ)
+-- where a token has begun within the bytes, what is open before it is open whatever follows them
+stands_still : (bytes coming : List ℕ) (pieces : List ElementModel) (splitting : SplitterModel) → StandsAfter bytes coming pieces splitting → splitting.begun.start < length bytes → (behind : List ℕ)
     → StandsOpen (bytes ++ behind) pieces splitting.opens splitting.begun.start (drop splitting.begun.start bytes ++ behind)
 stands_still bytes coming pieces splitting stands lt behind = subst (λ (xs : List ℕ). StandsOpen xs pieces splitting.opens start (drop start bytes ++ behind)) same moved.1 where
   start : ℕ
@@ -110,7 +110,7 @@ stands_still bytes coming pieces splitting stands lt behind = subst (λ (xs : Li
       moved.2.there ∙ ap (λ (xs : List ℕ). xs ++ (drop start bytes ++ behind)) front ∙ sym (append_assoc (take start bytes) (drop start bytes) behind)
       ∙ ap (λ (xs : List ℕ). xs ++ behind) (take-append-drop start bytes)
 
-pub elements_so_far : (bytes coming : List ℕ) (pieces : List Piece) (splitting : Splitting) → StandsAfter bytes coming pieces splitting → AreElementsSoFar bytes coming pieces
+pub elements_so_far : (bytes coming : List ℕ) (pieces : List ElementModel) (splitting : SplitterModel) → StandsAfter bytes coming pieces splitting → AreElementsSoFar bytes coming pieces
 elements_so_far bytes coming pieces splitting stands = ((place_behind 0 pieces, within, whatever), longest) where
   start : ℕ
   start = splitting.begun.start
@@ -127,11 +127,11 @@ elements_so_far bytes coming pieces splitting stands = ((place_behind 0 pieces, 
   within : place_behind 0 pieces ≤ length bytes
   within = omega (arith, front_low (after []).stands.stands, (after []).stands.low)
 
-  -- no more elements than stand before the next token
-  few : {input : List ℕ} {p : ℕ} {a : List ℕ} (others : List Piece) (there : ℕ) → StandsOpen input pieces splitting.opens p a → there < p + (lexed a).1 → IsFront input others there → IsBeginning others pieces
+  -- no more elements than have ended before the next token
+  few : {input : List ℕ} {p : ℕ} {a : List ℕ} (others : List ElementModel) (there : ℕ) → StandsOpen input pieces splitting.opens p a → there < p + (lexed a).1 → IsFront input others there → IsBeginning others pieces
   few others there s sooner found = agree others pieces (omega arith) (omega arith) found (front s) (fewer s sooner found)
 
-  longest_by : (start < length bytes) ⊎ (length bytes ≤ start) → (others : List Piece) (there : ℕ) → ((more : List ℕ) → IsFront (bytes ++ more) others there) → there ≤ length bytes → IsBeginning others pieces
+  longest_by : (start < length bytes) ⊎ (length bytes ≤ start) → (others : List ElementModel) (there : ℕ) → ((more : List ℕ) → IsFront (bytes ++ more) others there) → there ≤ length bytes → IsBeginning others pieces
   longest_by (inl lt) others there fronts low =
       let w = (after []).stands in
       let token : take (length bytes - start) (drop start (bytes ++ (coming ++ []))) ≡ drop start bytes =
@@ -145,5 +145,5 @@ elements_so_far bytes coming pieces splitting stands = ((place_behind 0 pieces, 
       let some : 0 < length (drop start input) = omega (arith, length-drop start input, length-append bytes (coming ++ 97 ∷ []), length-append coming (97 ∷ []), w.low) in
       few others there w.stands (omega (arith, low, ge, lexed_some (drop start input) some)) (fronts (coming ++ 97 ∷ []))
 
-  longest : (others : List Piece) (there : ℕ) → ((more : List ℕ) → IsFront (bytes ++ more) others there) → IsBeginning others pieces
+  longest : (others : List ElementModel) (there : ℕ) → ((more : List ℕ) → IsFront (bytes ++ more) others there) → IsBeginning others pieces
   longest others there fronts = longest_by (cases_lt start (length bytes)) others there fronts (omega (arith, elements_within (fronts []), length-append bytes []))

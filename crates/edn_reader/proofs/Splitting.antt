@@ -21,14 +21,14 @@ use Rattle.edn_reader.specs.declared.tokens.Begun.{Begun}
 use Rattle.edn_reader.specs.declared.tokens.Reached.{Reached}
 use Rattle.edn_reader.specs.declared.tokens.Reached.TheVariants.{Ended, Within}
 use Rattle.edn_reader.specs.Bytes.{class_of, is_run, stretch}
-use Rattle.edn_reader.specs.Grammar.{Piece, IsToken, close, nothing, skipped, leaf, none, waits}
+use Rattle.edn_reader.specs.Grammar.{ElementModel, IsToken, close, nothing, skipped, leaf, none, waits}
 use Rattle.edn_reader.specs.Text.{IsFront, IsText, IsViable, StandsOpen, outermost}
 use Rattle.edn_reader.specs.Token.{lexed}
 use Rattle.edn_reader.specs.Resuming.{longer, resumed, last}
 use Rattle.edn_reader.specs.Taking.{IsPieceAt, piece_in}
 use Rattle.edn_reader.specs.Fault.{FaultOf, wanted_at, CanWantMemory, AreElementsBefore}
 use Rattle.edn_reader.specs.Within.{StandsWithin, FaultBehind, outer, kept_token, Reaches, ReadsPiece, WantsInPiece, EndsBetween, Concludes, ReadsEnd, EndsAt}
-use Rattle.edn_reader.specs.Splitting.{Splitting, keep, IsAfter, StandsAfter, KeepsFault, WantsMemory, Takes, TakesOn, EndsOn, IsFull}
+use Rattle.edn_reader.specs.Splitting.{SplitterModel, keep, IsAfter, StandsAfter, KeepsFault, WantsMemory, Takes, TakesOn, EndsOn, IsFull}
 use Rattle.edn_reader.proofs.Stretches.{drop_before}
 use Rattle.edn_reader.proofs.Lexing.{token_lexed, finishing}
 use Rattle.edn_reader.proofs.Resuming.{resumed_last}
@@ -42,7 +42,7 @@ use Rattle.edn_reader.proofs.Within.{no_memory, nothing_makes, token_of}
 
 -- ---- places of joined bytes
 
--- The bytes of the piece, in an input that goes on from it.
+-- the bytes of the chunk, in an input that goes on from it
 regroup : (bytes piece next more input : List ℕ) → input ≡ bytes ++ ((piece ++ next) ++ more) → input ≡ bytes ++ (piece ++ (next ++ more))
 regroup bytes piece next more input e = e ∙ ap (λ (xs : List ℕ). bytes ++ xs) (append_assoc piece next more)
 
@@ -51,11 +51,11 @@ piece_at bytes piece next more input e =
     let f = regroup bytes piece next more input e in
     (omega (arith, ap length f, length-append bytes (piece ++ (next ++ more))), ap (drop (length bytes)) f ∙ drop-append_seam bytes (piece ++ (next ++ more)))
 
--- Behind the whole piece.
+-- after the whole chunk
 behind_all : (bytes piece next more input : List ℕ) → input ≡ (bytes ++ piece) ++ (next ++ more) → input ≡ bytes ++ ((piece ++ next) ++ more)
 behind_all bytes piece next more input e = e ∙ append_assoc bytes piece (next ++ more) ∙ ap (λ (xs : List ℕ). bytes ++ xs) (sym (append_assoc piece next more))
 
--- Behind so much of it.
+-- after so many bytes of the chunk
 behind_used : (bytes piece next more input : List ℕ) (used : ℕ) → input ≡ (bytes ++ take used piece) ++ ((drop used piece ++ next) ++ more) → input ≡ bytes ++ ((piece ++ next) ++ more)
 behind_used bytes piece next more input used e =
     e ∙ append_assoc bytes (take used piece) ((drop used piece ++ next) ++ more)
@@ -63,7 +63,7 @@ behind_used bytes piece next more input used e =
     (ap (λ (xs : List ℕ). take used piece ++ xs) (append_assoc (drop used piece) next more) ∙ sym (append_assoc (take used piece) (drop used piece) (next ++ more))
     ∙ ap (λ (xs : List ℕ). xs ++ (next ++ more)) (take-append-drop used piece) ∙ sym (append_assoc piece next more))
 
--- An element among the first bytes.
+-- an element within the first bytes
 piece_front : (xs ys : List ℕ) (span : Span) → span.start ≤ span.end → span.end ≤ length xs → piece_in (xs ++ ys) span ≡ piece_in xs span
 piece_front xs ys span low high =
     let text : take (span.end - span.start) (drop span.start (xs ++ ys)) ≡ take (span.end - span.start) (drop span.start xs) =
@@ -73,11 +73,11 @@ piece_front xs ys span low high =
 
 -- ---- where nothing has begun
 
-stands_anew : (input : List ℕ) (at end : ℕ) (pieces : List Piece) (opens : List Open) → at ≡ end → StandsAt input pieces opens at → StandsWithin input end pieces opens (record { start = at; part = parts.Nothing })
+stands_anew : (input : List ℕ) (at end : ℕ) (pieces : List ElementModel) (opens : List Open) → at ≡ end → StandsAt input pieces opens at → StandsWithin input end pieces opens (record { start = at; part = parts.Nothing })
 stands_anew input at end pieces opens same s =
     record { low = omega (arith, same); stands = s; makes = λ more. nothing_makes (end - at) (drop at input) more (omega (arith, same)) }
 
-none_open : {input : List ℕ} {at : ℕ} {pieces : List Piece} (opens : List Open) → opens ≡ [] → StandsAt input pieces [] at → StandsAt input pieces opens at
+none_open : {input : List ℕ} {at : ℕ} {pieces : List ElementModel} (opens : List Open) → opens ≡ [] → StandsAt input pieces [] at → StandsAt input pieces opens at
 none_open {input} {at} {pieces} opens empty s = subst (λ (o : List Open). StandsAt input pieces o at) (sym empty) s
 
 none_full : (opens : List Open) (at : ℕ) → IsFull false (record { start = at; part = parts.Nothing }) opens
@@ -88,13 +88,13 @@ after_nothing next ended input more e = record { no_fault = refl; taken = refl; 
 
 -- ---- what is kept
 
--- What is kept is no later than where something has begun, or than what was taken.
-keep_low : {bytes input : List ℕ} {pieces : List Piece} (old : Splitting) → IsAfter bytes input pieces old → keep old ≤ kept_token (last old.begun.part) old.begun.start old.taken
+-- the place that is kept is no later than where something has begun, and no later than what was taken
+keep_low : {bytes input : List ℕ} {pieces : List ElementModel} (old : SplitterModel) → IsAfter bytes input pieces old → keep old ≤ kept_token (last old.begun.part) old.begun.start old.taken
 keep_low old s =
     let from = kept_token (last old.begun.part) old.begun.start old.taken in
     outer_low old.opens from (rising_up old.opens old.begun.start from (token_low (last old.begun.part) old.begun.start old.taken (omega (arith, s.stands.low, s.taken))) (rising_stands s.stands.stands))
 
-keep_high : {bytes input : List ℕ} {pieces : List Piece} (old : Splitting) → IsAfter bytes input pieces old → keep old ≤ old.taken
+keep_high : {bytes input : List ℕ} {pieces : List ElementModel} (old : SplitterModel) → IsAfter bytes input pieces old → keep old ≤ old.taken
 keep_high old s = omega (arith, keep_low old s, token_high (last old.begun.part) old.begun.start old.taken (omega (arith, s.stands.low, s.taken)))
 
 keeps_more : (keep place : ℕ) (after : List Open) → keep ≤ place → keep ≤ outer after keep → keep ≤ outer after place
@@ -102,7 +102,7 @@ keeps_more keep place after le is = omega (arith, outer_up after keep place le, 
 
 -- ---- a fault
 
-fault_met : (input : List ℕ) (pieces : List Piece) (fault : EdnFault) → wanted_at fault ≡ None → FaultBehind input pieces fault → FaultOf input fault × AreElementsBefore input pieces
+fault_met : (input : List ℕ) (pieces : List ElementModel) (fault : EdnFault) → wanted_at fault ≡ None → FaultBehind input pieces fault → FaultOf input fault × AreElementsBefore input pieces
 fault_met input pieces (faults.Memory place) e f = absurd cc
 fault_met input pieces (faults.Truncated place) e f = no_memory f.0 (λ h. h)
 fault_met input pieces (faults.StrayClose place) e f = no_memory f.0 (λ h. h)
@@ -120,22 +120,22 @@ is_wanted (faults.TooDeep at) place e = absurd cc
 is_wanted (faults.OddMap at) place e = absurd cc
 is_wanted (faults.TagWithoutElement at) place e = absurd cc
 
--- ---- a piece
+-- ---- a chunk
 
--- What reading a piece says of an input that goes on from it.
-read_at : (piece : List ℕ) (old : Splitting) (result : Result Reached EdnFault) (after : List Open) → ReadsPiece piece old.taken old.begun old.opens result after
-    → (bytes next : List ℕ) (pieces : List Piece) → StandsAfter bytes (piece ++ next) pieces old → (input more : List ℕ) → input ≡ bytes ++ ((piece ++ next) ++ more)
+-- what reading a chunk says of an input that goes on from it
+read_at : (piece : List ℕ) (old : SplitterModel) (result : Result Reached EdnFault) (after : List Open) → ReadsPiece piece old.taken old.begun old.opens result after
+    → (bytes next : List ℕ) (pieces : List ElementModel) → StandsAfter bytes (piece ++ next) pieces old → (input more : List ℕ) → input ≡ bytes ++ ((piece ++ next) ++ more)
     → Reaches input (old.taken + length piece) pieces (keep old) result after
 read_at piece old result after reads bytes next pieces stands input more e =
     let s = stands input more e in
     reads input (next ++ more) pieces (subst (λ (n : ℕ). IsPieceAt input n piece (next ++ more)) (sym s.taken) (piece_at bytes piece next more input e))
     (subst (λ (n : ℕ). StandsWithin input n pieces old.opens old.begun) (sym s.taken) s.stands)
 
--- One input that goes on so.
+-- one input that goes on so
 abbrev some_input : List ℕ → List ℕ → List ℕ → List ℕ
 some_input bytes piece next = bytes ++ ((piece ++ next) ++ [])
 
-pub takes_within : (piece : List ℕ) (old : Splitting) (later : Begun) (after : List Open) → IsFull false later after → ReadsPiece piece old.taken old.begun old.opens (Ok (Within later)) after
+pub takes_within : (piece : List ℕ) (old : SplitterModel) (later : Begun) (after : List Open) → IsFull false later after → ReadsPiece piece old.taken old.begun old.opens (Ok (Within later)) after
     → TakesOn piece old (Ok (record { used = length piece; whole = None })) (record { taken = old.taken + length piece; begun = later; opens = after; fault = old.fault; ended = old.ended })
 takes_within piece old later after few reads bytes next pieces stands =
     let known = read_at piece old (Ok (Within later)) after reads bytes next pieces stands in (
@@ -148,11 +148,11 @@ takes_within piece old later after few reads bytes next pieces stands =
       (known (some_input bytes piece next) [] refl).1,
     )
 
--- A fault of the input is kept.
-pub takes_fault : (piece : List ℕ) (old : Splitting) (fault : EdnFault) (after : List Open) → wanted_at fault ≡ None → ReadsPiece piece old.taken old.begun old.opens (Err fault) after
+-- a fault of the input is kept
+pub takes_fault : (piece : List ℕ) (old : SplitterModel) (fault : EdnFault) (after : List Open) → wanted_at fault ≡ None → ReadsPiece piece old.taken old.begun old.opens (Err fault) after
     → TakesOn piece old (Err fault) (record { taken = old.taken; begun = old.begun; opens = after; fault = Some fault; ended = old.ended })
 takes_fault piece old fault after met reads bytes next pieces stands =
-    let new : Splitting = record { taken = old.taken; begun = old.begun; opens = after; fault = Some fault; ended = old.ended } in
+    let new : SplitterModel = record { taken = old.taken; begun = old.begun; opens = after; fault = Some fault; ended = old.ended } in
     let known = read_at piece old (Err fault) after reads bytes next pieces stands in
     let first = stands (some_input bytes piece next) [] refl in (
       keeps_more (keep old) (kept_token (last old.begun.part) old.begun.start old.taken) after (keep_low old first) (known (some_input bytes piece next) [] refl).2,
@@ -160,8 +160,8 @@ takes_fault piece old fault after met reads bytes next pieces stands =
           (refl, λ input more e. fault_met input pieces fault met (known input more e).0),
     )
 
--- Memory was wanted for what began before the piece: all is as it was.
-pub takes_before : (piece : List ℕ) (old : Splitting) (place : ℕ) (after : List Open) → place < old.taken → WantsInPiece old.taken (length piece) old.begun.start old.opens (faults.Memory place) after
+-- memory was refused for what began before the chunk: all is as it was
+pub takes_before : (piece : List ℕ) (old : SplitterModel) (place : ℕ) (after : List Open) → place < old.taken → WantsInPiece old.taken (length piece) old.begun.start old.opens (faults.Memory place) after
     → ReadsPiece piece old.taken old.begun old.opens (Err (faults.Memory place)) after
     → TakesOn piece old (Err (faults.Memory old.taken)) (record { taken = old.taken; begun = old.begun; opens = after; fault = old.fault; ended = old.ended })
 takes_before piece old place after lt (some, before) reads bytes next pieces stands =
@@ -183,8 +183,8 @@ takes_before piece old place after lt (some, before) reads bytes next pieces sta
       ),
     )
 
--- Memory was wanted at a byte of the piece, where nothing has begun then.
-pub takes_there : (piece : List ℕ) (old : Splitting) (place : ℕ) (after : List Open) → old.taken ≤ place → ReadsPiece piece old.taken old.begun old.opens (Err (faults.Memory place)) after
+-- memory was refused at a byte of the chunk: nothing has begun there then
+pub takes_there : (piece : List ℕ) (old : SplitterModel) (place : ℕ) (after : List Open) → old.taken ≤ place → ReadsPiece piece old.taken old.begun old.opens (Err (faults.Memory place)) after
     → TakesOn piece old (Err (faults.Memory place)) (record { taken = place; begun = record { start = place; part = parts.Nothing }; opens = after; fault = old.fault; ended = old.ended })
 takes_there piece old place after le reads bytes next pieces stands =
     let known = read_at piece old (Err (faults.Memory place)) after reads bytes next pieces stands in
@@ -215,20 +215,20 @@ opens_stays parts.Escape opener rest e = absurd cc
 opens_stays parts.Hash opener rest e = absurd cc
 opens_stays parts.Backslash opener rest e = absurd cc
 
-full_behind : (input : List ℕ) (end : ℕ) (pieces : List Piece) (later : Begun) (after : List Open) → IsFull true later after → StandsWithin input end pieces after later
+full_behind : (input : List ℕ) (end : ℕ) (pieces : List ElementModel) (later : Begun) (after : List Open) → IsFull true later after → StandsWithin input end pieces after later
     → FaultOf input (faults.TooDeep later.start) × AreElementsBefore input pieces
 full_behind input end pieces later after full w =
     let is = ap (λ (x : _ × ℕ). x.0) (token_of w) ∙ opens_stays later.part full.0.0 (drop end input) full.0.1 in
     full_fails input pieces later.start full.0.0 after w.stands is full.1
 
-pub takes_full : (piece : List ℕ) (old : Splitting) (later : Begun) (after : List Open) → IsFull true later after → ReadsPiece piece old.taken old.begun old.opens (Ok (Within later)) after
+pub takes_full : (piece : List ℕ) (old : SplitterModel) (later : Begun) (after : List Open) → IsFull true later after → ReadsPiece piece old.taken old.begun old.opens (Ok (Within later)) after
     → TakesOn piece old (Err (faults.TooDeep later.start))
     (record { taken = old.taken + length piece; begun = later; opens = after; fault = Some (faults.TooDeep later.start); ended = old.ended })
 takes_full piece old later after full reads bytes next pieces stands =
     let known = read_at piece old (Ok (Within later)) after reads bytes next pieces stands in
     ((known (some_input bytes piece next) [] refl).1, (refl, λ input more e. full_behind input (old.taken + length piece) pieces later after full (known input more e).0))
 
-pub takes_element : (piece : List ℕ) (old : Splitting) (span : Span) (after : List Open) → ReadsPiece piece old.taken old.begun old.opens (Ok (Ended span)) after
+pub takes_element : (piece : List ℕ) (old : SplitterModel) (span : Span) (after : List Open) → ReadsPiece piece old.taken old.begun old.opens (Ok (Ended span)) after
     → EndsBetween old.taken (old.taken + length piece) (Ended span) after
     → TakesOn piece old (Ok (record { used = span.end - old.taken; whole = Some (span.start, span.end) }))
     (record { taken = span.end; begun = record { start = span.end; part = parts.Nothing }; opens = after; fault = old.fault; ended = span })
@@ -244,7 +244,7 @@ takes_element piece old span after reads (empty, low, high) bytes next pieces st
     let front : (input more : List ℕ) → input ≡ bytes ++ ((piece ++ next) ++ more) → IsFront input (pieces ++ piece_in (bytes ++ piece) span ∷ []) span.end = λ input more e.
     let whole : input ≡ (bytes ++ piece) ++ (next ++ more) = regroup bytes piece next more input e ∙ sym (append_assoc bytes piece (next ++ more)) in
     let same : piece_in input span ≡ piece_in (bytes ++ piece) span = ap (λ (xs : List ℕ). piece_in xs span) whole ∙ piece_front (bytes ++ piece) (next ++ more) span (omega (arith, begins)) within in
-    subst (λ (x : Piece). IsFront input (pieces ++ x ∷ []) span.end) same (known input more e).0.3 in
+    subst (λ (x : ElementModel). IsFront input (pieces ++ x ∷ []) span.end) same (known input more e).0.3 in
     let ends : keep (record { taken = span.end; begun = record { start = span.end; part = parts.Nothing }; opens = after; fault = old.fault; ended = span }) ≡ span.end =
     ap (λ (o : List Open). outer o span.end) empty in (
       size,
@@ -266,13 +266,13 @@ takes_element piece old span after reads (empty, low, high) bytes next pieces st
 
 -- ---- the end of the input
 
--- What the end says of the input.
-end_at : (old : Splitting) (result : Result (Option Span) EdnFault) (after : List Open) → ReadsEnd old.taken old.begun old.opens result after → (input : List ℕ) (pieces : List Piece)
+-- what the end says of the input
+end_at : (old : SplitterModel) (result : Result (Option Span) EdnFault) (after : List Open) → ReadsEnd old.taken old.begun old.opens result after → (input : List ℕ) (pieces : List ElementModel)
     → IsAfter input input pieces old → Concludes input pieces (keep old) result after
 end_at old result after reads input pieces s =
     reads input pieces (sym s.taken) (subst (λ (n : ℕ). StandsWithin input n pieces old.opens old.begun) (sym s.taken) s.stands)
 
-pub ends_element : (old : Splitting) (span : Span) (after : List Open) → ReadsEnd old.taken old.begun old.opens (Ok (Some span)) after → EndsAt old.begun.start old.taken (Some span) after
+pub ends_element : (old : SplitterModel) (span : Span) (after : List Open) → ReadsEnd old.taken old.begun old.opens (Ok (Some span)) after → EndsAt old.begun.start old.taken (Some span) after
     → EndsOn old (Ok (Some (span.start, span.end))) (record { taken = old.taken; begun = record { start = old.taken; part = parts.Nothing }; opens = after; fault = old.fault; ended = span })
 ends_element old span after reads (empty, some, place) input pieces s =
     let known = end_at old (Ok (Some span)) after reads input pieces s in
@@ -289,14 +289,14 @@ ends_element old span after reads (empty, some, place) input pieces s =
       ),
     )
 
--- A text ends with nothing open.
-text_stands : (input : List ℕ) (pieces : List Piece) (at : ℕ) → at ≡ length input → IsText input pieces → StandsAt input pieces [] at
+-- a text ends with nothing open
+text_stands : (input : List ℕ) (pieces : List ElementModel) (at : ℕ) → at ≡ length input → IsText input pieces → StandsAt input pieces [] at
 text_stands input pieces at same (begins, after, front, gap) =
     let here : StandsOpen input pieces [] after [] = outermost front gap in
     let place : after ≡ at = omega (arith, stands_end here, same) in
     subst (StandsAt input pieces []) place (subst (λ (rest : List ℕ). StandsOpen input pieces [] after rest) (stands_left here) here)
 
-pub ends_text : (old : Splitting) (after : List Open) → ReadsEnd old.taken old.begun old.opens (Ok None) after → after ≡ []
+pub ends_text : (old : SplitterModel) (after : List Open) → ReadsEnd old.taken old.begun old.opens (Ok None) after → after ≡ []
     → EndsOn old (Ok None) (record { taken = old.taken; begun = record { start = old.taken; part = parts.Nothing }; opens = after; fault = old.fault; ended = old.ended })
 ends_text old after reads empty input pieces s =
     let text = end_at old (Ok None) after reads input pieces s in (
@@ -305,10 +305,10 @@ ends_text old after reads empty input pieces s =
       omega (arith, keep_high old s, ap (λ (o : List Open). outer o old.taken) empty),
     )
 
-pub ends_fault : (old : Splitting) (fault : EdnFault) (after : List Open) → wanted_at fault ≡ None → ReadsEnd old.taken old.begun old.opens (Err fault) after
+pub ends_fault : (old : SplitterModel) (fault : EdnFault) (after : List Open) → wanted_at fault ≡ None → ReadsEnd old.taken old.begun old.opens (Err fault) after
     → EndsOn old (Err fault) (record { taken = old.taken; begun = old.begun; opens = after; fault = Some fault; ended = old.ended })
 ends_fault old fault after met reads input pieces s =
-    let new : Splitting = record { taken = old.taken; begun = old.begun; opens = after; fault = Some fault; ended = old.ended } in
+    let new : SplitterModel = record { taken = old.taken; begun = old.begun; opens = after; fault = Some fault; ended = old.ended } in
     let known = end_at old (Err fault) after reads input pieces s in (
       keeps_more (keep old) (kept_token (last old.begun.part) old.begun.start old.taken) after (keep_low old s) known.1,
       subst
@@ -320,24 +320,24 @@ ends_fault old fault after met reads input pieces s =
 
 -- ---- after a fault
 
--- A splitter that met a fault stands after no bytes.
-pub takes_never : (piece : List ℕ) (old new : Splitting) (result : Result Taken EdnFault) (fault : EdnFault) → old.fault ≡ Some fault → TakesOn piece old result new
+-- `StandsAfter` holds of no splitter that met a fault
+pub takes_never : (piece : List ℕ) (old new : SplitterModel) (result : Result Taken EdnFault) (fault : EdnFault) → old.fault ≡ Some fault → TakesOn piece old result new
 takes_never piece old new result fault e bytes next pieces stands =
     let s = stands (some_input bytes piece next) [] refl in
     let both : Some fault ≡ None = sym e ∙ s.no_fault in absurd cc
 
-pub ends_never : (old new : Splitting) (result : Result (Option (ℕ × ℕ)) EdnFault) (fault : EdnFault) → old.fault ≡ Some fault → EndsOn old result new
+pub ends_never : (old new : SplitterModel) (result : Result (Option (ℕ × ℕ)) EdnFault) (fault : EdnFault) → old.fault ≡ Some fault → EndsOn old result new
 ends_never old new result fault e input pieces s = let both : Some fault ≡ None = sym e ∙ s.no_fault in absurd cc
 
 -- ---- what can go on
 
-whole_viable : {input rest : List ℕ} {pieces : List Piece} {opens : List Open} (at : ℕ) → at ≡ length input → StandsOpen input pieces opens at rest → IsViable input
+whole_viable : {input rest : List ℕ} {pieces : List ElementModel} {opens : List Open} (at : ℕ) → at ≡ length input → StandsOpen input pieces opens at rest → IsViable input
 whole_viable {input} at e s =
     let whole : take at input ≡ input = ap (λ (n : ℕ). take n input) e ∙ take-length input in
     subst IsViable whole (viable s)
 
--- Behind the last token the input can go on, where that is no bracket that closes and no bracket, tag or discard too many.
-token_viable : (token : Token) (input : List ℕ) (pieces : List Piece) (opens : List Open) (start : ℕ) → StandsAt input pieces opens start → start < length input → (lexed (drop start input)).0 ≡ token
+-- after its last token the input can go on to be a text, unless that is a closing bracket or opens one thing too many
+token_viable : (token : Token) (input : List ℕ) (pieces : List ElementModel) (opens : List Open) (start : ℕ) → StandsAt input pieces opens start → start < length input → (lexed (drop start input)).0 ≡ token
     → start + (lexed (drop start input)).1 ≡ length input → ((opener : Opener) → token ≡ tokens.Opens opener → length opens ≢ 64) → ((bracket : Bracket) → token ≡ tokens.Closes bracket → ⊥) → IsViable input
 token_viable tokens.Gap input pieces opens start s lt is long few never =
     let a = drop start input in
@@ -358,7 +358,7 @@ token_viable tokens.Unfinished input pieces opens start s lt is long few never =
 closes_place : {bracket : Bracket} {p q : ℕ} {a b : List ℕ} → IsToken (tokens.Closes bracket) p a q b → q ≡ p + 1
 closes_place (close e) = omega arith
 
--- A bracket that closes is one byte, so it is no token that a later byte goes on with.
+-- a closing bracket is one byte, so no later byte goes on with it
 closes_size : (a : List ℕ) (bracket : Bracket) → (lexed a).0 ≡ tokens.Closes bracket → (lexed a).1 ≡ 1
 closes_size a bracket is = omega (arith, closes_place (token_lexed 0 a (tokens.Closes bracket) is (λ h. cc)))
 
@@ -371,8 +371,8 @@ closes_run parts.Escape bracket rest e = absurd cc
 closes_run parts.Hash bracket rest e = absurd cc
 closes_run parts.Backslash bracket rest e = absurd cc
 
--- How long it would be, with these bytes behind it.
-closes_long : (input : List ℕ) (end : ℕ) (pieces : List Piece) (opens : List Open) (begun : Begun) (bracket : Bracket) (rest : List ℕ) → StandsWithin input end pieces opens begun
+-- the length that a closing bracket would have, with these bytes after it
+closes_long : (input : List ℕ) (end : ℕ) (pieces : List ElementModel) (opens : List Open) (begun : Begun) (bracket : Bracket) (rest : List ℕ) → StandsWithin input end pieces opens begun
     → last begun.part ≡ tokens.Closes bracket → drop end input ≡ rest → end - begun.start + stretch is_run rest ≡ 1
 closes_long input end pieces opens begun bracket rest w e left =
     let made : lexed (drop begun.start input) ≡ (tokens.Closes bracket, end - begun.start + stretch is_run rest) =
@@ -387,14 +387,14 @@ no_letter : stretch is_run [] ≡ 0
 unfolding stretch
 no_letter = refl
 
-never_closes : (bytes : List ℕ) (pieces : List Piece) (splitting : Splitting) → StandsAfter bytes [] pieces splitting → (bracket : Bracket) → last splitting.begun.part ≡ tokens.Closes bracket → ⊥
+never_closes : (bytes : List ℕ) (pieces : List ElementModel) (splitting : SplitterModel) → StandsAfter bytes [] pieces splitting → (bracket : Bracket) → last splitting.begun.part ≡ tokens.Closes bracket → ⊥
 never_closes bytes pieces splitting stands bracket e =
     let one = closes_long bytes (length bytes) pieces splitting.opens splitting.begun bracket [] (stands bytes [] (sym (append-nil bytes))).stands e (drop_of_length-le bytes (omega arith)) in
     let two = closes_long (bytes ++ 97 ∷ []) (length bytes) pieces splitting.opens splitting.begun bracket (97 ∷ []) (stands (bytes ++ 97 ∷ []) (97 ∷ []) refl).stands e
     (drop-append_seam bytes (97 ∷ [])) in
     omega (arith, one, two, letter_run, no_letter)
 
-pub viable_so_far : (bytes : List ℕ) (pieces : List Piece) (splitting : Splitting) → StandsAfter bytes [] pieces splitting → IsViable bytes
+pub viable_so_far : (bytes : List ℕ) (pieces : List ElementModel) (splitting : SplitterModel) → StandsAfter bytes [] pieces splitting → IsViable bytes
 viable_so_far bytes pieces splitting stands = viable_by (cases_lt splitting.begun.start (length bytes)) where
   after : IsAfter bytes bytes pieces splitting
   after = stands bytes [] (sym (append-nil bytes))
@@ -411,13 +411,13 @@ viable_so_far bytes pieces splitting stands = viable_by (cases_lt splitting.begu
       (omega (arith, lt, ap (λ (x : Token × ℕ). x.1) made)) after.not_full (never_closes bytes pieces splitting stands)
   viable_by (inr le) = whole_viable splitting.begun.start (omega (arith, le, after.stands.low)) after.stands.stands
 
--- ---- the outermost
+-- ---- the outermost thing open
 
 pub outer_last : (opens : List Open) (item : Open) (place : ℕ) → outer (opens ++ item ∷ []) place ≡ item.place
 outer_last [] item place = refl
 outer_last (first ∷ opens) item place = outer_last opens item first.place
 
--- Of a stack with the innermost apart, what lies lowest is the outermost.
+-- of a stack with the innermost apart, the lowest is the outermost
 pub outer_first : (innermost : Option Open) (around : List Open) (first : Open) (place : ℕ) → Some first ≡ slice_get around 0 → (innermost ≡ None → around ≡ [])
     → first.place ≡ outer (option_to_list innermost ++ reverse around) place
 outer_first innermost [] first place e h = absurd cc

@@ -1,4 +1,4 @@
--- Stretches of bytes that pass a test, and texts: how long they are, and that the grammar has them.
+-- Stretches of bytes that pass a test, and the ends of Texts: their lengths, and that the grammar has them.
 use Rattle.std.proofs.Common.{◌≡◌, ◌≢◌, ◌⊎◌, inl, inr, ℕ, zero, suc, ◌+◌, ◌-◌, ◌<◌, ◌≤◌, Bool, true, false, not, ◌||◌, cond, eqb, List, [], ◌∷◌, ◌++◌, length, get_or, take, drop, Option, Some, None, length-drop, refl, sym, ap, subst, ◌∙◌, arith, add-one, drop-cons}
 use Rattle.std.proofs.Math.ListN.{drop_of_length-le}
 use Rattle.std.proofs.lemmas.Bool.{cases_lt}
@@ -16,13 +16,13 @@ pub take_all : (xs : List ℕ) → take (length xs) xs ≡ xs
 take_all [] = refl
 take_all (x ∷ xs) = ap (λ (ys : List ℕ). x ∷ ys) (take_all xs)
 
--- What is left before bytes that stand behind.
+-- bytes dropped from two joined lists, where the first has so many
 pub drop_before : (n : ℕ) (xs ys : List ℕ) → n ≤ length xs → drop n (xs ++ ys) ≡ drop n xs ++ ys
 drop_before zero xs ys le = refl
 drop_before (suc n) [] ys le = absurd (omega arith)
 drop_before (suc n) (x ∷ xs) ys le = drop_before n xs ys (omega arith)
 
--- The slice from an index to the end.
+-- the slice from an index to the end
 pub from_index : (xs : List ℕ) (i : ℕ) → take (length xs - i) (drop i xs) ≡ drop i xs
 from_index xs i = ap (λ (n : ℕ). take n (drop i xs)) (sym (length-drop i xs)) ∙ take_all (drop i xs)
 
@@ -40,7 +40,7 @@ pub stretch_past : (test : ℕ → Bool) (xs : List ℕ) (i : ℕ) → length xs
 unfolding stretch
 stretch_past test xs i le = rw (drop_of_length-le xs le) refl
 
--- The same, where the stretch goes on from another place.
+-- where the stretch from one index ends at a total, the one from the next index ends there too
 pub same_goes : (test : ℕ → Bool) (xs : List ℕ) (end further total : ℕ) → further ≡ end + 1 → end < length xs → test (get_or xs end 0) ≡ true → end + stretch test (drop end xs) ≡ total
     → further + stretch test (drop further xs) ≡ total
 same_goes test xs end further total one lt e same =
@@ -59,7 +59,7 @@ goes_on : (test : ℕ → Bool) (xs : List ℕ) (i n : ℕ) → (i < length xs) 
 goes_on test xs i n (inl lt) same = goes_by test xs i n (test (get_or xs i 0)) refl lt same
 goes_on test xs i n (inr le) same = absurd (omega (arith, stretch_past test xs i le, same))
 
--- What holds where a stretch begins, and goes on over each of its bytes, holds where it ends.
+-- what holds where a stretch begins, and is kept over each of its bytes, holds where it ends
 pub along : (holds : ℕ → Type 0) (test : ℕ → Bool) (xs : List ℕ) → ((i : ℕ) → i < length xs → test (get_or xs i 0) ≡ true → holds i → holds (i + 1))
     → (n i : ℕ) → stretch test (drop i xs) ≡ n → holds i → holds (i + n)
 along holds test xs step zero i same h = let none : i ≡ i + 0 = omega arith in subst holds none h
@@ -68,7 +68,7 @@ along holds test xs step (suc n) i same h =
     let place : i + 1 + n ≡ i + suc n = omega arith in
     subst holds place (along holds test xs step n (i + 1) k.2 (step i k.0 k.1 h))
 
--- ---- a stretch at the front
+-- ---- a stretch at the beginning of bytes
 
 pub stretch_more : (test : ℕ → Bool) (b : ℕ) (bytes : List ℕ) → test b ≡ true → stretch test (b ∷ bytes) ≡ suc (stretch test bytes)
 unfolding stretch
@@ -104,7 +104,7 @@ stretch_either test p b bytes false e r =
     subst (λ (left : List ℕ). IsStretch test p (b ∷ bytes) (p + stretch test (b ∷ bytes)) left) rest
     (subst (λ (q : ℕ). IsStretch test p (b ∷ bytes) q (b ∷ bytes)) place (ended e))
 
--- The grammar has the stretch at the front.
+-- the stretch that was computed is one by the grammar
 pub stretch_here : (test : ℕ → Bool) (p : ℕ) (bytes : List ℕ) → IsStretch test p bytes (p + stretch test bytes) (drop (stretch test bytes) bytes)
 unfolding stretch
 stretch_here test p [] = let place : p ≡ p + 0 = omega arith in subst (λ (q : ℕ). IsStretch test p [] q []) place (ended tt)
@@ -114,7 +114,7 @@ rest_none : (test : ℕ → Bool) (bytes : List ℕ) → Ends test bytes → dro
 rest_none test [] h = ap (λ (n : ℕ). drop n []) (stretch_none test [] h)
 rest_none test (b ∷ bytes) h = ap (λ (n : ℕ). drop n (b ∷ bytes)) (stretch_none test (b ∷ bytes) h)
 
--- And it has no other.
+-- the grammar has no other stretch there
 pub stretch_place : {test : ℕ → Bool} {p q : ℕ} {a b : List ℕ} → IsStretch test p a q b → p + stretch test a ≡ q
 stretch_place {test = test} {a = a} (ended h) = omega (arith, stretch_none test a h)
 stretch_place {test = test} (more {b = b} {bytes = bytes} w g) = omega (arith, stretch_more test b bytes w, stretch_place g)
@@ -123,7 +123,7 @@ pub stretch_rest : {test : ℕ → Bool} {p q : ℕ} {a b : List ℕ} → IsStre
 stretch_rest {test = test} {a = a} (ended h) = rest_none test a h
 stretch_rest {test = test} (more {b = b} {bytes = bytes} w g) = ap (λ (n : ℕ). drop n (b ∷ bytes)) (stretch_more test b bytes w) ∙ stretch_rest g
 
--- ---- a text at the front
+-- ---- a Text at the beginning of bytes
 
 pub quoted_closing : (b : ℕ) (bytes : List ℕ) → b ≡ 34 → quoted_length (b ∷ bytes) ≡ Some 1
 unfolding quoted_length
@@ -156,7 +156,7 @@ pub quoted_nothing : quoted_length [] ≡ None
 unfolding quoted_length
 quoted_nothing = refl
 
--- A text of this length leads there.
+-- the computed length of a Text leads to the place where it ends by the grammar
 pub record Closed (p : ℕ) (a : List ℕ) (q : ℕ) (b : List ℕ) : Type 0 where
   pub size : ℕ
   pub is : quoted_length a ≡ Some size
@@ -177,9 +177,9 @@ quoted_is (other {b = b} {bytes = bytes} u v g) =
     let h = quoted_is g in
     record { size = suc h.size; is = quoted_other b bytes u v ∙ ap (option_map suc) h.is; place = omega (arith, h.place); rest = h.rest }
 
--- ---- tests on a byte of a text
+-- ---- tests on a byte of a Text
 
--- What a byte is in a text.
+-- what a byte of a Text is: a quote, a backslash or another byte
 pub data Sign (b : ℕ) : Type 0 where
   quote : b ≡ 34 → Sign b
   backslash : b ≡ 92 → Sign b
@@ -194,7 +194,7 @@ sign_by b false false e f = plain (grind (arith, nat_tests)) (grind (arith, nat_
 pub sign_of : (b : ℕ) → Sign b
 sign_of b = sign_by b (eqb b 34) (eqb b 92) refl refl
 
--- ---- a text that ends
+-- ---- a Text that is closed
 
 pub map_some : (f : ℕ → ℕ) (o : Option ℕ) (n : ℕ) → option_map f o ≡ Some n → (m : ℕ) × (o ≡ Some m) × (f m ≡ n)
 map_some f None n e = absurd cc
@@ -236,7 +236,7 @@ here_more p b c bytes n (backslash u) e behind later =
     quoted_at (taken u (behind m.0 m.1)) (omega (arith, m.2)) rest
 here_more p b c bytes n (plain u v) e behind later = here_other p b (c ∷ bytes) n u v e later
 
--- The grammar has the text at the front.
+-- the Text that was computed is one by the grammar
 pub quoted_here : (p : ℕ) (bytes : List ℕ) (n : ℕ) → quoted_length bytes ≡ Some n → IsQuoted p bytes (p + n) (drop n bytes)
 quoted_here p [] n e = let nothing_is = quoted_nothing in absurd cc
 quoted_here p (b ∷ []) n e = here_last p b n (sign_of b) e
@@ -253,9 +253,9 @@ within_long n bytes e = omega arith
 pub quoted_within : (bytes : List ℕ) (n : ℕ) → quoted_length bytes ≡ Some n → n ≤ length bytes
 quoted_within bytes n e = within_long n bytes (omega (arith, quoted_long (quoted_here 0 bytes n e)))
 
--- ---- a text that does not end
+-- ---- a Text that is not closed
 
--- With these bytes behind them, the bytes are a text.
+-- some bytes that close the Text when they are added at its end
 pub record Ending (bytes : List ℕ) : Type 0 where
   pub tail : List ℕ
   pub text : (p : ℕ) (c : List ℕ) → IsQuoted p (bytes ++ (tail ++ c)) (p + length (bytes ++ tail)) c
@@ -299,7 +299,7 @@ no_line_end : (b : ℕ) (t : Bool) → eqb b 10 ≡ t → ¬ (eqb b 10 ≡ true)
 no_line_end b true e u = absurd (u e)
 no_line_end b false e u = ap not e
 
--- A comment goes up to the first line end, or to the end.
+-- a comment goes up to the first line end, or to the end of the bytes
 pub comment_found : (bytes : List ℕ) (n : ℕ) → NoneBefore (Passes (is_byte 10) bytes) 0 (length bytes) n → Passes (is_byte 10) bytes n → stretch is_in_comment bytes ≡ n
 comment_found bytes n found here =
     stretch_first is_in_comment bytes n found.high (λ k low. no_line_end (get_or bytes k 0) (eqb (get_or bytes k 0) 10) refl (found.before k (omega arith) low)) (ap not here)
@@ -308,7 +308,7 @@ pub comment_open : (bytes : List ℕ) → Nowhere (Passes (is_byte 10) bytes) 0 
 comment_open bytes nowhere =
     stretch_whole is_in_comment bytes (λ k low. no_line_end (get_or bytes k 0) (eqb (get_or bytes k 0) 10) refl (nowhere k (omega arith) low))
 
--- So many bytes more.
+-- a length, if there is one, with so many bytes more
 unfoldable pub add_length : ℕ → Option ℕ → Option ℕ
 add_length n o = option_map (λ m. n + m) o
 
@@ -340,7 +340,7 @@ unfolding add_length
 add_two_length None = refl
 add_two_length (Some m) = ap Some (omega arith)
 
--- Bytes that are no quote and no backslash.
+-- a Text goes on over bytes that are no quotes and no backslashes
 quoted_behind : (bytes behind : List ℕ) (n : ℕ) → n ≤ length bytes → ((k : ℕ) → k < n → (get_or bytes k 0 ≢ 34) × (get_or bytes k 0 ≢ 92))
     → quoted_length (bytes ++ behind) ≡ add_length n (quoted_length (drop n bytes ++ behind))
 quoted_behind [] behind zero le all = sym (add_zero (quoted_length behind))
@@ -357,7 +357,7 @@ no_sign b (quote e) u = absurd (u (let one : eqb b 34 ≡ true = grind (arith, n
 no_sign b (backslash e) u = absurd (u (grind (arith, nat_tests)))
 no_sign b (plain v w) u = (v, w)
 
--- Up to the first quote or backslash.
+-- a Text goes on up to its first quote or backslash
 quoted_up : (bytes behind : List ℕ) (n : ℕ) → NoneBefore (Passes (is_byte2 34 92) bytes) 0 (length bytes) n
     → quoted_length (bytes ++ behind) ≡ add_length n (quoted_length (get_or bytes n 0 ∷ (drop (n + 1) bytes ++ behind)))
 quoted_up bytes behind n found =
@@ -367,7 +367,7 @@ quoted_up bytes behind n found =
 pub quote_found : (bytes behind : List ℕ) (n : ℕ) → NoneBefore (Passes (is_byte2 34 92) bytes) 0 (length bytes) n → get_or bytes n 0 ≡ 34 → quoted_length (bytes ++ behind) ≡ Some (n + 1)
 quote_found bytes behind n found e = quoted_up bytes behind n found ∙ add_some n 1 _ (quoted_closing (get_or bytes n 0) (drop (n + 1) bytes ++ behind) e)
 
--- A backslash that is the last of the bytes takes the first of those behind them.
+-- a backslash that is the last of the bytes escapes the first byte after them
 pub backslash_last : (bytes behind : List ℕ) (n : ℕ) → NoneBefore (Passes (is_byte2 34 92) bytes) 0 (length bytes) n → n + 1 ≡ length bytes
     → quoted_length (bytes ++ behind) ≡ add_length n (quoted_length (get_or bytes n 0 ∷ behind))
 backslash_last bytes behind n found last =

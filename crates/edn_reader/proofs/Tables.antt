@@ -1,4 +1,4 @@
--- A table is held against a definition at each of the 256 bytes, by computing.
+-- A table of 256 entries agrees with a definition at each byte, by computing.
 use Rattle.std.proofs.Common.{◌≡◌, ℕ, zero, suc, ◌<◌, Bool, true, false, ◌&&◌, nat_eq, nat_le, get_or, List, refl, arith, inl, inr}
 use Rattle.std.specs.Bool.{beq}
 use Rattle.std.proofs.lemmas.Bool.{cases_eq}

@@ -1,4 +1,4 @@
--- One run from one place: so what an element is and where it ends follows from the bytes, and a text has one division.
+-- One run from one place: so the bytes decide what an element is and where it ends, and a text has one division.
 use Rattle.std.proofs.Common.{◌≡◌, ◌≢◌, inl, inr, ℕ, ◌+◌, ◌-◌, ◌≤◌, Bool, true, false, not, cond, ◌&&◌, eqb, List, [], ◌∷◌, ◌++◌, length, drop, Option, Some, None, refl, sym, ap, subst, ◌∙◌, arith, length-append}
 use Rattle.std.proofs.Math.Seq.{drop-append_seam}
 use Rattle.std.proofs.lemmas.Bool.Decides.{nat_tests}
@@ -18,7 +18,7 @@ use Rattle.edn_reader.specs.declared.token.Token.TheVariants as tokens
 use Rattle.edn_reader.specs.declared.token.Opener.{Opener}
 use Rattle.edn_reader.specs.declared.token.Opener.TheVariants as openers
 use Rattle.edn_reader.specs.Bytes.{class_of}
-use Rattle.edn_reader.specs.Grammar.{Piece, IsToken, IsGap, IsElementAt, IsElements, none, next, opener_of, waits, fits, is_paired}
+use Rattle.edn_reader.specs.Grammar.{ElementModel, IsToken, IsGap, IsElementAt, IsElements, none, next, opener_of, waits, fits, is_paired}
 use Rattle.edn_reader.specs.Text.{StandsOpen}
 use Rattle.edn_reader.specs.Fault.{by_bracket, by_hash, fault_in, fault_of_close, Refuses, too_deep, closing, IsBeginning, innermost}
 use Rattle.edn_reader.specs.Token.{lexed, class_token, hash_token, after_hash, tag_token}
@@ -29,7 +29,7 @@ use Rattle.edn_reader.proofs.Runs.{Leads, leads_then, one_run, given_more, run_e
 
 -- ---- the first element
 
--- The bytes that a derivation leaves.
+-- the bytes that a derivation leaves
 left_of : {p q : ℕ} {a b d e : List ℕ} → Replaced p a q b d e → b ≡ drop (q - p) a
 left_of {p} {q} {a} {b} m =
     let long : q - p ≡ length m.front = omega (arith, m.place) in
@@ -53,15 +53,15 @@ same_span x y run other =
       | inr more ↦ (let m = given_more more in sym (span_head m.1))
     ]
 
-same_piece : (x y : Piece) → x.kind ≡ y.kind → x.start ≡ y.start → x.text ≡ y.text → x.core ≡ y.core → x ≡ y
+same_piece : (x y : ElementModel) → x.kind ≡ y.kind → x.start ≡ y.start → x.text ≡ y.text → x.core ≡ y.core → x ≡ y
 same_piece x y k s t c =
     ap (λ (v : ElementKind). record { kind = v; start = x.start; text = x.text; core = x.core }) k
     ∙ ap (λ (v : ℕ). record { kind = y.kind; start = v; text = x.text; core = x.core }) s
     ∙ ap (λ (v : List ℕ). record { kind = y.kind; start = y.start; text = v; core = x.core }) t
     ∙ ap (λ (v : Core). record { kind = y.kind; start = y.start; text = y.text; core = v }) c
 
--- What stands first behind a gap is one element, at one place.
-pub same_first : {room other p q r : ℕ} {a left b others d : List ℕ} (piece second : Piece) → room ≤ 64 → other ≤ 64
+-- what comes first after a gap is one element, at one place
+pub same_first : {room other p q r : ℕ} {a left b others d : List ℕ} (piece second : ElementModel) → room ≤ 64 → other ≤ 64
     → IsGap room p a piece.start left → IsElementAt room piece.kind piece.core piece.start left q b → left ≡ piece.text ++ b
     → IsGap other p a second.start others → IsElementAt other second.kind second.core second.start others r d → others ≡ second.text ++ d
     → (piece ≡ second) × (q ≡ r) × (b ≡ d)
@@ -120,7 +120,7 @@ after_of : (c : ℕ) (bytes : List ℕ) → after_hash (c ∷ bytes) ≡ hash_to
 unfolding after_hash
 after_of c bytes = refl
 
--- Behind what waits, and at the innermost bracket itself, the fault of a closing bracket is that of its definition.
+-- after what waits, and at the innermost bracket itself, the fault of a closing bracket is that of its definition
 waits_first : (t w o : Bool) (wrong tag odd fault : EdnFault) → w ≡ true → cond (not t) (Some wrong) (cond w (Some tag) (cond o (Some odd) None)) ≡ Some fault
     → fails (cond t tag wrong) ≡ fails fault
 waits_first true true o wrong tag odd fault w e = let same : tag ≡ fault = cc in ap fails same
@@ -165,20 +165,20 @@ refused_taken {p} {opens = opens} {fault = fault} (closing {b = b} {bytes = byte
 
 -- ---- one ending
 
--- The run over an input up to where a token fails.
-pub record Ending (input : List ℕ) (p : ℕ) (a : List ℕ) (opens : List Open) (pieces : List Piece) : Type 0 where
+-- the run over an input up to where a token fails
+pub record Ending (input : List ℕ) (p : ℕ) (a : List ℕ) (opens : List Open) (pieces : List ElementModel) : Type 0 where
   pub spans : List Span
   pub run : Leads 0 input [] [] p a opens spans
   pub stuck : goes (front_taken p a opens) ≡ None
   pub many : length spans ≡ length pieces
 
-pub record SameEnding (p : ℕ) (a : List ℕ) (ao : List Open) (firsts : List Piece) (q : ℕ) (b : List ℕ) (bo : List Open) (seconds : List Piece) : Type 0 where
+pub record SameEnding (p : ℕ) (a : List ℕ) (ao : List Open) (firsts : List ElementModel) (q : ℕ) (b : List ℕ) (bo : List Open) (seconds : List ElementModel) : Type 0 where
   pub place : p ≡ q
   pub bytes : a ≡ b
   pub opens : ao ≡ bo
   pub many : length firsts ≡ length seconds
 
-pub same_ending : {input a b : List ℕ} {p q : ℕ} {ao bo : List Open} {firsts seconds : List Piece} → Ending input p a ao firsts → Ending input q b bo seconds → SameEnding p a ao firsts q b bo seconds
+pub same_ending : {input a b : List ℕ} {p q : ℕ} {ao bo : List Open} {firsts seconds : List ElementModel} → Ending input p a ao firsts → Ending input q b bo seconds → SameEnding p a ao firsts q b bo seconds
 same_ending x y =
     elim (one_run x.run y.run) [
       | inl more ↦ (let s = run_ends x.stuck more in
@@ -187,18 +187,18 @@ same_ending x y =
           record { place = sym s.place; bytes = sym s.bytes; opens = sym s.opens; many = sym x.many ∙ ap length (sym s.given) ∙ y.many })
     ]
 
-pub ending_stands : {p : ℕ} {input a : List ℕ} {pieces : List Piece} {opens : List Open} → StandsOpen input pieces opens p a → goes (front_taken p a opens) ≡ None → Ending input p a opens pieces
+pub ending_stands : {p : ℕ} {input a : List ℕ} {pieces : List ElementModel} {opens : List Open} → StandsOpen input pieces opens p a → goes (front_taken p a opens) ≡ None → Ending input p a opens pieces
 ending_stands stands stuck = let o = leads_stands stands in record { spans = o.spans; run = o.run; stuck = stuck; many = o.many }
 
 at_end : (p : ℕ) (opens : List Open) → goes (front_taken p [] opens) ≡ None
 unfolding lexed taken
 at_end p opens = refl
 
-pub ending_end : {p : ℕ} {input : List ℕ} {pieces : List Piece} {opens : List Open} → StandsOpen input pieces opens p [] → Ending input p [] opens pieces
+pub ending_end : {p : ℕ} {input : List ℕ} {pieces : List ElementModel} {opens : List Open} → StandsOpen input pieces opens p [] → Ending input p [] opens pieces
 ending_end {p} {opens = opens} stands = ending_stands stands (at_end p opens)
 
--- A front has no more elements than an ending.
-pub front_fewer : {p q room : ℕ} {input a b : List ℕ} {opens : List Open} {firsts seconds : List Piece} → room ≤ 64 → IsElements room 0 input firsts q b → Ending input p a opens seconds → length firsts ≤ length seconds
+-- a prefix of gaps and elements has no more elements than the run up to a failing token
+pub front_fewer : {p q room : ℕ} {input a b : List ℕ} {opens : List Open} {firsts seconds : List ElementModel} → room ≤ 64 → IsElements room 0 input firsts q b → Ending input p a opens seconds → length firsts ≤ length seconds
 front_fewer {firsts = firsts} le els x =
     let o = leads_outermost els [] le in
     elim (one_run o.run x.run) [
@@ -208,7 +208,7 @@ front_fewer {firsts = firsts} le els x =
 
 -- ---- one division
 
-pub agree : {room other p q r : ℕ} {a b d : List ℕ} (firsts seconds : List Piece) → room ≤ 64 → other ≤ 64 → IsElements room p a firsts q b → IsElements other p a seconds r d
+pub agree : {room other p q r : ℕ} {a b d : List ℕ} (firsts seconds : List ElementModel) → room ≤ 64 → other ≤ 64 → IsElements room p a firsts q b → IsElements other p a seconds r d
     → length firsts ≤ length seconds → IsBeginning firsts seconds
 agree firsts seconds lo hi none h le = (seconds, refl)
 agree firsts seconds lo hi (next gap element whole els) none le = absurd (omega arith)
@@ -216,20 +216,20 @@ agree firsts seconds lo hi (next {ended = here} {beyond = beyond} {piece = piece
     let same = same_first piece second lo hi gap element whole g e t in
     let moved : IsElements other here beyond others r d = subst (λ (n : ℕ). IsElements other n beyond others r d) (sym same.1) (subst (λ (x : List ℕ). IsElements other there x others r d) (sym same.2) h) in
     let rest = agree pieces others lo hi els moved (omega arith) in
-    (rest.0, ap (λ (x : Piece). x ∷ others) (sym same.0) ∙ ap (λ (xs : List Piece). piece ∷ xs) rest.1)
+    (rest.0, ap (λ (x : ElementModel). x ∷ others) (sym same.0) ∙ ap (λ (xs : List ElementModel). piece ∷ xs) rest.1)
 
-pub no_more : (pieces : List Piece) → length pieces ≡ 0 → pieces ≡ []
+pub no_more : (pieces : List ElementModel) → length pieces ≡ 0 → pieces ≡ []
 no_more [] e = refl
 no_more (piece ∷ others) e = absurd (omega arith)
 
-pub same_list : {room other p q r : ℕ} {a b d : List ℕ} (firsts seconds : List Piece) → room ≤ 64 → other ≤ 64 → IsElements room p a firsts q b → IsElements other p a seconds r d
+pub same_list : {room other p q r : ℕ} {a b d : List ℕ} (firsts seconds : List ElementModel) → room ≤ 64 → other ≤ 64 → IsElements room p a firsts q b → IsElements other p a seconds r d
     → length firsts ≡ length seconds → firsts ≡ seconds
 same_list firsts seconds lo hi els others long =
     let b = agree firsts seconds lo hi els others (omega arith) in
     let none_left : b.0 ≡ [] = no_more b.0 (omega (arith, ap length b.1, length-append firsts b.0)) in
-    sym (b.1 ∙ ap (λ (m : List Piece). firsts ++ m) none_left ∙ append-nil firsts)
+    sym (b.1 ∙ ap (λ (m : List ElementModel). firsts ++ m) none_left ∙ append-nil firsts)
 
--- No element stands before a closing bracket.
+-- where nothing is open, a closing bracket fails
 closing_stuck : {r s : ℕ} {others d : List ℕ} {bracket : Bracket} → IsToken (tokens.Closes bracket) r others s d → goes (front_taken r others []) ≡ None
 unfolding taken closed
 closing_stuck {r} {s} {others} token =

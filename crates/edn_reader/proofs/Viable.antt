@@ -1,4 +1,4 @@
--- What stands open can be completed, and what is refused cannot: so a refusal is the first fault.
+-- What is open can be completed to a text, and after a byte that is refused it cannot: so a refusal is the first fault.
 use Rattle.std.proofs.Common.{◌≡◌, ◌≢◌, ℕ, zero, suc, ◌+◌, ◌<◌, ◌≤◌, Bool, true, false, not, cond, ◌&&◌, List, [], ◌∷◌, ◌++◌, length, take, drop, None, refl, sym, ap, subst, ◌∙◌, append_assoc, arith, length-append}
 use Rattle.std.proofs.Math.Seq.{take-append_seam}
 use Rattle.std.proofs.lemmas.List.{take-append-drop}
@@ -15,7 +15,7 @@ use Rattle.edn_reader.specs.declared.token.Opener.{Opener}
 use Rattle.edn_reader.specs.declared.token.Opener.TheVariants as openers
 use Rattle.edn_reader.specs.declared.token.Token.TheVariants as tokens
 use Rattle.edn_reader.specs.Bytes.{class_of, is_run, Ends}
-use Rattle.edn_reader.specs.Grammar.{Piece, ended, IsToken, white, run, hashed, close, IsGap, nothing, skipped, IsElementAt, leaf, fits, waits, is_paired, kind_of}
+use Rattle.edn_reader.specs.Grammar.{ElementModel, ended, IsToken, white, run, hashed, close, IsGap, nothing, skipped, IsElementAt, leaf, fits, waits, is_paired, kind_of}
 use Rattle.edn_reader.specs.Text.{IsText, IsViable, StandsOpen, outermost}
 use Rattle.edn_reader.specs.Fault.{by_bracket, by_hash, Refuses, too_deep, closing, FaultOf, truncated, refused}
 use Rattle.edn_reader.specs.Taking.{fails, with_one, is_tag}
@@ -44,7 +44,7 @@ hash = refl
 other_class : (c k : ByteClass) → c ≡ White → k ≢ White → c ≢ k
 other_class c k e n h = n (sym h ∙ e)
 
--- A line end ends runs and comments, and a # before it is a tag.
+-- a line end ends runs and comments, and a # before it is a tag
 pub clear : (b tail : List ℕ) → Follows b (10 ∷ tail)
 unfolding class_of
 clear b tail = (λ h. refl, λ h. refl, λ h. (λ e. cc, λ e. cc, λ e. cc, λ e. cc))
@@ -58,7 +58,7 @@ letter_run = run letter (ended refl)
 
 -- ---- completions
 
--- What is open behind one more element.
+-- what is open after one more element
 unfoldable pub after_one : List Open → List Open
 after_one [] = []
 after_one (item ∷ opens) = cond (is_tag item.opener) (after_one opens) (cond (waits item.opener) opens (with_one item ∷ opens))
@@ -106,18 +106,18 @@ after_bracket : (item : Open) (opens : List Open) → waits item.opener ≡ fals
 unfolding after_one
 after_bracket item opens w = rw (no_tag item.opener w, w) refl
 
--- One more element behind what stands open.
-pub stands_after : {input a b : List ℕ} {pieces : List Piece} (opens : List Open) (span : Span) → StandsOpen input pieces opens span.start a
+-- one more element where these are open
+pub stands_after : {input a b : List ℕ} {pieces : List ElementModel} (opens : List Open) (span : Span) → StandsOpen input pieces opens span.start a
     → ((room : ℕ) → room + length opens ≡ 64 → IsElementAt room span.kind span.core span.start a span.end b)
-    → (others : List Piece) × StandsOpen input others (after_one opens) span.end b
+    → (others : List ElementModel) × StandsOpen input others (after_one opens) span.end b
 stands_after {input} {a} {b} opens span stands element =
     let m = stands_more opens span stands element in
     (m.0, subst (λ (x : List Open). StandsOpen input m.0 x span.end b) (settled_after span opens) m.1)
 
--- How what stands open can go on to be a text, behind a line end.
+-- how what is open can go on to be a text, after a line end
 record Completion (opens : List Open) : Type 0 where
   tail : List ℕ
-  text : (input : List ℕ) (pieces : List Piece) (p : ℕ) → StandsOpen input pieces opens p (10 ∷ tail) → (others : List Piece) × IsText input others
+  text : (input : List ℕ) (pieces : List ElementModel) (p : ℕ) → StandsOpen input pieces opens p (10 ∷ tail) → (others : List ElementModel) × IsText input others
 
 completed_none : Completion []
 completed_none = record {
@@ -134,7 +134,7 @@ completed_element opens c = record {
       c.text input t.0 (suc (suc p)) t.1;
 }
 
--- The byte that closes a bracket.
+-- the byte that closes a bracket
 record Closer (opener : Opener) : Type 0 where
   byte : ℕ
   bracket : Bracket
@@ -186,12 +186,12 @@ completion (suc n) (item ∷ opens) le = completion_by n (waits item.opener) ite
 complete : (opens : List Open) → Completion opens
 complete opens = completion (length opens) opens (omega arith)
 
--- ---- viable fronts
+-- ---- viable prefixes
 
 take_front : (front rest : List ℕ) (p : ℕ) → p ≡ 0 + length front → take p (front ++ rest) ≡ front
 take_front front rest p e = let n : p ≡ length front = omega arith in rw n (take-append_seam front rest)
 
-pub viable : {p : ℕ} {input rest : List ℕ} {pieces : List Piece} {opens : List Open} → StandsOpen input pieces opens p rest → IsViable (take p input)
+pub viable : {p : ℕ} {input rest : List ℕ} {pieces : List ElementModel} {opens : List Open} → StandsOpen input pieces opens p rest → IsViable (take p input)
 viable {p} {input} {rest} {pieces} {opens} s =
     let c = complete opens in
     let m = moved_stands s (10 ∷ c.tail) (clear rest c.tail) in
@@ -199,7 +199,7 @@ viable {p} {input} {rest} {pieces} {opens} s =
     let taken : take p input ≡ m.2.front = ap (take p) m.2.here ∙ take_front m.2.front rest p m.2.place in
     (10 ∷ c.tail, t.0, subst (λ (x : List ℕ). IsText x t.0) (m.2.there ∙ ap (λ (f : List ℕ). f ++ (10 ∷ c.tail)) (sym taken)) t.1)
 
--- The front with a part of what is left.
+-- a prefix with some of the bytes left after it
 taken_more : (p : ℕ) (front mark rest input : List ℕ) → input ≡ front ++ (mark ++ rest) → p ≡ 0 + length front → (at : ℕ) → at ≡ p + length mark → take at input ≡ front ++ mark
 taken_more p front mark rest input e n at k =
     let regroup : input ≡ (front ++ mark) ++ rest = e ∙ sym (append_assoc front mark rest) in
@@ -209,7 +209,7 @@ hash_word : {b p : ℕ} {rest : List ℕ} → class_of b ≡ Hash → IsToken (t
 unfolding class_of
 hash_word e = hashed e hash (ended refl)
 
-viable_hash : {b p : ℕ} {input rest : List ℕ} {pieces : List Piece} {opens : List Open} → StandsOpen input pieces opens p (b ∷ rest) → class_of b ≡ Hash → IsViable (take (suc p) input)
+viable_hash : {b p : ℕ} {input rest : List ℕ} {pieces : List ElementModel} {opens : List Open} → StandsOpen input pieces opens p (b ∷ rest) → class_of b ≡ Hash → IsViable (take (suc p) input)
 viable_hash {b} {p} {input} {rest} {pieces} {opens} s h =
     let c = complete (after_one opens) in
     let m = moved_stands s (b ∷ 35 ∷ 10 ∷ c.tail) (λ k. k, λ k. k, λ k. k) in
@@ -219,7 +219,7 @@ viable_hash {b} {p} {input} {rest} {pieces} {opens} s h =
     let taken : take (suc p) input ≡ m.2.front ++ b ∷ [] = taken_more p m.2.front (b ∷ []) rest input m.2.here m.2.place (suc p) (omega arith) in
     (35 ∷ 10 ∷ c.tail, t.0, subst (λ (x : List ℕ). IsText x t.0) (m.2.there ∙ sym (append_assoc m.2.front (b ∷ []) (35 ∷ 10 ∷ c.tail)) ∙ ap (λ (f : List ℕ). f ++ (35 ∷ 10 ∷ c.tail)) (sym taken)) t.1)
 
--- The bytes that are looked at: whatever follows them, the refusal is the same.
+-- the bytes that decide a refusal: whatever follows them, it is the same refusal
 record Mark (opens : List Open) (p : ℕ) (bytes : List ℕ) (at : ℕ) (fault : EdnFault) : Type 0 where
   first : ℕ
   mark : List ℕ
@@ -237,13 +237,13 @@ mark_of (too_deep full (by_hash {b = b} {c = c} {bytes = bytes} e h q)) =
     record { first = b; mark = c ∷ []; rest = bytes; here = refl; place = omega arith; again = λ more. too_deep full (by_hash e h q) }
 mark_of (closing e r) = one_byte (λ more. closing e r)
 
-pub ending_text : {input : List ℕ} {pieces : List Piece} → IsText input pieces → (after : ℕ) × Ending input after [] [] pieces
+pub ending_text : {input : List ℕ} {pieces : List ElementModel} → IsText input pieces → (after : ℕ) × Ending input after [] [] pieces
 ending_text (at, after, front, gap) = (after, ending_end (outermost front gap))
 
-pub ending_refused : {p at : ℕ} {input bytes : List ℕ} {pieces : List Piece} {opens : List Open} {fault : EdnFault} → StandsOpen input pieces opens p bytes → Refuses opens p bytes at fault → Ending input p bytes opens pieces
+pub ending_refused : {p at : ℕ} {input bytes : List ℕ} {pieces : List ElementModel} {opens : List Open} {fault : EdnFault} → StandsOpen input pieces opens p bytes → Refuses opens p bytes at fault → Ending input p bytes opens pieces
 ending_refused {p} {bytes = bytes} {opens = opens} {fault = fault} s r = ending_stands s (failing p bytes opens fault (refused_taken r))
 
-pub not_viable : {p at : ℕ} {input bytes : List ℕ} {pieces : List Piece} {opens : List Open} {fault : EdnFault} → StandsOpen input pieces opens p bytes → Refuses opens p bytes at fault
+pub not_viable : {p at : ℕ} {input bytes : List ℕ} {pieces : List ElementModel} {opens : List Open} {fault : EdnFault} → StandsOpen input pieces opens p bytes → Refuses opens p bytes at fault
     → IsViable (take (suc at) input) → ⊥
 not_viable {p} {at} {input} {bytes} {pieces} {opens} {fault} s r (more, others, text) =
     let k = mark_of r in
@@ -255,25 +255,25 @@ not_viable {p} {at} {input} {bytes} {pieces} {opens} {fault} s r (more, others, 
     let both = same_ending (ending_refused m.1 (k.again more)) t.1 in
     absurd (omega (arith, ap length both.bytes))
 
-viable_before : {p at : ℕ} {input bytes : List ℕ} {pieces : List Piece} {opens : List Open} {fault : EdnFault} → StandsOpen input pieces opens p bytes → Refuses opens p bytes at fault
+viable_before : {p at : ℕ} {input bytes : List ℕ} {pieces : List ElementModel} {opens : List Open} {fault : EdnFault} → StandsOpen input pieces opens p bytes → Refuses opens p bytes at fault
     → IsViable (take at input)
 viable_before s (too_deep full (by_bracket e)) = viable s
 viable_before s (too_deep full (by_hash e h q)) = viable_hash s e
 viable_before s (closing e r) = viable s
 
-pub fault_refused : {p at : ℕ} {input bytes : List ℕ} {pieces : List Piece} {opens : List Open} {fault : EdnFault} → StandsOpen input pieces opens p bytes → Refuses opens p bytes at fault
+pub fault_refused : {p at : ℕ} {input bytes : List ℕ} {pieces : List ElementModel} {opens : List Open} {fault : EdnFault} → StandsOpen input pieces opens p bytes → Refuses opens p bytes at fault
     → FaultOf input fault
 fault_refused {at = at} {input = input} s r = refused input at (viable_before s r) (not_viable s r) s r
 
 -- ---- inputs that end too early
 
-ends_early : {p after : ℕ} {input bytes : List ℕ} {pieces : List Piece} {opens : List Open} → Ending input p bytes opens pieces → (bytes ≡ [] → opens ≡ [] → ⊥) → IsViable input → after ≡ length input
+ends_early : {p after : ℕ} {input bytes : List ℕ} {pieces : List ElementModel} {opens : List Open} → Ending input p bytes opens pieces → (bytes ≡ [] → opens ≡ [] → ⊥) → IsViable input → after ≡ length input
     → FaultOf input (faults.Truncated after)
 ends_early {input = input} x more v e =
     subst (λ (k : ℕ). FaultOf input (faults.Truncated k)) (sym e)
     (truncated input v (λ pieces text. let t = ending_text text in let s = same_ending x t.1 in more s.bytes s.opens))
 
-pub fault_open_end : {p : ℕ} {input : List ℕ} {pieces : List Piece} {item : Open} {opens : List Open} → StandsOpen input pieces (item ∷ opens) p [] → FaultOf input (faults.Truncated p)
+pub fault_open_end : {p : ℕ} {input : List ℕ} {pieces : List ElementModel} {item : Open} {opens : List Open} → StandsOpen input pieces (item ∷ opens) p [] → FaultOf input (faults.Truncated p)
 fault_open_end {p} {input} s =
     let long : p ≡ length input = omega (arith, stands_end s) in
     let whole : take p input ≡ input = ap (λ (k : ℕ). take k input) long ∙ take_all input in
@@ -287,7 +287,7 @@ clear_run : (tail : List ℕ) → Ends is_run (10 ∷ tail)
 unfolding class_of
 clear_run tail = refl
 
-pub viable_finished : {p : ℕ} {input a : List ℕ} {pieces : List Piece} {opens : List Open} → StandsOpen input pieces opens p a → 0 < length a → Finishing a → IsViable input
+pub viable_finished : {p : ℕ} {input a : List ℕ} {pieces : List ElementModel} {opens : List Open} → StandsOpen input pieces opens p a → 0 < length a → Finishing a → IsViable input
 viable_finished {p} {input} {a} {pieces} {opens} s some f =
     let c = complete (after_one opens) in
     let more = f.tail ++ (10 ∷ c.tail) in
@@ -297,7 +297,7 @@ viable_finished {p} {input} {a} {pieces} {opens} s some f =
     let t = c.text m.0 n.0 (p + length (a ++ f.tail)) n.1 in
     (more, t.0, subst (λ (x : List ℕ). IsText x t.0) (m.2.there ∙ sym (append_assoc m.2.front a more) ∙ ap (λ (x : List ℕ). x ++ more) (sym m.2.here)) t.1)
 
-pub fault_unfinished : {p : ℕ} {input a : List ℕ} {pieces : List Piece} {opens : List Open} → StandsOpen input pieces opens p a → 0 < length a → Finishing a → goes (front_taken p a opens) ≡ None
+pub fault_unfinished : {p : ℕ} {input a : List ℕ} {pieces : List ElementModel} {opens : List Open} → StandsOpen input pieces opens p a → 0 < length a → Finishing a → goes (front_taken p a opens) ≡ None
     → FaultOf input (faults.Truncated (p + length a))
 fault_unfinished {p} {input} {a} s some f stuck =
     ends_early (ending_stands s stuck) (λ e g. absurd (omega (arith, some, ap length e))) (viable_finished s some f) (stands_end s)
@@ -329,15 +329,15 @@ one_fault input f g (refused _ at v n s r) (refused _ there w m t q) =
 refused_some : {p at : ℕ} {bytes : List ℕ} {opens : List Open} {fault : EdnFault} → Refuses opens p bytes at fault → bytes ≡ [] → ⊥
 refused_some r e = let k = mark_of r in absurd (omega (arith, ap length (sym k.here ∙ e)))
 
--- A text has no fault.
-pub no_fault : (input : List ℕ) (pieces : List Piece) (f : EdnFault) → IsText input pieces → FaultOf input f → ⊥
+-- a text has no fault
+pub no_fault : (input : List ℕ) (pieces : List ElementModel) (f : EdnFault) → IsText input pieces → FaultOf input f → ⊥
 no_fault input pieces f text (truncated _ v n) = n pieces text
 no_fault input pieces f text (refused _ at v n s r) =
     let t = ending_text text in
     let x = same_ending (ending_refused s r) t.1 in refused_some r x.bytes
 
--- A text has one division into elements.
-pub one_division : (input : List ℕ) (firsts seconds : List Piece) → IsText input firsts → IsText input seconds → firsts ≡ seconds
+-- a text has one division into elements
+pub one_division : (input : List ℕ) (firsts seconds : List ElementModel) → IsText input firsts → IsText input seconds → firsts ≡ seconds
 one_division input firsts seconds s t =
     let x = same_ending (ending_text s).1 (ending_text t).1 in
     same_list firsts seconds (omega arith) (omega arith) s.2 t.2 x.many

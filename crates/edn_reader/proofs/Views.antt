@@ -13,17 +13,17 @@ use Rattle.edn_reader.specs.declared.element.Core.{Core}
 use Rattle.edn_reader.specs.declared.element.Element.{Element}
 use Rattle.edn_reader.specs.declared.field.Field.{Field}
 use Rattle.edn_reader.specs.declared.parts.Parts.{Parts}
-use Rattle.edn_reader.specs.declared.skip.Front.{Front}
+use Rattle.edn_reader.specs.declared.lookahead.Lookahead.{Lookahead}
 use Rattle.edn_reader.specs.declared.token.Token.{Token}
 use Rattle.edn_reader.specs.declared.token.Token.TheVariants.{Leaf, Opens, Closes}
 use Rattle.edn_reader.specs.declared.token.Opener.{Opener}
 use Rattle.edn_reader.specs.declared.token.Opener.TheVariants as openers
 use Rattle.edn_reader.specs.declared.view.MapView.{MapView}
 use Rattle.edn_reader.specs.Bytes.{class_of}
-use Rattle.edn_reader.specs.Grammar.{Piece, untagged, IsToken, white, comment, run, hashed, character, text, hash_text, opening, set, discard, tag, close, opener_of, kind_of, fits, is_paired, is_odd, IsGap, nothing, IsElementAt, leaf, bracketed, tagged, IsElements, none, next, IsElement}
+use Rattle.edn_reader.specs.Grammar.{ElementModel, untagged, IsToken, white, comment, run, hashed, character, text, hash_text, opening, set, discard, tag, close, opener_of, kind_of, fits, is_paired, is_odd, IsGap, nothing, IsElementAt, leaf, bracketed, tagged, IsElements, none, next, IsElement}
 use Rattle.edn_reader.specs.Text.{IsFront}
 use Rattle.edn_reader.specs.Token.{lexed}
-use Rattle.edn_reader.specs.Skipping.{kind_token, NoGap, Stands, SkipsElement, SkipsGap, SkipsTags, IsInside}
+use Rattle.edn_reader.specs.Skipping.{kind_token, NoGap, HasToken, SkipsElement, SkipsGap, SkipsTags, IsInside}
 use Rattle.edn_reader.specs.Pairs.{PartsFrom, HasParts, in_turn, HasPairs, is_word, values_of}
 use Rattle.edn_reader.specs.Lent.{piece_of, PartsLeft, NextPart, PairsLeft, NextPair}
 use Rattle.edn_reader.specs.Given.{given, seen as seen_of}
@@ -34,15 +34,15 @@ use Rattle.edn_reader.proofs.Unique.{same_first, no_first}
 
 -- ---- elements on their own
 
--- What is behind the tags of an element is an element.
-pub untagged_is_element : (piece : Piece) → IsElement piece → IsElement (untagged piece)
+-- an element without its tags is an element
+pub untagged_is_element : (piece : ElementModel) → IsElement piece → IsElement (untagged piece)
 untagged_is_element piece h =
     let c = core_at h.1 in
     let same : c.ahead ≡ piece.core.start - piece.start = omega (arith, c.place) in
     (h.0, subst (λ (n : ℕ). IsElementAt 64 piece.core.kind piece.core piece.core.start (drop n piece.text) h.0 []) same c.element)
 
--- Every element of a list of elements is one on its own.
-pub each_is_element : {room p q : ℕ} {pieces : List Piece} {a b : List ℕ} → room ≤ 64 → IsElements room p a pieces q b → AllByRecursion IsElement pieces
+-- every element of a list of elements is one on its own
+pub each_is_element : {room p q : ℕ} {pieces : List ElementModel} {a b : List ℕ} → room ≤ 64 → IsElements room p a pieces q b → AllByRecursion IsElement pieces
 each_is_element low none = tt
 each_is_element low (next {room = room} {ended = here} {beyond = beyond} {piece = piece} gap element whole others) =
     let m = moved_element element [] (λ h. tt) in
@@ -53,12 +53,12 @@ each_is_element low (next {room = room} {ended = here} {beyond = beyond} {piece 
     subst (λ (r : ℕ). IsElementAt r piece.kind piece.core piece.start piece.text here []) (omega arith) (wider_element (64 - room) there) in
     ((here, roomy), each_is_element low others)
 
-last_of : (pieces : List Piece) (piece : Piece) → AllByRecursion IsElement (pieces ++ piece ∷ []) → IsElement piece
+last_of : (pieces : List ElementModel) (piece : ElementModel) → AllByRecursion IsElement (pieces ++ piece ∷ []) → IsElement piece
 last_of [] piece h = h.0
 last_of (p ∷ pieces) piece h = last_of pieces piece h.1
 
--- The element that a longer front ends with.
-pub last_is_element : (input : List ℕ) (pieces : List Piece) (piece : Piece) (at : ℕ) → IsFront input (pieces ++ piece ∷ []) at → IsElement piece
+-- the last element of a prefix of gaps and elements is one on its own
+pub last_is_element : (input : List ℕ) (pieces : List ElementModel) (piece : ElementModel) (at : ℕ) → IsFront input (pieces ++ piece ∷ []) at → IsElement piece
 last_is_element input pieces piece at front = let low : 64 ≤ 64 = omega arith in last_of pieces piece (each_is_element low front)
 
 -- ---- brackets
@@ -110,7 +110,7 @@ bracket_opener Curly = refl
 no_bracket : (x : Opener) (bracket : Bracket) → is_bracket x ≡ false → x ≡ opener_of bracket → ⊥
 no_bracket x bracket e same = let both : false ≡ true = sym e ∙ ap is_bracket same ∙ bracket_opener bracket in absurd cc
 
--- The byte that opens so, and what is behind it.
+-- the byte of an opening bracket, and the bytes after it
 pub record OpenedBy (bracket : Bracket) (p : ℕ) (a : List ℕ) (q : ℕ) (b : List ℕ) : Type 0 where
   pub byte : ℕ
   pub bytes : a ≡ byte ∷ b
@@ -149,7 +149,7 @@ curly_is : (b : ℕ) → class_of b ≡ classes.Opens Curly → b ≡ 123
 unfolding class_of
 curly_is b e = grind (arith, nat_tests)
 
--- The one byte of a bracket.
+-- the one byte of an opening bracket
 pub record OneByte (bracket : Bracket) (byte : ℕ) : Type 0 where
   pub opens : class_of byte ≡ classes.Opens bracket
   pub alone : (b : ℕ) → class_of b ≡ classes.Opens bracket → b ≡ byte
@@ -163,8 +163,8 @@ curly = record { opens = opens_curly; alone = curly_is }
 pub tail_same : {x y : ℕ} {a b : List ℕ} → x ∷ a ≡ y ∷ b → a ≡ b
 tail_same e = cc
 
-pub parts_of_inside : (bracket : Bracket) (byte : ℕ) → OneByte bracket byte → (parts : Parts) (piece : Piece) → IsInside (Some parts) piece (kind_of (opener_of bracket)) byte
-    → (pieces : List Piece) → HasParts (opener_of bracket) piece pieces ↔ PartsLeft (opener_of bracket) parts pieces
+pub parts_of_inside : (bracket : Bracket) (byte : ℕ) → OneByte bracket byte → (parts : Parts) (piece : ElementModel) → IsInside (Some parts) piece (kind_of (opener_of bracket)) byte
+    → (pieces : List ElementModel) → HasParts (opener_of bracket) piece pieces ↔ PartsLeft (opener_of bracket) parts pieces
 parts_of_inside bracket byte one parts piece inside pieces =
     let opener = opener_of bracket in
     let place : suc piece.core.start ≡ parts.at = sym inside.2 in (
@@ -184,7 +184,7 @@ parts_of_inside bracket byte one parts piece inside pieces =
           },
     )
 
-pub no_parts : (bracket : Bracket) (byte : ℕ) → OneByte bracket byte → (piece : Piece) → IsInside None piece (kind_of (opener_of bracket)) byte → (pieces : List Piece) → HasParts (opener_of bracket) piece pieces → ⊥
+pub no_parts : (bracket : Bracket) (byte : ℕ) → OneByte bracket byte → (piece : ElementModel) → IsInside None piece (kind_of (opener_of bracket)) byte → (pieces : List ElementModel) → HasParts (opener_of bracket) piece pieces → ⊥
 no_parts bracket byte one piece outside pieces h =
     let o = opened_by bracket h.opens refl in
     outside h.kind h.left (o.bytes ∙ ap (λ (x : ℕ). x ∷ h.left) (one.alone o.byte o.class))
@@ -226,14 +226,14 @@ bracket_no_tag Square e = cc
 bracket_no_tag Curly e = cc
 
 record Bracketed (bracket : Bracket) (p : ℕ) (a : List ℕ) : Type 0 where
-  pieces : List Piece
+  pieces : List ElementModel
   inner : ℕ
   left : List ℕ
   opens : IsToken (Opens (opener_of bracket)) p a inner left
   inside : PartsFrom (opener_of bracket) inner left pieces
   even : is_paired (opener_of bracket) && is_odd pieces ≡ false
 
-parts_from : {room inner ends begins after : ℕ} {left beyond behind rest : List ℕ} {opener : Opener} {last : Bracket} (pieces : List Piece) → room ≡ 63
+parts_from : {room inner ends begins after : ℕ} {left beyond behind rest : List ℕ} {opener : Opener} {last : Bracket} (pieces : List ElementModel) → room ≡ 63
     → IsElements room inner left pieces ends beyond → IsGap room ends beyond begins behind → IsToken (Closes last) begins behind after rest → fits opener last ≡ true → rest ≡ []
     → PartsFrom opener inner left pieces
 parts_from {room} {inner} {ends} {begins} {after} {left} {beyond} {behind} {rest} {opener} {last} pieces less els gap token fit end = record {
@@ -267,9 +267,9 @@ bracketed_parts bracket (bracketed {room = room} {place = place} {inner = inner}
     }
 bracketed_parts bracket (tagged token gap element) full k end = absurd (bracket_no_tag bracket k)
 
--- What is an element and has the kind of a bracket behind its tags has parts.
-pub has_parts : (bracket : Bracket) (piece : Piece) → IsElement piece → piece.core.kind ≡ kind_of (opener_of bracket)
-    → (pieces : List Piece) × HasParts (opener_of bracket) piece pieces × (is_paired (opener_of bracket) && is_odd pieces ≡ false)
+-- an element that is a bracket without its tags has parts
+pub has_parts : (bracket : Bracket) (piece : ElementModel) → IsElement piece → piece.core.kind ≡ kind_of (opener_of bracket)
+    → (pieces : List ElementModel) × HasParts (opener_of bracket) piece pieces × (is_paired (opener_of bracket) && is_odd pieces ≡ false)
 has_parts bracket piece h kind =
     let m = bracketed_parts bracket (untagged_is_element piece h).1 refl kind refl in
     (m.pieces, record { kind = kind; inner = m.inner; left = m.left; opens = m.opens; inside = m.inside }, m.even)
@@ -278,15 +278,15 @@ not-not : (t : Bool) → not (not t) ≡ t
 not-not true = refl
 not-not false = refl
 
--- Every map has its pairs.
-pub paired : (pieces : List Piece) → is_odd pieces ≡ false → (pairs : List (Piece × Piece)) × (in_turn pairs ≡ pieces)
+-- an even number of elements are pairs, so every map has pairs
+pub paired : (pieces : List ElementModel) → is_odd pieces ≡ false → (pairs : List (ElementModel × ElementModel)) × (in_turn pairs ≡ pieces)
 paired [] e = ([], refl)
 paired (p ∷ []) e = absurd cc
 paired (p ∷ q ∷ pieces) e =
     let rest = paired pieces (sym (not-not (is_odd pieces)) ∙ e) in
-    ((p, q) ∷ rest.0, ap (λ (ps : List Piece). p ∷ q ∷ ps) rest.1)
+    ((p, q) ∷ rest.0, ap (λ (ps : List ElementModel). p ∷ q ∷ ps) rest.1)
 
-pub has_pairs : (piece : Piece) → IsElement piece → piece.core.kind ≡ kinds.Map → (pairs : List (Piece × Piece)) × HasPairs piece pairs
+pub has_pairs : (piece : ElementModel) → IsElement piece → piece.core.kind ≡ kinds.Map → (pairs : List (ElementModel × ElementModel)) × HasPairs piece pairs
 has_pairs piece h kind =
     let m = has_parts Curly piece h kind in
     let pairs = paired m.0 m.2 in
@@ -294,8 +294,8 @@ has_pairs piece h kind =
 
 -- ---- the next part
 
--- The first of several elements.
-record First (room p : ℕ) (a : List ℕ) (piece : Piece) (pieces : List Piece) (ends : ℕ) (beyond : List ℕ) : Type 0 where
+-- the first of several elements
+record First (room p : ℕ) (a : List ℕ) (piece : ElementModel) (pieces : List ElementModel) (ends : ℕ) (beyond : List ℕ) : Type 0 where
   left : List ℕ
   ended : ℕ
   behind : List ℕ
@@ -304,14 +304,14 @@ record First (room p : ℕ) (a : List ℕ) (piece : Piece) (pieces : List Piece)
   whole : left ≡ piece.text ++ behind
   others : IsElements room ended behind pieces ends beyond
 
-first_of : {room p ends : ℕ} {a beyond : List ℕ} {piece : Piece} {pieces : List Piece} → IsElements room p a (piece ∷ pieces) ends beyond → First room p a piece pieces ends beyond
+first_of : {room p ends : ℕ} {a beyond : List ℕ} {piece : ElementModel} {pieces : List ElementModel} → IsElements room p a (piece ∷ pieces) ends beyond → First room p a piece pieces ends beyond
 first_of (next {ended = ended} {left = left} {beyond = behind} gap element whole others) =
     record { left = left; ended = ended; behind = behind; gap = gap; element = element; whole = whole; others = others }
 
 none_of : {room p ends : ℕ} {a beyond : List ℕ} → IsElements room p a [] ends beyond → (p ≡ ends) × (a ≡ beyond)
 none_of none = (refl, refl)
 
--- Where a gap ends, what is left stands.
+-- a gap ends where it was found to end, and there its rest begins
 gap_over : {room p q : ℕ} {a b : List ℕ} (start : ℕ) → IsGap room p a q b → NoGap (lexed b).0 → SkipsGap a 0 start → (p + start ≡ q) × (drop start a ≡ b)
 gap_over {room} {p} {q} {a} {b} start gap clear skips =
     let long : p + start ≡ q + 0 = skips room p q b gap clear in
@@ -327,8 +327,8 @@ no_first_kind opener at left start h skips =
     let here = gap_over start gap (subst NoGap (sym close) tt) skips in
     ap (λ (a : List ℕ). kind_token (lexed a).0) here.1 ∙ ap kind_token close
 
--- What stands at the places that are found.
-record Reached (left : List ℕ) (at start middle : ℕ) (piece : Piece) (ended : ℕ) (behind : List ℕ) : Type 0 where
+-- what the bytes have at the indices that were found
+record Reached (left : List ℕ) (at start middle : ℕ) (piece : ElementModel) (ended : ℕ) (behind : List ℕ) : Type 0 where
   begins : at + start ≡ piece.start
   first : kind_token (lexed (drop start left)).0 ≡ Some piece.kind
   core : at + middle ≡ piece.core.start
@@ -336,7 +336,7 @@ record Reached (left : List ℕ) (at start middle : ℕ) (piece : Piece) (ended 
   room : ℕ
   element : IsElementAt room piece.core.kind piece.core piece.core.start (drop middle left) ended behind
 
-reached : {room at ended : ℕ} {left beyond behind : List ℕ} (piece : Piece) (start middle : ℕ) → IsGap room at left piece.start beyond → IsElementAt room piece.kind piece.core piece.start beyond ended behind
+reached : {room at ended : ℕ} {left beyond behind : List ℕ} (piece : ElementModel) (start middle : ℕ) → IsGap room at left piece.start beyond → IsElementAt room piece.kind piece.core piece.start beyond ended behind
     → SkipsGap left 0 start → SkipsTags left start middle → Reached left at start middle piece ended behind
 reached {room} {at} {ended} {left} {beyond} {behind} piece start middle gap element skips tags =
     let here = gap_over start gap (element_no_gap element) skips in
@@ -360,9 +360,9 @@ reached {room} {at} {ended} {left} {beyond} {behind} piece start middle gap elem
 no_kind : {kind : ElementKind} {found : Option ElementKind} → found ≡ Some kind → found ≡ None → ⊥
 no_kind e f = let both = sym e ∙ f in cc
 
--- Where no element begins, none is left.
+-- where no element begins, none is left
 pub none_left : (opener : Opener) (parts : Parts) (start : ℕ) → SkipsGap parts.left.now 0 start → kind_token (lexed (drop start parts.left.now)).0 ≡ None
-    → (pieces : List Piece) → PartsLeft opener parts pieces → pieces ≡ []
+    → (pieces : List ElementModel) → PartsLeft opener parts pieces → pieces ≡ []
 none_left opener parts start skips e [] h = refl
 none_left opener parts start skips e (piece ∷ pieces) h =
     let f = first_of h.elements in
@@ -370,12 +370,12 @@ none_left opener parts start skips e (piece ∷ pieces) h =
     absurd (no_kind (ap (λ (a : List ℕ). kind_token (lexed a).0) here.1 ∙ element_kind f.element) e)
 
 pub no_core_left : (opener : Opener) (parts : Parts) (start middle : ℕ) → SkipsGap parts.left.now 0 start → SkipsTags parts.left.now start middle
-    → kind_token (lexed (drop middle parts.left.now)).0 ≡ None → (pieces : List Piece) → PartsLeft opener parts pieces → pieces ≡ []
+    → kind_token (lexed (drop middle parts.left.now)).0 ≡ None → (pieces : List ElementModel) → PartsLeft opener parts pieces → pieces ≡ []
 no_core_left opener parts start middle skips tags e [] h = refl
 no_core_left opener parts start middle skips tags e (piece ∷ pieces) h =
     let f = first_of h.elements in absurd (no_kind (reached piece start middle f.gap f.element skips tags).inner e)
 
-abbrev pub found_piece : Parts → ℕ → ℕ → ℕ → ElementKind → ElementKind → Piece
+abbrev pub found_piece : Parts → ℕ → ℕ → ℕ → ElementKind → ElementKind → ElementModel
 found_piece parts start middle end kind inner = record {
   kind = kind;
   start = parts.at + start;
@@ -386,7 +386,7 @@ found_piece parts start middle end kind inner = record {
 kind_same : {found : Option ElementKind} {x y : ElementKind} → found ≡ Some x → found ≡ Some y → x ≡ y
 kind_same e f = let both = sym e ∙ f in cc
 
-same_piece : (x y : Piece) → x.kind ≡ y.kind → x.start ≡ y.start → x.text ≡ y.text → x.core.kind ≡ y.core.kind → x.core.start ≡ y.core.start → x ≡ y
+same_piece : (x y : ElementModel) → x.kind ≡ y.kind → x.start ≡ y.start → x.text ≡ y.text → x.core.kind ≡ y.core.kind → x.core.start ≡ y.core.start → x ≡ y
 same_piece x y e f g h i =
     ap (λ (k : ElementKind). record { kind = k; start = x.start; text = x.text; core = x.core }) e
     ∙ ap (λ (n : ℕ). record { kind = y.kind; start = n; text = x.text; core = x.core }) f
@@ -394,15 +394,15 @@ same_piece x y e f g h i =
     ∙ ap (λ (k : ElementKind). record { kind = y.kind; start = y.start; text = y.text; core = record { kind = k; start = x.core.start } }) h
     ∙ ap (λ (n : ℕ). record { kind = y.kind; start = y.start; text = y.text; core = record { kind = y.core.kind; start = n } }) i
 
-abbrev pub FoundPart : Opener → Piece → Parts → List Piece → Type 0
+abbrev pub FoundPart : Opener → ElementModel → Parts → List ElementModel → Type 0
 FoundPart opener found after [] = ⊥
 FoundPart opener found after (piece ∷ pieces) = (found ≡ piece) × PartsLeft opener after pieces
 
--- What is found is the first element, and the others are left.
+-- what was found is the first element, and the others are left
 pub found_part : (opener : Opener) (old after : Parts) (start middle end : ℕ) (kind inner : ElementKind) → SkipsGap old.left.now 0 start → SkipsTags old.left.now start middle
     → SkipsElement old.left.now middle end → start ≤ middle → middle ≤ end → Some kind ≡ kind_token (lexed (drop start old.left.now)).0
     → Some inner ≡ kind_token (lexed (drop middle old.left.now)).0
-    → after.at ≡ old.at + end → after.left.now ≡ drop end old.left.now → (pieces : List Piece) → PartsLeft opener old pieces → FoundPart opener (found_piece old start middle end kind inner) after pieces
+    → after.at ≡ old.at + end → after.left.now ≡ drop end old.left.now → (pieces : List ElementModel) → PartsLeft opener old pieces → FoundPart opener (found_piece old start middle end kind inner) after pieces
 found_part opener old after start middle end kind inner skips tags ends low high first second at left [] h =
     absurd (no_kind (sym first) (no_first_kind opener old.at old.left.now start h skips))
 found_part opener old after start middle end kind inner skips tags ends low high first second at left (piece ∷ pieces) h =
@@ -428,9 +428,9 @@ found_part opener old after start middle end kind inner skips tags ends low high
       record { ends = h.ends; beyond = h.beyond; begins = h.begins; behind = h.behind; after = h.after; bracket = h.bracket; elements = others; gap = h.gap; close = h.close; closes = h.closes },
     )
 
--- The same of an element that is one token.
-pub leaf_part : (opener : Opener) (old after : Parts) (front : Front) (kind : ElementKind) → SkipsGap old.left.now 0 front.at → Stands old.left.now front → front.found.token ≡ Leaf kind
-    → after.at ≡ old.at + front.found.end → after.left.now ≡ drop front.found.end old.left.now → (pieces : List Piece) → PartsLeft opener old pieces
+-- an element that was found as one token is the first one, and the others are left
+pub leaf_part : (opener : Opener) (old after : Parts) (front : Lookahead) (kind : ElementKind) → SkipsGap old.left.now 0 front.at → HasToken old.left.now front → front.found.token ≡ Leaf kind
+    → after.at ≡ old.at + front.found.end → after.left.now ≡ drop front.found.end old.left.now → (pieces : List ElementModel) → PartsLeft opener old pieces
     → FoundPart opener (found_piece old front.at front.at front.found.end kind kind) after pieces
 leaf_part opener old after front kind skips stands is at left =
     let bytes = old.left.now in
@@ -438,120 +438,120 @@ leaf_part opener old after front kind skips stands is at left =
     found_part opener old after front.at front.at front.found.end kind kind skips (leaf_core bytes front kind stands is) (leaf_end bytes front kind stands is)
     (omega arith) (omega (arith, stands.forward)) begins begins at left
 
-pub next_part : (opener : Opener) (after : Parts) (element : Element) (found : Piece) → piece_of element ≡ found → (pieces : List Piece) → FoundPart opener found after pieces → NextPart opener (Some element) after pieces
+pub next_part : (opener : Opener) (after : Parts) (element : Element) (found : ElementModel) → piece_of element ≡ found → (pieces : List ElementModel) → FoundPart opener found after pieces → NextPart opener (Some element) after pieces
 next_part opener after element found same [] h = absurd h
 next_part opener after element found same (piece ∷ pieces) h = (same ∙ h.0, h.1)
 
-pub parts_are_elements : {opener : Opener} {place : ℕ} {bytes : List ℕ} {pieces : List Piece} → PartsFrom opener place bytes pieces → AllByRecursion IsElement pieces
+pub parts_are_elements : {opener : Opener} {place : ℕ} {bytes : List ℕ} {pieces : List ElementModel} → PartsFrom opener place bytes pieces → AllByRecursion IsElement pieces
 parts_are_elements h = let low : 63 ≤ 64 = omega arith in each_is_element low h.elements
 
 -- ---- pairs
 
-pub no_pair : (pairs : List (Piece × Piece)) → in_turn pairs ≡ [] → pairs ≡ []
+pub no_pair : (pairs : List (ElementModel × ElementModel)) → in_turn pairs ≡ [] → pairs ≡ []
 no_pair [] e = refl
 no_pair (pair ∷ pairs) e = absurd cc
 
-pub first_alone : (old middle after : Parts) (view : MapView) (key : Element) → ((pieces : List Piece) → PartsLeft openers.Map old pieces → NextPart openers.Map (Some key) middle pieces)
-    → ((pieces : List Piece) → PartsLeft openers.Map middle pieces → NextPart openers.Map None after pieces) → (pairs : List (Piece × Piece)) → PartsLeft openers.Map old (in_turn pairs) → NextPair None view pairs
+pub first_alone : (old middle after : Parts) (view : MapView) (key : Element) → ((pieces : List ElementModel) → PartsLeft openers.Map old pieces → NextPart openers.Map (Some key) middle pieces)
+    → ((pieces : List ElementModel) → PartsLeft openers.Map middle pieces → NextPart openers.Map None after pieces) → (pairs : List (ElementModel × ElementModel)) → PartsLeft openers.Map old (in_turn pairs) → NextPair None view pairs
 first_alone old middle after view key first second [] h = refl
 first_alone old middle after view key first second (pair ∷ pairs) h =
     let e : pair.1 ∷ in_turn pairs ≡ [] = second (pair.1 ∷ in_turn pairs) (first (pair.0 ∷ pair.1 ∷ in_turn pairs) h).1 in absurd cc
 
-pub both_given : (old middle : Parts) (view : MapView) (key value : Element) → ((pieces : List Piece) → PartsLeft openers.Map old pieces → NextPart openers.Map (Some key) middle pieces)
-    → ((pieces : List Piece) → PartsLeft openers.Map middle pieces → NextPart openers.Map (Some value) view.parts pieces) → (pairs : List (Piece × Piece)) → PartsLeft openers.Map old (in_turn pairs)
+pub both_given : (old middle : Parts) (view : MapView) (key value : Element) → ((pieces : List ElementModel) → PartsLeft openers.Map old pieces → NextPart openers.Map (Some key) middle pieces)
+    → ((pieces : List ElementModel) → PartsLeft openers.Map middle pieces → NextPart openers.Map (Some value) view.parts pieces) → (pairs : List (ElementModel × ElementModel)) → PartsLeft openers.Map old (in_turn pairs)
     → NextPair (Some (key, value)) view pairs
 both_given old middle view key value first second [] h = absurd (first [] h)
 both_given old middle view key value first second (pair ∷ pairs) h =
     let f = first (pair.0 ∷ pair.1 ∷ in_turn pairs) h in
     let s = second (pair.1 ∷ in_turn pairs) f.1 in (f.0, s.0, s.1)
 
-abbrev AreElements : Piece × Piece → Type 0
+abbrev AreElements : ElementModel × ElementModel → Type 0
 AreElements pair = IsElement pair.0 × IsElement pair.1
 
-pairs_each : (pairs : List (Piece × Piece)) → AllByRecursion IsElement (in_turn pairs) → AllByRecursion AreElements pairs
+pairs_each : (pairs : List (ElementModel × ElementModel)) → AllByRecursion IsElement (in_turn pairs) → AllByRecursion AreElements pairs
 pairs_each [] h = tt
 pairs_each (pair ∷ pairs) h = ((h.0, h.1.0), pairs_each pairs h.1.1)
 
-pub pairs_are_elements : {opener : Opener} {place : ℕ} {bytes : List ℕ} (pairs : List (Piece × Piece)) → PartsFrom opener place bytes (in_turn pairs)
+pub pairs_are_elements : {opener : Opener} {place : ℕ} {bytes : List ℕ} (pairs : List (ElementModel × ElementModel)) → PartsFrom opener place bytes (in_turn pairs)
     → AllByRecursion (λ pair. IsElement pair.0 × IsElement pair.1) pairs
 pairs_are_elements pairs h = pairs_each pairs (parts_are_elements h)
 
 -- ---- fields
 
-abbrev IsOf : Field → List Piece → Type 0
+abbrev IsOf : Field → List ElementModel → Type 0
 IsOf found values = seen_of found ≡ given values
 
--- The values found so far are those of the pairs that were seen.
+-- the values found so far are those of the pairs that were seen
 abbrev pub Seen : MapView → MapView → List ℕ → Field → Type 0
 Seen first view key found =
-    (pairs : List (Piece × Piece)) → PairsLeft first pairs
-    → (seen left : List (Piece × Piece)) × (pairs ≡ seen ++ left) × PairsLeft view left × IsOf found (values_of key seen)
+    (pairs : List (ElementModel × ElementModel)) → PairsLeft first pairs
+    → (seen left : List (ElementModel × ElementModel)) × (pairs ≡ seen ++ left) × PairsLeft view left × IsOf found (values_of key seen)
 
-abbrev fits_key : List ℕ → Piece × Piece → Bool
+abbrev fits_key : List ℕ → ElementModel × ElementModel → Bool
 fits_key key pair = is_word key pair.0
 
-one_value : (key : List ℕ) (pair : Piece × Piece) (pairs : List (Piece × Piece)) (t : Bool) → fits_key key pair ≡ t → values_of key (pair ∷ pairs) ≡ cond t (pair.1 ∷ values_of key pairs) (values_of key pairs)
+one_value : (key : List ℕ) (pair : ElementModel × ElementModel) (pairs : List (ElementModel × ElementModel)) (t : Bool) → fits_key key pair ≡ t → values_of key (pair ∷ pairs) ≡ cond t (pair.1 ∷ values_of key pairs) (values_of key pairs)
 one_value key pair pairs true e = rw e refl
 one_value key pair pairs false e = rw e refl
 
-behind : (t : Bool) (x : Piece) (a b c : List Piece) → a ≡ b ++ c → cond t (x ∷ a) a ≡ cond t (x ∷ b) b ++ c
-behind true x a b c e = ap (λ (xs : List Piece). x ∷ xs) e
+behind : (t : Bool) (x : ElementModel) (a b c : List ElementModel) → a ≡ b ++ c → cond t (x ∷ a) a ≡ cond t (x ∷ b) b ++ c
+behind true x a b c e = ap (λ (xs : List ElementModel). x ∷ xs) e
 behind false x a b c e = e
 
-values_behind : (key : List ℕ) (p : Piece × Piece) (seen more : List (Piece × Piece)) (values : List Piece) (t : Bool) → fits_key key p ≡ t → values_of key (seen ++ more) ≡ values_of key seen ++ values
+values_behind : (key : List ℕ) (p : ElementModel × ElementModel) (seen more : List (ElementModel × ElementModel)) (values : List ElementModel) (t : Bool) → fits_key key p ≡ t → values_of key (seen ++ more) ≡ values_of key seen ++ values
     → values_of key (p ∷ seen ++ more) ≡ values_of key (p ∷ seen) ++ values
 values_behind key p seen more values t e h =
     one_value key p (seen ++ more) t e ∙ behind t p.1 (values_of key (seen ++ more)) (values_of key seen) values h
-    ∙ ap (λ (xs : List Piece). xs ++ values) (sym (one_value key p seen t e))
+    ∙ ap (λ (xs : List ElementModel). xs ++ values) (sym (one_value key p seen t e))
 
-values_more : (key : List ℕ) (seen : List (Piece × Piece)) (pair : Piece × Piece) → fits_key key pair ≡ true → values_of key (seen ++ pair ∷ []) ≡ values_of key seen ++ pair.1 ∷ []
+values_more : (key : List ℕ) (seen : List (ElementModel × ElementModel)) (pair : ElementModel × ElementModel) → fits_key key pair ≡ true → values_of key (seen ++ pair ∷ []) ≡ values_of key seen ++ pair.1 ∷ []
 values_more key [] pair e = one_value key pair [] true e
 values_more key (p ∷ seen) pair e = values_behind key p seen (pair ∷ []) (pair.1 ∷ []) (fits_key key p) refl (values_more key seen pair e)
 
-values_same : (key : List ℕ) (seen : List (Piece × Piece)) (pair : Piece × Piece) → fits_key key pair ≡ false → values_of key (seen ++ pair ∷ []) ≡ values_of key seen
+values_same : (key : List ℕ) (seen : List (ElementModel × ElementModel)) (pair : ElementModel × ElementModel) → fits_key key pair ≡ false → values_of key (seen ++ pair ∷ []) ≡ values_of key seen
 values_same key [] pair e = one_value key pair [] false e
 values_same key (p ∷ seen) pair e =
     values_behind key p seen (pair ∷ []) [] (fits_key key p) refl (values_same key seen pair e ∙ sym (append-nil (values_of key seen))) ∙ append-nil (values_of key (p ∷ seen))
 
-with_key : (view after : MapView) (key : List ℕ) (found more : Field) (name value : Element) (seen left pairs : List (Piece × Piece)) → pairs ≡ seen ++ left
+with_key : (view after : MapView) (key : List ℕ) (found more : Field) (name value : Element) (seen left pairs : List (ElementModel × ElementModel)) → pairs ≡ seen ++ left
     → NextPair (Some (name, value)) after left → IsOf found (values_of key seen) → is_word key (piece_of name) ≡ true
-    → ((values : List Piece) → IsOf found values → IsOf more (values ++ piece_of value ∷ []))
-    → (s l : List (Piece × Piece)) × (pairs ≡ s ++ l) × PairsLeft after l × IsOf more (values_of key s)
+    → ((values : List ElementModel) → IsOf found values → IsOf more (values ++ piece_of value ∷ []))
+    → (s l : List (ElementModel × ElementModel)) × (pairs ≡ s ++ l) × PairsLeft after l × IsOf more (values_of key s)
 with_key view after key found more name value seen [] pairs e n k t f = absurd n
 with_key view after key found more name value seen (pair ∷ left) pairs e n k t f =
-    let same : fits_key key pair ≡ true = subst (λ (x : Piece). is_word key x ≡ true) n.0 t in
-    let longer : IsOf more (values_of key seen ++ pair.1 ∷ []) = subst (λ (x : Piece). IsOf more (values_of key seen ++ x ∷ [])) n.1 (f (values_of key seen) k) in
+    let same : fits_key key pair ≡ true = subst (λ (x : ElementModel). is_word key x ≡ true) n.0 t in
+    let longer : IsOf more (values_of key seen ++ pair.1 ∷ []) = subst (λ (x : ElementModel). IsOf more (values_of key seen ++ x ∷ [])) n.1 (f (values_of key seen) k) in
     (seen ++ pair ∷ [], left, e ∙ sym (append_assoc seen (pair ∷ []) left), n.2, subst (IsOf more) (sym (values_more key seen pair same)) longer)
 
-with_other : (view after : MapView) (key : List ℕ) (found : Field) (name value : Element) (seen left pairs : List (Piece × Piece)) → pairs ≡ seen ++ left
+with_other : (view after : MapView) (key : List ℕ) (found : Field) (name value : Element) (seen left pairs : List (ElementModel × ElementModel)) → pairs ≡ seen ++ left
     → NextPair (Some (name, value)) after left → IsOf found (values_of key seen) → is_word key (piece_of name) ≡ false
-    → (s l : List (Piece × Piece)) × (pairs ≡ s ++ l) × PairsLeft after l × IsOf found (values_of key s)
+    → (s l : List (ElementModel × ElementModel)) × (pairs ≡ s ++ l) × PairsLeft after l × IsOf found (values_of key s)
 with_other view after key found name value seen [] pairs e n k t = absurd n
 with_other view after key found name value seen (pair ∷ left) pairs e n k t =
-    let same : fits_key key pair ≡ false = subst (λ (x : Piece). is_word key x ≡ false) n.0 t in
+    let same : fits_key key pair ≡ false = subst (λ (x : ElementModel). is_word key x ≡ false) n.0 t in
     (seen ++ pair ∷ [], left, e ∙ sym (append_assoc seen (pair ∷ []) left), n.2, subst (IsOf found) (sym (values_same key seen pair same)) k)
 
 pub seen_key : (first view after : MapView) (key : List ℕ) (found more : Field) (name value : Element) → Seen first view key found
-    → ((pairs : List (Piece × Piece)) → PairsLeft view pairs → NextPair (Some (name, value)) after pairs) → is_word key (piece_of name) ≡ true
-    → ((values : List Piece) → IsOf found values → IsOf more (values ++ piece_of value ∷ [])) → Seen first after key more
+    → ((pairs : List (ElementModel × ElementModel)) → PairsLeft view pairs → NextPair (Some (name, value)) after pairs) → is_word key (piece_of name) ≡ true
+    → ((values : List ElementModel) → IsOf found values → IsOf more (values ++ piece_of value ∷ [])) → Seen first after key more
 seen_key first view after key found more name value s n e f pairs h =
     let k = s pairs h in with_key view after key found more name value k.0 k.1 pairs k.2 (n k.1 k.3) k.4 e f
 
 pub seen_other : (first view after : MapView) (key : List ℕ) (found : Field) (name value : Element) → Seen first view key found
-    → ((pairs : List (Piece × Piece)) → PairsLeft view pairs → NextPair (Some (name, value)) after pairs) → is_word key (piece_of name) ≡ false → Seen first after key found
+    → ((pairs : List (ElementModel × ElementModel)) → PairsLeft view pairs → NextPair (Some (name, value)) after pairs) → is_word key (piece_of name) ≡ false → Seen first after key found
 seen_other first view after key found name value s n e pairs h =
     let k = s pairs h in with_other view after key found name value k.0 k.1 pairs k.2 (n k.1 k.3) k.4 e
 
-pub seen_end : (first view after : MapView) (key : List ℕ) (found : Field) → Seen first view key found → ((pairs : List (Piece × Piece)) → PairsLeft view pairs → NextPair None after pairs)
-    → (pairs : List (Piece × Piece)) → PairsLeft first pairs → IsOf found (values_of key pairs)
+pub seen_end : (first view after : MapView) (key : List ℕ) (found : Field) → Seen first view key found → ((pairs : List (ElementModel × ElementModel)) → PairsLeft view pairs → NextPair None after pairs)
+    → (pairs : List (ElementModel × ElementModel)) → PairsLeft first pairs → IsOf found (values_of key pairs)
 seen_end first view after key found s n pairs h =
     let k = s pairs h in
-    let e : pairs ≡ k.0 = k.2 ∙ ap (λ (left : List (Piece × Piece)). k.0 ++ left) (n k.1 k.3) ∙ append-nil k.0 in
-    subst (λ (ps : List (Piece × Piece)). IsOf found (values_of key ps)) (sym e) k.4
+    let e : pairs ≡ k.0 = k.2 ∙ ap (λ (left : List (ElementModel × ElementModel)). k.0 ++ left) (n k.1 k.3) ∙ append-nil k.0 in
+    subst (λ (ps : List (ElementModel × ElementModel)). IsOf found (values_of key ps)) (sym e) k.4
 
 -- ---- one list of parts
 
-only_none : (opener : Opener) (place : ℕ) (bytes : List ℕ) (pieces : List Piece) → PartsFrom opener place bytes [] → PartsFrom opener place bytes pieces → pieces ≡ []
+only_none : (opener : Opener) (place : ℕ) (bytes : List ℕ) (pieces : List ElementModel) → PartsFrom opener place bytes [] → PartsFrom opener place bytes pieces → pieces ≡ []
 only_none opener place bytes [] h k = refl
 only_none opener place bytes (piece ∷ pieces) h k =
     let same = none_of h.elements in
@@ -561,11 +561,11 @@ only_none opener place bytes (piece ∷ pieces) h k =
     subst (λ (p : ℕ). IsGap 63 p bytes h.begins h.behind) (sym same.0) (subst (λ (a : List ℕ). IsGap 63 h.ends a h.begins h.behind) (sym same.1) h.gap) in
     absurd (no_first low low f.gap f.element gap h.close)
 
-without_first : {opener : Opener} {place : ℕ} {bytes : List ℕ} {piece : Piece} {pieces : List Piece} (h : PartsFrom opener place bytes (piece ∷ pieces)) → PartsFrom opener (first_of h.elements).ended (first_of h.elements).behind pieces
+without_first : {opener : Opener} {place : ℕ} {bytes : List ℕ} {piece : ElementModel} {pieces : List ElementModel} (h : PartsFrom opener place bytes (piece ∷ pieces)) → PartsFrom opener (first_of h.elements).ended (first_of h.elements).behind pieces
 without_first h =
     record { ends = h.ends; beyond = h.beyond; begins = h.begins; behind = h.behind; after = h.after; bracket = h.bracket; elements = (first_of h.elements).others; gap = h.gap; close = h.close; closes = h.closes }
 
-one_list : (opener : Opener) (place : ℕ) (bytes : List ℕ) (firsts seconds : List Piece) → PartsFrom opener place bytes firsts → PartsFrom opener place bytes seconds → firsts ≡ seconds
+one_list : (opener : Opener) (place : ℕ) (bytes : List ℕ) (firsts seconds : List ElementModel) → PartsFrom opener place bytes firsts → PartsFrom opener place bytes seconds → firsts ≡ seconds
 one_list opener place bytes [] seconds h k = sym (only_none opener place bytes seconds h k)
 one_list opener place bytes (piece ∷ firsts) [] h k = only_none opener place bytes (piece ∷ firsts) k h
 one_list opener place bytes (piece ∷ firsts) (second ∷ seconds) h k =
@@ -576,10 +576,10 @@ one_list opener place bytes (piece ∷ firsts) (second ∷ seconds) h k =
     let moved : PartsFrom opener f.ended f.behind seconds =
     subst (λ (p : ℕ). PartsFrom opener p f.behind seconds) (sym same.1) (subst (λ (a : List ℕ). PartsFrom opener s.ended a seconds) (sym same.2) (without_first k)) in
     let others : firsts ≡ seconds = one_list opener f.ended f.behind firsts seconds (without_first h) moved in
-    ap (λ (x : Piece). x ∷ firsts) same.0 ∙ ap (λ (xs : List Piece). second ∷ xs) others
+    ap (λ (x : ElementModel). x ∷ firsts) same.0 ∙ ap (λ (xs : List ElementModel). second ∷ xs) others
 
--- One list of pairs gives one list of keys and values in turn.
-same_pairs : (firsts seconds : List (Piece × Piece)) → in_turn firsts ≡ in_turn seconds → firsts ≡ seconds
+-- a list of keys and values in turn is that of one list of pairs
+same_pairs : (firsts seconds : List (ElementModel × ElementModel)) → in_turn firsts ≡ in_turn seconds → firsts ≡ seconds
 same_pairs [] [] e = refl
 same_pairs [] (pair ∷ seconds) e = absurd cc
 same_pairs (pair ∷ firsts) [] e = absurd cc
@@ -590,8 +590,8 @@ same_pairs ((key, value) ∷ firsts) ((other, worth) ∷ seconds) e =
     let same = same_pairs firsts seconds rest in
     cc
 
--- An element with brackets has one list of elements.
-pub one_list_of_parts : (bracket : Bracket) (piece : Piece) (firsts seconds : List Piece) → HasParts (opener_of bracket) piece firsts → HasParts (opener_of bracket) piece seconds → firsts ≡ seconds
+-- an element with brackets has one list of elements
+pub one_list_of_parts : (bracket : Bracket) (piece : ElementModel) (firsts seconds : List ElementModel) → HasParts (opener_of bracket) piece firsts → HasParts (opener_of bracket) piece seconds → firsts ≡ seconds
 one_list_of_parts bracket piece firsts seconds h k =
     let o = opened_by bracket h.opens refl in
     let u = opened_by bracket k.opens refl in
@@ -601,6 +601,6 @@ one_list_of_parts bracket piece firsts seconds h k =
     subst (λ (p : ℕ). PartsFrom (opener_of bracket) p h.left seconds) place (subst (λ (a : List ℕ). PartsFrom (opener_of bracket) k.inner a seconds) tail k.inside) in
     one_list (opener_of bracket) h.inner h.left firsts seconds h.inside moved
 
--- A map has one list of pairs.
-pub one_list_of_pairs : (piece : Piece) (firsts seconds : List (Piece × Piece)) → HasPairs piece firsts → HasPairs piece seconds → firsts ≡ seconds
+-- a map has one list of pairs
+pub one_list_of_pairs : (piece : ElementModel) (firsts seconds : List (ElementModel × ElementModel)) → HasPairs piece firsts → HasPairs piece seconds → firsts ≡ seconds
 one_list_of_pairs piece firsts seconds h k = same_pairs firsts seconds (one_list_of_parts Curly piece (in_turn firsts) (in_turn seconds) h k)

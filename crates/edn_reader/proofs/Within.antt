@@ -1,4 +1,4 @@
--- Reading on over a piece: what each token says of each input that the piece stands in.
+-- Reading a chunk: what each token says of each input that has the chunk.
 use Rattle.std.proofs.Common.{◌≡◌, ◌⊎◌, inl, inr, ℕ, zero, suc, ◌+◌, ◌-◌, ◌<◌, ◌≤◌, true, false, List, [], ◌∷◌, ◌++◌, length, take, drop, Option, Some, None, Result, Ok, Err, refl, sym, ap, subst, ◌∙◌, append_assoc, arith, length-drop, append-nil}
 use Rattle.std.proofs.Math.Seq.{take-append_seam, take-append-add}
 use Rattle.std.proofs.lemmas.List.{drop-drop, length-take-le, take-append-drop}
@@ -20,12 +20,12 @@ use Rattle.edn_reader.specs.declared.token.Token.TheVariants as tokens
 use Rattle.edn_reader.specs.declared.tokens.Begun.{Begun}
 use Rattle.edn_reader.specs.declared.tokens.Reached.{Reached}
 use Rattle.edn_reader.specs.declared.tokens.Reached.TheVariants.{Ended, Within}
-use Rattle.edn_reader.specs.Grammar.{Piece}
+use Rattle.edn_reader.specs.Grammar.{ElementModel}
 use Rattle.edn_reader.specs.Text.{IsFront, outermost}
 use Rattle.edn_reader.specs.Grammar.{nothing}
 use Rattle.edn_reader.specs.Fault.{FaultOf, IsMemory, wanted_at, MemoryOnlyThere, AreElementsBefore}
 use Rattle.edn_reader.specs.Token.{found_at, lexed}
-use Rattle.edn_reader.specs.Resuming.{longer, resumed, last, IsAhead}
+use Rattle.edn_reader.specs.Resuming.{longer, resumed, last, LooksAhead}
 use Rattle.edn_reader.specs.Taking.{on, ends, fails, taken, GrowthRefused, StaysOpen, IsPieceAt, LeadsOver, piece_in, Reads}
 use Rattle.edn_reader.specs.Within.{StandsWithin, FaultBehind, StandsWhereWanted, outer, kept_token, kept, Reaches, ReadsOn, ReadsPiece, WantsInPiece, ReadsEnd, IsBetween, EndsAt}
 use Rattle.edn_reader.proofs.Lexing.{found_is}
@@ -39,39 +39,39 @@ use Rattle.edn_reader.proofs.Keeping.{rising_stands, outer_up, on_keeps, ends_ke
 left_over : (at start : ℕ) (input : List ℕ) → start ≤ at → drop (at - start) (drop start input) ≡ drop at input
 left_over at start input le = drop-drop (at - start) start input ∙ ap (λ (n : ℕ). drop n input) (omega (arith, le))
 
--- Of this input it is what its part makes of the bytes that are left.
-pub token_of : {input : List ℕ} {at : ℕ} {pieces : List Piece} {opens : List Open} {begun : Begun} → StandsWithin input at pieces opens begun
+-- in this input the token is what its part makes of the bytes that are left
+pub token_of : {input : List ℕ} {at : ℕ} {pieces : List ElementModel} {opens : List Open} {begun : Begun} → StandsWithin input at pieces opens begun
     → lexed (drop begun.start input) ≡ longer (at - begun.start) (resumed begun.part (drop at input))
 token_of {input = input} {at = at} {begun = begun} w =
     let so_far = take (at - begun.start) (drop begun.start input) in
     ap lexed (sym (take-append-drop (at - begun.start) (drop begun.start input)) ∙ ap (λ (xs : List ℕ). so_far ++ xs) (left_over at begun.start input w.low)) ∙ w.makes (drop at input)
 
--- Where nothing has begun it is what the bytes make.
+-- where nothing has begun, the token is what the bytes make
 pub nothing_makes : (n : ℕ) (bytes more : List ℕ) → n ≡ 0 → lexed (take n bytes ++ more) ≡ longer n (lexed more)
 nothing_makes zero bytes more e = let x = lexed more in same_size x.0 x.1 (0 + x.1) (omega arith)
 nothing_makes (suc n) bytes more e = absurd (omega arith)
 
--- ---- tokens of a piece
+-- ---- tokens of a chunk
 
--- The token that ends ahead is the one that the input has there.
-here : (input piece behind : List ℕ) (base at : ℕ) (found : Found) → IsPieceAt input base piece behind → at < length piece → IsAhead Nothing at (drop at piece) (aheads.Whole found)
+-- a token that ends within the chunk is the one that the input has there
+here : (input piece behind : List ℕ) (base at : ℕ) (found : Found) → IsPieceAt input base piece behind → at < length piece → LooksAhead Nothing at (drop at piece) (aheads.Whole found)
     → ◌≡◌ {A = Found} (record { token = found.token; end = base + found.end }) (found_at (base + at) (lexed (drop (base + at) input)))
 here input piece behind base at found is lt ahead =
     let k = ahead_whole Nothing at (drop at piece) found ahead in
     found_is (base + at) (base + found.end) (lexed (drop (base + at) input)) found.token (found.end - at)
     (ap lexed (in_piece input piece behind base at is (omega (arith, lt))) ∙ k.2 behind) (omega (arith, k.0))
 
--- Tokens lead from a place of the piece to another, in each input that it stands in.
+-- tokens lead from one index of the chunk to another, in each input that has the chunk
 abbrev pub Led : List ℕ → ℕ → ℕ → List Open → ℕ → List Open → Type 0
 Led piece base from opens at after =
-    (input behind : List ℕ) (pieces : List Piece) → IsPieceAt input base piece behind → StandsAt input pieces opens (base + from)
+    (input behind : List ℕ) (pieces : List ElementModel) → IsPieceAt input base piece behind → StandsAt input pieces opens (base + from)
     → StandsAt input pieces after (base + at) × (outer opens (base + from) ≤ outer after (base + at))
 
 pub led_nowhere : (piece : List ℕ) (base from : ℕ) (opens : List Open) → Led piece base from opens from opens
 led_nowhere piece base from opens input behind pieces is s = (s, omega arith)
 
 pub led_on : (piece : List ℕ) (base from at end : ℕ) (found : Found) (opens inner middle after : List Open) → Led piece base from opens at inner → at < length piece
-    → IsAhead Nothing at (drop at piece) (aheads.Whole found) → taken found.token (base + at) (base + found.end) inner ≡ on middle → LeadsOver piece found.end middle end after
+    → LooksAhead Nothing at (drop at piece) (aheads.Whole found) → taken found.token (base + at) (base + found.end) inner ≡ on middle → LeadsOver piece found.end middle end after
     → Led piece base from opens end after
 led_on piece base from at end found opens inner middle after led lt ahead t over input behind pieces is s =
     let k = ahead_whole Nothing at (drop at piece) found ahead in
@@ -90,7 +90,7 @@ led_on piece base from at end found opens inner middle after led lt ahead t over
     )
 
 pub reads_element : (piece : List ℕ) (base from at : ℕ) (found : Found) (span : Span) (opens inner after : List Open) → Led piece base from opens at inner → at < length piece
-    → IsAhead Nothing at (drop at piece) (aheads.Whole found) → taken found.token (base + at) (base + found.end) inner ≡ ends span
+    → LooksAhead Nothing at (drop at piece) (aheads.Whole found) → taken found.token (base + at) (base + found.end) inner ≡ ends span
     → ReadsOn piece base from opens (Ok (Ended span)) after
 reads_element piece base from at found span opens inner after led lt ahead t input behind pieces is s =
     let k = ahead_whole Nothing at (drop at piece) found ahead in
@@ -101,13 +101,13 @@ reads_element piece base from at found span opens inner after led lt ahead t inp
       omega (arith, before.1, ends_keeps found.token (base + at) (base + found.end) inner span (omega (arith, k.0)) (rising_stands before.0) t),
     )
 
--- A fault or want of memory at a token.
-fault_by : (input : List ℕ) (pieces : List Piece) (at : ℕ) (found : Found) (fault : EdnFault) (opens after : List Open) → at < length input → StandsAt input pieces opens at
+-- a fault at a token, or memory that was refused there
+fault_by : (input : List ℕ) (pieces : List ElementModel) (at : ℕ) (found : Found) (fault : EdnFault) (opens after : List Open) → at < length input → StandsAt input pieces opens at
     → found ≡ found_at at (lexed (drop at input)) → IsMemory fault ⊎ (taken found.token at found.end opens ≡ fails fault) → GrowthRefused found.token at opens fault after → FaultBehind input pieces fault
 fault_by input pieces at found fault opens after lt s e (inl memory) refused = (inl memory, memory_next input pieces at found fault opens after s e refused)
 fault_by input pieces at found fault opens after lt s e (inr t) refused = (inr (fault_next input pieces at found fault opens lt s e t), memory_next input pieces at found fault opens after s e refused)
 
--- What is open begins no sooner than at a place, whatever follows.
+-- what is open begins no earlier than a place, whatever follows
 outer_any : (keep p : ℕ) (opens : List Open) → keep ≤ outer opens p → keep ≤ outer opens keep
 outer_any keep p [] le = omega arith
 outer_any keep p (item ∷ opens) le = le
@@ -116,15 +116,15 @@ stays_outer : (keep p : ℕ) (opens after : List Open) → StaysOpen opens after
 stays_outer keep p opens after (inl same) le = subst (λ (o : List Open). keep ≤ outer o keep) (sym same) (outer_any keep p opens le)
 stays_outer keep p opens after (inr (item, whole)) le = outer_any keep item.place after (subst (λ (o : List Open). keep ≤ outer o p) whole le)
 
--- Where a growth was refused at a token, what was open before it is.
-stands_wanted : (input : List ℕ) (end : ℕ) (pieces : List Piece) (at : ℕ) (token : Token) (fault : EdnFault) (opens after : List Open) → at < end → StandsAt input pieces opens at
+-- where a growth was refused at a token, what was open before it still is
+stands_wanted : (input : List ℕ) (end : ℕ) (pieces : List ElementModel) (at : ℕ) (token : Token) (fault : EdnFault) (opens after : List Open) → at < end → StandsAt input pieces opens at
     → GrowthRefused token at opens fault after → StandsWhereWanted input end pieces after fault
 stands_wanted input end pieces at token fault opens after lt s refused =
     IfSome_then (wanted_at fault) refused (λ place is.
     (omega (arith, is.0, lt), subst (λ (n : ℕ). StandsAt input pieces after n) (sym is.0) (subst (λ (o : List Open). StandsAt input pieces o at) (sym is.1) s)))
 
 pub reads_fault : (piece : List ℕ) (base from at : ℕ) (found : Found) (fault : EdnFault) (opens inner after : List Open) → Led piece base from opens at inner → at < length piece
-    → IsAhead Nothing at (drop at piece) (aheads.Whole found) → IsMemory fault ⊎ (taken found.token (base + at) (base + found.end) inner ≡ fails fault)
+    → LooksAhead Nothing at (drop at piece) (aheads.Whole found) → IsMemory fault ⊎ (taken found.token (base + at) (base + found.end) inner ≡ fails fault)
     → GrowthRefused found.token (base + at) inner fault after → StaysOpen inner after → ReadsOn piece base from opens (Err fault) after
 reads_fault piece base from at found fault opens inner after led lt ahead t refused stays input behind pieces is s =
     let before = led input behind pieces is s in
@@ -135,7 +135,7 @@ reads_fault piece base from at found fault opens inner after led lt ahead t refu
     )
 
 pub reads_within : (piece : List ℕ) (base from at : ℕ) (part : Part) (opens inner : List Open) → Led piece base from opens at inner → at < length piece
-    → IsAhead Nothing at (drop at piece) (aheads.Within part) → ReadsOn piece base from opens (Ok (Within (record { start = base + at; part = part }))) inner
+    → LooksAhead Nothing at (drop at piece) (aheads.Within part) → ReadsOn piece base from opens (Ok (Within (record { start = base + at; part = part }))) inner
 reads_within piece base from at part opens inner led lt ahead input behind pieces is s =
     let before = led input behind pieces is s in
     let k = ahead_within Nothing at (drop at piece) part ahead in
@@ -162,9 +162,9 @@ reads_all piece base from at opens inner led e input behind pieces is s =
       before.1,
     )
 
--- ---- what has begun before a piece
+-- ---- what has begun before a chunk
 
-reaches_low : (input : List ℕ) (end : ℕ) (pieces : List Piece) (low keep : ℕ) (result : Result Reached EdnFault) (after : List Open) → low ≤ keep → Reaches input end pieces keep result after
+reaches_low : (input : List ℕ) (end : ℕ) (pieces : List ElementModel) (low keep : ℕ) (result : Result Reached EdnFault) (after : List Open) → low ≤ keep → Reaches input end pieces keep result after
     → Reaches input end pieces low result after
 reaches_low input end pieces low keep (Ok (Ended span)) after le r = (r.0, omega (arith, le, r.1))
 reaches_low input end pieces low keep (Ok (Within begun)) after le r = (r.0, omega (arith, le, r.1))
@@ -177,7 +177,7 @@ token_at (tokens.Opens opener) start at e = omega arith
 token_at (tokens.Closes bracket) start at e = omega arith
 token_at tokens.Unfinished start at e = omega arith
 
--- Where nothing has begun.
+-- where nothing has begun
 pub piece_anew : (piece : List ℕ) (base : ℕ) (begun : Begun) (opens after : List Open) (result : Result Reached EdnFault) → begun.start ≡ base → ReadsOn piece base 0 opens result after
     → ReadsPiece piece base begun opens result after
 piece_anew piece base begun opens after result e reads input behind pieces is w =
@@ -186,9 +186,9 @@ piece_anew piece base begun opens after result e reads input behind pieces is w 
     (outer_up opens (kept_token (last begun.part) begun.start base) (base + 0) (omega (arith, token_at (last begun.part) begun.start base e, place)))
     (reads input behind pieces is (subst (StandsAt input pieces opens) place w.stands))
 
--- The token that has begun, where it ends in the piece.
-begun_here : (input piece behind : List ℕ) (pieces : List Piece) (base : ℕ) (begun : Begun) (opens : List Open) (found : Found) → IsPieceAt input base piece behind
-    → StandsWithin input base pieces opens begun → IsAhead begun.part 0 (drop 0 piece) (aheads.Whole found)
+-- the token that has begun, where it ends within the chunk
+begun_here : (input piece behind : List ℕ) (pieces : List ElementModel) (base : ℕ) (begun : Begun) (opens : List Open) (found : Found) → IsPieceAt input base piece behind
+    → StandsWithin input base pieces opens begun → LooksAhead begun.part 0 (drop 0 piece) (aheads.Whole found)
     → ◌≡◌ {A = Found} (record { token = found.token; end = base + found.end }) (found_at begun.start (lexed (drop begun.start input)))
 begun_here input piece behind pieces base begun opens found is w ahead =
     let k = ahead_whole begun.part 0 (drop 0 piece) found ahead in
@@ -198,12 +198,12 @@ begun_here input piece behind pieces base begun opens found is w ahead =
 begun_low : (input piece behind : List ℕ) (base : ℕ) (begun : Begun) → IsPieceAt input base piece behind → (begun.start ≡ base → ⊥) → begun.start ≤ base → begun.start < length input
 begun_low input piece behind base begun is other low = omega (arith, is.0, other, low)
 
--- What the part makes of this input.
-made : (piece behind : List ℕ) (part : Part) (found : Found) → IsAhead part 0 (drop 0 piece) (aheads.Whole found) → (resumed part (drop 0 piece ++ behind)).0 ≡ found.token
+-- what the part makes of this input
+made : (piece behind : List ℕ) (part : Part) (found : Found) → LooksAhead part 0 (drop 0 piece) (aheads.Whole found) → (resumed part (drop 0 piece ++ behind)).0 ≡ found.token
 made piece behind part found ahead = ap (λ (x : Token × ℕ). x.0) ((ahead_whole part 0 (drop 0 piece) found ahead).2 behind)
 
 pub piece_element : (piece : List ℕ) (base : ℕ) (begun : Begun) (found : Found) (span : Span) (opens after : List Open) → (begun.start ≡ base → ⊥)
-    → IsAhead begun.part 0 (drop 0 piece) (aheads.Whole found) → taken found.token begun.start (base + found.end) opens ≡ ends span
+    → LooksAhead begun.part 0 (drop 0 piece) (aheads.Whole found) → taken found.token begun.start (base + found.end) opens ≡ ends span
     → ReadsPiece piece base begun opens (Ok (Ended span)) after
 piece_element piece base begun found span opens after other ahead t input behind pieces is w =
     let token : Found = record { token = found.token; end = base + found.end } in
@@ -214,7 +214,7 @@ piece_element piece base begun found span opens after other ahead t input behind
     )
 
 pub piece_fault : (piece : List ℕ) (base : ℕ) (begun : Begun) (found : Found) (fault : EdnFault) (opens after : List Open) → (begun.start ≡ base → ⊥)
-    → IsAhead begun.part 0 (drop 0 piece) (aheads.Whole found) → IsMemory fault ⊎ (taken found.token begun.start (base + found.end) opens ≡ fails fault)
+    → LooksAhead begun.part 0 (drop 0 piece) (aheads.Whole found) → IsMemory fault ⊎ (taken found.token begun.start (base + found.end) opens ≡ fails fault)
     → GrowthRefused found.token begun.start opens fault after → StaysOpen opens after → ReadsPiece piece base begun opens (Err fault) after
 piece_fault piece base begun found fault opens after other ahead t refused stays input behind pieces is w =
     let token : Found = record { token = found.token; end = base + found.end } in (
@@ -223,14 +223,14 @@ piece_fault piece base begun found fault opens after other ahead t refused stays
       stays_outer (kept opens begun base) (kept_token (last begun.part) begun.start base) opens after stays (omega arith),
     )
 
--- Where memory was wanted, behind what has begun.
-pub wants_begun : (piece : List ℕ) (base : ℕ) (begun : Begun) (found : Found) (fault : EdnFault) (opens after : List Open) → IsAhead begun.part 0 (drop 0 piece) (aheads.Whole found)
+-- where memory was refused, after what has begun
+pub wants_begun : (piece : List ℕ) (base : ℕ) (begun : Begun) (found : Found) (fault : EdnFault) (opens after : List Open) → LooksAhead begun.part 0 (drop 0 piece) (aheads.Whole found)
     → GrowthRefused found.token begun.start opens fault after → WantsInPiece base (length piece) begun.start opens fault after
 wants_begun piece base begun found fault opens after ahead refused =
     let some = piece_some piece begun.part found ahead in IfSome_then (wanted_at fault) refused (λ place is. (some, λ lt. (is.0, is.1)))
 
 pub piece_on : (piece : List ℕ) (base : ℕ) (begun : Begun) (found : Found) (opens middle after : List Open) (result : Result Reached EdnFault) → (begun.start ≡ base → ⊥)
-    → IsAhead begun.part 0 (drop 0 piece) (aheads.Whole found) → taken found.token begun.start (base + found.end) opens ≡ on middle → ReadsOn piece base found.end middle result after
+    → LooksAhead begun.part 0 (drop 0 piece) (aheads.Whole found) → taken found.token begun.start (base + found.end) opens ≡ on middle → ReadsOn piece base found.end middle result after
     → ReadsPiece piece base begun opens result after
 piece_on piece base begun found opens middle after result other ahead t reads input behind pieces is w =
     let token : Found = record { token = found.token; end = base + found.end } in
@@ -240,12 +240,12 @@ piece_on piece base begun found opens middle after result other ahead t reads in
     (part_on begun.part begun.start base (base + found.end) (drop 0 piece ++ behind) found.token opens middle (made piece behind begun.part found ahead) w.low (omega arith) (rising_stands w.stands) t)
     (reads input behind pieces is next)
 
--- A gap that has begun goes on as one.
-gap_later : (piece : List ℕ) (part later : Part) → IsAhead part 0 (drop 0 piece) (aheads.Within later) → last part ≡ tokens.Gap → last later ≡ tokens.Gap
+-- a gap that has begun goes on as a gap
+gap_later : (piece : List ℕ) (part later : Part) → LooksAhead part 0 (drop 0 piece) (aheads.Within later) → last part ≡ tokens.Gap → last later ≡ tokens.Gap
 gap_later piece part later ahead e =
     ap (λ (x : Token × ℕ). x.0) (sym (resumed_last later)) ∙ ap (λ (x : Token × ℕ). x.0) (sym (ahead_within part 0 (drop 0 piece) later ahead [])) ∙ gap_stays part (drop 0 piece ++ []) e
 
-pub piece_within : (piece : List ℕ) (base : ℕ) (begun : Begun) (later : Part) (opens : List Open) → IsAhead begun.part 0 (drop 0 piece) (aheads.Within later)
+pub piece_within : (piece : List ℕ) (base : ℕ) (begun : Begun) (later : Part) (opens : List Open) → LooksAhead begun.part 0 (drop 0 piece) (aheads.Within later)
     → ReadsPiece piece base begun opens (Ok (Within (record { start = begun.start; part = later }))) opens
 piece_within piece base begun later opens ahead input behind pieces is w =
     let k = ahead_within begun.part 0 (drop 0 piece) later ahead in
@@ -267,12 +267,12 @@ piece_within piece base begun later opens ahead input behind pieces is w =
 
 -- ---- the end of the input
 
--- What stands open at the end, in each input that ends there, which begins no sooner than at a place that was kept.
+-- what is open at the end, in each input that ends there; it begins no earlier than the place that was kept
 abbrev pub EndStands : ℕ → Begun → List Open → List Open → Type 0
 EndStands end begun opens after =
-    (input : List ℕ) (pieces : List Piece) → length input ≡ end → StandsWithin input end pieces opens begun → StandsAt input pieces after end × (kept opens begun end ≤ outer after end)
+    (input : List ℕ) (pieces : List ElementModel) → length input ≡ end → StandsWithin input end pieces opens begun → StandsAt input pieces after end × (kept opens begun end ≤ outer after end)
 
-end_here : (input : List ℕ) (pieces : List Piece) (end : ℕ) (begun : Begun) (opens : List Open) → length input ≡ end → StandsWithin input end pieces opens begun
+end_here : (input : List ℕ) (pieces : List ElementModel) (end : ℕ) (begun : Begun) (opens : List Open) → length input ≡ end → StandsWithin input end pieces opens begun
     → ◌≡◌ {A = Found} (record { token = last begun.part; end = end }) (found_at begun.start (lexed (drop begun.start input)))
 end_here input pieces end begun opens long w =
     let rest : drop end input ≡ [] = drop_of_length-le input (omega (arith, long)) in
@@ -329,7 +329,7 @@ none_open (item ∷ opens) e = let none_is : suc (length opens) ≡ 0 = grind (a
 whole_piece : (input : List ℕ) → IsPieceAt input 0 input []
 whole_piece input = (omega arith, sym (append-nil input))
 
-stands_whole : (input : List ℕ) (from : ℕ) (pieces : List Piece) (opens : List Open) → opens ≡ [] → IsFront input pieces from → StandsAt input pieces opens (0 + from)
+stands_whole : (input : List ℕ) (from : ℕ) (pieces : List ElementModel) (opens : List Open) → opens ≡ [] → IsFront input pieces from → StandsAt input pieces opens (0 + from)
 stands_whole input from pieces opens e front =
     let place : from ≡ 0 + from = omega arith in
     subst (λ (n : ℕ). StandsAt input pieces opens n) place (subst (λ (o : List Open). StandsAt input pieces o from) (sym e) (outermost front nothing))
@@ -346,9 +346,9 @@ pub no_memory : {X Y : Type 0} → X ⊎ Y → (X → ⊥) → Y
 no_memory (inl x) h = absurd (h x)
 no_memory (inr y) h = y
 
--- What is said of a fault for each list of elements before it is said of it once: it is want of memory or it is not.
-met_by : (input : List ℕ) (from : ℕ) (fault : EdnFault) → ((pieces : List Piece) → IsFront input pieces from → IsMemory fault ⊎ (FaultOf input fault × AreElementsBefore input pieces))
-    → IsMemory fault ⊎ ((pieces : List Piece) → IsFront input pieces from → FaultOf input fault × AreElementsBefore input pieces)
+-- a fault is E7 or not, whatever elements come before it: what is said for each list of them can be said of it once
+met_by : (input : List ℕ) (from : ℕ) (fault : EdnFault) → ((pieces : List ElementModel) → IsFront input pieces from → IsMemory fault ⊎ (FaultOf input fault × AreElementsBefore input pieces))
+    → IsMemory fault ⊎ ((pieces : List ElementModel) → IsFront input pieces from → FaultOf input fault × AreElementsBefore input pieces)
 met_by input from (faults.Memory place) f = inl tt
 met_by input from (faults.Truncated place) f = inr (λ pieces front. no_memory (f pieces front) (λ h. h))
 met_by input from (faults.StrayClose place) f = inr (λ pieces front. no_memory (f pieces front) (λ h. h))
@@ -361,12 +361,12 @@ pub whole_fault : (input : List ℕ) (from : ℕ) (opens after : List Open) (fau
 whole_fault input from opens after fault e reads = met_by input from fault (λ pieces front. (reads input [] pieces (whole_piece input) (stands_whole input from pieces opens e front)).0.0)
 
 pub whole_memory : (input : List ℕ) (from : ℕ) (opens after : List Open) (fault : EdnFault) → opens ≡ [] → ReadsOn input 0 from opens (Err fault) after
-    → (pieces : List Piece) → IsFront input pieces from → MemoryOnlyThere input pieces fault
+    → (pieces : List ElementModel) → IsFront input pieces from → MemoryOnlyThere input pieces fault
 whole_memory input from opens after fault e reads pieces front = (reads input [] pieces (whole_piece input) (stands_whole input from pieces opens e front)).0.1
 
--- What is within at the end of the input.
+-- what has begun at the end of the input
 within_whole : (input : List ℕ) (from : ℕ) (opens inner : List Open) (begun : Begun) → opens ≡ [] → ReadsOn input 0 from opens (Ok (Within begun)) inner
-    → (pieces : List Piece) → IsFront input pieces from → StandsWithin input (length input) pieces inner begun
+    → (pieces : List ElementModel) → IsFront input pieces from → StandsWithin input (length input) pieces inner begun
 within_whole input from opens inner begun e reads pieces front =
     subst (λ (n : ℕ). StandsWithin input n pieces inner begun) (at_end input) (reads input [] pieces (whole_piece input) (stands_whole input from pieces opens e front)).0
 
@@ -379,6 +379,6 @@ whole_end input from opens inner after begun (Err fault) e reads between end pla
     met_by input from fault (λ pieces front. (end input pieces refl (within_whole input from opens inner begun e reads pieces front)).0.0)
 
 pub whole_end_memory : (input : List ℕ) (from : ℕ) (opens inner after : List Open) (begun : Begun) (result : Result (Option Span) EdnFault) → opens ≡ [] → ReadsOn input 0 from opens (Ok (Within begun)) inner
-    → ReadsEnd (length input) begun inner result after → IfErr result (λ fault. (pieces : List Piece) → IsFront input pieces from → MemoryOnlyThere input pieces fault)
+    → ReadsEnd (length input) begun inner result after → IfErr result (λ fault. (pieces : List ElementModel) → IsFront input pieces from → MemoryOnlyThere input pieces fault)
 whole_end_memory input from opens inner after begun (Ok span) e reads end = tt
 whole_end_memory input from opens inner after begun (Err fault) e reads end = λ pieces front. (end input pieces refl (within_whole input from opens inner begun e reads pieces front)).0.1

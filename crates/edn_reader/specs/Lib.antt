@@ -1,3 +1,4 @@
+-- words of the public clauses
 pub mod Bytes
 pub mod Grammar
 pub mod Text
@@ -8,11 +9,12 @@ pub mod Pairs
 pub mod Lent
 pub mod Given
 pub mod Reading
+pub mod Splitting
+pub mod Flat
+-- words of private clauses
 pub mod Token
 pub mod Resuming
 pub mod Taking
 pub mod Within
-pub mod Splitting
 pub mod Skipping
 pub mod Standing
-pub mod Flat

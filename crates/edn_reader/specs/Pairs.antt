@@ -1,4 +1,4 @@
--- The elements between the brackets of an element; the pairs of a map, and its fields.
+-- What is between the brackets of an element, keywords and nil, and the pairs and fields of a map.
 use Rattle.std.specs.Prelude.{◌≡◌, ℕ, ◌==◌, ◌&&◌, if◌then◌else◌, Bool, true, false, List, [], ◌∷◌, map, filter, Option, Some, None, codes}
 use Rattle.std.specs.Str.{bytes_eq}
 use Rattle.edn_reader.specs.declared.bytes.Bracket.{Bracket}
@@ -7,10 +7,11 @@ use Rattle.edn_reader.specs.declared.element.ElementKind.TheVariants as kinds
 use Rattle.edn_reader.specs.declared.token.Opener.{Opener}
 use Rattle.edn_reader.specs.declared.token.Opener.TheVariants as openers
 use Rattle.edn_reader.specs.declared.token.Token.TheVariants.{Opens, Closes}
-use Rattle.edn_reader.specs.Grammar.{Piece, untagged, IsToken, IsGap, IsElements, fits, kind_of}
+use Rattle.edn_reader.specs.Grammar.{ElementModel, untagged, IsToken, IsGap, IsElements, fits, kind_of}
 
--- These elements, up to the bracket that closes what opened so, which is the last byte.
-pub record PartsFrom (opener : Opener) (place : ℕ) (bytes : List ℕ) (parts : List Piece) : Type 0 where
+-- the bytes from a place on are these elements, a gap, and the bracket that closes what was opened, which is the last
+-- byte; before it at most 63 things are open at once
+pub record PartsFrom (opener : Opener) (place : ℕ) (bytes : List ℕ) (parts : List ElementModel) : Type 0 where
   pub ends : ℕ
   pub beyond : List ℕ
   pub begins : ℕ
@@ -22,36 +23,36 @@ pub record PartsFrom (opener : Opener) (place : ℕ) (bytes : List ℕ) (parts :
   pub close : IsToken (Closes bracket) begins behind after []
   pub closes : fits opener bracket ≡ true
 
--- An element that opened so, behind its tags, holds these elements, in order (the EDN format).
-pub record HasParts (opener : Opener) (piece : Piece) (parts : List Piece) : Type 0 where
+-- the element without its tags begins with this opener, and these elements, in order, are between its brackets (EDN)
+pub record HasParts (opener : Opener) (piece : ElementModel) (parts : List ElementModel) : Type 0 where
   pub kind : piece.core.kind ≡ kind_of opener
   pub inner : ℕ
   pub left : List ℕ
   pub opens : IsToken (Opens opener) piece.core.start (untagged piece).text inner left
   pub inside : PartsFrom opener inner left parts
 
--- A vector has these elements, in order.
-abbrev pub HasMembers : Piece → List Piece → Type 0
+-- the element without its tags is a vector of these elements, in order
+abbrev pub HasMembers : ElementModel → List ElementModel → Type 0
 HasMembers piece members = HasParts openers.Vector piece members
 
--- There are elements up to the bracket that closes a vector.
+-- the bytes from a place on are some elements and the bracket that closes a vector
 abbrev pub HoldsMembers : ℕ → List ℕ → Type 0
-HoldsMembers place bytes = (members : List Piece) × PartsFrom openers.Vector place bytes members
+HoldsMembers place bytes = (members : List ElementModel) × PartsFrom openers.Vector place bytes members
 
--- Keys and values in turn.
-abbrev pub in_turn : List (Piece × Piece) → List Piece
+-- the keys and the values of pairs as one list: each key, then its value
+abbrev pub in_turn : List (ElementModel × ElementModel) → List ElementModel
 in_turn [] = []
 in_turn (pair ∷ pairs) = pair.0 ∷ pair.1 ∷ in_turn pairs
 
--- A map has these pairs, in order; keys may be alike (this project's profile of the EDN format).
-abbrev pub HasPairs : Piece → List (Piece × Piece) → Type 0
+-- the element without its tags is a map of these pairs, in order; keys may be equal (this project's profile of EDN)
+abbrev pub HasPairs : ElementModel → List (ElementModel × ElementModel) → Type 0
 HasPairs piece pairs = HasParts openers.Map piece (in_turn pairs)
 
--- There are pairs up to the brace that closes a map.
+-- the bytes from a place on are some pairs and the brace that closes a map
 abbrev pub HoldsPairs : ℕ → List ℕ → Type 0
-HoldsPairs place bytes = (pairs : List (Piece × Piece)) × PartsFrom openers.Map place bytes (in_turn pairs)
+HoldsPairs place bytes = (pairs : List (ElementModel × ElementModel)) × PartsFrom openers.Map place bytes (in_turn pairs)
 
--- Whether a kind is that of words and numbers.
+-- whether a kind is Atom, the kind of words and numbers
 abbrev pub is_atom : ElementKind → Bool
 is_atom kinds.Atom = true
 is_atom kinds.Char = false
@@ -62,27 +63,27 @@ is_atom kinds.Map = false
 is_atom kinds.Set = false
 is_atom kinds.Tagged = false
 
--- Whether bytes begin with a colon.
+-- whether bytes begin with a colon
 abbrev pub begins_with_colon : List ℕ → Bool
 begins_with_colon [] = false
 begins_with_colon (b ∷ bytes) = b == 58
 
--- A keyword is an Atom that begins with a colon, behind tags or not (this project's profile of the EDN format).
-abbrev pub is_keyword : Piece → Bool
+-- whether an element without its tags is a keyword: an Atom that begins with a colon (this project's profile of EDN)
+abbrev pub is_keyword : ElementModel → Bool
 is_keyword piece = is_atom piece.core.kind && begins_with_colon (untagged piece).text
 
--- The bytes of a keyword, without its tags.
-abbrev pub keyword_of : Piece → Option (List ℕ)
+-- the bytes of a keyword, with its colon and without its tags; none where the element is no keyword
+abbrev pub keyword_of : ElementModel → Option (List ℕ)
 keyword_of piece = if is_keyword piece then Some (untagged piece).text else None
 
--- Whether an element is the keyword with exactly these bytes.
-abbrev pub is_word : List ℕ → Piece → Bool
+-- whether an element without its tags is the keyword with exactly these bytes, colon included
+abbrev pub is_word : List ℕ → ElementModel → Bool
 is_word word piece = is_keyword piece && bytes_eq (untagged piece).text word
 
--- The word nil, behind tags or not.
-abbrev pub is_nil : Piece → Bool
+-- whether an element without its tags is the word nil
+abbrev pub is_nil : ElementModel → Bool
 is_nil piece = is_atom piece.core.kind && bytes_eq (untagged piece).text (codes "nil")
 
--- The values of a field: those of the pairs whose key is the keyword with exactly these bytes.
-abbrev pub values_of : List ℕ → List (Piece × Piece) → List Piece
+-- the values under a key: those of the pairs whose key is the keyword with exactly these bytes
+abbrev pub values_of : List ℕ → List (ElementModel × ElementModel) → List ElementModel
 values_of key pairs = map (λ pair. pair.1) (filter (λ pair. is_word key pair.0) pairs)

@@ -1,4 +1,4 @@
-//! The classes of bytes, and the stretches that they make.
+//! The classes of bytes, and where a stretch of bytes of one kind ends: white bytes, a run, a comment.
 
 ghost use Rattle.std.specs.Prelude.{◌≡◌, ◌+◌, ◌≤◌, length, drop};
 ghost use Rattle.edn_reader.specs.Bytes.{class_of, is_run, is_plain, is_white, is_in_comment, stretch};
@@ -45,8 +45,8 @@ pub fn classify(byte: u8) -> ByteClass
     }
 }
 
-/// By the byte's number: a plus for a plain byte, an asterisk for the other run bytes, a dot for a white one, and
-/// a minus for the other delimiters.
+/// By the value of a byte: `+` for a plain byte, `*` for the other run bytes, `.` for a white byte, and `-` for
+/// the other delimiters. `*` and `+` are the least of the four, so one comparison finds a run byte.
 static MARKS: [u8; 256] = *b"\
     +++++++++.....++++++++++++++++++\
     .+-*++++--++.++++++++++++++-++++\
@@ -78,7 +78,7 @@ pub fn is_white(byte: u8) -> bool
     MARKS[byte as usize] == b'.'
 }
 
-/// Where the white bytes end that go on at a place.
+/// Where the white bytes end that go on at an index.
 #[inline(always)]
 #[tactic(auto, using(crate::proofs::Stretches::stretch_goes, crate::proofs::Stretches::stretch_stops, crate::proofs::Stretches::stretch_past))]
 pub fn white_end(input: &[u8], at: usize) -> usize
@@ -93,7 +93,7 @@ pub fn white_end(input: &[u8], at: usize) -> usize
     end
 }
 
-/// Where the run ends that goes on at a place. Four bytes are looked at for each look at the length.
+/// Where the run ends that goes on at an index. The length is compared once for four bytes.
 #[inline(always)]
 #[tactic(auto, using(crate::proofs::Stretches::stretch_goes, crate::proofs::Stretches::stretch_stops, crate::proofs::Stretches::stretch_past))]
 pub fn run_end(input: &[u8], at: usize) -> usize
@@ -123,7 +123,7 @@ pub fn run_end(input: &[u8], at: usize) -> usize
     end
 }
 
-/// Where the comment ends that goes on at a place.
+/// Where the comment ends that goes on at an index: at the next line end, or at the end of the bytes.
 pub fn comment_end(input: &[u8], at: usize) -> usize
     requires { at ≤ length input.now }
     ensures end { result ≡ at + stretch is_in_comment (drop at input.now) }

@@ -1,4 +1,4 @@
-//! An element that is lent from its input.
+//! An element that is lent from its input, and what it can be read as.
 
 ghost use Rattle.std.specs.Prelude.{◌≡◌, ◌+◌, ◌≤◌, ◌<◌, ◌^◌, ◌↔◌, ◌≢◌, length, List, MatchOption};
 ghost use Rattle.std.specs.Option.{option_map};
@@ -9,6 +9,7 @@ use crate::parts::Parts;
 use crate::step::Span;
 use crate::view::{MapView, VectorView};
 
+/// The kind of an element, by its first bytes (docs/FORMATS.md, Elements).
 #[derive(Clone, Copy, Debug, PartialEq, Eq)]
 pub enum ElementKind {
     /// `nil`, `true`, `false`, a keyword, a symbol or a number.
@@ -23,14 +24,14 @@ pub enum ElementKind {
     Tagged,
 }
 
-/// The kind and the first place of an element once its tags are left out.
+/// The kind and the first place of an element without its tags.
 #[derive(Clone, Copy)]
 pub struct Core {
     pub(crate) kind: ElementKind,
     pub(crate) start: usize,
 }
 
-/// An element by the grammar, and where it stands. It takes no memory.
+/// An element by the grammar, and its place in the input. It takes no memory.
 #[derive(Clone, Copy)]
 pub struct Element<'t> {
     text: &'t [u8],
@@ -44,7 +45,7 @@ pub struct Element<'t> {
 }
 
 impl<'t> Element<'t> {
-    ghost use Rattle.edn_reader.specs.Grammar.{Piece, untagged, IsElement};
+    ghost use Rattle.edn_reader.specs.Grammar.{ElementModel, untagged, IsElement};
     ghost use Rattle.edn_reader.specs.Lent.{piece_of, PairsLeft, MembersLeft};
     ghost use Rattle.edn_reader.specs.Integer.{int_of};
     ghost use Rattle.edn_reader.specs.Skipping.{IsInside};
@@ -67,7 +68,7 @@ impl<'t> Element<'t> {
         }
     }
 
-    /// Its bytes, tags included.
+    /// The bytes of the element, tags included.
     pub fn text(&self) -> &'t [u8]
         ensures { result.now ≡ (piece_of self.now).text }
     {
@@ -75,7 +76,7 @@ impl<'t> Element<'t> {
         text
     }
 
-    /// The places of its first byte and behind its last one.
+    /// The place of the first byte of the element, and the one after its last byte.
     pub fn span(&self) -> (usize, usize)
         ensures start { result.0 ≡ (piece_of self.now).start }
         ensures end { result.1 ≡ (piece_of self.now).start + length (piece_of self.now).text }
@@ -94,6 +95,7 @@ impl<'t> Element<'t> {
         }
     }
 
+    /// The kind of the element: `Tagged` where it has a tag.
     pub fn kind(&self) -> ElementKind
         ensures { result ≡ (piece_of self.now).kind }
     {
@@ -101,7 +103,7 @@ impl<'t> Element<'t> {
         kind
     }
 
-    /// The element behind its tags; itself where it has none.
+    /// The element without its tags; itself where it has none.
     pub fn untagged(&self) -> Element<'t>
         ensures { piece_of result ≡ untagged (piece_of self.now) }
     {
@@ -114,7 +116,7 @@ impl<'t> Element<'t> {
         Element::new(&text[core.start - start..], core.start, core.kind, core)
     }
 
-    /// Whether it is the word `nil`, behind tags or not.
+    /// Whether the element without its tags is the word `nil`.
     pub fn is_nil(&self) -> bool
         ensures { result ≡ is_nil (piece_of self.now) }
     {
@@ -125,7 +127,7 @@ impl<'t> Element<'t> {
         }
     }
 
-    /// The integer that it is, behind tags or not, where that fits.
+    /// The integer that the element without its tags is, where it fits 64 bits with a sign.
     pub fn as_int(&self) -> Option<i64>
         ensures { result ≡ int_of (piece_of self.now) }
     {
@@ -136,7 +138,7 @@ impl<'t> Element<'t> {
         }
     }
 
-    /// The bytes of the keyword that it is, behind tags or not, with the colon.
+    /// The bytes of the keyword that the element without its tags is, with the colon.
     pub fn as_keyword(&self) -> Option<&'t [u8]>
         ensures { option_map (λ bytes. bytes.now) result ≡ keyword_of (piece_of self.now) }
     {
@@ -147,7 +149,7 @@ impl<'t> Element<'t> {
         }
     }
 
-    /// Whether it is this keyword, behind tags or not. The keyword is given with its colon.
+    /// Whether the element without its tags is this keyword, which is given with its colon.
     pub fn is_keyword(&self, keyword: &[u8]) -> bool
         ensures { result ≡ is_word keyword.now (piece_of self.now) }
     {
@@ -157,7 +159,7 @@ impl<'t> Element<'t> {
         }
     }
 
-    /// What stands behind the bracket that a core of this kind begins with.
+    /// What is after the opening bracket of the element without its tags, where it is of this kind.
     fn inside(&self, kind: ElementKind, bracket: u8) -> Option<Parts<'t>>
         ensures { IsInside result (piece_of self.now) kind bracket }
     {
@@ -168,12 +170,12 @@ impl<'t> Element<'t> {
         Some(Parts::new(&bare.text[1..], bare.start + 1))
     }
 
-    /// A view of the map that it is, behind tags or not.
+    /// A view of the map that the element without its tags is.
     pub fn as_map(&self) -> Option<MapView<'t>>
-        ensures pairs { MatchOption result ((pairs : List (Piece × Piece)) → HasPairs (piece_of self.now) pairs → ⊥)
-            (λ view. ((piece_of self.now).core.kind ≡ Map) × ((pairs : List (Piece × Piece)) → HasPairs (piece_of self.now) pairs ↔ PairsLeft view pairs)) }
+        ensures pairs { MatchOption result ((pairs : List (ElementModel × ElementModel)) → HasPairs (piece_of self.now) pairs → ⊥)
+            (λ view. ((piece_of self.now).core.kind ≡ Map) × ((pairs : List (ElementModel × ElementModel)) → HasPairs (piece_of self.now) pairs ↔ PairsLeft view pairs)) }
         ensures some { MatchOption result ((piece_of self.now).core.kind ≢ Map)
-            (λ view. (pairs : List (Piece × Piece)) × HasPairs (piece_of self.now) pairs × PairsLeft view pairs) }
+            (λ view. (pairs : List (ElementModel × ElementModel)) × HasPairs (piece_of self.now) pairs × PairsLeft view pairs) }
     {
         match self.inside(ElementKind::Map, b'{') {
             Some(parts) => Some(MapView::new(parts)),
@@ -181,12 +183,12 @@ impl<'t> Element<'t> {
         }
     }
 
-    /// A view of the vector that it is, behind tags or not.
+    /// A view of the vector that the element without its tags is.
     pub fn as_vector(&self) -> Option<VectorView<'t>>
-        ensures members { MatchOption result ((members : List Piece) → HasMembers (piece_of self.now) members → ⊥)
-            (λ view. ((piece_of self.now).core.kind ≡ Vector) × ((members : List Piece) → HasMembers (piece_of self.now) members ↔ MembersLeft view members)) }
+        ensures members { MatchOption result ((members : List ElementModel) → HasMembers (piece_of self.now) members → ⊥)
+            (λ view. ((piece_of self.now).core.kind ≡ Vector) × ((members : List ElementModel) → HasMembers (piece_of self.now) members ↔ MembersLeft view members)) }
         ensures some { MatchOption result ((piece_of self.now).core.kind ≢ Vector)
-            (λ view. (members : List Piece) × HasMembers (piece_of self.now) members × MembersLeft view members) }
+            (λ view. (members : List ElementModel) × HasMembers (piece_of self.now) members × MembersLeft view members) }
     {
         match self.inside(ElementKind::Vector, b'[') {
             Some(parts) => Some(VectorView::new(parts)),

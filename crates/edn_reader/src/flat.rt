@@ -1,4 +1,4 @@
-//! A map of words, numbers and vectors of these at the front of bytes, read in one pass.
+//! A map of words, numbers and vectors of these that the bytes begin with, read in one pass.
 
 ghost use Rattle.std.specs.Prelude.{◌≡◌, ◌+◌, ◌≤◌, ◌<◌, ◌^◌, ℕ, List, [], length, IfSome};
 ghost use Rattle.edn_reader.specs.declared.element.ElementKind.TheVariants.{Atom};
@@ -8,12 +8,12 @@ ghost use Rattle.edn_reader.specs.Lent.{piece_of};
 use crate::bytes::{is_plain, run_end, white_end};
 use crate::element::{Core, Element, ElementKind};
 
-/// A map whose keys are words, and whose values are words and vectors of words, as far as it was read; a word is an
-/// Atom. It has no tag or one, and nothing but white bytes stands between its parts.
+/// A map whose keys are words, and whose values are words and vectors of words, as far as it was read; a word is
+/// an Atom. The map has at most one tag, and only white bytes between its parts.
 #[derive(Clone, Copy)]
 pub struct FlatMap<'t> {
     bytes: &'t [u8],
-    /// The place of the first of the bytes.
+    /// The place of the first byte of `bytes` in the input. The other places are indices of `bytes`.
     base: usize,
     start: usize,
     core: usize,
@@ -23,20 +23,22 @@ pub struct FlatMap<'t> {
 /// What comes next in a map.
 #[derive(Clone, Copy)]
 pub enum FlatPart<'t> {
+    /// A key and its value.
     Pair(Element<'t>, Element<'t>),
-    /// The map has ended: itself.
+    /// The end of the map: the whole map as an element.
     End(Element<'t>),
-    /// Something else, or the bytes end.
+    /// Something else, or the end of the bytes; nothing is said of the map then.
     Other,
 }
 
 impl<'t> FlatMap<'t> {
-    ghost use Rattle.edn_reader.specs.Grammar.{Piece};
+    ghost use Rattle.edn_reader.specs.Grammar.{ElementModel};
     ghost use Rattle.edn_reader.specs.Lent.{piece_of};
     ghost use Rattle.edn_reader.specs.Pairs.{HasPairs};
-    ghost use Rattle.edn_reader.specs.Flat.{HasRead, ReadsPart, IsFirst, IsOf, IsBraceAt, Advances};
+    ghost use Rattle.edn_reader.specs.Flat.{HasRead, ReadsPart, BeginsWithElement, IsOf, IsBraceAt, Advances};
 
-    /// A map that the bytes begin with, behind white bytes; the first of them has this place.
+    /// The map that the bytes begin with, after white bytes. Their first byte is at place `base` of the input.
+    /// None where they begin with anything else.
     pub fn open(bytes: &'t [u8], base: usize) -> Option<FlatMap<'t>>
         requires { base + length bytes.now < 2 ^ 64 }
         ensures { IfSome result (λ map. HasRead map [] × IsOf bytes.entry.now base map) }
@@ -55,11 +57,11 @@ impl<'t> FlatMap<'t> {
         })
     }
 
-    /// The next key and its value, or the end.
+    /// The next key and its value, or the end of the map.
     #[inline(always)]
     pub fn next_part(&mut self) -> FlatPart<'t>
-        requires { (pairs : List (Piece × Piece)) × HasRead self.old pairs }
-        ensures part { (pairs : List (Piece × Piece)) → HasRead self.old pairs → ReadsPart result self.old self.new pairs }
+        requires { (pairs : List (ElementModel × ElementModel)) × HasRead self.old pairs }
+        ensures part { (pairs : List (ElementModel × ElementModel)) → HasRead self.old pairs → ReadsPart result self.old self.new pairs }
         ensures of { IsOf self.old.bytes.now self.old.base self.new }
         ensures advances { Advances result self.old self.new }
     {
@@ -96,9 +98,9 @@ impl<'t> FlatMap<'t> {
 
     /// The map that ends with this brace.
     fn whole(&self, brace: usize) -> Element<'t>
-        requires read { (pairs : List (Piece × Piece)) × HasRead self.now pairs }
+        requires read { (pairs : List (ElementModel × ElementModel)) × HasRead self.now pairs }
         requires brace { IsBraceAt self.now brace }
-        ensures { (pairs : List (Piece × Piece)) → HasRead self.now pairs → IsFirst self.now.bytes.now self.now.base (piece_of result) × HasPairs (piece_of result) pairs }
+        ensures { (pairs : List (ElementModel × ElementModel)) → HasRead self.now pairs → BeginsWithElement self.now.bytes.now self.now.base (piece_of result) × HasPairs (piece_of result) pairs }
     {
         let FlatMap {
             bytes,
@@ -119,7 +121,7 @@ impl<'t> FlatMap<'t> {
     }
 }
 
-/// The element without a tag that stands between two places.
+/// The element without a tag between two indices.
 #[inline(always)]
 fn element_between<'t>(
     bytes: &'t [u8],
@@ -136,7 +138,7 @@ fn element_between<'t>(
     Element::new(&bytes[from..to], start, kind, Core { kind, start })
 }
 
-/// The kind of a map whose core begins at a place.
+/// The kind of a map whose core begins at an index: `Tagged` where that is not its start.
 fn kind_with(start: usize, core: usize) -> ElementKind
     ensures { result ≡ kind_with start core }
 {
@@ -147,7 +149,7 @@ fn kind_with(start: usize, core: usize) -> ElementKind
     }
 }
 
-/// Where the core begins of an element without a tag, or with one.
+/// Where the core begins of an element that has at most one tag, with a plain byte after its `#`.
 fn core_at(bytes: &[u8], start: usize) -> Option<usize>
     requires { start ≤ length bytes.now }
     ensures { IfSome result (λ core. IsCoreAt bytes.now start core × (core ≤ length bytes.now)) }
@@ -162,7 +164,7 @@ fn core_at(bytes: &[u8], start: usize) -> Option<usize>
     Some(white_end(bytes, run_end(bytes, name)))
 }
 
-/// Where the word ends that begins at a place, where the bytes go on behind it.
+/// Where the word ends that begins at an index, if a byte follows it.
 #[inline(always)]
 fn word_end(bytes: &[u8], at: usize) -> Option<usize>
     requires { at ≤ length bytes.now }
@@ -178,7 +180,7 @@ fn word_end(bytes: &[u8], at: usize) -> Option<usize>
     Some(end)
 }
 
-/// The kind of the value that begins at a place, and where it ends.
+/// The kind of the value that begins at an index, a word or a vector of words, and where it ends.
 #[inline(always)]
 fn value_end(bytes: &[u8], at: usize) -> Option<(ElementKind, usize)>
     requires { at ≤ length bytes.now }
@@ -192,7 +194,7 @@ fn value_end(bytes: &[u8], at: usize) -> Option<(ElementKind, usize)>
     Some((ElementKind::Atom, end))
 }
 
-/// Where the vector of words ends whose elements begin at a place.
+/// Where the vector of words ends whose elements begin at an index.
 #[inline(never)]
 fn vector_end(bytes: &[u8], from: usize) -> Option<usize>
     requires { from ≤ length bytes.now }

@@ -1,12 +1,13 @@
-//! Integers, as their bytes spell them.
+//! Integers of 64 bits from the bytes that spell them.
 
 ghost use Rattle.std.specs.Prelude.{◌≡◌, pos, ◌<◌, ◌≤◌, ◌^◌, ℕ, Some, MatchOption, length};
 ghost use Rattle.std.specs.Option.{option_map};
 ghost use Rattle.edn_reader.specs.Integer.{is_digit, is_suffix, digits_after, natural_of, integer_of, minus, fitting};
 
-/// From this number on one more digit passes the integers that are read.
+/// 2^63 / 10, rounded down: with one more digit, a greater number is more than `LIMIT`.
 const TENTH: u64 = 922_337_203_685_477_580;
 
+/// 2^63: the first number that is too large for `i64`, and the absolute value of the least `i64`.
 const LIMIT: u64 = 9_223_372_036_854_775_808;
 
 fn is_digit(byte: u8) -> bool
@@ -88,7 +89,7 @@ fn negative(bytes: &[u8]) -> Option<i64>
     }
 }
 
-/// The integer that the bytes spell, where it fits.
+/// The integer that the bytes spell, where it fits 64 bits with a sign.
 #[tactic(auto, unfolding(crate::specs::Integer::integer_of))]
 pub fn signed(bytes: &[u8]) -> Option<i64>
     ensures { result ≡ fitting (integer_of bytes.now) }

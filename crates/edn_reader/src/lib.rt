@@ -1,8 +1,8 @@
 //! Lends the elements of a text, one after another, and names its first fault.
 //!
 //! The texts are EDN in this project's profile (docs/FORMATS.md). An element is its bytes in the input with its
-//! kind and its place, and so is each element in a map or a vector: nothing is copied. It makes no tree and no
-//! values but keywords and integers of 64 bits; what a Text escapes stays as it stands.
+//! kind and its place, and so is each element in a map or a vector: nothing is copied. The reader makes no tree,
+//! and no values but keywords and integers of 64 bits; what a Text escapes is not resolved.
 //!
 //! ```text
 //! let mut reader = Reader::new(alloc, b"{:f :write :k 7}");
@@ -13,7 +13,7 @@
 //! let end = reader.next()?;                     // None, and None again
 //! ```
 //!
-//! A [`Splitter`] finds the same elements where the text comes in pieces, and tells their places:
+//! A [`Splitter`] finds the same elements where the text comes in chunks, and reports their places:
 //!
 //! ```text
 //! let mut splitter = Splitter::new(alloc);
@@ -25,10 +25,10 @@
 //! let last = splitter.end()?;                   // an element from 17 to 18
 //! ```
 //!
-//! The first row of `tests.rt` is the first text; its other rows have each form and each fault. Begin with `Reader::next`:
-//! its clauses name the grammar (specs/Grammar.antt), the texts (Text.antt) and the first fault (Fault.antt); those of
-//! `Splitter` stand in Splitting.antt.
-//! `laws` has what follows: one division into elements, one fault, a text or a fault.
+//! The first row of `elements.rt` in the crate `form_tests` is the first text; its other rows have each form and each
+//! fault. Begin with `Reader::next`: its clauses name the grammar (specs/Grammar.antt), the texts (Text.antt) and the
+//! first fault (Fault.antt); those of `Splitter` are in Splitting.antt. `laws` has what follows: an input is a text,
+//! with one division into elements, or has one first fault.
 #![tactic(auto)]
 
 mod bytes;
@@ -38,12 +38,12 @@ mod field;
 mod flat;
 mod integer;
 pub mod laws;
+mod lookahead;
 mod nesting;
 mod parts;
 mod plain;
 mod reader;
 mod resume;
-mod skip;
 mod splitter;
 mod step;
 mod token;
@@ -57,6 +57,3 @@ pub use flat::{FlatMap, FlatPart};
 pub use reader::Reader;
 pub use splitter::{Splitter, Taken};
 pub use view::{MapView, VectorView};
-
-#[cfg(test)]
-mod tests;

@@ -1,4 +1,4 @@
-//! What stands open: brackets, tags and discards, the innermost first.
+//! The stack of what is open: brackets, tags and discards, the innermost first.
 
 ghost use Rattle.std.specs.Prelude.{◌≡◌, ◌==◌, ◌≤◌, [], ◌∷◌, length, OnOk, OnErr, MatchOption};
 ghost use Rattle.edn_reader.specs.Taking.{EndsOne, odd_inside, with_odd};
@@ -8,7 +8,7 @@ use smallvec::SmallVec;
 use std::alloc::{AllocError, Global};
 use std::marker::Model;
 
-/// What is open, where it begins, and whether it holds an odd number of elements so far.
+/// One thing that is open: its opener, where it begins, and whether it has an odd number of elements so far.
 #[derive(Clone, Copy, Default)]
 pub struct Open {
     pub place: usize,
@@ -16,7 +16,7 @@ pub struct Open {
     pub odd: bool,
 }
 
-/// The innermost is kept apart, as each element looks at it. Up to 16 are kept in place and more on the heap.
+/// The innermost is kept apart, since each element looks at it. Up to 16 are kept in place, and more on the heap.
 #[derive(Drop)]
 pub struct Nesting {
     last: Option<Open>,
@@ -48,7 +48,7 @@ impl Nesting {
         }
     }
 
-    /// Whether so many stand open.
+    /// Whether exactly `count` things are open.
     pub fn has(&self, count: usize) -> bool
         ensures { result ≡ (length self.now == count) }
     {
@@ -81,7 +81,8 @@ impl Nesting {
         Some(last)
     }
 
-    /// Takes what is innermost; a bracket stays, with one more element in it.
+    /// Ends an element in what is innermost: a tag or a discard is closed, a bracket has one more element. The
+    /// answer is what was innermost.
     #[inline(always)]
     pub fn end_one(&mut self) -> Option<Open>
         ensures { EndsOne result self.old self.new }
@@ -95,7 +96,7 @@ impl Nesting {
         Some(last)
     }
 
-    /// Whether the innermost, where it is a bracket, holds an odd number of elements.
+    /// Whether what is innermost holds an odd number of elements so far, where it is a bracket.
     #[inline(always)]
     pub fn odd_inside(&self) -> Option<bool>
         ensures { result ≡ odd_inside self.now }
@@ -107,7 +108,7 @@ impl Nesting {
         Some(last.odd)
     }
 
-    /// Says whether the innermost holds an odd number of elements.
+    /// Sets whether what is innermost holds an odd number of elements.
     #[inline(always)]
     pub fn set_odd(&mut self, odd: bool)
         ensures { self.new ≡ with_odd odd self.old }
@@ -117,7 +118,7 @@ impl Nesting {
         }
     }
 
-    /// The place of the outermost, or another where nothing is open.
+    /// The place of the outermost thing that is open, or `place` where nothing is.
     pub fn outer(&self, place: usize) -> usize
         ensures { result ≡ outer self.now place }
     {
@@ -130,7 +131,7 @@ impl Nesting {
         }
     }
 
-    /// The innermost bracket.
+    /// The innermost bracket; tags and discards are passed over.
     pub fn innermost(&self) -> Option<Open>
         ensures { result ≡ innermost self.now }
     {

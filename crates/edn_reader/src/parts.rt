@@ -1,9 +1,9 @@
-//! What is left between the brackets of an element. It takes no memory.
+//! The elements that are left between the brackets of an element, one after another. This takes no memory.
 
 ghost use Rattle.std.specs.Prelude.{◌≡◌, ◌+◌, ◌≤◌, ◌<◌, ◌^◌, List, [], ◌∷◌, length, drop, MatchOption, IfSome, Some, None};
 
 use crate::element::{Core, Element, ElementKind};
-use crate::skip::{Front, behind_gap, behind_tags, end_behind, kind_of};
+use crate::lookahead::{Lookahead, behind_gap, behind_tags, end_behind, kind_of};
 use crate::token::Token;
 
 #[derive(Clone, Copy)]
@@ -14,10 +14,10 @@ pub struct Parts<'t> {
 }
 
 impl<'t> Parts<'t> {
-    ghost use Rattle.edn_reader.specs.Grammar.{Piece};
+    ghost use Rattle.edn_reader.specs.Grammar.{ElementModel};
     ghost use Rattle.edn_reader.specs.declared.token.Opener.{Opener};
     ghost use Rattle.edn_reader.specs.Lent.{PartsLeft, HoldsParts, NextPart, part_bytes};
-    ghost use Rattle.edn_reader.specs.Skipping.{SkipsGap, Stands};
+    ghost use Rattle.edn_reader.specs.Skipping.{SkipsGap, HasToken};
 
     pub fn new(left: &'t [u8], at: usize) -> Parts<'t>
         requires { at + length left.now < 2 ^ 64 }
@@ -31,7 +31,7 @@ impl<'t> Parts<'t> {
     #[inline(always)]
     pub fn next(&mut self) -> Option<Element<'t>>
         requires { ∥ HoldsParts self.old ∥₁ }
-        ensures part { (opener : Opener) (parts : List Piece) → PartsLeft opener self.old parts → NextPart opener result self.new parts }
+        ensures part { (opener : Opener) (parts : List ElementModel) → PartsLeft opener self.old parts → NextPart opener result self.new parts }
         ensures shrinks { MatchOption result (self.new ≡ self.old) (λ element. part_bytes self.new < part_bytes self.old) }
         ensures forward { self.old.at ≤ self.new.at }
     {
@@ -48,14 +48,14 @@ impl<'t> Parts<'t> {
         Some(Element::new(&left[first.at..end], start, kind, Core { kind, start }))
     }
 
-    /// The next element, whose first token is this one. What goes over brackets and tags keeps its places in
-    /// memory, which costs the caller nothing until then.
+    /// The next element, which begins with the token `first`. It works on a copy, so that the fields of `self` can
+    /// stay in registers where no bracket or tag is met.
     #[inline(always)]
-    fn next_at(&mut self, first: Front) -> Option<Element<'t>>
+    fn next_at(&mut self, first: Lookahead) -> Option<Element<'t>>
         requires holds { ∥ HoldsParts self.old ∥₁ }
         requires gap { SkipsGap self.old.left.now 0 first.at }
-        requires stands { Stands self.old.left.now first }
-        ensures part { (opener : Opener) (parts : List Piece) → PartsLeft opener self.old parts → NextPart opener result self.new parts }
+        requires stands { HasToken self.old.left.now first }
+        ensures part { (opener : Opener) (parts : List ElementModel) → PartsLeft opener self.old parts → NextPart opener result self.new parts }
         ensures shrinks { MatchOption result (self.new ≡ self.old) (λ element. part_bytes self.new < part_bytes self.old) }
         ensures forward { self.old.at ≤ self.new.at }
     {
@@ -66,11 +66,11 @@ impl<'t> Parts<'t> {
     }
 
     #[inline(never)]
-    fn next_behind(&mut self, first: Front) -> Option<Element<'t>>
+    fn next_behind(&mut self, first: Lookahead) -> Option<Element<'t>>
         requires holds { ∥ HoldsParts self.old ∥₁ }
         requires gap { SkipsGap self.old.left.now 0 first.at }
-        requires stands { Stands self.old.left.now first }
-        ensures part { (opener : Opener) (parts : List Piece) → PartsLeft opener self.old parts → NextPart opener result self.new parts }
+        requires stands { HasToken self.old.left.now first }
+        ensures part { (opener : Opener) (parts : List ElementModel) → PartsLeft opener self.old parts → NextPart opener result self.new parts }
         ensures shrinks { MatchOption result (self.new ≡ self.old) (λ element. part_bytes self.new < part_bytes self.old) }
         ensures forward { self.old.at ≤ self.new.at }
     {

@@ -1,4 +1,4 @@
-//! What is plain within a bracket, white bytes and elements of one run: it changes only how many elements there are.
+//! White bytes and plain runs within a bracket, passed in one loop: they change only its number of elements.
 
 ghost use Rattle.std.specs.Prelude.{◌≡◌, ◌≤◌, length};
 ghost use Rattle.edn_reader.specs.Taking.{LeadsOver, LeadsWithin};
@@ -6,8 +6,8 @@ ghost use Rattle.edn_reader.specs.Taking.{LeadsOver, LeadsWithin};
 use crate::bytes::{is_plain, run_end, white_end};
 use crate::nesting::Nesting;
 
-/// Goes over what is plain from a place on, where the innermost that stands open is a bracket. A run that the bytes end
-/// within is left.
+/// Passes white bytes and plain runs from an index on, where what is innermost is a bracket. A run that goes on to
+/// the end of the bytes is left.
 #[inline(always)]
 #[tactic(auto, using(crate::proofs::Leading::leads_inside))]
 pub fn pass_plain(input: &[u8], from: usize, nesting: &mut Nesting) -> usize
@@ -24,7 +24,7 @@ pub fn pass_plain(input: &[u8], from: usize, nesting: &mut Nesting) -> usize
     end
 }
 
-/// Where it ends, and whether the bracket then holds an odd number of elements.
+/// Where the white bytes and plain runs end, and whether the bracket then holds an odd number of elements.
 #[inline(always)]
 fn plain_end(input: &[u8], from: usize, odd_before: bool) -> (usize, bool)
     requires { from ≤ length input.now }

@@ -1,7 +1,7 @@
-//! The reader: one pass over the input, which lends its elements.
+//! The reader: one pass over a whole input, which lends its outermost elements.
 
 ghost use Rattle.std.specs.Prelude.{◌≡◌, ◌++◌, ◌≤◌, ◌<◌, ◌∷◌, ◌⊎◌, List, [], length, take, drop, None, Some, Ok, Err, IsNone, IfErr, OnErr, OnOk, IfOk, IfSome, OnSome};
-ghost use Rattle.edn_reader.specs.Grammar.{Piece};
+ghost use Rattle.edn_reader.specs.Grammar.{ElementModel};
 ghost use Rattle.edn_reader.specs.Text.{IsFront};
 ghost use Rattle.edn_reader.specs.Fault.{MemoryOnlyThere};
 ghost use Rattle.edn_reader.specs.Taking.{Reads};
@@ -14,7 +14,8 @@ use crate::tokens::{Reached, read_end, read_tokens};
 use std::alloc::Global;
 use std::marker::Model;
 
-/// Lends the elements of an input, one after another. A fault that it met it answers for good.
+/// Lends the outermost elements of an input, one after another. Once it has met a fault, it answers that fault for
+/// good.
 #[derive(Drop)]
 pub struct Reader<'t> {
     input: &'t [u8],
@@ -24,15 +25,15 @@ pub struct Reader<'t> {
 }
 
 impl<'t> Model for Reader<'t> {
-    ghost use Rattle.edn_reader.specs.Reading.{Reading};
+    ghost use Rattle.edn_reader.specs.Reading.{ReaderModel};
 
-    ghost Value = { Reading };
+    ghost Value = { ReaderModel };
 
-    ghost use Rattle.edn_reader.specs.Standing.{IsStanding};
+    ghost use Rattle.edn_reader.specs.Standing.{IsReaderState};
 
     ghost view = { λ a. record { input = a.input.now; at = a.at; fault = a.fault } };
 
-    ghost invariant = { λ a. IsStanding a.input.now a.at a.nesting a.fault };
+    ghost invariant = { λ a. IsReaderState a.input.now a.at a.nesting a.fault };
 }
 
 /// Reads up to the end of the next outermost element.
@@ -40,7 +41,7 @@ fn read_element(input: &[u8], from: usize, nesting: &mut Nesting) -> Result<Opti
     requires at { from ≤ length input.now }
     requires none_open { nesting.old ≡ [] }
     ensures reads { Reads input.now from result nesting.new }
-    ensures memory { IfErr result (λ fault. (pieces : List Piece) → IsFront input.now pieces from → MemoryOnlyThere input.now pieces fault) }
+    ensures memory { IfErr result (λ fault. (pieces : List ElementModel) → IsFront input.now pieces from → MemoryOnlyThere input.now pieces fault) }
 {
     match read_tokens(input, 0, from, nesting) {
         Ok(Reached::Ended(span)) => Ok(Some(span)),
@@ -50,12 +51,12 @@ fn read_element(input: &[u8], from: usize, nesting: &mut Nesting) -> Result<Opti
 }
 
 impl<'t> Reader<'t> {
-    ghost use Rattle.edn_reader.specs.Grammar.{Piece};
+    ghost use Rattle.edn_reader.specs.Grammar.{ElementModel};
     ghost use Rattle.edn_reader.specs.Lent.{piece_of};
     ghost use Rattle.edn_reader.specs.Text.{IsFront, IsText};
     ghost use Rattle.edn_reader.specs.Fault.{FaultOf, IsMemory, MemoryOnlyThere, AreElementsBefore};
 
-    /// Takes no memory. The allocator is kept for what will stand open.
+    /// A reader at the beginning of the input. It takes no memory; the allocator is kept for what will be open.
     pub fn new(alloc: Global, input: &'t [u8]) -> Reader<'t>
         ensures state { result ≡ record { input = input.entry.now; at = 0; fault = None } }
         ensures begins { IsFront input.entry.now [] 0 }
@@ -68,20 +69,20 @@ impl<'t> Reader<'t> {
         }
     }
 
-    /// The next outermost element; none at the end of the input.
+    /// The next outermost element; none at the end of the input, and again from then on.
     pub fn next(&mut self) -> Result<Option<Element<'t>>, EdnFault>
         ensures input { self.new.input ≡ self.old.input }
         ensures element { IfOk result (λ found. IfSome found (λ element.
-            (pieces : List Piece) → IsFront self.old.input pieces self.old.at → IsFront self.old.input (pieces ++ piece_of element ∷ []) self.new.at)) }
+            (pieces : List ElementModel) → IsFront self.old.input pieces self.old.at → IsFront self.old.input (pieces ++ piece_of element ∷ []) self.new.at)) }
         ensures text { IfOk result (λ found. IfSome found (λ element.
             (piece_of element).text ≡ take (length (piece_of element).text) (drop (piece_of element).start self.old.input))) }
         ensures forward { IfOk result (λ found. IfSome found (λ element.
             (self.old.at < self.new.at) × (self.new.at ≤ length self.old.input))) }
         ensures end { IfOk result (λ found. IsNone found → (self.new ≡ self.old)
-            × ((pieces : List Piece) → IsFront self.old.input pieces self.old.at → IsText self.old.input pieces)) }
+            × ((pieces : List ElementModel) → IsFront self.old.input pieces self.old.at → IsText self.old.input pieces)) }
         ensures fault { IfErr result (λ fault. IsMemory fault ⊎ (FaultOf self.old.input fault
-            × ((pieces : List Piece) → IsFront self.old.input pieces self.old.at → AreElementsBefore self.old.input pieces))) }
-        ensures memory { IfErr result (λ fault. (pieces : List Piece) → IsFront self.old.input pieces self.old.at → MemoryOnlyThere self.old.input pieces fault) }
+            × ((pieces : List ElementModel) → IsFront self.old.input pieces self.old.at → AreElementsBefore self.old.input pieces))) }
+        ensures memory { IfErr result (λ fault. (pieces : List ElementModel) → IsFront self.old.input pieces self.old.at → MemoryOnlyThere self.old.input pieces fault) }
         ensures kept { OnErr result (self.new.at ≡ self.old.at) }
         ensures remembered { IfErr result (λ fault. self.new.fault ≡ Some fault) }
         ensures none_yet { OnOk result (self.new.fault ≡ None) }

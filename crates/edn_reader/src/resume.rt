@@ -1,18 +1,18 @@
-//! A token that goes on: the part of it that the bytes so far end within, and where it ends.
+//! The token at an index, or the part of it that the bytes hold where they end within it, and how that goes on.
 
 ghost use Rattle.std.specs.Prelude.{◌≡◌, ◌≤◌, ◌<◌, [], length, drop};
 ghost use Rattle.edn_reader.specs.declared.token.Token.TheVariants.{Leaf, Opens};
 ghost use Rattle.edn_reader.specs.declared.token.Opener.TheVariants.{Tag};
 ghost use Rattle.edn_reader.specs.declared.resume.Part.TheVariants.{Nothing, Comment, Run, Text, Escape, Hash, Backslash};
 ghost use Rattle.edn_reader.specs.Grammar.{opener_of};
-ghost use Rattle.edn_reader.specs.Resuming.{last, IsAhead};
+ghost use Rattle.edn_reader.specs.Resuming.{last, LooksAhead};
 
 use crate::bytes::{Bracket, ByteClass, classify, comment_end, is_plain, is_white, run_end};
 use crate::element::ElementKind;
 use crate::token::{Found, Opener, Token};
 use memchr::memchr2;
 
-/// What the bytes so far end within.
+/// What the bytes so far hold of the token that they end within.
 #[derive(Clone, Copy, Default)]
 pub enum Part {
     /// They end between two tokens.
@@ -22,16 +22,16 @@ pub enum Part {
     /// A run, which makes this token: an Atom, a Char or a tag.
     Run(Token),
     Text,
-    /// A Text, behind a backslash.
+    /// A Text, up to and with a backslash that escapes the next byte.
     Escape,
-    /// What a `#` begins.
+    /// A `#` alone. The next byte decides what it begins.
     Hash,
-    /// What a backslash begins.
+    /// A backslash alone, which begins a Char.
     Backslash,
 }
 
 impl Part {
-    /// The token that it is where the input ends so.
+    /// The token that it is where the input ends here.
     pub fn last(self) -> Token
         ensures { result ≡ last self }
     {
@@ -43,19 +43,19 @@ impl Part {
     }
 }
 
-/// What is ahead: a token that ends, or the part of one that the bytes end within.
+/// What the bytes hold from an index on: a token that ends, or the part of one that they end within.
 #[derive(Clone, Copy)]
 pub enum Ahead {
     Whole(Found),
     Within(Part),
 }
 
-/// A run that goes on.
+/// How a run goes on.
 #[inline(always)]
 #[tactic(auto, using(crate::proofs::Resuming::run_ended, crate::proofs::Resuming::run_open))]
 fn run_on(bytes: &[u8], at: usize, token: Token) -> Ahead
     requires { at ≤ length bytes.now }
-    ensures { IsAhead (Run token) at (drop at bytes.now) result }
+    ensures { LooksAhead (Run token) at (drop at bytes.now) result }
 {
     let end = run_end(bytes, at);
     if end == bytes.len() {
@@ -65,12 +65,12 @@ fn run_on(bytes: &[u8], at: usize, token: Token) -> Ahead
     }
 }
 
-/// A comment that goes on.
+/// How a comment goes on.
 #[inline(always)]
 #[tactic(auto, using(crate::proofs::Resuming::comment_ended, crate::proofs::Resuming::comment_open))]
 fn comment_on(bytes: &[u8], at: usize) -> Ahead
     requires { at ≤ length bytes.now }
-    ensures { IsAhead Comment at (drop at bytes.now) result }
+    ensures { LooksAhead Comment at (drop at bytes.now) result }
 {
     let end = comment_end(bytes, at);
     if end == bytes.len() {
@@ -83,11 +83,11 @@ fn comment_on(bytes: &[u8], at: usize) -> Ahead
     }
 }
 
-/// A Text that goes on.
+/// How a Text goes on.
 #[inline(always)]
 fn text_on(bytes: &[u8], from: usize) -> Ahead
     requires { from ≤ length bytes.now }
-    ensures { IsAhead Text from (drop from bytes.now) result }
+    ensures { LooksAhead Text from (drop from bytes.now) result }
 {
     let mut at = from;
     while let Some(ahead) = memchr2(b'"', b'\\', &bytes[at..]) {
@@ -106,12 +106,12 @@ fn text_on(bytes: &[u8], from: usize) -> Ahead
     Ahead::Within(Part::Text)
 }
 
-/// A Text that goes on behind a backslash.
+/// How a Text goes on after a backslash.
 #[inline(always)]
 #[tactic(auto, using(crate::proofs::Resuming::nothing_ahead, crate::proofs::Resuming::escape_next))]
 fn escape_on(bytes: &[u8], at: usize) -> Ahead
     requires { at ≤ length bytes.now }
-    ensures { IsAhead Escape at (drop at bytes.now) result }
+    ensures { LooksAhead Escape at (drop at bytes.now) result }
 {
     if at == bytes.len() {
         return Ahead::Within(Part::Escape);
@@ -119,12 +119,12 @@ fn escape_on(bytes: &[u8], at: usize) -> Ahead
     text_on(bytes, at + 1)
 }
 
-/// What a `#` begins.
+/// How a token goes on that begins with `#`.
 #[inline(always)]
 #[tactic(auto, using(crate::proofs::Resuming::nothing_ahead, crate::proofs::Resuming::hashed_next, crate::proofs::Resuming::text_next, crate::proofs::Resuming::set_next, crate::proofs::Resuming::discard_next, crate::proofs::Resuming::tag_next))]
 fn hash_on(bytes: &[u8], at: usize) -> Ahead
     requires { at ≤ length bytes.now }
-    ensures { IsAhead Hash at (drop at bytes.now) result }
+    ensures { LooksAhead Hash at (drop at bytes.now) result }
 {
     if at == bytes.len() {
         return Ahead::Within(Part::Hash);
@@ -149,12 +149,12 @@ fn hash_on(bytes: &[u8], at: usize) -> Ahead
     }
 }
 
-/// What a backslash begins.
+/// How a Char goes on after its backslash.
 #[inline(always)]
 #[tactic(auto, using(crate::proofs::Resuming::nothing_ahead, crate::proofs::Resuming::character_next))]
 fn character_on(bytes: &[u8], at: usize) -> Ahead
     requires { at ≤ length bytes.now }
-    ensures { IsAhead Backslash at (drop at bytes.now) result }
+    ensures { LooksAhead Backslash at (drop at bytes.now) result }
 {
     if at == bytes.len() {
         return Ahead::Within(Part::Backslash);
@@ -172,12 +172,12 @@ fn opener_of(bracket: Bracket) -> Opener
     }
 }
 
-/// What begins at a place. Each of its bytes is looked at a bounded number of times.
+/// The token that begins at an index. Each of its bytes is looked at a bounded number of times.
 #[inline(always)]
 #[tactic(auto, using(crate::proofs::Resuming::plain_begins, crate::proofs::Resuming::white_begins))]
 pub fn begin(bytes: &[u8], at: usize) -> Ahead
     requires { at < length bytes.now }
-    ensures { IsAhead Nothing at (drop at bytes.now) result }
+    ensures { LooksAhead Nothing at (drop at bytes.now) result }
 {
     let byte = bytes[at];
     if is_plain(byte) {
@@ -192,12 +192,12 @@ pub fn begin(bytes: &[u8], at: usize) -> Ahead
     begin_sign(bytes, at)
 }
 
-/// The same; most of what begins with a sign of its own is left to other functions.
+/// The token that begins at an index, by the class of its first byte.
 #[inline(always)]
 #[tactic(auto, using(crate::proofs::Resuming::gap_begins, crate::proofs::Resuming::atom_begins, crate::proofs::Resuming::hash_begins, crate::proofs::Resuming::backslash_begins, crate::proofs::Resuming::comment_begins, crate::proofs::Resuming::text_begins, crate::proofs::Resuming::opens_here, crate::proofs::Resuming::closes_here))]
 fn begin_sign(bytes: &[u8], at: usize) -> Ahead
     requires { at < length bytes.now }
-    ensures { IsAhead Nothing at (drop at bytes.now) result }
+    ensures { LooksAhead Nothing at (drop at bytes.now) result }
 {
     match classify(bytes[at]) {
         ByteClass::White => Ahead::Whole(Found {
@@ -220,12 +220,12 @@ fn begin_sign(bytes: &[u8], at: usize) -> Ahead
     }
 }
 
-/// How the token goes on that the bytes before ended within.
+/// How the token goes on of which the bytes before this index hold a part.
 #[inline(always)]
 #[tactic(auto, using(crate::proofs::Resuming::nothing_ahead))]
 pub fn read_on(bytes: &[u8], at: usize, part: Part) -> Ahead
     requires { at ≤ length bytes.now }
-    ensures { IsAhead part at (drop at bytes.now) result }
+    ensures { LooksAhead part at (drop at bytes.now) result }
 {
     match part {
         Part::Nothing => {

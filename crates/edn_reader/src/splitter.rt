@@ -1,4 +1,4 @@
-//! The splitter: a reader over pieces, which tells where the elements of the whole begin and end.
+//! The splitter reads an input that comes in chunks, and reports where the elements of the whole begin and end.
 
 ghost use Rattle.std.specs.Prelude.{◌≡◌, ◌+◌, ◌≤◌, ◌<◌, ◌^◌, List, [], length, Ok, Some, Err, IfOk, IfSome, IsTrue, ◌↔◌, ℕ};
 ghost use Rattle.edn_reader.specs.Splitting.{IsFull};
@@ -13,9 +13,10 @@ use crate::tokens::{Begun, Reached, read_end, read_piece};
 use std::alloc::Global;
 use std::marker::Model;
 
-/// Reads an input that comes in pieces, cut anywhere, and keeps none of its bytes. The elements and the first fault are
-/// those that a [`Reader`](crate::Reader) finds in the joined pieces. A fault of the input it answers for good. After
-/// [`EdnFault::Memory`] it goes on: the same call again, with what was not taken, gives what it would have given.
+/// Reads an input that comes in chunks, cut anywhere, and keeps none of its bytes. The elements and the first
+/// fault are those that a [`Reader`](crate::Reader) finds in the joined chunks. Once it has met a fault of the
+/// input, it answers that fault for good. After [`EdnFault::Memory`] it goes on: a call with the bytes that were
+/// not taken gives what the refused call would have given.
 #[derive(Drop)]
 pub struct Splitter {
     nesting: Nesting,
@@ -26,24 +27,26 @@ pub struct Splitter {
     ended: Span,
 }
 
-/// How much of a piece was taken.
+/// How much of a chunk was taken.
 #[derive(Clone, Copy, Debug, PartialEq, Eq)]
 pub struct Taken {
-    /// So many of its bytes: fewer than it has only where an element ended. The rest begins the next piece.
+    /// How many bytes of the chunk were used: all, or those up to the end of an element. The rest is to be given
+    /// again, as the beginning of the next chunk.
     pub used: usize,
-    /// The outermost element that ended: the places in the joined pieces of its first byte and behind its last.
+    /// The outermost element that ended, if one did: the place of its first byte in the joined chunks, and the
+    /// place after its last byte.
     pub whole: Option<(u64, u64)>,
 }
 
 impl Model for Splitter {
-    ghost use Rattle.edn_reader.specs.Splitting.{Splitting};
+    ghost use Rattle.edn_reader.specs.Splitting.{SplitterModel};
 
-    ghost Value = { Splitting };
+    ghost Value = { SplitterModel };
 
     ghost view = { λ a. record { taken = a.taken; begun = a.begun; opens = a.nesting; fault = a.fault; ended = a.ended } };
 }
 
-/// Whether a bracket, a tag or a discard begins that is one too many, as is told once nothing else can come of it.
+/// Whether 64 things are open while what has begun is sure to open one more.
 fn is_full(begun: Begun, nesting: &Nesting) -> bool
     ensures { IsFull result begun nesting.now }
 {
@@ -54,12 +57,12 @@ fn is_full(begun: Begun, nesting: &Nesting) -> bool
 }
 
 impl Splitter {
-    ghost use Rattle.edn_reader.specs.Grammar.{Piece, IsElement};
+    ghost use Rattle.edn_reader.specs.Grammar.{ElementModel, IsElement};
     ghost use Rattle.edn_reader.specs.Lent.{piece_of};
-    ghost use Rattle.edn_reader.specs.Flat.{IsFirst};
-    ghost use Rattle.edn_reader.specs.Splitting.{StandsAfter, TakesOn, EndsOn, IsLast, IsBetweenElements, keep, told};
+    ghost use Rattle.edn_reader.specs.Flat.{BeginsWithElement};
+    ghost use Rattle.edn_reader.specs.Splitting.{StandsAfter, TakesOn, EndsOn, IsLast, IsBetweenElements, keep, ended_element};
 
-    /// Takes no memory.
+    /// A splitter that has taken no byte. It takes no memory; the allocator is kept for what will be open.
     pub fn new(alloc: Global) -> Splitter
         ensures { (next : List ℕ) → StandsAfter [] next [] result }
     {
@@ -75,15 +78,15 @@ impl Splitter {
         }
     }
 
-    /// How many bytes it has taken.
+    /// How many bytes it has taken, in all chunks.
     pub fn taken(&self) -> u64
         ensures { result ≡ self.now.taken }
     {
         self.taken as u64
     }
 
-    /// The place in the joined pieces from which their bytes may still be wanted: no element that is given later begins
-    /// before it. It never falls.
+    /// The place in the joined chunks from which their bytes may still be needed: no element that is given later
+    /// begins before it. It never falls.
     pub fn keep_from(&self) -> u64
         ensures { result ≡ keep self.now }
     {
@@ -94,18 +97,18 @@ impl Splitter {
         self.nesting.outer(place) as u64
     }
 
-    /// The outermost element that ended last, lent from its bytes, wherever they lie.
+    /// The outermost element that ended last, lent from its bytes, wherever they are kept.
     pub fn lend<'a>(&self, text: &'a [u8]) -> Element<'a>
         requires fits { self.now.ended.start + length text.now < 2 ^ 64 }
-        requires element { (piece : Piece) × IsLast self.now piece × IsElement piece × (piece.text ≡ text.now) }
-        ensures { (piece : Piece) → IsLast self.now piece → piece.text ≡ text.entry.now → piece_of result ≡ piece }
+        requires element { (piece : ElementModel) × IsLast self.now piece × IsElement piece × (piece.text ≡ text.now) }
+        ensures { (piece : ElementModel) → IsLast self.now piece → piece.text ≡ text.entry.now → piece_of result ≡ piece }
     {
         Element::new(text, self.ended.start, self.ended.kind, self.ended.core)
     }
 
-    /// Takes a piece, up to the end of the next outermost element or to its own. An element that needs no closing byte
-    /// ends with the byte behind it, which is not used. Where memory is refused it has taken the bytes before the one that
-    /// the fault names: the rest, from that byte on, is the next piece.
+    /// Takes the chunk `piece` up to the end of the next outermost element, or whole. An element that needs no
+    /// closing byte ends when the byte after it comes, which is not used. Where memory is refused, the bytes
+    /// before the one that the fault names are taken: the rest, from that byte on, is the next chunk.
     pub fn take(&mut self, piece: &[u8]) -> Result<Taken, EdnFault>
         requires { self.old.taken + length piece.now < 2 ^ 64 }
         ensures takes { TakesOn piece.now self.old result self.new }
@@ -162,19 +165,19 @@ impl Splitter {
         }
     }
 
-    /// Whether nothing has begun since the element that ended last, and nothing stands open.
+    /// Whether nothing is open and no token has begun: the next byte that is taken begins a new one.
     pub fn is_between_elements(&self) -> bool
         ensures { IsTrue result ↔ IsBetweenElements self.now }
     {
         self.begun.start == self.taken && self.nesting.has(0)
     }
 
-    /// Takes the element that the next piece begins with, where that is known already: none of its bytes is looked at.
+    /// Takes the element that the next chunk begins with, after a gap, where it is known: none of its bytes is read.
     pub fn take_known(&mut self, element: &Element) -> Taken
         requires between { IsBetweenElements self.old }
         requires after { self.old.taken ≤ (piece_of element.now).start }
-        ensures told { result ≡ told self.old (piece_of element.now) }
-        ensures takes { (piece : List ℕ) → IsFirst piece self.old.taken (piece_of element.now) → TakesOn piece self.old (Ok result) self.new }
+        ensures told { result ≡ ended_element self.old (piece_of element.now) }
+        ensures takes { (piece : List ℕ) → BeginsWithElement piece self.old.taken (piece_of element.now) → TakesOn piece self.old (Ok result) self.new }
         ensures last { IsLast self.new (piece_of element.now) }
         ensures taken { self.new.taken ≡ self.old.taken + result.used }
     {
@@ -192,8 +195,8 @@ impl Splitter {
         }
     }
 
-    /// Takes the end of the input: the element that ended with it, where there is one. Where memory is refused all is as it
-    /// was, and the end may be taken again.
+    /// Takes the end of the input. The answer is the places of the element that ended with it, if there is one.
+    /// Where memory is refused, the splitter is as it was, and the end may be taken again.
     pub fn end(&mut self) -> Result<Option<(u64, u64)>, EdnFault>
         ensures ends { EndsOn self.old result self.new }
         ensures again { IfSome self.old.fault (λ fault. (result ≡ Err fault) × (self.new ≡ self.old)) }

@@ -1,4 +1,4 @@
-//! What a token leads to: on, to the end of an outermost element, or to a fault.
+//! What each token does to what is open: it opens or closes something, ends an outermost element, or is a fault.
 
 ghost use Rattle.std.specs.Prelude.{◌≡◌, ◌≤◌, ◌<◌, length, IfErr, OnErr};
 ghost use Rattle.edn_reader.specs.declared.token.Token.TheVariants.{Opens};
@@ -36,7 +36,7 @@ pub fn plain_span(kind: ElementKind, start: usize, end: usize) -> Span
     }
 }
 
-/// Ends an element, and with it the tags before it: the span of the whole where it is an outermost one.
+/// Ends an element and the tags before it. The answer is the span of all that, where it is an outermost element.
 #[inline(always)]
 fn complete(element: Span, nesting: &mut Nesting) -> Option<Span>
     ensures { Gives (Ok result) nesting.new (completed element nesting.old) }
@@ -77,7 +77,7 @@ fn open(place: usize, opener: Opener, nesting: &mut Nesting) -> Result<Option<Sp
     }
 }
 
-/// The fault of a closing bracket before which a tag or a discard waits.
+/// The fault of a closing bracket before which a tag or a discard waits, by the innermost bracket.
 fn fault_before(place: usize, bracket: Bracket, waiting: Open, inner: Option<Open>) -> EdnFault
     ensures fault { result ≡ fault_before place bracket waiting inner }
     ensures no_memory { IsMemory result → ⊥ }
@@ -120,7 +120,7 @@ fn close(
     Ok(complete(plain_span(open.opener.kind(), open.place, end), nesting))
 }
 
-/// Takes the token that was found at a place.
+/// Takes the token that was found at a place. The answer is the outermost element that it ends, if it ends one.
 #[inline(always)]
 #[tactic(auto, unfolding(crate::specs::Taking::taken))]
 pub fn take(place: usize, found: Found, nesting: &mut Nesting) -> Result<Option<Span>, EdnFault>

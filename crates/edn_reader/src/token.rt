@@ -1,4 +1,4 @@
-//! What the bytes begin with at a place: white, a comment, a whole element, a bracket, a tag or a discard.
+//! The token at an index: a gap, an element without parts, a bracket, or what begins a tag or a discard.
 
 ghost use Rattle.std.specs.Prelude.{◌≡◌, ◌≤◌, ◌<◌, length, drop};
 ghost use Rattle.edn_reader.specs.Grammar.{waits, is_paired, fits, kind_of};
@@ -8,7 +8,7 @@ use crate::bytes::Bracket;
 use crate::element::ElementKind;
 use crate::resume::{Ahead, begin};
 
-/// What opens and waits: a bracket for the bracket that closes it, a tag and a discard for one element.
+/// What a token opens: a bracket, up to the one that closes it; a tag or a discard, up to the end of one element.
 #[derive(Clone, Copy, Default)]
 pub enum Opener {
     #[default]
@@ -21,7 +21,7 @@ pub enum Opener {
 }
 
 impl Opener {
-    /// Whether it waits for one element.
+    /// Whether it waits for one element, and not for a closing bracket.
     pub fn waits(self) -> bool
         ensures { result ≡ waits self }
     {
@@ -53,7 +53,7 @@ impl Opener {
         }
     }
 
-    /// The kind of the element that opens so.
+    /// The kind of the element that it begins. A discard begins none, and counts as `Tagged`.
     pub fn kind(self) -> ElementKind
         ensures { result ≡ kind_of self }
     {
@@ -75,18 +75,18 @@ pub enum Token {
     Leaf(ElementKind),
     Opens(Opener),
     Closes(Bracket),
-    /// The input ends within.
+    /// A Text that is not closed, or a `#` or a backslash without a byte after it.
     Unfinished,
 }
 
-/// A token and the place behind it.
+/// A token and the place after its last byte.
 #[derive(Clone, Copy)]
 pub struct Found {
     pub token: Token,
     pub end: usize,
 }
 
-/// The token at a place. Each of its bytes is looked at a bounded number of times.
+/// The token at an index. Each of its bytes is looked at a bounded number of times.
 #[inline(always)]
 #[tactic(auto, using(crate::proofs::Resuming::found_whole, crate::proofs::Resuming::found_last))]
 pub fn read_token(input: &[u8], at: usize) -> Found

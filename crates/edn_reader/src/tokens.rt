@@ -1,4 +1,4 @@
-//! Token after token over a piece of an input, up to the end of an outermost element or of the piece.
+//! The loop over the tokens of a chunk of an input, up to the end of an outermost element or of the chunk.
 
 ghost use Rattle.std.specs.Prelude.{◌≡◌, ◌+◌, ◌≤◌, ◌<◌, ◌^◌, length, IfOk, IfErr};
 ghost use Rattle.edn_reader.specs.Within.{ReadsOn, ReadsPiece, ReadsEnd, IsBetween, EndsBetween, EndsAt, WantsFrom, WantsInPiece, WantsAtEnd};
@@ -10,15 +10,15 @@ use crate::resume::{Ahead, Part, begin, read_on};
 use crate::step::{Span, take};
 use crate::token::Found;
 
-/// Where the token begins that the bytes so far end within, and what they hold of it. Where it would begin behind the
-/// last of them, nothing has begun.
+/// The start of the token that the bytes so far end within, and the part of it that they hold. Where the start is
+/// the place after the last of these bytes, nothing has begun.
 #[derive(Clone, Copy, Default)]
 pub struct Begun {
     pub start: usize,
     pub part: Part,
 }
 
-/// How far a piece was read.
+/// How far a chunk was read.
 #[derive(Clone, Copy)]
 pub enum Reached {
     /// Up to the end of an outermost element.
@@ -27,7 +27,7 @@ pub enum Reached {
     Within(Begun),
 }
 
-/// Reads on from a place of a piece where nothing has begun; the piece begins at a place of the input.
+/// Reads the chunk `piece`, which begins at place `base` of the input, on from an index at which no token has begun.
 #[inline(always)]
 pub fn read_tokens(
     piece: &[u8],
@@ -69,7 +69,7 @@ pub fn read_tokens(
     }))
 }
 
-/// Reads a piece, first on with what has begun before it.
+/// Reads the chunk `piece`, up to its end or that of an outermost element; first what has begun before it goes on.
 pub fn read_piece(
     piece: &[u8],
     base: usize,
@@ -103,7 +103,7 @@ pub fn read_piece(
     }
 }
 
-/// Takes what has begun as the last token of an input that ends here.
+/// Takes what has begun as the last token of an input that ends at `end`.
 pub fn read_end(end: usize, begun: Begun, nesting: &mut Nesting) -> Result<Option<Span>, EdnFault>
     ensures reads { ReadsEnd end begun nesting.old result nesting.new }
     ensures place { IfOk result (λ span. EndsAt begun.start end span nesting.new) }

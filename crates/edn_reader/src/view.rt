@@ -1,4 +1,4 @@
-//! Views of maps and vectors: what is left of them. They take no memory.
+//! Views of maps and vectors, which give what is left in them. They take no memory.
 
 ghost use Rattle.std.specs.Prelude.{◌≡◌, ◌+◌, ◌≤◌, ◌<◌, ◌^◌, List, MatchOption};
 ghost use Rattle.edn_reader.specs.Pairs.{HoldsPairs, HoldsMembers};
@@ -7,7 +7,7 @@ use crate::element::Element;
 use crate::field::Field;
 use crate::parts::Parts;
 
-/// The pairs of a map that are left to go over.
+/// The pairs of a map that were not given yet.
 #[derive(Clone, Copy)]
 pub struct MapView<'t> {
     parts: Parts<'t>,
@@ -15,7 +15,7 @@ pub struct MapView<'t> {
     ghost whole: { ∥ HoldsPairs parts.at parts.left.now ∥₁ },
 }
 
-/// The elements of a vector that are left to go over.
+/// The elements of a vector that were not given yet.
 #[derive(Clone, Copy)]
 pub struct VectorView<'t> {
     parts: Parts<'t>,
@@ -24,7 +24,7 @@ pub struct VectorView<'t> {
 }
 
 impl<'t> MapView<'t> {
-    ghost use Rattle.edn_reader.specs.Grammar.{Piece};
+    ghost use Rattle.edn_reader.specs.Grammar.{ElementModel};
     ghost use Rattle.edn_reader.specs.Lent.{PairsLeft, NextPair, bytes_left};
     ghost use Rattle.edn_reader.specs.Pairs.{HoldsPairs, values_of};
     ghost use Rattle.edn_reader.specs.Given.{given, seen};
@@ -37,11 +37,11 @@ impl<'t> MapView<'t> {
         MapView { parts }
     }
 
-    /// The next key and its value.
+    /// The next key and its value; none at the end of the map, and again from then on.
     #[inline(always)]
     pub fn next_pair(&mut self) -> Option<(Element<'t>, Element<'t>)>
-        ensures left { (pairs : List (Piece × Piece)) × PairsLeft self.old pairs }
-        ensures pair { (pairs : List (Piece × Piece)) → PairsLeft self.old pairs → NextPair result self.new pairs }
+        ensures left { (pairs : List (ElementModel × ElementModel)) × PairsLeft self.old pairs }
+        ensures pair { (pairs : List (ElementModel × ElementModel)) → PairsLeft self.old pairs → NextPair result self.new pairs }
         ensures shrinks { MatchOption result (self.new ≡ self.old) (λ pair. bytes_left self.new < bytes_left self.old) }
     {
         let mut ahead = self.parts;
@@ -55,10 +55,10 @@ impl<'t> MapView<'t> {
         Some((key, value))
     }
 
-    /// What the pairs that are left have under a key, which is given with its colon.
+    /// What the pairs that are left have under a key, a keyword which is given with its colon.
     pub fn field(&self, key: &[u8]) -> Field<'t>
-        ensures left { (pairs : List (Piece × Piece)) × PairsLeft self.now pairs }
-        ensures values { (pairs : List (Piece × Piece)) → PairsLeft self.now pairs → seen result ≡ given (values_of key.now pairs) }
+        ensures left { (pairs : List (ElementModel × ElementModel)) × PairsLeft self.now pairs }
+        ensures values { (pairs : List (ElementModel × ElementModel)) → PairsLeft self.now pairs → seen result ≡ given (values_of key.now pairs) }
     {
         let mut view = *self;
         let mut found = Field::Absent;
@@ -72,7 +72,7 @@ impl<'t> MapView<'t> {
 }
 
 impl<'t> VectorView<'t> {
-    ghost use Rattle.edn_reader.specs.Grammar.{Piece};
+    ghost use Rattle.edn_reader.specs.Grammar.{ElementModel};
     ghost use Rattle.edn_reader.specs.Lent.{MembersLeft, NextMember, members_left};
     ghost use Rattle.edn_reader.specs.Pairs.{HoldsMembers};
 
@@ -84,10 +84,10 @@ impl<'t> VectorView<'t> {
         VectorView { parts }
     }
 
-    /// The next element.
+    /// The next element; none at the end of the vector, and again from then on.
     pub fn next(&mut self) -> Option<Element<'t>>
-        ensures left { (members : List Piece) × MembersLeft self.old members }
-        ensures member { (members : List Piece) → MembersLeft self.old members → NextMember result self.new members }
+        ensures left { (members : List ElementModel) × MembersLeft self.old members }
+        ensures member { (members : List ElementModel) → MembersLeft self.old members → NextMember result self.new members }
         ensures shrinks { MatchOption result (self.new ≡ self.old) (λ element. members_left self.new < members_left self.old) }
     {
         self.parts.next()

@@ -1,4 +1,4 @@
-//! The tests of `feeders`, apart from it, so that the gate proves that library once.
+//! The tests of `feeders`, in a crate of their own, so that the gate proves that library only once.
 #![tactic(auto)]
 
 #[cfg(test)]

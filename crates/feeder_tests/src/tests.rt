@@ -1,5 +1,5 @@
-//! Rows of traces that are fed. A row is a block of lines: the gates, the shards and the tower, the traces, and what
-//! is found at each gate.
+//! Rows of traces that are fed. A row is a block of lines: first the gates, the number of shards and the tower, then
+//! the traces, and last what is found at each gate.
 
 mod again;
 mod gates;
@@ -44,8 +44,8 @@ fn numbered(alloc: Global, text: &str, number: usize) -> Result<String, AllocErr
     Ok(whole)
 }
 
-/// The traces of a row. A line behind `N times` stands for as many. Each `%` is the trace's number, from 100 on, and each `~`
-/// is 5,000 blanks.
+/// The traces of a row. A line after `N times` is as many traces. Each `%` is the trace's number, from 100 on, and
+/// each `~` is 5,000 blanks.
 fn texts_of(alloc: Global, lines: &str) -> Result<Vec<String>, AllocError> {
     let mut texts = Vec::new(alloc);
     for line in lines.lines() {
@@ -58,8 +58,8 @@ fn texts_of(alloc: Global, lines: &str) -> Result<Vec<String>, AllocError> {
     Ok(texts)
 }
 
-/// The place of the element and its code, or the register of the question, whether it holds and how many operations
-/// stand.
+/// Writes a log line: the place of the element and its code, or the register of the question, whether it holds and
+/// how many operations stand.
 fn tell_line(told: &mut String, line: &Line) -> Result<(), AllocError> {
     let place = line.event;
     match line.what {
@@ -74,7 +74,7 @@ fn tell_line(told: &mut String, line: &Line) -> Result<(), AllocError> {
     }
 }
 
-/// What is noted of a trace, nothing where nothing is.
+/// Writes what is noted of a trace, if anything is.
 fn tell_log(told: &mut String, trace: usize, log: &Log) -> Result<(), AllocError> {
     if log.lines.is_empty() && log.broken.is_none() {
         return Ok(());
@@ -89,7 +89,7 @@ fn tell_log(told: &mut String, trace: usize, log: &Log) -> Result<(), AllocError
     Ok(())
 }
 
-/// Of each register whether it holds, and how many operations stand, then the logs.
+/// Writes of each register whether it holds and how many operations stand, then the logs.
 fn tell_run(told: &mut String, registers: u32, run: &Run) -> Result<(), AllocError> {
     for register in 0..registers {
         if let Some(book) = run.closed.book(RegId(register)) {
@@ -104,7 +104,7 @@ fn tell_run(told: &mut String, registers: u32, run: &Run) -> Result<(), AllocErr
     Ok(())
 }
 
-/// Feeds the traces as they are given, and tells what is found and what the gate noted.
+/// Feeds the traces as they are given, and writes what is found, and whether the gate noted a failure.
 fn tell_traces<'x, R: Threads + Wait + AllocGlobal + Sync>(
     rt: &R,
     told: &mut String,
@@ -140,7 +140,7 @@ fn tell_traces<'x, R: Threads + Wait + AllocGlobal + Sync>(
     Ok(())
 }
 
-/// A row: at which gates it is told, over how many shards of which tower, of which traces, and what it comes to.
+/// A row: the gates at which it is run, the number of shards, the tower, the traces, and what is found.
 #[derive(Clone, Copy, Debug)]
 struct Row {
     gates: &'static str,
@@ -165,7 +165,7 @@ impl Row {
         }
     }
 
-    /// What it comes to at a gate, where its traces are given so.
+    /// What is found at one gate, where the traces are given so.
     fn told<R: Threads + Wait + AllocGlobal + Sync>(
         &self,
         rt: &R,
@@ -186,7 +186,7 @@ impl Row {
         Ok(told)
     }
 
-    /// Where memory is refused a row is told once more.
+    /// Checks the row at one gate. Where memory is refused it is run once more.
     fn is_told<R: Threads + Wait + AllocGlobal + Abort + Sync>(
         &self,
         rt: &R,
@@ -206,7 +206,8 @@ impl Row {
     }
 }
 
-/// Each row at each of its gates, from traces that lie whole and from readers that give them byte by byte.
+/// Checks each row at each of its gates, with traces that are whole in memory, and with readers that give them
+/// byte by byte.
 fn each_is_told<R: Threads + Wait + AllocGlobal + Abort + Sync>(
     rt: &R,
     rows: &'static str,
@@ -221,8 +222,8 @@ fn each_is_told<R: Threads + Wait + AllocGlobal + Abort + Sync>(
     Ok(())
 }
 
-/// Questions between edits; refusals of the form, of the pairing and of the register, by one of two traces too; traces
-/// that break in each way, beside one that does not and an empty one.
+/// Questions between edits; refusals by the form, the pairing and the register, in one trace and in two; traces that
+/// break in each way, beside one that does not and an empty one.
 const TRACES: &str =
     "open in 1 {:levels [{:name top :registers [{:name x :kind :atomic :writers :any}]}]}
 {:process 0 :type :invoke :f :write :value 5 :index 0} {:process 0 :type :ok :f :write :value 5 :index 1} {:process 1 :type :invoke :f :read :value nil :index 2} {:process 1 :type :ok :f :read :value 4 :index 3} {:ask x} {:edit :amend :of 2 :value 5} #t {:ask x}
@@ -269,7 +270,7 @@ alone gather in 1 {:levels [{:name top :registers [{:name 100 :kind :atomic :wri
 4 times {:process 0 :type :invoke :f :write :value [% %] :index %} {:ask %} {:process 0 :type :ok :f :write :value [% %] :index %0}
 => holds 1, holds 1, holds 1, holds 1, 4 logs 0: 1 x0 holds 1, 1: 1 x1 holds 1, 2: 1 x2 holds 1, 3: 1 x3 holds 1,";
 
-/// Three feeders, whose calls arrive in each order that they can after the first call of each.
+/// Three feeders, whose next two calls after the first call of each arrive in every order.
 const ORDERS: &str =
     "gather001122 gather001212 gather001221 gather002112 gather002121 gather002211 gather010122 gather010212 gather010221 gather011022 gather011202 gather011220 gather012012 gather012021 gather012102 gather012120 gather012201 gather012210 gather020112 gather020121 gather020211 gather021012 gather021021 gather021102 gather021120 gather021201 gather021210 gather022011 gather022101 gather022110 gather100122 gather100212 gather100221 gather101022 gather101202 gather101220 gather102012 gather102021 gather102102 gather102120 gather102201 gather102210 gather110022 gather110202 gather110220 gather112002 gather112020 gather112200 gather120012 gather120021 gather120102 gather120120 gather120201 gather120210 gather121002 gather121020 gather121200 gather122001 gather122010 gather122100 gather200112 gather200121 gather200211 gather201012 gather201021 gather201102 gather201120 gather201201 gather201210 gather202011 gather202101 gather202110 gather210012 gather210021 gather210102 gather210120 gather210201 gather210210 gather211002 gather211020 gather211200 gather212001 gather212010 gather212100 gather220011 gather220101 gather220110 gather221001 gather221010 gather221100 in 1 {:levels [{:name top :registers [{:name a :kind :atomic :writers :any} {:name b :kind :atomic :writers :any} {:name c :kind :atomic :writers :any} {:name s :kind :atomic :writers :any}]}]}
 {:ask a} {:process 0 :type :invoke :f :write :value [s 1] :index 0} {:process 0 :type :ok :f :write :value [s 1] :index 3}
@@ -277,7 +278,7 @@ const ORDERS: &str =
 {:ask c} {:process 0 :type :invoke :f :read :value [s nil] :index 6} {:process 0 :type :ok :f :read :value [s 2] :index 7} {:edit :amend :of 1 :value 1}
 => holds 0, holds 0, holds 0, holds 3, 3 logs 0: 0 x0 holds 0, 1: 0 x1 holds 0, 3 x1 holds 0, 2: 0 x2 holds 0,";
 
-/// As many traces as there may be, each with a feeder at once.
+/// As many traces as a run may have, each with a feeder at once.
 const MANY: &str =
     "open gather in 64 {:levels [{:name top :registers [{:name a :kind :atomic :writers :any} {:name b :kind :atomic :writers :any} {:name c :kind :regular :writers [0]}]}]}
 100 times {:process 0 :type :invoke :f :write :value [a %] :index %0} {:process 0 :type :ok :f :write :value [a %] :index %1} {:process 0 :type :invoke :f :read :value [b nil] :index %2} {:process 0 :type :ok :f :read :value [b 7] :index %3}
@@ -286,7 +287,7 @@ const MANY: &str =
 {:process 9 :type :invoke :f :write :value [c 7] :index 1} {:ask c} ]
 => holds 254, holds 255, holds 0, 256 logs 100: 2 x2 holds 0, 3 F1 NotAMap, 255: 0 X6 NotAWriter, 1 x2 holds 0, StrayClose at 68,";
 
-/// Two traces with each kind of step.
+/// Two traces with edits, questions and refusals, of which one breaks.
 const MEMORY: &str =
     "open in 2 {:levels [{:name top :registers [{:name a :kind :atomic :writers :any} {:name b :kind :atomic :writers :any}]}]}
 {:process 0 :type :invoke :f :write :value [a 1] :index 0} {:process 0 :type :ok :f :write :value [a 1] :index 1} {:ask a} {:process 0 :type :invoke :f :write :value [a 1] :index 2} ]
@@ -313,7 +314,7 @@ fn each_of_many_traces_has_a_feeder(rt: HostRuntime) -> Result<(), Fail> {
     each_is_told(&rt, MANY)
 }
 
-/// Each trace cut in two at each eleventh place, and read with interruptions.
+/// Each trace cut in two at every eleventh place, and read with interruptions.
 #[test]
 fn traces_may_be_cut_anywhere(rt: HostRuntime) -> Result<(), Fail> {
     for row in TRACES.split("\n\n") {
@@ -326,13 +327,13 @@ fn traces_may_be_cut_anywhere(rt: HostRuntime) -> Result<(), Fail> {
     Ok(())
 }
 
-/// Steps of each kind between long blanks, and an event whose text is long, so that pieces are put on pages whole.
+/// Steps of each kind between long blanks, and an event whose text is long, so that chunks are put on pages whole.
 const LONG: &str =
     "open in 1 {:levels [{:name top :registers [{:name x :kind :atomic :writers :any}]}]}
 ~{:process 0 :type :invoke :f :write :value 1 :index 0} {:process 0 :type :ok :f :write :value 1 :index 1} {:ask x}~{:process 1 :type :invoke :f :read ~:value nil :index 2} #t {:process 1 :type :ok :f :read :value 2 :index 3} {:edit :amend :of 3 :value 1} {:process 2 :type :fail :f :read} 7 {:process 1 :type :invoke :f :read :value nil :index 4 :error \"e\"} {:edit :withdraw :of 0} {:ask x}~
 => fails 2, 1 logs 0: 2 x0 holds 1, 6 P2 NoInvocation, 7 F1 NotAMap, 10 x0 fails 2,";
 
-/// Cut into two long pieces at each place in and between some elements.
+/// Cut into two long chunks at each place in and between some elements.
 #[test]
 fn long_pieces_are_told_like_short_ones(rt: HostRuntime) -> Result<(), Fail> {
     let row = Row::read(LONG);
@@ -352,7 +353,7 @@ const BROKEN: &str =
     "open in 1 {:levels [{:name top :registers [{:name x :kind :atomic :writers :any}]}]}
 {:process 0 :type :invoke :f :write :value 1 :index 0} {:index 0";
 
-/// What has ended stands, wherever the reading fails.
+/// Wherever the reading fails, the elements that ended before that are carried out.
 #[test]
 fn a_reading_may_fail_at_each_call(rt: HostRuntime) -> Result<(), Fail> {
     let row = Row::read(BROKEN);
@@ -366,7 +367,7 @@ fn a_reading_may_fail_at_each_call(rt: HostRuntime) -> Result<(), Fail> {
     Ok(())
 }
 
-/// What is told of a reader without end.
+/// What is found of a reader without end.
 fn told_of_endless<R: Threads + Wait + AllocGlobal + Sync>(
     rt: &R,
     interrupted: bool,
@@ -394,7 +395,7 @@ fn told_of_endless<R: Threads + Wait + AllocGlobal + Sync>(
     Ok(told)
 }
 
-/// A reader that is interrupted for ever, and one that gives one byte for ever.
+/// A reader that is interrupted at every call, and one that gives one byte at every call.
 #[test]
 fn a_reading_ends_at_its_limit(rt: HostRuntime) -> Result<(), Fail> {
     let halted = told_of_endless(&rt, true)?;
@@ -410,7 +411,8 @@ fn a_reading_ends_at_its_limit(rt: HostRuntime) -> Result<(), Fail> {
     Ok(())
 }
 
-/// To be run with each allocation refused in turn. Where that of a page is refused, its texts get pages of their own.
+/// To be run with each allocation refused in turn. Where that of a page is refused, its texts get pages of their
+/// own.
 #[test]
 fn a_run_is_told_again_where_memory_is_refused(rt: HostRuntime) -> Result<(), Fail> {
     each_is_told(&rt, MEMORY)?;

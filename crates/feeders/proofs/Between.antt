@@ -1,14 +1,14 @@
--- A pass that has the entries that it had: the feeder goes on with it.
+-- A feeder goes on with a pass that has the entries that it had.
 use Rattle.std.proofs.Common.{◌≡◌, ℕ, List, Result, ◌∙◌}
-use Rattle.tower_file.specs.Contents.{Contents}
+use Rattle.tower_file.specs.Contents.{TowerModel}
 use Rattle.jepsen_form.specs.declared.fault.FormFault.{FormFault}
 use Rattle.jepsen_form.specs.declared.item.Item.{Item}
 use Rattle.jepsen_form.specs.declared.item.MomentField.{MomentField}
-use Rattle.edn_reader.specs.Grammar.{Piece}
+use Rattle.edn_reader.specs.Grammar.{ElementModel}
 use Rattle.shards.specs.Plan.{Plan}
-use Rattle.shards.specs.Pass.{IsPassOf, Passed, told}
-use Rattle.feeders.specs.declared.feeder.Course.{Course}
-use Rattle.feeders.specs.declared.feeder.Course.TheVariants.{Open, Paused, Ending, Broke, Ended}
+use Rattle.shards.specs.Pass.{IsPassOf, PassModel, own_entries}
+use Rattle.feeders.specs.declared.feeder.FeedState.{FeedState}
+use Rattle.feeders.specs.declared.feeder.FeedState.TheVariants.{Open, Paused, Ending, Broke, Ended}
 use Rattle.feeders.specs.declared.intake.Intake.{Intake}
 use Rattle.feeders.specs.declared.log.Line.{Line}
 use Rattle.feeders.specs.declared.pending.Pending.{Pending}
@@ -19,24 +19,24 @@ use Rattle.feeders.specs.Intake.{HasEnded, HasFed, IsAtEnd}
 use Rattle.feeders.specs.Pending.{IsPendingAs}
 use Rattle.feeders.specs.Progress.{HasDone, IsAt, IsPaired}
 use Rattle.feeders.specs.Setting.{Setting, Start, setting_of}
-use Rattle.feeders.specs.Steps.{Taken}
+use Rattle.feeders.specs.Steps.{StepResult}
 
-module _ (plan : Plan) (start : Start) (tower : Contents) (chosen : MomentField) (old new : Passed) (feeder : new.feeder ≡ old.feeder) (of : IsPassOf plan old → IsPassOf plan new)
-    (same : (at : ℕ) → told new at ≡ told old at) where
+module _ (plan : Plan) (start : Start) (tower : TowerModel) (chosen : MomentField) (old new : PassModel) (feeder : new.feeder ≡ old.feeder) (of : IsPassOf plan old → IsPassOf plan new)
+    (same : (at : ℕ) → own_entries new at ≡ own_entries old at) where
   abbrev setting : Setting
   setting = setting_of plan tower chosen start
 
-  done : {lines : List Line} {steps : List Taken} → HasDone plan start old lines steps → HasDone plan start new lines steps
+  done : {lines : List Line} {steps : List StepResult} → HasDone plan start old lines steps → HasDone plan start new lines steps
   done has = record { doings = has.doings; done = has.done; feeder_is = feeder ∙ has.feeder_is; of_plan = of has.of_plan; own = λ at lt. same at ∙ has.own at lt }
 
   behind : {items : List (Result Item FormFault)} {progress : Progress} → IsAt plan start items progress old → IsAt plan start items progress new
   behind is = record { place = is.place; feeder_is = is.feeder_is; pairing = is.pairing; done = done is.done }
 
-  paired : {items : List (Result Item FormFault)} {item : Result Item FormFault} {step : Taken} {progress : Progress} → IsPaired plan start items item step progress old
+  paired : {items : List (Result Item FormFault)} {item : Result Item FormFault} {step : StepResult} {progress : Progress} → IsPaired plan start items item step progress old
       → IsPaired plan start items item step progress new
   paired is = record { place = is.place; feeder_is = is.feeder_is; pairing = is.pairing; step_is = is.step_is; done = done is.done }
 
-  waits : (pending : Pending) (items : List (Result Item FormFault)) (waiting : List Piece) (intake : Intake) → IsPendingAs pending setting items waiting intake old
+  waits : (pending : Pending) (items : List (Result Item FormFault)) (waiting : List ElementModel) (intake : Intake) → IsPendingAs pending setting items waiting intake old
       → IsPendingAs pending setting items waiting intake new
   waits Nothing items waiting intake is = (is.0, behind is.1)
   waits (Whole place) items waiting intake is = (is.0, is.1, is.2, behind is.3)
@@ -68,7 +68,7 @@ module _ (plan : Plan) (start : Start) (tower : Contents) (chosen : MomentField)
   ended : {trace : List ℕ} (intake : Intake) → HasEnded setting trace intake old → HasEnded setting trace intake new
   ended intake has = record { items = has.items; are = has.are; done = done has.done }
 
-  pub goes_on : (course : Course) (bytes coming : List ℕ) (intake : Intake) → IsFedAs course setting bytes coming intake old → IsFedAs course setting bytes coming intake new
+  pub goes_on : (state : FeedState) (bytes coming : List ℕ) (intake : Intake) → IsFedAs state setting bytes coming intake old → IsFedAs state setting bytes coming intake new
   goes_on Open bytes coming intake is = fed intake is
   goes_on Paused bytes coming intake is = fed intake is
   goes_on Ending bytes coming intake is = at_end intake is

@@ -1,4 +1,4 @@
--- What a feeder is lent may be lent to another thread, where what it waits with and the gate may.
+-- What a feeder is lent may be lent to another thread, where its runtime and its gate may be.
 use denote.RattleType.{RattleType}
 use denote.Ref.{NamedLft}
 use denote.Param.Send.{IsSync, recorded_sync, shr_sync, struct_sync}

@@ -4,16 +4,16 @@ use Rattle.std.specs.Prelude.{Contains}
 use Rattle.std.specs.List.{AllByRecursion, range_with_len}
 use Rattle.std.proofs.lemmas.List.{length-map}
 use Rattle.std.proofs.lemmas.List.Elements.{Contains-get_or, recursion_from_All}
-use Rattle.tower_file.specs.Contents.{Contents}
+use Rattle.tower_file.specs.Contents.{TowerModel}
 use Rattle.jepsen_form.specs.declared.item.MomentField.{MomentField}
 use Rattle.shards.specs.Plain.{plain_numbered}
 use Rattle.shards.specs.Plan.{Plan, plan_of}
-use Rattle.shards.specs.Pass.{IsPassOf, Passed, fresh, told}
+use Rattle.shards.specs.Pass.{IsPassOf, PassModel, new_pass, own_entries}
 use Rattle.shards.specs.Merge.{entries_of}
-use Rattle.shards.specs.Closing.{AreComplete, AreItsPasses, Ended, Held, IsClosed, IsClosingFault, IsUnfinished, journal_of}
+use Rattle.shards.specs.Closing.{AreComplete, AreItsPasses, ClosedShard, ShardModel, IsClosed, IsClosingFault, IsUnfinished, journal_of}
 use Rattle.shards.specs.declared.fault.ShardFault.{ShardFault}
 use Rattle.shards.specs.declared.fault.ShardFault.TheVariants as faults
-use Rattle.feeders.specs.declared.fed.Fed.{Fed}
+use Rattle.feeders.specs.declared.outcome.FeederOutcome.{FeederOutcome}
 use Rattle.feeders.specs.declared.log.Log.{Log}
 use Rattle.feeders.specs.Doings.{entered_in}
 use Rattle.feeders.specs.Ending.{MayEnd, ended_by}
@@ -22,24 +22,24 @@ use Rattle.feeders.specs.Readers.{AreReadOf}
 use Rattle.feeders.specs.Run.{EachNumbered, IsRun, IsTraced, plan_of_run}
 use Rattle.feeders.specs.Setting.{first_start, setting_of}
 
--- the entries of the pass's feeder in the journal of a shard are those that the pass submitted there
-abbrev IsMergedAt : List Ended → ℕ → Passed → Type 0
-IsMergedAt closed at pass = map plain_numbered (entries_of pass.feeder (journal_of closed at)) ≡ map plain_numbered (told pass at)
+-- the entries of a pass's feeder in the journal of a shard read as those that the pass submitted there
+abbrev IsMergedAt : List ClosedShard → ℕ → PassModel → Type 0
+IsMergedAt closed at pass = map plain_numbered (entries_of pass.feeder (journal_of closed at)) ≡ map plain_numbered (own_entries pass at)
 
-abbrev IsMergedBelow : ℕ → List Ended → Fed → Type 0
+abbrev IsMergedBelow : ℕ → List ClosedShard → FeederOutcome → Type 0
 IsMergedBelow shards closed fed = (at : ℕ) → at < shards → IsMergedAt closed at fed.pass
 
-merged_each : (shards : ℕ) (closed : List Ended) (feds : List Fed)
-    → ((at : ℕ) → at < shards → AllByRecursion (IsMergedAt closed at) (map (λ fed. fed.pass) feds)) → AllByRecursion (IsMergedBelow shards closed) feds
+merged_each : (shards : ℕ) (closed : List ClosedShard) (outcomes : List FeederOutcome)
+    → ((at : ℕ) → at < shards → AllByRecursion (IsMergedAt closed at) (map (λ fed. fed.pass) outcomes)) → AllByRecursion (IsMergedBelow shards closed) outcomes
 merged_each shards closed [] merged = tt
-merged_each shards closed (fed ∷ feds) merged = (λ at below. (merged at below).0, merged_each shards closed feds (λ at below. (merged at below).1))
+merged_each shards closed (fed ∷ outcomes) merged = (λ at below. (merged at below).0, merged_each shards closed outcomes (λ at below. (merged at below).1))
 
-merged_of : (plan : Plan) (closed : List Ended) (feds : List Fed) → IsClosed plan (map (λ fed. fed.pass) feds) closed → AllByRecursion (IsMergedBelow plan.shards closed) feds
-merged_of plan closed feds is = merged_each plan.shards closed feds
-    (λ at below. recursion_from_All (IsMergedAt closed at) (map (λ fed. fed.pass) feds) (is.finished at (omega (arith, is.many))).merge.of_each)
+merged_of : (plan : Plan) (closed : List ClosedShard) (outcomes : List FeederOutcome) → IsClosed plan (map (λ fed. fed.pass) outcomes) closed → AllByRecursion (IsMergedBelow plan.shards closed) outcomes
+merged_of plan closed outcomes is = merged_each plan.shards closed outcomes
+    (λ at below. recursion_from_All (IsMergedAt closed at) (map (λ fed. fed.pass) outcomes) (is.finished at (omega (arith, is.many))).merge.of_each)
 
-module _ {X : Type 0} (of : X → List ℕ) (plan : Plan) (tower : Contents) (chosen : MomentField) (closed : List Ended) where
-  one_traced : (feeder : ℕ) (trace : List ℕ) (fed : Fed) → IsFed (setting_of plan tower chosen (first_start feeder)) trace fed → IsMergedBelow plan.shards closed fed
+module _ {X : Type 0} (of : X → List ℕ) (plan : Plan) (tower : TowerModel) (chosen : MomentField) (closed : List ClosedShard) where
+  one_traced : (feeder : ℕ) (trace : List ℕ) (fed : FeederOutcome) → IsFed (setting_of plan tower chosen (first_start feeder)) trace fed → IsMergedBelow plan.shards closed fed
       → IsTraced plan tower chosen closed feeder trace fed.log
   one_traced feeder trace fed is merged = record {
     items = is.items;
@@ -52,24 +52,24 @@ module _ {X : Type 0} (of : X → List ℕ) (plan : Plan) (tower : Contents) (ch
         (merged at below ∙ ap (map plain_numbered) (is.done.own at below));
   }
 
-  each_traced : (number : ℕ) (traces : List X) (feds : List Fed)
-      → AreFedBy (λ feeder trace fed. IsFed (setting_of plan tower chosen (first_start feeder)) (of trace) fed) (map (fresh plan) (range_with_len number (length traces))) traces feds → AllByRecursion (IsMergedBelow plan.shards closed) feds
-      → EachNumbered (IsTraced plan tower chosen closed) number (map of traces) (map (λ fed. fed.log) feds)
+  each_traced : (number : ℕ) (traces : List X) (outcomes : List FeederOutcome)
+      → AreFedBy (λ feeder trace fed. IsFed (setting_of plan tower chosen (first_start feeder)) (of trace) fed) (map (new_pass plan) (range_with_len number (length traces))) traces outcomes → AllByRecursion (IsMergedBelow plan.shards closed) outcomes
+      → EachNumbered (IsTraced plan tower chosen closed) number (map of traces) (map (λ fed. fed.log) outcomes)
   each_traced number [] [] are merged = tt
-  each_traced number [] (fed ∷ feds) are merged = absurd are
+  each_traced number [] (fed ∷ outcomes) are merged = absurd are
   each_traced number (trace ∷ traces) [] are merged = absurd are
-  each_traced number (trace ∷ traces) (fed ∷ feds) are merged = (one_traced number (of trace) fed are.0 merged.0, each_traced (number + 1) traces feds are.1 merged.1)
+  each_traced number (trace ∷ traces) (fed ∷ outcomes) are merged = (one_traced number (of trace) fed are.0 merged.0, each_traced (number + 1) traces outcomes are.1 merged.1)
 
--- a run: the passes that an auditor gave, what was fed with them, and what it left
-pub run_of : {X : Type 0} (of : X → List ℕ) (plan : Plan) (tower : Contents) (chosen : MomentField) (shards : ℕ) (traces : List X) (opened : List Passed) (feds : List Fed) (passes : List Passed) (logs : List Log) (closed : List Ended)
-    → plan ≡ plan_of 0 tower shards (length traces) → opened ≡ map (fresh plan) (range_with_len 0 (length traces)) → AreFedBy (λ feeder trace fed. IsFed (setting_of plan tower chosen (first_start feeder)) (of trace) fed) opened traces feds
-    → passes ≡ map (λ fed. fed.pass) feds → logs ≡ map (λ fed. fed.log) feds → IsClosed plan passes closed
+-- a run: an auditor gave passes, traces were fed with them, and the auditor was closed
+pub run_of : {X : Type 0} (of : X → List ℕ) (plan : Plan) (tower : TowerModel) (chosen : MomentField) (shards : ℕ) (traces : List X) (opened : List PassModel) (outcomes : List FeederOutcome) (passes : List PassModel) (logs : List Log) (closed : List ClosedShard)
+    → plan ≡ plan_of 0 tower shards (length traces) → opened ≡ map (new_pass plan) (range_with_len 0 (length traces)) → AreFedBy (λ feeder trace fed. IsFed (setting_of plan tower chosen (first_start feeder)) (of trace) fed) opened traces outcomes
+    → passes ≡ map (λ fed. fed.pass) outcomes → logs ≡ map (λ fed. fed.log) outcomes → IsClosed plan passes closed
     → IsRun tower chosen shards (map of traces) closed logs
-run_of {X} of plan tower chosen shards traces opened feds passes logs closed opening fresh_ones fed passes_are logs_are is =
+run_of {X} of plan tower chosen shards traces opened outcomes passes logs closed opening fresh_ones fed passes_are logs_are is =
     let same : plan ≡ plan_of_run tower shards (map of traces) = opening ∙ ap (plan_of 0 tower shards) (sym (length-map traces of)) in
-    let traced : EachNumbered (IsTraced plan tower chosen closed) 0 (map of traces) (map (λ (fed : Fed). fed.log) feds) =
-    each_traced of plan tower chosen closed 0 traces feds (subst (λ (ps : List Passed). AreFedBy (λ feeder trace fed. IsFed (setting_of plan tower chosen (first_start feeder)) (of trace) fed) ps traces feds) fresh_ones fed)
-    (merged_of plan closed feds (subst (λ (ps : List Passed). IsClosed plan ps closed) passes_are is)) in
+    let traced : EachNumbered (IsTraced plan tower chosen closed) 0 (map of traces) (map (λ (fed : FeederOutcome). fed.log) outcomes) =
+    each_traced of plan tower chosen closed 0 traces outcomes (subst (λ (ps : List PassModel). AreFedBy (λ feeder trace fed. IsFed (setting_of plan tower chosen (first_start feeder)) (of trace) fed) ps traces outcomes) fresh_ones fed)
+    (merged_of plan closed outcomes (subst (λ (ps : List PassModel). IsClosed plan ps closed) passes_are is)) in
     record {
       passes = passes;
       finished = subst (λ (p : Plan). IsClosed p passes closed) same is;
@@ -77,41 +77,41 @@ run_of {X} of plan tower chosen shards traces opened feds passes logs closed ope
           (subst (EachNumbered (IsTraced plan tower chosen closed) 0 (map of traces)) (sym logs_are) traced);
     }
 
-module _ {X : Type 0} (of : X → List ℕ) (plan : Plan) (tower : Contents) (chosen : MomentField) where
-  as_many : (number : ℕ) (traces : List X) (feds : List Fed) → AreFedBy (λ feeder trace fed. IsFed (setting_of plan tower chosen (first_start feeder)) (of trace) fed) (map (fresh plan) (range_with_len number (length traces))) traces feds → length feds ≡ length traces
+module _ {X : Type 0} (of : X → List ℕ) (plan : Plan) (tower : TowerModel) (chosen : MomentField) where
+  as_many : (number : ℕ) (traces : List X) (outcomes : List FeederOutcome) → AreFedBy (λ feeder trace fed. IsFed (setting_of plan tower chosen (first_start feeder)) (of trace) fed) (map (new_pass plan) (range_with_len number (length traces))) traces outcomes → length outcomes ≡ length traces
   as_many number [] [] are = refl
-  as_many number [] (fed ∷ feds) are = absurd are
+  as_many number [] (fed ∷ outcomes) are = absurd are
   as_many number (trace ∷ traces) [] are = absurd are
-  as_many number (trace ∷ traces) (fed ∷ feds) are = ap suc (as_many (number + 1) traces feds are.1)
+  as_many number (trace ∷ traces) (fed ∷ outcomes) are = ap suc (as_many (number + 1) traces outcomes are.1)
 
   -- each pass is the auditor's, and its feeder is its place
-  passed_at : (number : ℕ) (traces : List X) (feds : List Fed) → AreFedBy (λ feeder trace fed. IsFed (setting_of plan tower chosen (first_start feeder)) (of trace) fed) (map (fresh plan) (range_with_len number (length traces))) traces feds
-      → (i : ℕ) (d : Passed) → i < length (map (λ fed. fed.pass) feds) → IsPassOf plan (get_or (map (λ fed. fed.pass) feds) i d) × ((get_or (map (λ fed. fed.pass) feds) i d).feeder ≡ number + i)
+  passed_at : (number : ℕ) (traces : List X) (outcomes : List FeederOutcome) → AreFedBy (λ feeder trace fed. IsFed (setting_of plan tower chosen (first_start feeder)) (of trace) fed) (map (new_pass plan) (range_with_len number (length traces))) traces outcomes
+      → (i : ℕ) (d : PassModel) → i < length (map (λ fed. fed.pass) outcomes) → IsPassOf plan (get_or (map (λ fed. fed.pass) outcomes) i d) × ((get_or (map (λ fed. fed.pass) outcomes) i d).feeder ≡ number + i)
   passed_at number [] [] are i d below = absurd (omega arith)
-  passed_at number [] (fed ∷ feds) are i d below = absurd are
+  passed_at number [] (fed ∷ outcomes) are i d below = absurd are
   passed_at number (trace ∷ traces) [] are i d below = absurd are
-  passed_at number (trace ∷ traces) (fed ∷ feds) are zero d below = (are.0.done.of_plan, are.0.done.feeder_is ∙ omega arith)
-  passed_at number (trace ∷ traces) (fed ∷ feds) are (suc i) d below =
-      let rest : IsPassOf plan (get_or (map (λ (fed : Fed). fed.pass) feds) i d) × ((get_or (map (λ (fed : Fed). fed.pass) feds) i d).feeder ≡ number + 1 + i) = passed_at (number + 1) traces feds are.1 i d (omega arith) in
+  passed_at number (trace ∷ traces) (fed ∷ outcomes) are zero d below = (are.0.done.of_plan, are.0.done.feeder_is ∙ omega arith)
+  passed_at number (trace ∷ traces) (fed ∷ outcomes) are (suc i) d below =
+      let rest : IsPassOf plan (get_or (map (λ (fed : FeederOutcome). fed.pass) outcomes) i d) × ((get_or (map (λ (fed : FeederOutcome). fed.pass) outcomes) i d).feeder ≡ number + 1 + i) = passed_at (number + 1) traces outcomes are.1 i d (omega arith) in
       (rest.0, rest.1 ∙ omega arith)
 
-  its_passes : (traces : List X) (feds : List Fed) → AreFedBy (λ feeder trace fed. IsFed (setting_of plan tower chosen (first_start feeder)) (of trace) fed) (map (fresh plan) (range_with_len 0 (length traces))) traces feds → AreItsPasses plan (map (λ fed. fed.pass) feds)
-  its_passes traces feds are = record {
-    each = λ k d below. (passed_at 0 traces feds are k d below).0;
+  its_passes : (traces : List X) (outcomes : List FeederOutcome) → AreFedBy (λ feeder trace fed. IsFed (setting_of plan tower chosen (first_start feeder)) (of trace) fed) (map (new_pass plan) (range_with_len 0 (length traces))) traces outcomes → AreItsPasses plan (map (λ fed. fed.pass) outcomes)
+  its_passes traces outcomes are = record {
+    each = λ k d below. (passed_at 0 traces outcomes are k d below).0;
     apart = λ i j d lesser below same.
-        let first = (passed_at 0 traces feds are i d (omega arith)).1 in
-        let second = (passed_at 0 traces feds are j d below).1 in
+        let first = (passed_at 0 traces outcomes are i d (omega arith)).1 in
+        let second = (passed_at 0 traces outcomes are j d below).1 in
         omega (arith, first, second, same, lesser);
   }
 
-  complete : (traces : List X) (feds : List Fed) → plan.feeders ≡ length traces → AreFedBy (λ feeder trace fed. IsFed (setting_of plan tower chosen (first_start feeder)) (of trace) fed) (map (fresh plan) (range_with_len 0 (length traces))) traces feds → AreComplete plan.feeders (map (λ fed. fed.pass) feds)
-  complete traces feds many are feeder below =
-      let passes : List Passed = map (λ (fed : Fed). fed.pass) feds in
-      let within : feeder < length passes = omega (arith, length-map feds (λ (fed : Fed). fed.pass), as_many 0 traces feds are) in
-      let there : Contains passes (get_or passes feeder (fresh plan 0)) = Contains-get_or passes feeder (fresh plan 0) within in
-      (there.0, get_or passes feeder (fresh plan 0), there.1, there.2, (passed_at 0 traces feds are feeder (fresh plan 0) within).1 ∙ omega arith)
+  complete : (traces : List X) (outcomes : List FeederOutcome) → plan.feeders ≡ length traces → AreFedBy (λ feeder trace fed. IsFed (setting_of plan tower chosen (first_start feeder)) (of trace) fed) (map (new_pass plan) (range_with_len 0 (length traces))) traces outcomes → AreComplete plan.feeders (map (λ fed. fed.pass) outcomes)
+  complete traces outcomes many are feeder below =
+      let passes : List PassModel = map (λ (fed : FeederOutcome). fed.pass) outcomes in
+      let within : feeder < length passes = omega (arith, length-map outcomes (λ (fed : FeederOutcome). fed.pass), as_many 0 traces outcomes are) in
+      let there : Contains passes (get_or passes feeder (new_pass plan 0)) = Contains-get_or passes feeder (new_pass plan 0) within in
+      (there.0, get_or passes feeder (new_pass plan 0), there.1, there.2, (passed_at 0 traces outcomes are feeder (new_pass plan 0) within).1 ∙ omega arith)
 
-closing_ends : (plan : Plan) (passes : List Passed) (shards : List Held) (fault : ShardFault) → AreItsPasses plan passes → AreComplete plan.feeders passes → IsClosingFault plan plan.feeders passes shards fault → MayEnd (ended_by fault)
+closing_ends : (plan : Plan) (passes : List PassModel) (shards : List ShardModel) (fault : ShardFault) → AreItsPasses plan passes → AreComplete plan.feeders passes → IsClosingFault plan plan.feeders passes shards fault → MayEnd (ended_by fault)
 closing_ends plan passes shards faults.UnknownRegister its all is = absurd is
 closing_ends plan passes shards faults.Memory its all is = tt
 closing_ends plan passes shards (faults.JournalBehind at seen found) its all is = tt
@@ -119,32 +119,32 @@ closing_ends plan passes shards (faults.PassMissing feeder) its all is = is.1.1 
 closing_ends plan passes shards (faults.Stranger at feeder number) its all is = tt
 closing_ends plan passes shards faults.ForeignPass its all is = is its
 
--- why a run ends where its auditor is not finished: the passes are the auditor's, one for each feeder
-pub may_end : {X : Type 0} (of : X → List ℕ) (plan : Plan) (tower : Contents) (chosen : MomentField) (traces : List X) (opened : List Passed) (feds : List Fed) (passes : List Passed) (fault : ShardFault)
-    → plan.feeders ≡ length traces → opened ≡ map (fresh plan) (range_with_len 0 (length traces)) → AreFedBy (λ feeder trace fed. IsFed (setting_of plan tower chosen (first_start feeder)) (of trace) fed) opened traces feds
-    → passes ≡ map (λ fed. fed.pass) feds → IsUnfinished plan plan.feeders passes fault → MayEnd (ended_by fault)
-may_end {X} of plan tower chosen traces opened feds passes fault many fresh_ones fed passes_are unfinished =
-    let are : AreFedBy (λ feeder trace fed. IsFed (setting_of plan tower chosen (first_start feeder)) (of trace) fed) (map (fresh plan) (range_with_len 0 (length traces))) traces feds = subst (λ (ps : List Passed). AreFedBy (λ feeder trace fed. IsFed (setting_of plan tower chosen (first_start feeder)) (of trace) fed) ps traces feds) fresh_ones fed in
+-- why an auditor may fail to close that is given its own passes, one for each feeder
+pub may_end : {X : Type 0} (of : X → List ℕ) (plan : Plan) (tower : TowerModel) (chosen : MomentField) (traces : List X) (opened : List PassModel) (outcomes : List FeederOutcome) (passes : List PassModel) (fault : ShardFault)
+    → plan.feeders ≡ length traces → opened ≡ map (new_pass plan) (range_with_len 0 (length traces)) → AreFedBy (λ feeder trace fed. IsFed (setting_of plan tower chosen (first_start feeder)) (of trace) fed) opened traces outcomes
+    → passes ≡ map (λ fed. fed.pass) outcomes → IsUnfinished plan plan.feeders passes fault → MayEnd (ended_by fault)
+may_end {X} of plan tower chosen traces opened outcomes passes fault many fresh_ones fed passes_are unfinished =
+    let are : AreFedBy (λ feeder trace fed. IsFed (setting_of plan tower chosen (first_start feeder)) (of trace) fed) (map (new_pass plan) (range_with_len 0 (length traces))) traces outcomes = subst (λ (ps : List PassModel). AreFedBy (λ feeder trace fed. IsFed (setting_of plan tower chosen (first_start feeder)) (of trace) fed) ps traces outcomes) fresh_ones fed in
     closing_ends plan passes unfinished.shards fault
-    (subst (AreItsPasses plan) (sym passes_are) (its_passes of plan tower chosen traces feds are))
-    (subst (AreComplete plan.feeders) (sym passes_are) (complete of plan tower chosen traces feds many are)) unfinished.fault_is
+    (subst (AreItsPasses plan) (sym passes_are) (its_passes of plan tower chosen traces outcomes are))
+    (subst (AreComplete plan.feeders) (sym passes_are) (complete of plan tower chosen traces outcomes many are)) unfinished.fault_is
 
--- what was read of each reader, as traces that were fed
-pub record WereRead (plan : Plan) (tower : Contents) (chosen : MomentField) (passes : List Passed) (lefts : List (Option (List ℕ))) (feds : List Fed) : Type 0 where
+-- the traces that were read of these readers, each of which was fed
+pub record WereRead (plan : Plan) (tower : TowerModel) (chosen : MomentField) (passes : List PassModel) (lefts : List (Option (List ℕ))) (outcomes : List FeederOutcome) : Type 0 where
   pub traces : List (List ℕ)
-  pub are_read : AreReadOf lefts (map (λ fed. fed.log) feds) traces
-  pub are_fed : AreFedBy (λ feeder trace fed. IsFed (setting_of plan tower chosen (first_start feeder)) trace fed) passes traces feds
+  pub are_read : AreReadOf lefts (map (λ fed. fed.log) outcomes) traces
+  pub are_fed : AreFedBy (λ feeder trace fed. IsFed (setting_of plan tower chosen (first_start feeder)) trace fed) passes traces outcomes
   pub many : length traces ≡ length lefts
 
-pub read_of : (plan : Plan) (tower : Contents) (chosen : MomentField) (passes : List Passed) (lefts : List (Option (List ℕ))) (feds : List Fed)
-    → AreReadAndFed plan tower chosen passes lefts feds → WereRead plan tower chosen passes lefts feds
+pub read_of : (plan : Plan) (tower : TowerModel) (chosen : MomentField) (passes : List PassModel) (lefts : List (Option (List ℕ))) (outcomes : List FeederOutcome)
+    → AreReadAndFed plan tower chosen passes lefts outcomes → WereRead plan tower chosen passes lefts outcomes
 read_of plan tower chosen [] [] [] are = record { traces = []; are_read = tt; are_fed = tt; many = refl }
-read_of plan tower chosen (pass ∷ passes) (left ∷ lefts) (fed ∷ feds) are =
-    let rest = read_of plan tower chosen passes lefts feds are.1 in
+read_of plan tower chosen (pass ∷ passes) (left ∷ lefts) (fed ∷ outcomes) are =
+    let rest = read_of plan tower chosen passes lefts outcomes are.1 in
     record { traces = are.0.trace ∷ rest.traces; are_read = (are.0.of, rest.are_read); are_fed = (are.0.is_fed, rest.are_fed); many = ap suc rest.many }
-read_of plan tower chosen [] [] (fed ∷ feds) are = absurd are
+read_of plan tower chosen [] [] (fed ∷ outcomes) are = absurd are
 read_of plan tower chosen [] (left ∷ lefts) [] are = absurd are
-read_of plan tower chosen [] (left ∷ lefts) (fed ∷ feds) are = absurd are
+read_of plan tower chosen [] (left ∷ lefts) (fed ∷ outcomes) are = absurd are
 read_of plan tower chosen (pass ∷ passes) [] [] are = absurd are
-read_of plan tower chosen (pass ∷ passes) [] (fed ∷ feds) are = absurd are
+read_of plan tower chosen (pass ∷ passes) [] (fed ∷ outcomes) are = absurd are
 read_of plan tower chosen (pass ∷ passes) (left ∷ lefts) [] are = absurd are

@@ -1,9 +1,9 @@
--- The elements of a trace with one more.
+-- The items and the steps of a trace, with one element more.
 use Rattle.std.proofs.Common.{◌≡◌, ℕ, ◌+◌, List, [], ◌∷◌, ◌++◌, length, Result, Ok, Err, refl, sym, ap, ◌∙◌, arith, append-nil, append_assoc}
 use Rattle.jepsen_form.specs.declared.fault.FormFault.{FormFault}
 use Rattle.jepsen_form.specs.declared.item.Item.{Item}
 use Rattle.pairing.specs.Accepted.{Placed}
-use Rattle.feeders.specs.Steps.{Taken, placed, placed_from, step_behind, steps_behind, steps_of}
+use Rattle.feeders.specs.Steps.{StepResult, placed, placed_from, step_behind, steps_behind, steps_of}
 
 placed_behind : (place : ℕ) (items : List (Result Item FormFault)) (item : Item) → placed_from place (items ++ Ok item ∷ []) ≡ placed_from place items ++ record { place = place + length items; item = item } ∷ []
 placed_behind place [] item = ap (λ (n : ℕ). record { place = n; item = item } ∷ []) (omega arith)
@@ -28,7 +28,7 @@ not_placed items fault = not_placed_behind 0 items fault
 steps_more : (feeder : ℕ) (before items : List (Result Item FormFault)) (item : Result Item FormFault) → steps_behind feeder before (items ++ item ∷ []) ≡ steps_behind feeder before items ++ step_behind feeder (before ++ items) item ∷ []
 steps_more feeder before [] item = ap (λ (all : List (Result Item FormFault)). step_behind feeder all item ∷ []) (sym (append-nil before))
 steps_more feeder before (first ∷ items) item =
-    ap (λ (rest : List Taken). step_behind feeder before first ∷ rest) (steps_more feeder (before ++ first ∷ []) items item)
+    ap (λ (rest : List StepResult). step_behind feeder before first ∷ rest) (steps_more feeder (before ++ first ∷ []) items item)
     ∙ ap (λ (all : List (Result Item FormFault)). step_behind feeder before first ∷ steps_behind feeder (before ++ first ∷ []) items ++ step_behind feeder all item ∷ []) (append_assoc before (first ∷ []) items)
 
 pub steps_on : (feeder : ℕ) (items : List (Result Item FormFault)) (item : Result Item FormFault) → steps_of feeder (items ++ item ∷ []) ≡ steps_of feeder items ++ step_behind feeder items item ∷ []

@@ -1,4 +1,4 @@
--- Steps that lend no text.
+-- An item that brings no text has a step that lends none.
 use Rattle.std.proofs.Common.{◌≡◌, ℕ, List, length, Option, Some, None, Result, Ok, Err, sym, subst}
 use Rattle.std.specs.Prelude.{is_some, false}
 use Rattle.intervals.specs.declared.edit.Edit.TheVariants as edits
@@ -16,10 +16,10 @@ use Rattle.pairing.specs.declared.step.Step.{Step}
 use Rattle.pairing.specs.Accepted.{Placed, accepted, unanswered_of, register_of, fault_of}
 use Rattle.pairing.specs.Step.{step_of, event_step, edit_step, id_of, given_by, unless}
 use Rattle.shards.specs.Plan.{Plan}
-use Rattle.shards.specs.Pass.{Passed}
+use Rattle.shards.specs.Pass.{PassModel}
 use Rattle.feeders.specs.declared.progress.Progress.{Progress}
 use Rattle.feeders.specs.Setting.{Start}
-use Rattle.feeders.specs.Steps.{Taken, by_pairing, placed, step_behind}
+use Rattle.feeders.specs.Steps.{StepResult, by_pairing, placed, step_behind}
 use Rattle.feeders.specs.Texts.{brought, brought_at}
 use Rattle.feeders.specs.Progress.{IsAt, IsPaired}
 use Rattle.feeders.specs.Lending.{LendsNone, is_lent}
@@ -47,21 +47,21 @@ unless_lends : (fault : Option PairFault) (step : Option Step) → LendsNone (Ok
 unless_lends None step lends = lends
 unless_lends (Some fault) step lends = tt
 
--- an item that brings no text gives no step that lends one
+-- the step of an item that brings no text lends none
 step_lends : (feeder : ℕ) (before : List Placed) (place : ℕ) (item : Item) → is_some (brought item) ≡ false → LendsNone (by_pairing (step_of feeder before place item))
 step_lends feeder before place item none = unless_lends (fault_of before item) (given_by feeder before place item) (given_lends feeder before place item none)
 
--- so is the step behind elements
+-- nor does the step of such an item after other elements
 pub behind_lends : (feeder : ℕ) (items : List (Result Item FormFault)) (item : Result Item FormFault) → is_lent item ≡ false → LendsNone (step_behind feeder items item)
 behind_lends feeder items (Err fault) none = tt
 behind_lends feeder items (Ok item) none = step_lends feeder (accepted (placed items)) (length items) item none
 
--- an element whose step lends no text was paired, and its step is told as it is
-pub read_unlent : (plan : Plan) (old new : Progress) (item : Result Item FormFault) (step told : Taken)
+-- an element whose step lends no text was paired, and its step with any lifetime is its step
+pub read_unlent : (plan : Plan) (old new : Progress) (item : Result Item FormFault) (step told : StepResult)
     → is_lent item ≡ false → (LendsNone step → told ≡ step)
-    → ((plan : Plan) (start : Start) (items : List (Result Item FormFault)) (pass : Passed) → IsAt plan start items old pass → IsPaired plan start items item step new pass)
-    → (start : Start) (items : List (Result Item FormFault)) (pass : Passed) → IsAt plan start items old pass → IsPaired plan start items item told new pass
+    → ((plan : Plan) (start : Start) (items : List (Result Item FormFault)) (pass : PassModel) → IsAt plan start items old pass → IsPaired plan start items item step new pass)
+    → (start : Start) (items : List (Result Item FormFault)) (pass : PassModel) → IsAt plan start items old pass → IsPaired plan start items item told new pass
 read_unlent plan old new item step told none unlent paired start items pass at =
     let is = paired plan start items pass at in
     let lends : LendsNone step = subst LendsNone (sym is.step_is) (behind_lends start.feeder items item none) in
-    subst (λ (s : Taken). IsPaired plan start items item s new pass) (sym (unlent lends)) is
+    subst (λ (s : StepResult). IsPaired plan start items item s new pass) (sym (unlent lends)) is

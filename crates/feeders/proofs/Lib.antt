@@ -1,16 +1,22 @@
+-- the steps of a trace: with one element more, those of a prefix, and what is done for one step more
 pub mod Items
 pub mod Prefixes
 pub mod Doing
+-- the last bytes of a trace that comes in chunks, with one chunk more
 pub mod Holding
+-- one element more: it is paired and carried out; steps that lend no text; the register of a step is the plan's
 pub mod Going
 pub mod Lending
 pub mod Naming
+-- the element that waits: it is read, paired and carried out; the prefix of a chunk with which it ended
 pub mod Settling
 pub mod Fronts
+-- a trace that is in memory as a whole, what a pass has after a call, halves, and what a run leaves
 pub mod Reading
 pub mod Telling
 pub mod Split
 pub mod Finished
+-- the law of texts: each text of an operation that stands after a run is an element of its feeder's trace
 pub mod TextsStanding
 pub mod TextsElements
 pub mod TextsItems
@@ -18,6 +24,7 @@ pub mod TextsLists
 pub mod TextsSteps
 pub mod TextsEntries
 pub mod TextsRun
+-- a trace that comes in chunks: what a source gives, a chunk, an element, the end, and a pass between two calls
 pub mod Sourcing
 pub mod Pieces
 pub mod Taking
@@ -26,4 +33,5 @@ pub mod AtEnd
 pub mod Adding
 pub mod Streaming
 pub mod Between
+-- what a feeder is lent may be lent to another thread
 pub mod Crosses

@@ -3,8 +3,8 @@ use Rattle.std.proofs.Common.{◌≡◌, ℕ, ◌+◌, ◌<◌, List, [], ◌∷
 use Rattle.std.specs.List.{AllByRecursion, AllZip}
 use Rattle.std.proofs.lemmas.List.{length-map}
 use Rattle.std.proofs.lemmas.List.Elements.{All-from_recursion}
-use Rattle.edn_reader.specs.Grammar.{Piece}
-use Rattle.tower_file.specs.Contents.{Contents}
+use Rattle.edn_reader.specs.Grammar.{ElementModel}
+use Rattle.tower_file.specs.Contents.{TowerModel}
 use Rattle.jepsen_form.specs.declared.fault.FormFault.{FormFault}
 use Rattle.jepsen_form.specs.declared.item.Item.{Item}
 use Rattle.jepsen_form.specs.declared.item.MomentField.{MomentField}
@@ -17,17 +17,17 @@ use Rattle.pairing.specs.Accepted.{Placed, accepted}
 use Rattle.pairing.specs.Answering.{step_register}
 use Rattle.pairing.specs.Step.{step_of}
 use Rattle.shards.specs.Plan.{Plan, claims_of}
-use Rattle.feeders.specs.Steps.{IsKnownStep, Taken, by_pairing, placed, placed_from, step_behind}
+use Rattle.feeders.specs.Steps.{IsKnownStep, StepResult, by_pairing, placed, placed_from, step_behind}
 
 -- the laws of the crates below
 abbrev pub ItemsName : Type 0
-ItemsName = (tower : Contents) (chosen : MomentField) (piece : Piece) (answer : Result Item FormFault) → IsItem tower chosen piece answer → IfOk answer (NamesBelow (length tower.registers))
+ItemsName = (tower : TowerModel) (chosen : MomentField) (piece : ElementModel) (answer : Result Item FormFault) → IsItem tower chosen piece answer → IfOk answer (NamesBelow (length tower.registers))
 
 abbrev pub StepsAreOn : Type 0
 StepsAreOn = (count feeder place : ℕ) (items : List Placed) (item : Item) (step : Step) → All (λ one. NamesBelow count one.item) items → NamesBelow count item
     → step_of feeder (accepted items) place item ≡ Ok (Some step) → (step_register step).0 < count
 
-named_from : (tower : Contents) (chosen : MomentField) → ItemsName → (place : ℕ) (pieces : List Piece) (items : List (Result Item FormFault)) → AllZip (IsItem tower chosen) pieces items
+named_from : (tower : TowerModel) (chosen : MomentField) → ItemsName → (place : ℕ) (pieces : List ElementModel) (items : List (Result Item FormFault)) → AllZip (IsItem tower chosen) pieces items
     → AllByRecursion (λ (one : Placed). NamesBelow (length tower.registers) one.item) (placed_from place items)
 named_from tower chosen name place [] [] read = tt
 named_from tower chosen name place [] (item ∷ items) read = absurd read
@@ -41,8 +41,8 @@ known_by plan (Ok None) on = tt
 known_by plan (Ok (Some (steps.Edit register edit))) on = on (steps.Edit register edit) refl
 known_by plan (Ok (Some (steps.Ask register))) on = on (steps.Ask register) refl
 
-pub known_step : (plan : Plan) (tower : Contents) (chosen : MomentField) → ItemsName → StepsAreOn → (feeder : ℕ) (pieces : List Piece) (items : List (Result Item FormFault)) (last : Piece)
-    (item : Result Item FormFault) (step : Taken) → plan.claims ≡ claims_of tower → AllZip (IsItem tower chosen) pieces items → IsItem tower chosen last item → step ≡ step_behind feeder items item
+pub known_step : (plan : Plan) (tower : TowerModel) (chosen : MomentField) → ItemsName → StepsAreOn → (feeder : ℕ) (pieces : List ElementModel) (items : List (Result Item FormFault)) (last : ElementModel)
+    (item : Result Item FormFault) (step : StepResult) → plan.claims ≡ claims_of tower → AllZip (IsItem tower chosen) pieces items → IsItem tower chosen last item → step ≡ step_behind feeder items item
     → IsKnownStep plan step
 known_step plan tower chosen name on feeder pieces items last (Err fault) step claims read is step_is = subst (IsKnownStep plan) (sym step_is) tt
 known_step plan tower chosen name on feeder pieces items last (Ok item) step claims read is step_is =

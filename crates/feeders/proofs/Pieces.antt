@@ -1,36 +1,36 @@
--- A trace in pieces: one element more, what waits, and where it breaks.
+-- A trace that comes in chunks: one element more, what waits, and where the trace breaks.
 use Rattle.std.proofs.Common.{◌≡◌, ◌⊎◌, inl, inr, ℕ, ◌+◌, ◌-◌, ◌≤◌, ◌<◌, ◌^◌, List, [], ◌∷◌, ◌++◌, length, take, drop, Option, Some, None, Ok, refl, sym, ap, subst, ◌∙◌, arith, append_assoc, append-nil, length-append, length-drop}
 use Rattle.std.specs.List.{AllByRecursion, AllZip}
 use Rattle.std.proofs.Math.Seq.{take-length, drop-length, take-add, take-append-add}
 use Rattle.std.proofs.lemmas.List.{drop-take, length-take-le, take-append-drop}
 use Rattle.edn_reader.specs.declared.fault.EdnFault.{EdnFault}
 use Rattle.edn_reader.specs.declared.fault.EdnFault.TheVariants as edn
-use Rattle.edn_reader.specs.Grammar.{Piece, IsElement}
+use Rattle.edn_reader.specs.Grammar.{ElementModel, IsElement}
 use Rattle.edn_reader.specs.Text.{IsFront}
 use Rattle.edn_reader.specs.Fault.{wanted_at}
-use Rattle.edn_reader.specs.Splitting.{Finishes, IsLast, IsSpan, KeepsFault, Splitting, StandsAfter, TakesUpTo, keep}
+use Rattle.edn_reader.specs.Splitting.{Finishes, IsLast, IsElementAt, KeepsFault, SplitterModel, StandsAfter, TakesUpTo, keep}
 use Rattle.jepsen_form.specs.Item.{IsItem}
-use Rattle.shards.specs.Pass.{Passed}
+use Rattle.shards.specs.Pass.{PassModel}
 use Rattle.feeders.specs.declared.intake.Intake.{Intake}
-use Rattle.feeders.specs.declared.kept.Kept.{Kept}
+use Rattle.feeders.specs.declared.tail_buffer.TailBuffer.{TailBuffer}
 use Rattle.feeders.specs.declared.log.Broken.{Broken}
 use Rattle.feeders.specs.declared.pending.Pending.{Pending}
 use Rattle.feeders.specs.declared.pending.Pending.TheVariants.{Nothing, Whole, Lent, Paired}
 use Rattle.feeders.specs.declared.progress.Progress.{Progress}
 use Rattle.feeders.specs.Broken.{AreElements, broken_by}
 use Rattle.feeders.specs.Intake.{CanGoOn, HasBroken, HasFed, HasTaken}
-use Rattle.feeders.specs.Kept.{Holds}
-use Rattle.feeders.specs.Pending.{CanSettle, CanSettleAs, HoldsAs, IsBeside, IsBetween, IsPending, IsPendingAs, IsSettled, count_of}
+use Rattle.feeders.specs.TailBuffer.{AreLastBytes}
+use Rattle.feeders.specs.Pending.{CanSettle, CanSettleAs, HoldsAs, IsBeside, WaitsBetweenElements, IsPending, IsPendingAs, AreSettled, count_of}
 use Rattle.feeders.specs.Progress.{HasDone, IsAhead, IsAt}
 use Rattle.feeders.specs.Setting.{Setting}
 use Rattle.feeders.specs.Steps.{steps_of}
 use Rattle.feeders.proofs.Holding.{drop_twice}
 
--- More may be known of what comes next.
-pub known_more : (bytes next rest : List ℕ) (pieces : List Piece) (splitting : Splitting) → StandsAfter bytes next pieces splitting → StandsAfter bytes (next ++ rest) pieces splitting
+-- more bytes that come next may be named
+pub known_more : (bytes next rest : List ℕ) (pieces : List ElementModel) (splitting : SplitterModel) → StandsAfter bytes next pieces splitting → StandsAfter bytes (next ++ rest) pieces splitting
 known_more bytes next rest pieces splitting stands = λ input more is. stands input (rest ++ more) (is ∙ ap (λ (xs : List ℕ). bytes ++ xs) (append_assoc next rest more))
 
-pub taken_more : (bytes next rest : List ℕ) (pieces : List Piece) (intake : Intake) → HasTaken bytes next pieces intake → HasTaken bytes (next ++ rest) pieces intake
+pub taken_more : (bytes next rest : List ℕ) (pieces : List ElementModel) (intake : Intake) → HasTaken bytes next pieces intake → HasTaken bytes (next ++ rest) pieces intake
 taken_more bytes next rest pieces intake taken = record {
   stands = known_more bytes next rest pieces intake.splitter taken.stands;
   holds = taken.holds;
@@ -51,11 +51,11 @@ can_more next rest intake can = record {
   settle = can.settle;
 }
 
--- How many bytes were taken.
-pub taken_is : (bytes next : List ℕ) (pieces : List Piece) (splitting : Splitting) → StandsAfter bytes next pieces splitting → splitting.taken ≡ length bytes
+-- how many bytes were taken
+pub taken_is : (bytes next : List ℕ) (pieces : List ElementModel) (splitting : SplitterModel) → StandsAfter bytes next pieces splitting → splitting.taken ≡ length bytes
 taken_is bytes next pieces splitting stands = (stands (bytes ++ (next ++ [])) [] refl).taken
 
--- The bytes of an element that ends within a piece.
+-- the bytes of an element that ends within a chunk
 pub span_text : (bytes piece : List ℕ) (used start end : ℕ) → end ≡ length bytes + used → start ≤ end → take (end - start) (drop start (bytes ++ piece)) ≡ drop start (bytes ++ take used piece)
 span_text bytes piece used start end is within =
     sym (drop-take start (end - start) (bytes ++ piece))
@@ -72,21 +72,21 @@ take_rest start end bytes is = ap (λ (n : ℕ). take n (drop start bytes)) (ome
 pub rest_is : (at : ℕ) (piece : List ℕ) → take (length piece - at) (drop at piece) ≡ drop at piece
 rest_is at piece = ap (λ (n : ℕ). take n (drop at piece)) (sym (length-drop at piece)) ∙ take-length (drop at piece)
 
--- Kept bytes with other room.
-pub holds_same : (bytes : List ℕ) (old new : Kept) → new.from ≡ old.from → new.bytes.items ≡ old.bytes.items → Holds bytes old → Holds bytes new
+-- a buffer with these bytes and another capacity still holds the last bytes
+pub holds_same : (bytes : List ℕ) (old new : TailBuffer) → new.from ≡ old.from → new.bytes.items ≡ old.bytes.items → AreLastBytes bytes old → AreLastBytes bytes new
 holds_same bytes old new from items holds = record {
   long = omega (arith, from, ap length items, holds.long);
   last = items ∙ holds.last ∙ ap (λ (n : ℕ). drop n bytes) (sym from);
 }
 
--- So many bytes of a piece were taken.
-pub took : (bytes piece next : List ℕ) (pieces : List Piece) (used : ℕ) (new : Intake)
-    → StandsAfter (bytes ++ take used piece) (drop used piece ++ next) pieces new.splitter → Holds (bytes ++ take used piece) new.kept
+-- the first `used` bytes of a chunk were taken
+pub took : (bytes piece next : List ℕ) (pieces : List ElementModel) (used : ℕ) (new : Intake)
+    → StandsAfter (bytes ++ take used piece) (drop used piece ++ next) pieces new.splitter → AreLastBytes (bytes ++ take used piece) new.kept
     → new.kept.from ≤ keep new.splitter → new.progress.place ≤ keep new.splitter → HasTaken (bytes ++ take used piece) (drop used piece ++ next) pieces new
 took bytes piece next pieces used new stands holds low place = record { stands = stands; holds = holds; low = low; place = place }
 
--- All of it, and no element ended.
-pub all_stands : (bytes piece next : List ℕ) (pieces : List Piece) (used : ℕ) (new : Splitting) → used ≡ length piece → StandsAfter (bytes ++ piece) next pieces new
+-- a whole chunk was taken, and no element ended
+pub all_stands : (bytes piece next : List ℕ) (pieces : List ElementModel) (used : ℕ) (new : SplitterModel) → used ≡ length piece → StandsAfter (bytes ++ piece) next pieces new
     → StandsAfter (bytes ++ take used piece) (drop used piece ++ next) pieces new
 all_stands bytes piece next pieces used new is stands =
     let all : take used piece ≡ piece = ap (λ (n : ℕ). take n piece) is ∙ take-length piece in
@@ -94,11 +94,11 @@ all_stands bytes piece next pieces used new is stands =
     subst (λ (xs : List ℕ). StandsAfter (bytes ++ xs) (drop used piece ++ next) pieces new) (sym all)
     (subst (λ (xs : List ℕ). StandsAfter (bytes ++ piece) (xs ++ next) pieces new) (sym none) stands)
 
-pub all_held : (bytes piece : List ℕ) (used : ℕ) (kept : Kept) → used ≡ length piece → Holds (bytes ++ piece) kept → Holds (bytes ++ take used piece) kept
-all_held bytes piece used kept is holds = subst (λ (xs : List ℕ). Holds (bytes ++ xs) kept) (sym (ap (λ (n : ℕ). take n piece) is ∙ take-length piece)) holds
+pub all_held : (bytes piece : List ℕ) (used : ℕ) (kept : TailBuffer) → used ≡ length piece → AreLastBytes (bytes ++ piece) kept → AreLastBytes (bytes ++ take used piece) kept
+all_held bytes piece used kept is holds = subst (λ (xs : List ℕ). AreLastBytes (bytes ++ xs) kept) (sym (ap (λ (n : ℕ). take n piece) is ∙ take-length piece)) holds
 
--- It goes on with what is left, by what is known of it.
-pub goes_on : (bytes left : List ℕ) (pieces : List Piece) (new : Intake) → StandsAfter bytes (left ++ []) pieces new.splitter → HoldsAs new.pending bytes new.kept
+-- the intake can go on with the bytes that are left
+pub goes_on : (bytes left : List ℕ) (pieces : List ElementModel) (new : Intake) → StandsAfter bytes (left ++ []) pieces new.splitter → HoldsAs new.pending bytes new.kept
     → new.kept.from ≤ keep new.splitter → new.progress.place ≤ keep new.splitter → new.progress.place ≤ new.splitter.taken → new.splitter.taken < 2 ^ 64 → CanSettle new → CanGoOn left new
 goes_on bytes left pieces new stands holds low place counted fits settle = record {
   bytes = bytes;
@@ -112,24 +112,24 @@ goes_on bytes left pieces new stands holds low place counted fits settle = recor
   settle = settle;
 }
 
--- Where nothing waits, what is kept is of the bytes.
-pub holds_none : (pending : Pending) (bytes : List ℕ) (kept : Kept) → pending ≡ Nothing → HoldsAs pending bytes kept → Holds bytes kept
+-- where nothing waits, the buffer holds the last of the bytes
+pub holds_none : (pending : Pending) (bytes : List ℕ) (kept : TailBuffer) → pending ≡ Nothing → HoldsAs pending bytes kept → AreLastBytes bytes kept
 holds_none pending bytes kept is holds = subst (λ (p : Pending). HoldsAs p bytes kept) is holds
 
-pub none_holds : (pending : Pending) (bytes : List ℕ) (kept : Kept) → pending ≡ Nothing → Holds bytes kept → HoldsAs pending bytes kept
+pub none_holds : (pending : Pending) (bytes : List ℕ) (kept : TailBuffer) → pending ≡ Nothing → AreLastBytes bytes kept → HoldsAs pending bytes kept
 none_holds pending bytes kept is holds = subst (λ (p : Pending). HoldsAs p bytes kept) (sym is) holds
 
 pub ahead_none : (intake : Intake) → CanSettle intake → intake.pending ≡ Nothing → IsAhead intake.progress
 ahead_none intake can is = subst (λ (p : Pending). CanSettleAs p intake) is can.by
 
--- What waits goes on, and nothing is taken meanwhile.
-pub taken_beside : (bytes next : List ℕ) (pieces : List Piece) (old new : Intake) → IsBeside old new → new.progress.place ≤ keep old.splitter → HasTaken bytes next pieces old
+-- what waits goes on, and what was taken stays taken
+pub taken_beside : (bytes next : List ℕ) (pieces : List ElementModel) (old new : Intake) → IsBeside old new → new.progress.place ≤ keep old.splitter → HasTaken bytes next pieces old
     → HasTaken bytes next pieces new
 taken_beside bytes next pieces old new beside place taken = record {
   stands = subst (StandsAfter bytes next pieces) (sym beside.splitter) taken.stands;
   holds = beside.holds bytes (sym (taken_is bytes next pieces old.splitter taken.stands)) taken.holds;
-  low = subst (λ (s : Splitting). new.kept.from ≤ keep s) (sym beside.splitter) (beside.low taken.low);
-  place = subst (λ (s : Splitting). new.progress.place ≤ keep s) (sym beside.splitter) place;
+  low = subst (λ (s : SplitterModel). new.kept.from ≤ keep s) (sym beside.splitter) (beside.low taken.low);
+  place = subst (λ (s : SplitterModel). new.progress.place ≤ keep s) (sym beside.splitter) place;
 }
 
 pub can_beside : (next : List ℕ) (old new : Intake) → IsBeside old new → new.progress.place ≤ keep old.splitter → new.progress.place ≤ old.splitter.taken → CanSettle new → CanGoOn next old → CanGoOn next new
@@ -138,21 +138,21 @@ can_beside next old new beside place counted settle can = record {
   pieces = can.pieces;
   stands = subst (StandsAfter can.bytes next can.pieces) (sym beside.splitter) can.stands;
   holds = beside.holds_as can.bytes (sym (taken_is can.bytes next can.pieces old.splitter can.stands)) can.holds;
-  low = subst (λ (s : Splitting). new.kept.from ≤ keep s) (sym beside.splitter) (beside.low can.low);
-  place = subst (λ (s : Splitting). new.progress.place ≤ keep s) (sym beside.splitter) place;
-  counted = subst (λ (s : Splitting). new.progress.place ≤ s.taken) (sym beside.splitter) counted;
-  fits = omega (arith, can.fits, ap (λ (s : Splitting). s.taken) beside.splitter);
+  low = subst (λ (s : SplitterModel). new.kept.from ≤ keep s) (sym beside.splitter) (beside.low can.low);
+  place = subst (λ (s : SplitterModel). new.progress.place ≤ keep s) (sym beside.splitter) place;
+  counted = subst (λ (s : SplitterModel). new.progress.place ≤ s.taken) (sym beside.splitter) counted;
+  fits = omega (arith, can.fits, ap (λ (s : SplitterModel). s.taken) beside.splitter);
   settle = settle;
 }
 
--- Where an element waits, one more may be counted.
-between_of : (pending : Pending) (intake : Intake) → CanSettleAs pending intake → (count_of pending ≡ 0) ⊎ IsBetween intake
+-- where an element waits, it can be counted too
+between_of : (pending : Pending) (intake : Intake) → CanSettleAs pending intake → (count_of pending ≡ 0) ⊎ WaitsBetweenElements intake
 between_of Nothing intake can = inl refl
 between_of (Whole start) intake can = inr can.2
 between_of (Lent item) intake can = inr can.1
 between_of (Paired step) intake can = inr can.1
 
-one_more : (intake : Intake) (place : ℕ) → (count_of intake.pending ≡ 0) ⊎ IsBetween intake → intake.progress.place ≤ keep intake.splitter → intake.progress.place ≤ intake.splitter.taken
+one_more : (intake : Intake) (place : ℕ) → (count_of intake.pending ≡ 0) ⊎ WaitsBetweenElements intake → intake.progress.place ≤ keep intake.splitter → intake.progress.place ≤ intake.splitter.taken
     → place ≡ intake.progress.place + count_of intake.pending → count_of intake.pending ≤ 1 → (place ≤ keep intake.splitter) × (place ≤ intake.splitter.taken)
 one_more intake place (inl none) kept taken is most = (omega (arith, none, kept, is), omega (arith, none, taken, is))
 one_more intake place (inr between) kept taken is most = (omega (arith, between.keep_is, between.counted, is, most), omega (arith, between.counted, is, most))
@@ -167,39 +167,39 @@ pub counted_on : (intake : Intake) (place : ℕ) → CanSettle intake → intake
     → place ≡ intake.progress.place + count_of intake.pending → (place ≤ keep intake.splitter) × (place ≤ intake.splitter.taken)
 counted_on intake place can kept taken is = one_more intake place (between_of intake.pending intake can.by) kept taken is (count_most intake.pending)
 
--- The last of a list.
+-- what holds of each of a list holds of the last one
 last_of : {A : Type 0} (P : A → Type 0) (xs : List A) (x : A) → AllByRecursion P (xs ++ x ∷ []) → P x
 last_of P [] x all = all.0
 last_of P (first ∷ xs) x all = last_of P xs x all.1
 
 abbrev pub AllElements : Type 0
-AllElements = (input : List ℕ) (pieces : List Piece) (at : ℕ) → IsFront input pieces at → AllByRecursion IsElement pieces
+AllElements = (input : List ℕ) (pieces : List ElementModel) (at : ℕ) → IsFront input pieces at → AllByRecursion IsElement pieces
 
--- The element that was told, whose bytes are kept.
-pub told_text : (bytes piece next text : List ℕ) (pieces : List Piece) (used : ℕ) (span : ℕ × ℕ) (old new : Splitting) → (goes : TakesUpTo bytes piece next pieces old used (Some span) new)
+-- the bytes of the element that ended in a chunk, as they are kept
+pub told_text : (bytes piece next text : List ℕ) (pieces : List ElementModel) (used : ℕ) (span : ℕ × ℕ) (old new : SplitterModel) → (goes : TakesUpTo bytes piece next pieces old used (Some span) new)
     → text ≡ drop span.0 (bytes ++ take used piece) → goes.4.0.text ≡ text
 told_text bytes piece next text pieces used span old new goes is =
     goes.4.1.2 ∙ span_text bytes piece used span.0 span.1 goes.1 (omega (arith, goes.4.1.1)) ∙ sym is
 
-pub can_lend : (bytes piece next text : List ℕ) (pieces : List Piece) (used : ℕ) (span : ℕ × ℕ) (old new : Splitting) → TakesUpTo bytes piece next pieces old used (Some span) new → AllElements
-    → text ≡ drop span.0 (bytes ++ take used piece) → (last : Piece) × IsLast new last × IsElement last × (last.text ≡ text)
+pub can_lend : (bytes piece next text : List ℕ) (pieces : List ElementModel) (used : ℕ) (span : ℕ × ℕ) (old new : SplitterModel) → TakesUpTo bytes piece next pieces old used (Some span) new → AllElements
+    → text ≡ drop span.0 (bytes ++ take used piece) → (last : ElementModel) × IsLast new last × IsElement last × (last.text ≡ text)
 can_lend bytes piece next text pieces used span old new goes elements is =
     let last = goes.4.0 in
     let input = bytes ++ ((piece ++ next) ++ []) in
     (last, goes.4.4, last_of IsElement pieces last (elements input (pieces ++ last ∷ []) span.1 (goes.4.3 input [] refl)), told_text bytes piece next text pieces used span old new goes is)
 
--- The same of the one that ended with the bytes.
-pub last_text : (bytes text : List ℕ) (start end : ℕ) (last : Piece) → end ≡ length bytes → IsSpan bytes start end last → text ≡ drop start (bytes ++ []) → last.text ≡ text
+-- the bytes of the element that ended with the trace, as they are kept
+pub last_text : (bytes text : List ℕ) (start end : ℕ) (last : ElementModel) → end ≡ length bytes → IsElementAt bytes start end last → text ≡ drop start (bytes ++ []) → last.text ≡ text
 last_text bytes text start end last all spans is = spans.2 ∙ take_rest start end bytes all ∙ ap (drop start) (sym (append-nil bytes)) ∙ sym is
 
-pub can_lend_last : (bytes text : List ℕ) (pieces : List Piece) (span : ℕ × ℕ) (old new : Splitting) → Finishes bytes pieces old (Ok (Some span)) new → AllElements
-    → text ≡ drop span.0 (bytes ++ []) → (last : Piece) × IsLast new last × IsElement last × (last.text ≡ text)
+pub can_lend_last : (bytes text : List ℕ) (pieces : List ElementModel) (span : ℕ × ℕ) (old new : SplitterModel) → Finishes bytes pieces old (Ok (Some span)) new → AllElements
+    → text ≡ drop span.0 (bytes ++ []) → (last : ElementModel) × IsLast new last × IsElement last × (last.text ≡ text)
 can_lend_last bytes text pieces span old new ends elements is =
     let last = ends.3.0 in
     let text_of = ends.3.2 in
     (last, ends.3.4, last_of IsElement pieces last (elements bytes (pieces ++ last ∷ []) text_of.0 text_of.2), last_text bytes text span.0 span.1 last ends.0 ends.3.1 is)
 
--- Want of memory, or what broke the trace.
+-- a fault that breaks no trace says at which place memory was refused
 pub wanted : (fault : EdnFault) → broken_by fault ≡ None → (place : ℕ) × (wanted_at fault ≡ Some place)
 wanted (edn.Truncated place) is = absurd cc
 wanted (edn.StrayClose place) is = absurd cc
@@ -218,7 +218,7 @@ unwanted (edn.OddMap place) broken is = refl
 unwanted (edn.TagWithoutElement place) broken is = refl
 unwanted (edn.Memory place) broken is = absurd cc
 
--- Two lists that go together, one behind the other.
+-- two pairs of lists that go together, one after the other
 pub zip_join : {A B : Type 0} (R : A → B → Type 0) (xs : List A) (ys : List B) (more : List A) (others : List B) → AllZip R xs ys → AllZip R more others → AllZip R (xs ++ more) (ys ++ others)
 zip_join R [] [] more others first second = second
 zip_join R [] (y ∷ ys) more others first second = absurd first
@@ -226,21 +226,21 @@ zip_join R (x ∷ xs) [] more others first second = absurd first
 zip_join R (x ∷ xs) (y ∷ ys) more others first second = (first.0, zip_join R xs ys more others first.1 second)
 
 module _ (setting : Setting) where
-  -- What waits is settled.
-  pub fed_settled : (bytes next : List ℕ) (old new : Intake) (pass after : Passed) → (fed : HasFed setting bytes next old pass) → IsSettled setting fed.items fed.waiting new.progress after
+  -- what waited was carried out
+  pub fed_settled : (bytes next : List ℕ) (old new : Intake) (pass after : PassModel) → (fed : HasFed setting bytes next old pass) → AreSettled setting fed.items fed.waiting new.progress after
       → IsBeside old new → new.progress.place ≤ keep old.splitter → new.pending ≡ Nothing → HasFed setting bytes next new after
   fed_settled bytes next old new pass after fed settled beside place is = record {
     pieces = fed.pieces ++ fed.waiting;
     waiting = [];
     items = fed.items ++ settled.0;
-    taken = subst (λ (ps : List Piece). HasTaken bytes next ps new) (sym (append-nil (fed.pieces ++ fed.waiting))) (taken_beside bytes next (fed.pieces ++ fed.waiting) old new beside place fed.taken);
+    taken = subst (λ (ps : List ElementModel). HasTaken bytes next ps new) (sym (append-nil (fed.pieces ++ fed.waiting))) (taken_beside bytes next (fed.pieces ++ fed.waiting) old new beside place fed.taken);
     read = zip_join (IsItem setting.tower setting.chosen) fed.pieces fed.items fed.waiting settled.0 fed.read settled.1;
     pending = subst (λ (p : Pending). IsPendingAs p setting (fed.items ++ settled.0) [] new after) (sym is) (refl, settled.2);
     unbroken = beside.broken ∙ fed.unbroken;
   }
 
-  -- It still waits.
-  pub fed_waits : (bytes next : List ℕ) (old new : Intake) (pass after : Passed) → (fed : HasFed setting bytes next old pass) → IsPending setting fed.items fed.waiting new after
+  -- what waited still does
+  pub fed_waits : (bytes next : List ℕ) (old new : Intake) (pass after : PassModel) → (fed : HasFed setting bytes next old pass) → IsPending setting fed.items fed.waiting new after
       → IsBeside old new → new.progress.place ≤ keep old.splitter → HasFed setting bytes next new after
   fed_waits bytes next old new pass after fed waits beside place = record {
     pieces = fed.pieces;
@@ -252,32 +252,32 @@ module _ (setting : Setting) where
     unbroken = beside.broken ∙ fed.unbroken;
   }
 
-  -- Where nothing waits all elements are fed.
-  pub none_waiting : (bytes next : List ℕ) (intake : Intake) (pass : Passed) → intake.pending ≡ Nothing → (fed : HasFed setting bytes next intake pass)
+  -- where nothing waits, all elements are fed
+  pub none_waiting : (bytes next : List ℕ) (intake : Intake) (pass : PassModel) → intake.pending ≡ Nothing → (fed : HasFed setting bytes next intake pass)
       → (fed.waiting ≡ []) × IsAt setting.plan setting.start fed.items intake.progress pass
   none_waiting bytes next intake pass is fed = subst (λ (p : Pending). IsPendingAs p setting fed.items fed.waiting intake pass) is fed.pending
 
-  pub all_fed : (bytes next : List ℕ) (intake : Intake) (pass : Passed) → intake.pending ≡ Nothing → (fed : HasFed setting bytes next intake pass) → HasTaken bytes next fed.pieces intake
+  pub all_fed : (bytes next : List ℕ) (intake : Intake) (pass : PassModel) → intake.pending ≡ Nothing → (fed : HasFed setting bytes next intake pass) → HasTaken bytes next fed.pieces intake
   all_fed bytes next intake pass is fed =
-      subst (λ (ps : List Piece). HasTaken bytes next ps intake) (append-nil fed.pieces)
-      (subst (λ (ws : List Piece). HasTaken bytes next (fed.pieces ++ ws) intake) (none_waiting bytes next intake pass is fed).0 fed.taken)
+      subst (λ (ps : List ElementModel). HasTaken bytes next ps intake) (append-nil fed.pieces)
+      (subst (λ (ws : List ElementModel). HasTaken bytes next (fed.pieces ++ ws) intake) (none_waiting bytes next intake pass is fed).0 fed.taken)
 
-  -- A piece more, and no element ended.
-  pub fed_all : (bytes next bytes' next' : List ℕ) (old new : Intake) (pass : Passed) → old.pending ≡ Nothing → new.pending ≡ Nothing → new.progress ≡ old.progress
+  -- more was taken, and no element ended
+  pub fed_all : (bytes next bytes' next' : List ℕ) (old new : Intake) (pass : PassModel) → old.pending ≡ Nothing → new.pending ≡ Nothing → new.progress ≡ old.progress
       → (fed : HasFed setting bytes next old pass) → HasTaken bytes' next' fed.pieces new → HasFed setting bytes' next' new pass
   fed_all bytes next bytes' next' old new pass was is same fed taken = record {
     pieces = fed.pieces;
     waiting = [];
     items = fed.items;
-    taken = subst (λ (ps : List Piece). HasTaken bytes' next' ps new) (sym (append-nil fed.pieces)) taken;
+    taken = subst (λ (ps : List ElementModel). HasTaken bytes' next' ps new) (sym (append-nil fed.pieces)) taken;
     read = fed.read;
     pending = subst (λ (p : Pending). IsPendingAs p setting fed.items [] new pass) (sym is)
         (refl, subst (λ (p : Progress). IsAt setting.plan setting.start fed.items p pass) (sym same) (none_waiting bytes next old pass was fed).1);
     unbroken = ap (λ (p : Progress). p.log.broken) same ∙ fed.unbroken;
   }
 
-  -- One element more ended, and waits.
-  pub fed_one : (bytes next bytes' next' : List ℕ) (old new : Intake) (pass : Passed) (last : Piece) → old.pending ≡ Nothing → new.progress.log.broken ≡ old.progress.log.broken
+  -- one element more ended, and waits
+  pub fed_one : (bytes next bytes' next' : List ℕ) (old new : Intake) (pass : PassModel) (last : ElementModel) → old.pending ≡ Nothing → new.progress.log.broken ≡ old.progress.log.broken
       → (fed : HasFed setting bytes next old pass) → HasTaken bytes' next' (fed.pieces ++ last ∷ []) new
       → (IsAt setting.plan setting.start fed.items old.progress pass → IsPending setting fed.items (last ∷ []) new pass) → HasFed setting bytes' next' new pass
   fed_one bytes next bytes' next' old new pass last was broken fed taken waits = record {
@@ -290,9 +290,9 @@ module _ (setting : Setting) where
     unbroken = broken ∙ fed.unbroken;
   }
 
-  -- The trace broke.
-  pub broke_at : (bytes next : List ℕ) (fault : EdnFault) (broken : Broken) (old new : Intake) (pass : Passed) → old.pending ≡ Nothing
-      → ((pieces : List Piece) → StandsAfter bytes next pieces old.splitter → KeepsFault bytes next pieces fault new.splitter)
+  -- the trace broke
+  pub broke_at : (bytes next : List ℕ) (fault : EdnFault) (broken : Broken) (old new : Intake) (pass : PassModel) → old.pending ≡ Nothing
+      → ((pieces : List ElementModel) → StandsAfter bytes next pieces old.splitter → KeepsFault bytes next pieces fault new.splitter)
       → broken_by fault ≡ Some broken → new.progress.log.lines ≡ old.progress.log.lines → new.progress.log.broken ≡ Some broken
       → HasFed setting bytes next old pass → HasBroken setting (bytes ++ next) new pass
   broke_at bytes next fault broken old new pass was faulty is lines set fed = λ trace more same.
@@ -308,8 +308,8 @@ module _ (setting : Setting) where
         done = subst (λ l. HasDone setting.plan setting.start pass l.items (steps_of setting.start.feeder fed.items)) (sym lines) (none_waiting bytes next old pass was fed).1.done;
       }
 
-  -- More may be known of what comes next.
-  pub fed_more : (bytes next rest : List ℕ) (intake : Intake) (pass : Passed) → HasFed setting bytes next intake pass → HasFed setting bytes (next ++ rest) intake pass
+  -- more bytes that come next may be named
+  pub fed_more : (bytes next rest : List ℕ) (intake : Intake) (pass : PassModel) → HasFed setting bytes next intake pass → HasFed setting bytes (next ++ rest) intake pass
   fed_more bytes next rest intake pass fed = record {
     pieces = fed.pieces;
     waiting = fed.waiting;
@@ -320,12 +320,12 @@ module _ (setting : Setting) where
     unbroken = fed.unbroken;
   }
 
-  pub fed_along : (bytes bytes' next next' : List ℕ) (intake : Intake) (pass : Passed) → bytes ≡ bytes' → next ≡ next' → HasFed setting bytes next intake pass → HasFed setting bytes' next' intake pass
+  pub fed_along : (bytes bytes' next next' : List ℕ) (intake : Intake) (pass : PassModel) → bytes ≡ bytes' → next ≡ next' → HasFed setting bytes next intake pass → HasFed setting bytes' next' intake pass
   fed_along bytes bytes' next next' intake pass same rest fed =
       subst (λ (xs : List ℕ). HasFed setting xs next' intake pass) same (subst (λ (xs : List ℕ). HasFed setting bytes xs intake pass) rest fed)
 
-  -- A piece is fed up to a place, and some more of it.
-  pub fed_rest : (bytes piece : List ℕ) (at used : ℕ) (intake : Intake) (pass : Passed)
+  -- a chunk is fed up to the place `at`, and `used` more bytes of it
+  pub fed_rest : (bytes piece : List ℕ) (at used : ℕ) (intake : Intake) (pass : PassModel)
       → HasFed setting ((bytes ++ take at piece) ++ take used (drop at piece)) (drop used (drop at piece) ++ []) intake pass
       → HasFed setting (bytes ++ take (at + used) piece) (drop (at + used) piece) intake pass
   fed_rest bytes piece at used intake pass =
@@ -333,7 +333,7 @@ module _ (setting : Setting) where
       (append_assoc bytes (take at piece) (take used (drop at piece)) ∙ ap (λ (xs : List ℕ). bytes ++ xs) (sym (take-add at used piece)))
       (append-nil (drop used (drop at piece)) ∙ drop_twice used at piece)
 
-  pub broke_in : (bytes piece : List ℕ) (at : ℕ) (intake : Intake) (pass : Passed) → HasBroken setting ((bytes ++ take at piece) ++ (drop at piece ++ [])) intake pass
+  pub broke_in : (bytes piece : List ℕ) (at : ℕ) (intake : Intake) (pass : PassModel) → HasBroken setting ((bytes ++ take at piece) ++ (drop at piece ++ [])) intake pass
       → HasBroken setting (bytes ++ piece) intake pass
   broke_in bytes piece at intake pass broken =
       subst (λ (xs : List ℕ). HasBroken setting xs intake pass)

@@ -1,8 +1,8 @@
--- The steps of a prefix of a trace, as they read, are the first of its steps: no step sees where a text lies.
+-- The steps of a prefix of a trace, as they read, are the first of its steps: no step depends on where a text lies.
 use Rattle.std.proofs.Common.{◌≡◌, inl, inr, ℕ, ℤ, ◌+◌, Bool, true, false, cond, List, [], ◌∷◌, ◌++◌, length, map, reverse, find, filter_map, fold, option_map, option_and_then, is_some, eqb, IsTrue, Option, Some, None, Result, Ok, Err, refl, sym, ap, subst, ◌∙◌, append_assoc, append-nil}
 use Rattle.std.proofs.lemmas.List.{map-append, reverse-append, length-map}
 use Rattle.std.specs.List.{AllZip, cons_option}
-use Rattle.edn_reader.specs.Grammar.{Piece}
+use Rattle.edn_reader.specs.Grammar.{ElementModel}
 use Rattle.edn_reader.specs.Text.{IsText}
 use Rattle.edn_reader.specs.Fault.{IsBeginning, AreElementsBefore, AreElementsSoFar}
 use Rattle.edn_reader.specs.Prefixes.{is_run_kind, with_bytes, GoesOnAs, ArePrefix}
@@ -14,7 +14,7 @@ use Rattle.intervals.specs.declared.edit.Edit.{Edit}
 use Rattle.intervals.specs.declared.edit.Edit.TheVariants as edits
 use Rattle.intervals.specs.declared.edit.Lent.{Lent}
 use Rattle.intervals.specs.declared.edit.Lent.TheVariants.{Answer, Amendment}
-use Rattle.tower_file.specs.Contents.{Contents}
+use Rattle.tower_file.specs.Contents.{TowerModel}
 use Rattle.jepsen_form.specs.declared.fault.FormFault.{FormFault}
 use Rattle.jepsen_form.specs.declared.fault.FormFault.TheVariants.{NotAMap}
 use Rattle.jepsen_form.specs.declared.item.Event.{Event as AnEvent}
@@ -27,19 +27,19 @@ use Rattle.jepsen_form.specs.Item.{IsItem, no_map, of_map, text_at, lent_at, lyi
 use Rattle.pairing.specs.declared.fault.PairFault.{PairFault}
 use Rattle.pairing.specs.declared.invocation.Invocation.{Invocation}
 use Rattle.pairing.specs.declared.step.Step.{Step}
-use Rattle.pairing.specs.Accepted.{Placed, is_event_of, invocation, last_of, unanswered_of, register_of, event_fault, edit_fault, fault_of, with_item, accepted}
+use Rattle.pairing.specs.Accepted.{Placed, is_event_of, invocation, last_of, unanswered_of, register_of, event_fault, edit_fault, fault_of, with_accepted, accepted}
 use Rattle.pairing.specs.Invocation.{invocation_by, invocation_of}
 use Rattle.pairing.specs.Step.{id_of, invoke_step, ok_step, event_step, edit_step, given_by, unless, step_of}
 use Rattle.shards.specs.Plain.{PlainLent, PlainEdit, amend, plain_lent, plain_edit}
 use Rattle.feeders.specs.declared.log.Broken.{Broken}
 use Rattle.feeders.specs.Broken.{AreElements}
 use Rattle.feeders.specs.Readers.{broke_reading}
-use Rattle.feeders.specs.Steps.{AreItems, Taken, placed, placed_from, by_pairing, step_behind, steps_behind, steps_of}
+use Rattle.feeders.specs.Steps.{AreItemsOfTrace, StepResult, placed, placed_from, by_pairing, step_behind, steps_behind, steps_of}
 use Rattle.feeders.specs.Prefixes.{PlainTaken, edit, plain_step, plain_taken, plain_steps}
 
--- ---- texts at one place
+-- ---- texts in one place of memory
 
--- One place in memory, the same for all.
+-- one place in memory, for all texts
 here : ℕ × ℕ
 here = (0, 0)
 
@@ -73,7 +73,7 @@ lying_here (Ok (Claim register kind)) = refl
 lying_here (Ok (Ask register)) = refl
 lying_here (Ok Skipped) = refl
 
--- ---- what looks back
+-- ---- looking back over items whose texts lie elsewhere
 
 same_process : (process : ℤ) (item : Item) → is_event_of process (item_here item) ≡ is_event_of process item
 same_process process (Event event) = refl
@@ -131,7 +131,7 @@ same_invocations (one ∷ all) =
 same_register : (all : List Placed) (place : ℕ) → register_of (map placed_here all) place ≡ register_of all place
 same_register all place = ap (λ (xs : List Invocation). option_map (λ one. one.register) (find (λ one. eqb one.place place) xs)) (same_invocations all)
 
--- ---- what is accepted
+-- ---- items that are accepted, wherever their texts lie
 
 same_event_fault : (o : Option Invocation) (event : AnEvent) (stage : Stage) → event_fault o (event_here event) stage ≡ event_fault o event stage
 same_event_fault None event stages.Invoke = refl
@@ -156,13 +156,13 @@ with_by : (t : Bool) (all : List Placed) (one : Placed) → cond t (map placed_h
 with_by true all one = refl
 with_by false all one = sym (map-append placed_here all (one ∷ []))
 
-with_here : (all : List Placed) (one : Placed) → with_item (map placed_here all) (placed_here one) ≡ map placed_here (with_item all one)
+with_here : (all : List Placed) (one : Placed) → with_accepted (map placed_here all) (placed_here one) ≡ map placed_here (with_accepted all one)
 with_here all one =
     ap (λ (o : Option PairFault). cond (is_some o) (map placed_here all) (map placed_here all ++ placed_here one ∷ [])) (same_fault all one.item) ∙ with_by (is_some (fault_of all one.item)) all one
 
-accepted_from : (before items : List Placed) → fold with_item (map placed_here before) (map placed_here items) ≡ map placed_here (fold with_item before items)
+accepted_from : (before items : List Placed) → fold with_accepted (map placed_here before) (map placed_here items) ≡ map placed_here (fold with_accepted before items)
 accepted_from before [] = refl
-accepted_from before (one ∷ items) = ap (λ (xs : List Placed). fold with_item xs (map placed_here items)) (with_here before one) ∙ accepted_from (with_item before one) items
+accepted_from before (one ∷ items) = ap (λ (xs : List Placed). fold with_accepted xs (map placed_here items)) (with_here before one) ∙ accepted_from (with_accepted before one) items
 
 accepted_here : (items : List Placed) → accepted (map placed_here items) ≡ map placed_here (accepted items)
 accepted_here items = accepted_from [] items
@@ -172,7 +172,7 @@ placed_from_here place [] = refl
 placed_from_here place (Err fault ∷ items) = placed_from_here (place + 1) items
 placed_from_here place (Ok item ∷ items) = ap (λ (xs : List Placed). record { place = place; item = item_here item } ∷ xs) (placed_from_here (place + 1) items)
 
--- ---- what an element comes to
+-- ---- what an element comes to, wherever its text lies
 
 same_lent : (lent : Lent) → plain_lent (lent_at here lent) ≡ plain_lent lent
 same_lent (Answer text) = refl
@@ -245,26 +245,26 @@ same_steps feeder before (item ∷ items) =
     ∙ ap (λ (xs : List (Result Item FormFault)). plain_taken (step_behind feeder before item) ∷ map plain_taken (steps_behind feeder xs (map answer_here items))) (sym (map-append answer_here before (item ∷ [])))
     ∙ ap (λ (rest : List PlainTaken). plain_taken (step_behind feeder before item) ∷ rest) (same_steps feeder (before ++ item ∷ []) items)
 
--- ---- the items of a prefix
+-- ---- the items of a prefix of a trace
 
--- An element has one item, wherever its text lies.
+-- an element has one item, wherever its text lies
 abbrev pub OneItem : Type 0
-OneItem = (tower : Contents) (chosen : MomentField) (piece : Piece) (first second : Result Item FormFault) (place : ℕ × ℕ) → IsItem tower chosen piece first → IsItem tower chosen piece second
+OneItem = (tower : TowerModel) (chosen : MomentField) (piece : ElementModel) (first second : Result Item FormFault) (place : ℕ × ℕ) → IsItem tower chosen piece first → IsItem tower chosen piece second
     → lying_at place first ≡ lying_at place second
 
--- What has a run as its core is no map.
-not_a_map : (tower : Contents) (chosen : MomentField) (piece : Piece) (answer : Result Item FormFault) → is_run_kind piece.core.kind ≡ true → IsItem tower chosen piece answer → answer ≡ Err NotAMap
+-- an element whose core is a run is no map
+not_a_map : (tower : TowerModel) (chosen : MomentField) (piece : ElementModel) (answer : Result Item FormFault) → is_run_kind piece.core.kind ≡ true → IsItem tower chosen piece answer → answer ≡ Err NotAMap
 not_a_map tower chosen piece answer is (no_map none) = refl
 not_a_map tower chosen piece answer is (of_map pairs said text has says same) = let both : false ≡ true = sym (ap is_run_kind has.kind) ∙ is in absurd cc
 
-same_answer : OneItem → (tower : Contents) (chosen : MomentField) (piece other : Piece) (first second : Result Item FormFault) → GoesOnAs piece other → IsItem tower chosen piece first → IsItem tower chosen other second
+same_answer : OneItem → (tower : TowerModel) (chosen : MomentField) (piece other : ElementModel) (first second : Result Item FormFault) → GoesOnAs piece other → IsItem tower chosen piece first → IsItem tower chosen other second
     → answer_here first ≡ answer_here second
 same_answer one tower chosen piece other first second (inl same) is also =
-    sym (lying_here first) ∙ one tower chosen other first second here (subst (λ (x : Piece). IsItem tower chosen x first) same is) also ∙ lying_here second
+    sym (lying_here first) ∙ one tower chosen other first second here (subst (λ (x : ElementModel). IsItem tower chosen x first) same is) also ∙ lying_here second
 same_answer one tower chosen piece other first second (inr (run, added, longer)) is also =
-    ap answer_here (not_a_map tower chosen piece first run is ∙ sym (not_a_map tower chosen (with_bytes piece added) second run (subst (λ (x : Piece). IsItem tower chosen x second) longer also)))
+    ap answer_here (not_a_map tower chosen piece first run is ∙ sym (not_a_map tower chosen (with_bytes piece added) second run (subst (λ (x : ElementModel). IsItem tower chosen x second) longer also)))
 
-first_items : OneItem → (tower : Contents) (chosen : MomentField) (pieces all : List Piece) (items others : List (Result Item FormFault)) → ArePrefix pieces all → AllZip (IsItem tower chosen) pieces items
+first_items : OneItem → (tower : TowerModel) (chosen : MomentField) (pieces all : List ElementModel) (items others : List (Result Item FormFault)) → ArePrefix pieces all → AllZip (IsItem tower chosen) pieces items
     → AllZip (IsItem tower chosen) all others → (rest : List (Result Item FormFault)) × (map answer_here others ≡ map answer_here items ++ rest)
 first_items one tower chosen [] all [] others prefix read also = (map answer_here others, refl)
 first_items one tower chosen [] all (item ∷ items) others prefix read also = absurd read
@@ -281,12 +281,12 @@ first_items one tower chosen (piece ∷ second ∷ pieces) (other ∷ all) (item
           ∙ ap (λ (xs : List (Result Item FormFault)). answer_here item ∷ xs) rest.1,
     )
 
--- ---- the steps of a prefix
+-- ---- the steps of a prefix of a trace
 
 steps_append : (feeder : ℕ) (before xs ys : List (Result Item FormFault)) → steps_behind feeder before (xs ++ ys) ≡ steps_behind feeder before xs ++ steps_behind feeder (before ++ xs) ys
 steps_append feeder before [] ys = ap (λ (all : List (Result Item FormFault)). steps_behind feeder all ys) (sym (append-nil before))
 steps_append feeder before (x ∷ xs) ys =
-    ap (λ (rest : List Taken). step_behind feeder before x ∷ rest) (steps_append feeder (before ++ x ∷ []) xs ys)
+    ap (λ (rest : List StepResult). step_behind feeder before x ∷ rest) (steps_append feeder (before ++ x ∷ []) xs ys)
     ∙ ap (λ (all : List (Result Item FormFault)). (step_behind feeder before x ∷ steps_behind feeder (before ++ x ∷ []) xs) ++ steps_behind feeder all ys) (append_assoc before (x ∷ []) xs)
 
 first_steps : (feeder : ℕ) (items others rest : List (Result Item FormFault)) → map answer_here others ≡ map answer_here items ++ rest
@@ -299,25 +299,25 @@ first_steps feeder items others rest e =
           ∙ ap (λ (xs : List PlainTaken). xs ++ map plain_taken later) (same_steps feeder [] items),
     )
 
--- What is said of the elements of a prefix.
+-- the laws of `edn_reader` on the elements of a prefix
 pub record OfPrefixes : Type 0 where
-  pub before : (bytes more : List ℕ) (pieces all : List Piece) → AreElementsBefore bytes pieces → AreElementsBefore (bytes ++ more) all → ArePrefix pieces all
-  pub so_far : (bytes more : List ℕ) (pieces all : List Piece) → AreElementsSoFar bytes [] pieces → AreElementsBefore (bytes ++ more) all → IsBeginning pieces all
-  pub text : (input : List ℕ) (pieces : List Piece) → IsText input pieces → AreElementsBefore input pieces
+  pub before : (bytes more : List ℕ) (pieces all : List ElementModel) → AreElementsBefore bytes pieces → AreElementsBefore (bytes ++ more) all → ArePrefix pieces all
+  pub so_far : (bytes more : List ℕ) (pieces all : List ElementModel) → AreElementsSoFar bytes [] pieces → AreElementsBefore (bytes ++ more) all → IsBeginning pieces all
+  pub text : (input : List ℕ) (pieces : List ElementModel) → IsText input pieces → AreElementsBefore input pieces
 
-before_fault : OfPrefixes → (trace : List ℕ) (broken : Option Broken) (pieces : List Piece) → broke_reading broken ≡ false → AreElements trace broken pieces → AreElementsBefore trace pieces
+before_fault : OfPrefixes → (trace : List ℕ) (broken : Option Broken) (pieces : List ElementModel) → broke_reading broken ≡ false → AreElements trace broken pieces → AreElementsBefore trace pieces
 before_fault law trace None pieces e are = law.text trace pieces are
 before_fault law trace (Some broken) pieces e (inl by_text) = by_text.2
 before_fault law trace (Some broken) pieces e (inr reading) = let both : false ≡ true = subst IsTrue e reading.0 in absurd cc
 
-is_prefix : OfPrefixes → (bytes more : List ℕ) (broken : Option Broken) (pieces all : List Piece) → AreElements bytes broken pieces → AreElementsBefore (bytes ++ more) all → ArePrefix pieces all
+is_prefix : OfPrefixes → (bytes more : List ℕ) (broken : Option Broken) (pieces all : List ElementModel) → AreElements bytes broken pieces → AreElementsBefore (bytes ++ more) all → ArePrefix pieces all
 is_prefix law bytes more None pieces all are also = law.before bytes more pieces all (law.text bytes pieces are) also
 is_prefix law bytes more (Some broken) pieces all (inl by_text) also = law.before bytes more pieces all by_text.2 also
 is_prefix law bytes more (Some broken) pieces all (inr reading) also =
     let begins = law.so_far bytes more pieces all reading.3 also in subst (ArePrefix pieces) (sym begins.1) (prefix_same pieces begins.0)
 
-pub prefix_of_steps : OneItem → OfPrefixes → (tower : Contents) (chosen : MomentField) (feeder : ℕ) (bytes more : List ℕ) (broken later : Option Broken) (items all : List (Result Item FormFault))
-    → AreItems tower chosen bytes broken items → AreItems tower chosen (bytes ++ more) later all → broke_reading later ≡ false
+pub prefix_of_steps : OneItem → OfPrefixes → (tower : TowerModel) (chosen : MomentField) (feeder : ℕ) (bytes more : List ℕ) (broken later : Option Broken) (items all : List (Result Item FormFault))
+    → AreItemsOfTrace tower chosen bytes broken items → AreItemsOfTrace tower chosen (bytes ++ more) later all → broke_reading later ≡ false
     → (rest : List PlainTaken) × (plain_steps feeder all ≡ plain_steps feeder items ++ rest)
 prefix_of_steps one law tower chosen feeder bytes more broken later items all are also e =
     let prefix = is_prefix law bytes more broken are.pieces also.pieces are.elements (before_fault law (bytes ++ more) later also.pieces e also.elements) in

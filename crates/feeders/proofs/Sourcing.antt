@@ -1,13 +1,13 @@
--- What a source has given, where it gave a front of what was read.
+-- What a source has given is a prefix of what its reader had.
 use Rattle.std.proofs.Common.{◌≡◌, ℕ, ◌<◌, ◌≤◌, Bool, true, false, List, ◌++◌, length, take, drop, Option, Some, None, sym, ap, ◌∙◌, arith, append_assoc, length-append, length-drop, take-append-drop, take-take}
 use Rattle.std.proofs.lemmas.Option.{none-some, same_Some}
 use Rattle.std.proofs.lemmas.List.{length-take-le, take-append-le}
 use Rattle.std.specs.Io.KnownBytes.{Keeps, Consumes}
-use Rattle.feeders.specs.Source.{IsGiven}
+use Rattle.feeders.specs.Source.{AreBytesOf}
 
--- the front of what a read gave, of a reader that kept its bytes until then
-pub front_given : (first before until after : Option (List ℕ)) (bytes read behind : List ℕ) (room count : ℕ) → IsGiven first bytes before false → Keeps before until → Consumes until after (take count read)
-    → room < count → count ≤ length read → IsGiven first (bytes ++ take room (read ++ behind)) after true
+-- the prefix of what a read gave, of a reader that kept its bytes until then
+pub front_given : (first before until after : Option (List ℕ)) (bytes read behind : List ℕ) (room count : ℕ) → AreBytesOf first bytes before false → Keeps before until → Consumes until after (take count read)
+    → room < count → count ≤ length read → AreBytesOf first (bytes ++ take room (read ++ behind)) after true
 front_given None before until after bytes read behind room count given kept more some there = tt
 front_given (Some all) None until after bytes read behind room count given kept more some there = absurd (none-some given.0 given.1)
 front_given (Some all) (Some left) None after bytes read behind room count given kept more some there = absurd kept
@@ -21,7 +21,7 @@ front_given (Some all) (Some left) (Some still) (Some rest) bytes read behind ro
     let whole : all ≡ (bytes ++ front) ++ (others ++ rest) = given.2 ∙ ap (λ (l : List ℕ). bytes ++ l) had ∙ sym (append_assoc bytes front (others ++ rest)) in
     (others ++ rest, whole, omega (arith, some, length-append others rest, length-drop room (take count read), length-take-le count read there))
 
--- the bytes that were given are a front of what the reader had
-pub given_front : (all bytes : List ℕ) (left : Option (List ℕ)) (past : Bool) → IsGiven (Some all) bytes left past → (rest : List ℕ) × (all ≡ bytes ++ rest)
+-- the bytes that were given are a prefix of what the reader had
+pub given_front : (all bytes : List ℕ) (left : Option (List ℕ)) (past : Bool) → AreBytesOf (Some all) bytes left past → (rest : List ℕ) × (all ≡ bytes ++ rest)
 given_front all bytes left false given = (given.0, given.2)
 given_front all bytes left true given = (given.0, given.1)

@@ -1,22 +1,22 @@
--- A piece is taken up to the end of the next element, or to its own.
+-- A chunk is taken up to the end of the next element, or else to its own end.
 use Rattle.std.proofs.Common.{◌≡◌, ℕ, ◌+◌, ◌-◌, ◌≤◌, ◌<◌, ◌^◌, List, [], ◌∷◌, ◌++◌, length, take, drop, Option, Some, None, Result, Err, refl, sym, ap, subst, ◌∙◌, arith, length-drop}
 use Rattle.std.specs.Prelude.{MatchOption}
 use Rattle.std.proofs.lemmas.List.{length-take-le}
-use Rattle.edn_reader.specs.Grammar.{Piece}
+use Rattle.edn_reader.specs.Grammar.{ElementModel}
 use Rattle.edn_reader.specs.declared.fault.EdnFault.{EdnFault}
-use Rattle.edn_reader.specs.Splitting.{IsLast, KeepsFault, Splitting, StandsAfter, TakesUpTo, WantsMemory, keep, TakesOn as SplitsOn}
+use Rattle.edn_reader.specs.Splitting.{IsLast, KeepsFault, SplitterModel, StandsAfter, TakesUpTo, WantsMemory, keep, TakesOn as SplitsOn}
 use Rattle.jepsen_form.specs.declared.fault.FormFault.{FormFault}
 use Rattle.jepsen_form.specs.declared.item.Item.{Item}
-use Rattle.shards.specs.Pass.{Passed}
+use Rattle.shards.specs.Pass.{PassModel}
 use Rattle.feeders.specs.declared.intake.Intake.{Intake}
-use Rattle.feeders.specs.declared.kept.Kept.{Kept}
+use Rattle.feeders.specs.declared.tail_buffer.TailBuffer.{TailBuffer}
 use Rattle.feeders.specs.declared.pending.Pending.{Pending}
 use Rattle.feeders.specs.declared.pending.Pending.TheVariants.{Nothing}
 use Rattle.feeders.specs.declared.progress.Progress.{Progress}
 use Rattle.feeders.specs.declared.log.Broken.{Broken}
 use Rattle.feeders.specs.Broken.{broken_by}
 use Rattle.feeders.specs.Intake.{CanGoOn, HasFed, HasTaken, HasUsed}
-use Rattle.feeders.specs.Kept.{Holds}
+use Rattle.feeders.specs.TailBuffer.{AreLastBytes}
 use Rattle.feeders.specs.Pending.{CanReadBehind, CanSettle, CanSettleAs, IsBeside, IsPending, count_of}
 use Rattle.feeders.specs.Progress.{IsAhead, IsAt}
 use Rattle.feeders.specs.Setting.{Setting}
@@ -24,22 +24,22 @@ use Rattle.feeders.proofs.Holding.{drop_twice, with_piece}
 use Rattle.feeders.proofs.Pieces.{AllElements, all_fed, all_held, all_stands, can_beside, can_lend, counted_on, fed_all, fed_one, goes_on, holds_none, holds_same, known_more, none_holds, taken_is, told_text, took, unwanted, wanted}
 use Rattle.feeders.proofs.Settling.{holds_any}
 
--- What a piece of which so much was taken says, where no element ended.
+-- the first `used` bytes of a chunk were taken, and no element ended in them
 pub record TookNone (piece : List ℕ) (used : ℕ) (old new : Intake) : Type 0 where
   pub within : used ≤ length piece
   pub taken : new.splitter.taken ≡ old.splitter.taken + used
-  pub stands : (bytes next : List ℕ) (pieces : List Piece) → StandsAfter bytes (piece ++ next) pieces old.splitter
+  pub stands : (bytes next : List ℕ) (pieces : List ElementModel) → StandsAfter bytes (piece ++ next) pieces old.splitter
       → StandsAfter (bytes ++ take used piece) (drop used piece ++ next) pieces new.splitter × (keep old.splitter ≤ keep new.splitter)
-  pub holds : (taken : List ℕ) → Holds taken old.kept → Holds (taken ++ take used piece) new.kept
+  pub holds : (taken : List ℕ) → AreLastBytes taken old.kept → AreLastBytes (taken ++ take used piece) new.kept
   pub low : old.kept.from ≤ keep new.splitter → new.kept.from ≤ keep new.splitter
   pub progress : new.progress ≡ old.progress
   pub pending : new.pending ≡ Nothing
   pub fits : new.splitter.taken < 2 ^ 64
 
--- The whole of it.
+-- the whole chunk was taken, and no element ended
 pub takes_all : (piece : List ℕ) (used : ℕ) (old new : Intake) → (used ≤ length piece) × (new.splitter.taken ≡ old.splitter.taken + used)
-    → ((bytes next : List ℕ) (pieces : List Piece) → StandsAfter bytes (piece ++ next) pieces old.splitter → TakesUpTo bytes piece next pieces old.splitter used None new.splitter)
-    → (CanGoOn piece old) → ((taken : List ℕ) → Holds taken old.kept → Holds (taken ++ piece) new.kept) → (old.kept.from ≤ keep new.splitter → new.kept.from ≤ keep new.splitter)
+    → ((bytes next : List ℕ) (pieces : List ElementModel) → StandsAfter bytes (piece ++ next) pieces old.splitter → TakesUpTo bytes piece next pieces old.splitter used None new.splitter)
+    → (CanGoOn piece old) → ((taken : List ℕ) → AreLastBytes taken old.kept → AreLastBytes (taken ++ piece) new.kept) → (old.kept.from ≤ keep new.splitter → new.kept.from ≤ keep new.splitter)
     → new.progress ≡ old.progress → new.pending ≡ Nothing → old.splitter.taken + length piece < 2 ^ 64 → TookNone piece used old new
 takes_all piece used old new counted takes can holds low progress pending fits =
     let all : used ≡ length piece = (takes can.bytes [] can.pieces (known_more can.bytes piece [] can.pieces old.splitter can.stands)).0 in
@@ -54,10 +54,10 @@ takes_all piece used old new counted takes can holds low progress pending fits =
       fits = omega (arith, fits, counted.0, counted.1);
     }
 
--- The bytes before one at which memory was wanted.
+-- the bytes before one at which memory was refused were taken
 pub takes_some : (piece : List ℕ) (used place : ℕ) (old new : Intake)
-    → ((bytes next : List ℕ) (pieces : List Piece) → StandsAfter bytes (piece ++ next) pieces old.splitter → (keep old.splitter ≤ keep new.splitter) × WantsMemory bytes piece next pieces place new.splitter)
-    → (CanGoOn piece old) → used ≡ new.splitter.taken - old.splitter.taken → ((taken : List ℕ) → Holds taken old.kept → Holds (taken ++ take used piece) new.kept)
+    → ((bytes next : List ℕ) (pieces : List ElementModel) → StandsAfter bytes (piece ++ next) pieces old.splitter → (keep old.splitter ≤ keep new.splitter) × WantsMemory bytes piece next pieces place new.splitter)
+    → (CanGoOn piece old) → used ≡ new.splitter.taken - old.splitter.taken → ((taken : List ℕ) → AreLastBytes taken old.kept → AreLastBytes (taken ++ take used piece) new.kept)
     → (old.kept.from ≤ keep new.splitter → new.kept.from ≤ keep new.splitter) → new.progress ≡ old.progress → new.pending ≡ Nothing → old.splitter.taken + length piece < 2 ^ 64
     → TookNone piece used old new
 takes_some piece used place old new takes can is holds low progress pending fits =
@@ -92,7 +92,7 @@ used_on piece used old new on none can =
           (record { by = subst (λ (p : Pending). CanSettleAs p new) (sym on.pending) (subst IsAhead (sym on.progress) (subst (λ (p : Pending). CanSettleAs p old) none can.settle.by)) });
     }
 
-pub fed_on : (setting : Setting) (piece : List ℕ) (used : ℕ) (old new : Intake) (pass : Passed) (bytes next : List ℕ) → TookNone piece used old new → old.pending ≡ Nothing
+pub fed_on : (setting : Setting) (piece : List ℕ) (used : ℕ) (old new : Intake) (pass : PassModel) (bytes next : List ℕ) → TookNone piece used old new → old.pending ≡ Nothing
     → HasFed setting bytes (piece ++ next) old pass → HasFed setting (bytes ++ take used piece) (drop used piece ++ next) new pass
 fed_on setting piece used old new pass bytes next on none fed =
     let taken = all_fed setting bytes (piece ++ next) old pass none fed in
@@ -101,9 +101,9 @@ fed_on setting piece used old new pass bytes next on none fed =
     (took bytes piece next fed.pieces used new goes.0 (on.holds bytes taken.holds) (on.low (omega (arith, taken.low, goes.1)))
     (omega (arith, ap (λ (p : Progress). p.place) on.progress, taken.place, goes.1)))
 
--- Memory was wanted in a piece.
-pub wants_memory : (fault : EdnFault) (old new : Splitting) (piece : List ℕ) → broken_by fault ≡ None → SplitsOn piece old (Err fault) new
-    → (place : ℕ) × ((bytes next : List ℕ) (pieces : List Piece) → StandsAfter bytes (piece ++ next) pieces old → (keep old ≤ keep new) × WantsMemory bytes piece next pieces place new)
+-- memory was refused in a chunk
+pub wants_memory : (fault : EdnFault) (old new : SplitterModel) (piece : List ℕ) → broken_by fault ≡ None → SplitsOn piece old (Err fault) new
+    → (place : ℕ) × ((bytes next : List ℕ) (pieces : List ElementModel) → StandsAfter bytes (piece ++ next) pieces old → (keep old ≤ keep new) × WantsMemory bytes piece next pieces place new)
 wants_memory fault old new piece none takes =
     let at = wanted fault none in (
       at.0,
@@ -112,14 +112,14 @@ wants_memory fault old new piece none takes =
           (goes.0, subst (λ (w : Option ℕ). MatchOption w (KeepsFault bytes (piece ++ next) pieces fault new) (λ place. WantsMemory bytes piece next pieces place new)) at.1 goes.1),
     )
 
--- The text has a fault there.
-pub keeps_fault : (fault : EdnFault) (broken : Broken) (old new : Splitting) (piece : List ℕ) → broken_by fault ≡ Some broken → SplitsOn piece old (Err fault) new
-    → (bytes next : List ℕ) (pieces : List Piece) → StandsAfter bytes (piece ++ next) pieces old → KeepsFault bytes (piece ++ next) pieces fault new
+-- the text has a fault in a chunk
+pub keeps_fault : (fault : EdnFault) (broken : Broken) (old new : SplitterModel) (piece : List ℕ) → broken_by fault ≡ Some broken → SplitsOn piece old (Err fault) new
+    → (bytes next : List ℕ) (pieces : List ElementModel) → StandsAfter bytes (piece ++ next) pieces old → KeepsFault bytes (piece ++ next) pieces fault new
 keeps_fault fault broken old new piece is takes bytes next pieces stands =
     subst (λ (w : Option ℕ). MatchOption w (KeepsFault bytes (piece ++ next) pieces fault new) (λ place. WantsMemory bytes piece next pieces place new)) (unwanted fault broken is) (takes bytes next pieces stands).1
 
--- With other room for what is kept.
-pub fed_roomed : (setting : Setting) (bytes next : List ℕ) (old new : Intake) (pass : Passed) → old.pending ≡ Nothing → new.pending ≡ old.pending → new.progress ≡ old.progress → new.splitter ≡ old.splitter
+-- the buffer has another capacity
+pub fed_roomed : (setting : Setting) (bytes next : List ℕ) (old new : Intake) (pass : PassModel) → old.pending ≡ Nothing → new.pending ≡ old.pending → new.progress ≡ old.progress → new.splitter ≡ old.splitter
     → new.kept.from ≡ old.kept.from → new.kept.bytes.items ≡ old.kept.bytes.items → HasFed setting bytes next old pass → HasFed setting bytes next new pass
 fed_roomed setting bytes next old new pass none pending progress splitter from items fed =
     let taken = all_fed setting bytes next old pass none fed in
@@ -131,16 +131,16 @@ fed_roomed setting bytes next old new pass none pending progress splitter from i
       place = omega (arith, ap (λ (p : Progress). p.place) progress, taken.place, ap keep splitter);
     })
 
--- What a piece says with whose front an element ended.
+-- an element ended with the first `used` bytes of a chunk
 abbrev pub EndsOne : List ℕ → ℕ → ℕ × ℕ → Intake → Intake → Type 0
 EndsOne piece used span old mid =
-    (bytes next : List ℕ) (pieces : List Piece) → StandsAfter bytes (piece ++ next) pieces old.splitter → TakesUpTo bytes piece next pieces old.splitter used (Some span) mid.splitter
+    (bytes next : List ℕ) (pieces : List ElementModel) → StandsAfter bytes (piece ++ next) pieces old.splitter → TakesUpTo bytes piece next pieces old.splitter used (Some span) mid.splitter
 
-front_is : (bytes piece : List ℕ) (used start : ℕ) (kept : Kept) → Holds bytes kept → kept.from ≤ start
+front_is : (bytes piece : List ℕ) (used start : ℕ) (kept : TailBuffer) → AreLastBytes bytes kept → kept.from ≤ start
     → drop (start - kept.from) (kept.bytes.items ++ take used piece) ≡ drop start (bytes ++ take used piece)
 front_is bytes piece used start kept holds low = with_piece bytes (take used piece) kept.bytes.items kept.from start (omega (arith, holds.long)) low holds.last
 
--- It can be read.
+-- the element that ended can be read
 pub can_read_behind : (piece : List ℕ) (used : ℕ) (span : ℕ × ℕ) (old mid : Intake) → EndsOne piece used span old mid → AllElements → (used ≤ length piece) × (mid.splitter.taken ≡ old.splitter.taken + used)
     → mid.kept.from ≡ old.kept.from → mid.kept.bytes.items ≡ old.kept.bytes.items → mid.progress ≡ old.progress → old.pending ≡ Nothing → CanGoOn piece old → old.splitter.taken + length piece < 2 ^ 64
     → CanReadBehind span.0 (take used piece) mid
@@ -148,7 +148,7 @@ can_read_behind piece used span old mid takes elements counted from items progre
     let more = known_more can.bytes piece [] can.pieces old.splitter can.stands in
     let goes = takes can.bytes [] can.pieces more in
     let long : old.splitter.taken ≡ length can.bytes = taken_is can.bytes piece can.pieces old.splitter can.stands in
-    let holds : Holds can.bytes mid.kept = holds_same can.bytes old.kept mid.kept from items (holds_none old.pending can.bytes old.kept none can.holds) in
+    let holds : AreLastBytes can.bytes mid.kept = holds_same can.bytes old.kept mid.kept from items (holds_none old.pending can.bytes old.kept none can.holds) in
     let many : length (take used piece) ≡ used = length-take-le used piece counted.0 in
     let low : mid.kept.from ≤ span.0 = omega (arith, from, can.low, goes.2) in
     let place : mid.progress.place ≡ old.progress.place = ap (λ (p : Progress). p.place) progress in
@@ -164,10 +164,10 @@ can_read_behind piece used span old mid takes elements counted from items progre
       fits = omega (arith, fits, counted.0, counted.1);
     }
 
--- What taking the front leaves: the element waits.
+-- the prefix with which an element ended was taken, and the element waits
 pub record IsTaken (piece : List ℕ) (used : ℕ) (old mid new : Intake) : Type 0 where
   pub can : CanSettle new
-  pub holds : (taken : List ℕ) → Holds taken mid.kept → Holds (taken ++ take used piece) new.kept
+  pub holds : (taken : List ℕ) → AreLastBytes taken mid.kept → AreLastBytes (taken ++ take used piece) new.kept
   pub low : new.kept.from ≤ mid.splitter.taken
   pub splitter : new.splitter ≡ mid.splitter
   pub broken : new.progress.log.broken ≡ mid.progress.log.broken
@@ -178,8 +178,8 @@ pub record IsTaken (piece : List ℕ) (used : ℕ) (old mid new : Intake) : Type
   pub counted : (used ≤ length piece) × (mid.splitter.taken ≡ old.splitter.taken + used)
   pub fits : mid.splitter.taken < 2 ^ 64
 
-taken_one : (piece : List ℕ) (used : ℕ) (span : ℕ × ℕ) (old mid new : Intake) (bytes next : List ℕ) (pieces : List Piece) → IsTaken piece used old mid new
-    → (takes : TakesUpTo bytes piece next pieces old.splitter used (Some span) mid.splitter) → Holds bytes old.kept → old.splitter.taken ≡ length bytes → old.progress.place ≤ keep old.splitter
+taken_one : (piece : List ℕ) (used : ℕ) (span : ℕ × ℕ) (old mid new : Intake) (bytes next : List ℕ) (pieces : List ElementModel) → IsTaken piece used old mid new
+    → (takes : TakesUpTo bytes piece next pieces old.splitter used (Some span) mid.splitter) → AreLastBytes bytes old.kept → old.splitter.taken ≡ length bytes → old.progress.place ≤ keep old.splitter
     → HasTaken (bytes ++ take used piece) (drop used piece ++ next) (pieces ++ takes.4.0 ∷ []) new
 taken_one piece used span old mid new bytes next pieces is takes holds long placed =
     let kept : keep new.splitter ≡ keep mid.splitter = ap keep is.splitter in
@@ -197,7 +197,7 @@ used_one piece used span old mid new is takes none can =
     let goes = takes can.bytes [] can.pieces more in
     let long : old.splitter.taken ≡ length can.bytes = taken_is can.bytes piece can.pieces old.splitter can.stands in
     let taken = taken_one piece used span old mid new can.bytes [] can.pieces is goes (holds_none old.pending can.bytes old.kept none can.holds) long can.place in
-    let same : new.splitter.taken ≡ mid.splitter.taken = ap (λ (s : Splitting). s.taken) is.splitter in
+    let same : new.splitter.taken ≡ mid.splitter.taken = ap (λ (s : SplitterModel). s.taken) is.splitter in
     let place : mid.progress.place ≡ old.progress.place = ap (λ (p : Progress). p.place) is.progress in
     record {
       within = is.counted.0;
@@ -206,9 +206,9 @@ used_one piece used span old mid new is takes none can =
           (omega (arith, is.place, place, can.counted, same, is.counted.1)) (omega (arith, same, is.fits)) is.can;
     }
 
-pub fed_taken : (setting : Setting) (piece : List ℕ) (used : ℕ) (span : ℕ × ℕ) (old mid new : Intake) (pass : Passed) (bytes next : List ℕ) → IsTaken piece used old mid new → EndsOne piece used span old mid
+pub fed_taken : (setting : Setting) (piece : List ℕ) (used : ℕ) (span : ℕ × ℕ) (old mid new : Intake) (pass : PassModel) (bytes next : List ℕ) → IsTaken piece used old mid new → EndsOne piece used span old mid
     → AllElements → old.pending ≡ Nothing
-    → ((items : List (Result Item FormFault)) (last : Piece) → IsLast mid.splitter last → last.text ≡ drop (span.0 - mid.kept.from) (mid.kept.bytes.items ++ take used piece)
+    → ((items : List (Result Item FormFault)) (last : ElementModel) → IsLast mid.splitter last → last.text ≡ drop (span.0 - mid.kept.from) (mid.kept.bytes.items ++ take used piece)
     → IsAt setting.plan setting.start items mid.progress pass → IsPending setting items (last ∷ []) new pass)
     → HasFed setting bytes (piece ++ next) old pass → HasFed setting (bytes ++ take used piece) (drop used piece ++ next) new pass
 fed_taken setting piece used span old mid new pass bytes next is takes elements none waits fed =
@@ -216,7 +216,7 @@ fed_taken setting piece used span old mid new pass bytes next is takes elements 
     let goes = takes bytes next fed.pieces taken.stands in
     let long : old.splitter.taken ≡ length bytes = taken_is bytes (piece ++ next) fed.pieces old.splitter taken.stands in
     let last = goes.4.0 in
-    let holds : Holds bytes mid.kept = holds_same bytes old.kept mid.kept is.from is.items taken.holds in
+    let holds : AreLastBytes bytes mid.kept = holds_same bytes old.kept mid.kept is.from is.items taken.holds in
     let text = told_text bytes piece next (drop span.0 (bytes ++ take used piece)) fed.pieces used span old.splitter mid.splitter goes refl in
     fed_one setting bytes (piece ++ next) (bytes ++ take used piece) (drop used piece ++ next) old new pass last none
     (is.broken ∙ ap (λ (p : Progress). p.log.broken) is.progress) fed
@@ -224,19 +224,19 @@ fed_taken setting piece used span old mid new pass bytes next is takes elements 
     (λ at. waits fed.items last goes.4.4 (text ∙ sym (front_is bytes piece used span.0 mid.kept holds (omega (arith, is.from, taken.low, goes.2))))
     (subst (λ (p : Progress). IsAt setting.plan setting.start fed.items p pass) (sym is.progress) at))
 
--- What waits went on meanwhile.
+-- `used` bytes were taken, and then what waits went on
 pub used_beside : (piece : List ℕ) (used : ℕ) (old mid new : Intake) → HasUsed piece old used mid → IsBeside mid new → CanSettle new → new.progress.place ≤ keep mid.splitter → new.progress.place ≤ mid.splitter.taken
     → HasUsed piece old used new
 used_beside piece used old mid new first beside settle place counted = record {
   within = first.within;
-  taken = ap (λ (s : Splitting). s.taken) beside.splitter ∙ first.taken;
+  taken = ap (λ (s : SplitterModel). s.taken) beside.splitter ∙ first.taken;
   can = can_beside (drop used piece) mid new beside place counted settle first.can;
 }
 
 pub settled_place : (intake : Intake) (place : ℕ) (next : List ℕ) → CanGoOn next intake → place ≡ intake.progress.place + count_of intake.pending → (place ≤ keep intake.splitter) × (place ≤ intake.splitter.taken)
 settled_place intake place next can is = counted_on intake place can.settle can.place can.counted is
 
--- Of a piece of which so much was used already some more was used.
+-- of a chunk whose first `at` bytes were used, `used` more were used
 pub used_rest : (piece : List ℕ) (at used : ℕ) (first old new : Intake) → at ≤ length piece → old.splitter.taken ≡ first.splitter.taken + at → HasUsed (drop at piece) old used new → HasUsed piece first (at + used) new
 used_rest piece at used first old new within taken is = record {
   within = omega (arith, within, is.within, length-drop at piece);
@@ -244,10 +244,10 @@ used_rest piece at used first old new within taken is = record {
   can = subst (λ (next : List ℕ). CanGoOn next new) (drop_twice used at piece) is.can;
 }
 
--- None was used, and what waits still does.
+-- no byte was used, and what waits still does
 pub used_still : (piece : List ℕ) (old new : Intake) → IsBeside old new → CanSettle new → new.progress.place ≡ old.progress.place → CanGoOn piece old → HasUsed piece old 0 new
 used_still piece old new beside settle place can = record {
   within = omega arith;
-  taken = omega (arith, ap (λ (s : Splitting). s.taken) beside.splitter);
+  taken = omega (arith, ap (λ (s : SplitterModel). s.taken) beside.splitter);
   can = can_beside piece old new beside (omega (arith, place, can.place)) (omega (arith, place, can.counted)) settle can;
 }

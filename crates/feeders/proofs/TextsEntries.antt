@@ -13,37 +13,37 @@ use Rattle.intervals.specs.declared.edit.Lent.{Lent}
 use Rattle.intervals.specs.declared.edit.Lent.TheVariants as lents
 use Rattle.intervals.specs.Edit.{edit_id}
 use Rattle.register_book.specs.declared.reply.Reply.{Reply}
-use Rattle.tower_file.specs.Contents.{Contents}
+use Rattle.tower_file.specs.Contents.{TowerModel}
 use Rattle.jepsen_form.specs.declared.fault.FormFault.{FormFault}
 use Rattle.jepsen_form.specs.declared.item.Item.{Item}
 use Rattle.jepsen_form.specs.declared.item.MomentField.{MomentField}
 use Rattle.jepsen_form.specs.Item.{IsItem}
 use Rattle.pairing.specs.declared.step.Step.TheVariants as steps
 use Rattle.shards.specs.declared.entry.Entry.{Entry}
-use Rattle.shards.specs.declared.entry.Numbered.{Numbered}
+use Rattle.shards.specs.declared.entry.NumberedEntry.{NumberedEntry}
 use Rattle.shards.specs.Plan.{Plan}
 use Rattle.shards.specs.Plain.{PlainParts, PlainLent, PlainEdit, PlainEntry, answer as plain_answer, amendment as plain_amendment, append, amend, withdraw, claim_to, plain_parts, plain_lent, plain_edit, plain_entry, plain_numbered}
 use Rattle.shards.specs.Merge.{numbered, is_numbered_by, entries_of}
 use Rattle.shards.specs.Steps.{entry_of, numbered_entry}
-use Rattle.shards.specs.Closing.{Ended, journal_of}
+use Rattle.shards.specs.Closing.{ClosedShard, journal_of}
 use Rattle.feeders.specs.declared.log.Log.{Log}
-use Rattle.feeders.specs.Steps.{Taken, steps_of}
+use Rattle.feeders.specs.Steps.{StepResult, steps_of}
 use Rattle.feeders.specs.Doings.{Doing, refused, nothing, entered, answered, taken_of, entry_in, entered_in}
 use Rattle.feeders.specs.Run.{IsTraced}
-use Rattle.feeders.specs.Texts.{Part, invocation, answer, amendment, text_of, text_in, settled, IsPlaced, IsSlice, IsOfStep}
+use Rattle.feeders.specs.Texts.{TextKind, invocation, answer, amendment, text_of, text_in, settled, IsPlaced, IsSlice, IsOfStep}
 use Rattle.feeders.proofs.TextsElements.{slices_of}
 use Rattle.feeders.proofs.TextsItems.{item_carries}
 use Rattle.feeders.proofs.TextsLists.{get_map, map_has, has_filter, filter_map_has, has_numbered, zip_get, all_get}
 use Rattle.feeders.proofs.TextsSteps.{step_is_of_item}
 
--- edits that read the same
+-- edits that read alike have texts that read alike
 
-abbrev plain_text_of : Part → PlainParts → Option (List ℕ)
+abbrev plain_text_of : TextKind → PlainParts → Option (List ℕ)
 plain_text_of invocation parts = Some parts.invocation
 plain_text_of answer parts = parts.answer
 plain_text_of amendment parts = parts.amendment
 
-abbrev plain_text_in : Part → PlainLent → Option (List ℕ)
+abbrev plain_text_in : TextKind → PlainLent → Option (List ℕ)
 plain_text_in invocation (plain_answer text) = None
 plain_text_in invocation (plain_amendment text) = None
 plain_text_in answer (plain_answer text) = Some text
@@ -51,7 +51,7 @@ plain_text_in answer (plain_amendment text) = None
 plain_text_in amendment (plain_answer text) = None
 plain_text_in amendment (plain_amendment text) = Some text
 
-abbrev plain_settled : Part → PlainEdit → Option (Option (List ℕ))
+abbrev plain_settled : TextKind → PlainEdit → Option (Option (List ℕ))
 plain_settled part (append op) = Some (plain_text_of part op.parts)
 plain_settled part (amend id change) = option_map Some (plain_text_in part change.lent)
 plain_settled part (withdraw id) = Some None
@@ -69,16 +69,16 @@ IsPlainPlaced place (amend id change) = id.event < place
 IsPlainPlaced place (withdraw id) = id.event < place
 IsPlainPlaced place (claim_to kind) = Unit {0}
 
--- a text by its bytes
+-- the bytes of an optional text
 abbrev bytes_of : Option (Bor (List ℕ)) → Option (List ℕ)
 bytes_of text = option_map (λ t. t.now) text
 
-text_reads : (part : Part) (parts : Parts) → plain_text_of part (plain_parts parts) ≡ bytes_of (text_of part parts)
+text_reads : (part : TextKind) (parts : Parts) → plain_text_of part (plain_parts parts) ≡ bytes_of (text_of part parts)
 text_reads invocation parts = refl
 text_reads answer parts = refl
 text_reads amendment parts = refl
 
-lent_reads : (part : Part) (lent : Lent) → option_map Some (plain_text_in part (plain_lent lent)) ≡ option_map bytes_of (option_map Some (text_in part lent))
+lent_reads : (part : TextKind) (lent : Lent) → option_map Some (plain_text_in part (plain_lent lent)) ≡ option_map bytes_of (option_map Some (text_in part lent))
 lent_reads invocation (lents.Answer text) = refl
 lent_reads invocation (lents.Amendment text) = refl
 lent_reads answer (lents.Answer text) = refl
@@ -86,7 +86,7 @@ lent_reads answer (lents.Amendment text) = refl
 lent_reads amendment (lents.Answer text) = refl
 lent_reads amendment (lents.Amendment text) = refl
 
-settled_reads : (part : Part) (edit : Edit) → plain_settled part (plain_edit edit) ≡ option_map bytes_of (settled part edit)
+settled_reads : (part : TextKind) (edit : Edit) → plain_settled part (plain_edit edit) ≡ option_map bytes_of (settled part edit)
 settled_reads part (edits.Append op) = ap (λ (o : Option (List ℕ)). Some o) (text_reads part op.parts)
 settled_reads part (edits.Amend id change) = lent_reads part change.lent
 settled_reads part (edits.Withdraw id) = refl
@@ -122,12 +122,12 @@ module _ (edit other : Edit) (same : plain_edit edit ≡ plain_edit other) where
   alike_placed : (place : ℕ) → IsPlaced place other → IsPlaced place edit
   alike_placed place is = reads_placed place edit (subst (IsPlainPlaced place) (sym same) (placed_reads place other is))
 
-  alike_text : (part : Part) (text : Bor (List ℕ)) → settled part edit ≡ Some (Some text) → (found : Bor (List ℕ)) × (settled part other ≡ Some (Some found)) × (found.now ≡ text.now)
+  alike_text : (part : TextKind) (text : Bor (List ℕ)) → settled part edit ≡ Some (Some text) → (found : Bor (List ℕ)) × (settled part other ≡ Some (Some found)) × (found.now ≡ text.now)
   alike_text part text is = read_text (settled part other) text (sym (settled_reads part other) ∙ ap (plain_settled part) (sym same) ∙ settled_reads part edit ∙ ap (option_map bytes_of) is)
 
--- a doing that is entered
+-- a doing that entered an edit in a journal
 
-record IsEntered (feeder : ℕ) (doing : Doing) (known : Numbered) : Type 0 where
+record IsEntered (feeder : ℕ) (doing : Doing) (known : NumberedEntry) : Type 0 where
   register : RegId
   edit : Edit
   number : ℕ
@@ -135,11 +135,11 @@ record IsEntered (feeder : ℕ) (doing : Doing) (known : Numbered) : Type 0 wher
   taken : taken_of doing ≡ Ok (Some (steps.Edit register edit))
   known_is : numbered_entry number (entry_of feeder register edit reply) ≡ known
 
-only_there : (t : Bool) (one known : Numbered) → (if t then Some one else None) ≡ Some known → one ≡ known
+only_there : (t : Bool) (one known : NumberedEntry) → (if t then Some one else None) ≡ Some known → one ≡ known
 only_there true one known e = cc
 only_there false one known e = absurd (cc)
 
-entered_by : (shards feeder at : ℕ) (doing : Doing) (known : Numbered) → entry_in shards feeder at doing ≡ Some known → IsEntered feeder doing known
+entered_by : (shards feeder at : ℕ) (doing : Doing) (known : NumberedEntry) → entry_in shards feeder at doing ≡ Some known → IsEntered feeder doing known
 entered_by shards feeder at (refused code) known e = absurd (cc)
 entered_by shards feeder at nothing known e = absurd (cc)
 entered_by shards feeder at (entered register edit number reply) known e =
@@ -153,13 +153,13 @@ record IsDone (feeder : ℕ) (items : List (Result Item FormFault)) (entry : Ent
   step : slice_get (steps_of feeder items) place ≡ Some (Ok (Some (steps.Edit entry.register edit)))
   reads : plain_edit entry.edit ≡ plain_edit edit
 
-module _ (plan : Plan) (tower : Contents) (chosen : MomentField) (closed : List Ended) (feeder : ℕ) (trace : List ℕ) (log : Log) (traced : IsTraced plan tower chosen closed feeder trace log) where
-  done_for : (k : ℕ) (doing : Doing) (known : Numbered) (entry : Entry) → slice_get traced.doings k ≡ Some doing → IsEntered feeder doing known → plain_entry known.entry ≡ plain_entry entry → IsDone feeder traced.items entry
+module _ (plan : Plan) (tower : TowerModel) (chosen : MomentField) (closed : List ClosedShard) (feeder : ℕ) (trace : List ℕ) (log : Log) (traced : IsTraced plan tower chosen closed feeder trace log) where
+  done_for : (k : ℕ) (doing : Doing) (known : NumberedEntry) (entry : Entry) → slice_get traced.doings k ≡ Some doing → IsEntered feeder doing known → plain_entry known.entry ≡ plain_entry entry → IsDone feeder traced.items entry
   done_for k doing known entry there is same =
-      let plain : plain_entry (entry_of feeder is.register is.edit is.reply) ≡ plain_entry entry = ap (λ (n : Numbered). plain_entry n.entry) is.known_is ∙ same in
+      let plain : plain_entry (entry_of feeder is.register is.edit is.reply) ≡ plain_entry entry = ap (λ (n : NumberedEntry). plain_entry n.entry) is.known_is ∙ same in
       let register : is.register ≡ entry.register = ap (λ (p : PlainEntry). p.register) plain in
       let step : slice_get (steps_of feeder traced.items) k ≡ Some (Ok (Some (steps.Edit is.register is.edit))) =
-      ap (λ (all : List Taken). slice_get all k) (sym traced.done.for_steps) ∙ get_map taken_of traced.doings k doing there ∙ ap (λ (t : Taken). Some t) is.taken in
+      ap (λ (all : List StepResult). slice_get all k) (sym traced.done.for_steps) ∙ get_map taken_of traced.doings k doing there ∙ ap (λ (t : StepResult). Some t) is.taken in
       record {
         place = k;
         edit = is.edit;
@@ -167,8 +167,8 @@ module _ (plan : Plan) (tower : Contents) (chosen : MomentField) (closed : List 
         reads = sym (ap (λ (p : PlainEntry). p.edit) plain);
       }
 
-  -- as its numbered entry in the journal reads
-  known_in : (at : ℕ) (known : Numbered) (k : ℕ) (entry : Entry) → at < plan.shards → slice_get (entries_of feeder (journal_of closed at)) k ≡ Some known → known.entry ≡ entry → IsDone feeder traced.items entry
+  -- an entry of the journal, by the numbered entry that it reads as
+  known_in : (at : ℕ) (known : NumberedEntry) (k : ℕ) (entry : Entry) → at < plan.shards → slice_get (entries_of feeder (journal_of closed at)) k ≡ Some known → known.entry ≡ entry → IsDone feeder traced.items entry
   known_in at known k entry lt there same =
       let read : slice_get (map plain_numbered (entered_in plan.shards feeder at traced.doings)) k ≡ Some (plain_numbered known) =
       subst (λ (all : List (ℕ × PlainEntry)). slice_get all k ≡ Some (plain_numbered known)) (traced.entries at lt) (get_map plain_numbered (entries_of feeder (journal_of closed at)) k known there) in
@@ -208,6 +208,6 @@ module _ (plan : Plan) (tower : Contents) (chosen : MomentField) (closed : List 
         },
       )
 
-  -- an entry of this feeder
+  -- an entry of this feeder in the journal of a shard
   pub of_entry : (at n : ℕ) (entry : Entry) → at < plan.shards → slice_get (journal_of closed at) n ≡ Some entry → entry.feeder ≡ feeder → (place : ℕ) × IsOfStep feeder trace traced.are.pieces traced.items entry place
   of_entry at n entry lt there own = of_done entry (done_in at n entry lt there own)

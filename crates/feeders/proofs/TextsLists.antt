@@ -1,14 +1,14 @@
--- What stands in a list at a place.
+-- Which elements lists have, mapped, filtered, numbered and joined ones, and what holds of each element.
 use Rattle.std.proofs.Common.{◌≡◌, ℕ, zero, suc, ◌+◌, Bool, true, false, cond, List, [], ◌∷◌, ◌++◌, map, length, reverse, Option, Some, None, refl, sym, ap, subst, ◌∙◌, arith}
 use Rattle.std.specs.Prelude.{filter, filter_map, find}
 use Rattle.std.specs.List.{slice_get, AllZip, AllByRecursion, cons_option}
 use Rattle.std.proofs.lemmas.List.{reverse-append}
 use Rattle.shards.specs.declared.entry.Entry.{Entry}
-use Rattle.shards.specs.declared.entry.Numbered.{Numbered}
+use Rattle.shards.specs.declared.entry.NumberedEntry.{NumberedEntry}
 use Rattle.shards.specs.Merge.{numbered}
 use Rattle.feeders.specs.Run.{EachNumbered}
 
--- it stands in the list
+-- the list has this element
 abbrev pub Has : {X : Type 0} → List X → X → Type 0
 Has xs x = (k : ℕ) × (slice_get xs k ≡ Some x)
 
@@ -33,7 +33,7 @@ has_filter {X = X} test (y ∷ xs) x (suc k) e t = by_test (test y) (has_filter 
     by_test true h = (suc h.0, h.1)
     by_test false h = h
 
--- an element gives it
+-- an element of the list gives this one
 abbrev pub GivenBy : {X Y : Type 0} → (X → Option Y) → Y → List X → Type 0
 GivenBy {X = X} f y xs = (j : ℕ) × (x : X) × (slice_get xs j ≡ Some x) × (f x ≡ Some y)
 
@@ -50,7 +50,7 @@ pub get_behind : {X : Type 0} (before : List X) (x : X) (after : List X) → sli
 get_behind [] x after = refl
 get_behind (y ∷ before) x after = get_behind before x after
 
-pub has_numbered : (n : ℕ) (journal : List Entry) (entry : Entry) (k : ℕ) → slice_get journal k ≡ Some entry → (known : Numbered) × Has (numbered n journal) known × (known.entry ≡ entry)
+pub has_numbered : (n : ℕ) (journal : List Entry) (entry : Entry) (k : ℕ) → slice_get journal k ≡ Some entry → (known : NumberedEntry) × Has (numbered n journal) known × (known.entry ≡ entry)
 has_numbered n [] entry k e = absurd (cc)
 has_numbered n (first ∷ journal) entry zero e = (record { number = n; entry = first }, (0, refl), cc)
 has_numbered n (first ∷ journal) entry (suc k) e = let r = has_numbered (n + 1) journal entry k e in (r.0, (suc r.1.0, r.1.1), r.2)
@@ -77,7 +77,7 @@ numbered_get R n m (z ∷ xs) (y ∷ ys) zero x at each e =
     (y, refl, subst (λ (i : ℕ). R i x y) here (subst (λ z. R n z y) same each.0))
 numbered_get R n m (z ∷ xs) (y ∷ ys) (suc k) x at each e = numbered_get R (n + 1) m xs ys k x (omega (arith, at)) each.1 e
 
--- what holds of each element
+-- what holds of each element of a list
 
 pub all_append : {X : Type 0} (P : X → Type 0) (xs ys : List X) → AllByRecursion P xs → AllByRecursion P ys → AllByRecursion P (xs ++ ys)
 all_append P [] ys h k = k

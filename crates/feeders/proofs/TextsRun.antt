@@ -1,4 +1,4 @@
--- Each text of what stands after a run is an element of its trace.
+-- Each text of an operation that stands after a run is an element of its feeder's trace.
 use Rattle.std.proofs.Common.{◌≡◌, ◌≢◌, ℕ, zero, suc, ◌<◌, ◌%◌, ◌/◌, List, [], ◌∷◌, length, get_or, Option, Some, None, IfSome, All, refl, sym, ap, subst, ◌∙◌, arith}
 use Rattle.std.specs.Prelude.{option_map, unwrap_or}
 use Rattle.std.specs.Borrow.{Bor}
@@ -12,23 +12,23 @@ use Rattle.intervals.specs.declared.edit.Edit.TheVariants as edits
 use Rattle.intervals.specs.declared.edit.Lent.{Lent}
 use Rattle.intervals.specs.declared.edit.Lent.TheVariants as lents
 use Rattle.intervals.specs.Edit.{edit_id}
-use Rattle.intervals.specs.Terms.{Terms, Claimed}
-use Rattle.tower_file.specs.Contents.{Contents}
+use Rattle.intervals.specs.Terms.{ClaimModel, RegisterState}
+use Rattle.tower_file.specs.Contents.{TowerModel}
 use Rattle.jepsen_form.specs.declared.item.Item.{Item}
 use Rattle.jepsen_form.specs.declared.item.MomentField.{MomentField}
 use Rattle.shards.specs.declared.entry.Entry.{Entry}
-use Rattle.shards.specs.Pass.{Passed, IsPassOf}
+use Rattle.shards.specs.Pass.{PassModel, IsPassOf}
 use Rattle.shards.specs.Journal.{standing_of, left_by}
-use Rattle.shards.specs.Closing.{Ended, journal_of, book_of}
+use Rattle.shards.specs.Closing.{ClosedShard, journal_of, book_of}
 use Rattle.feeders.specs.declared.log.Log.{Log}
 use Rattle.feeders.specs.Run.{IsTraced, IsRun, plan_of_run}
-use Rattle.feeders.specs.Texts.{Part, invocation, answer, amendment, text_of, text_in, settled, IsLastSettled, brought, Reading, IsPlaced, IsOfStep, IsLentAt, IsLentBehind, IsLentByTrace}
+use Rattle.feeders.specs.Texts.{TextKind, invocation, answer, amendment, text_of, text_in, settled, IsLastSettled, brought, TraceReading, IsPlaced, IsOfStep, IsLentAt, IsLentBehind, IsLentByTrace}
 use Rattle.feeders.proofs.TextsLists.{get_behind, numbered_get}
 use Rattle.feeders.proofs.TextsEntries.{of_entry}
 use Rattle.feeders.proofs.TextsStanding.{last_settled}
 
--- what a shard has is there only where the shard is
-within_closed : {X : Type 0} (f : Ended → List X) (closed : List Ended) (at n : ℕ) (x : X) → slice_get (unwrap_or (option_map f (slice_get closed at)) []) n ≡ Some x → at < length closed
+-- what a shard has at a place is there only where there is such a shard
+within_closed : {X : Type 0} (f : ClosedShard → List X) (closed : List ClosedShard) (at n : ℕ) (x : X) → slice_get (unwrap_or (option_map f (slice_get closed at)) []) n ≡ Some x → at < length closed
 within_closed f [] at n x e = absurd (cc)
 within_closed f (shard ∷ closed) zero n x e = omega arith
 within_closed f (shard ∷ closed) (suc at) n x e = omega (arith, within_closed f closed at n x e)
@@ -45,8 +45,8 @@ invoked_at (edits.Amend other change) id place text same placed settles =
 invoked_at (edits.Withdraw other) id place text same placed settles = absurd (cc)
 invoked_at (edits.Claim kind) id place text same placed settles = absurd (cc)
 
--- the edit that brings another part stands behind
-behind : (edit : Edit) (id : OpId) (place : ℕ) (item : Item) (part : Part) → part ≢ invocation → edit_id edit ≡ Some id → IsPlaced place edit → brought item ≡ Some part
+-- the edit that brings another text is at a place after the operation's
+behind : (edit : Edit) (id : OpId) (place : ℕ) (item : Item) (part : TextKind) → part ≢ invocation → edit_id edit ≡ Some id → IsPlaced place edit → brought item ≡ Some part
     → ((text : Bor (List ℕ)) → settled invocation edit ≡ Some (Some text) → brought item ≡ Some invocation) → id.event < place
 behind (edits.Append op) id place item part other same placed brings texts =
     let invokes = texts op.parts.invocation refl in absurd (other (cc))
@@ -60,8 +60,8 @@ answer_is_other e = absurd (cc)
 amendment_is_other : amendment ≢ invocation
 amendment_is_other e = absurd (cc)
 
-module _ (tower : Contents) (chosen : MomentField) (shards : ℕ) (traces : List (List ℕ)) (closed : List Ended) (logs : List Log) (run : IsRun tower chosen shards traces closed logs) where
-  -- what the trace of a feeder came to
+module _ (tower : TowerModel) (chosen : MomentField) (shards : ℕ) (traces : List (List ℕ)) (closed : List ClosedShard) (logs : List Log) (run : IsRun tower chosen shards traces closed logs) where
+  -- what the trace of a feeder comes to
   record Trace (feeder : ℕ) : Type 0 where
     trace : List ℕ
     log : Log
@@ -75,7 +75,7 @@ module _ (tower : Contents) (chosen : MomentField) (shards : ℕ) (traces : List
       let found = numbered_get (IsTraced (plan_of_run tower shards traces) tower chosen closed) 0 feeder traces logs feeder (get_or traces feeder []) (omega arith) run.traced is in
       record { trace = get_or traces feeder []; log = found.0; trace_is = is; log_is = found.1; traced = found.2 }
 
-  abbrev reading_of : (feeder : ℕ) → Trace feeder → Reading tower chosen traces logs feeder
+  abbrev reading_of : (feeder : ℕ) → Trace feeder → TraceReading tower chosen traces logs feeder
   reading_of feeder of = record { trace = of.trace; log = of.log; items = of.traced.items; trace_is = of.trace_is; log_is = of.log_is; are = of.traced.are }
 
   module _ (at n : ℕ) (entry : Entry) (there : slice_get (journal_of closed at) n ≡ Some entry) where
@@ -87,7 +87,7 @@ module _ (tower : Contents) (chosen : MomentField) (shards : ℕ) (traces : List
         let journal = journal_of closed at in
         let lt : n < length journal = slice_get_within journal n entry there in
         let owned = (run.finished.finished at here).merge.of_all n entry lt in
-        let pass : Passed = owned.1 in
+        let pass : PassModel = owned.1 in
         let of_plan : IsPassOf (plan_of_run tower shards traces) pass = All-contains (IsPassOf (plan_of_run tower shards traces)) run.passes pass run.finished.of_plan.each (owned.0, owned.2, owned.3) in
         let is : pass.feeder ≡ entry.feeder = owned.4 ∙ ap (λ (e : Entry). e.feeder) (get_or_from_slice_get journal n entry entry there) in
         subst (λ (f : ℕ). f < length traces) is of_plan.2
@@ -96,7 +96,7 @@ module _ (tower : Contents) (chosen : MomentField) (shards : ℕ) (traces : List
     of_step_in feeder of own =
         of_entry (plan_of_run tower shards traces) tower chosen closed feeder of.trace of.log of.traced at n entry (subst (λ (m : ℕ). at < m) run.finished.many here) there own
 
-    pub of_step : (reading : Reading tower chosen traces logs entry.feeder) × (place : ℕ) × IsOfStep entry.feeder reading.trace reading.are.pieces reading.items entry place
+    pub of_step : (reading : TraceReading tower chosen traces logs entry.feeder) × (place : ℕ) × IsOfStep entry.feeder reading.trace reading.are.pieces reading.items entry place
     of_step =
         let of = trace_of entry.feeder feeder_within in
         let found = of_step_in entry.feeder of refl in
@@ -106,15 +106,15 @@ module _ (tower : Contents) (chosen : MomentField) (shards : ℕ) (traces : List
     own_feeder id of_id = sym (subst (λ (found : Option OpId). IfSome found (λ one. one.feeder ≡ entry.feeder)) of_id of_step.2.own)
 
   module _ (register at : ℕ) (op : Op) where
-    -- the entry that settles a part of it is of its feeder
-    feeder_of : (part : Part) (text : Option (Bor (List ℕ))) → (last : IsLastSettled register (journal_of closed at) op.id part text) → slice_get (journal_of closed at) (length last.before) ≡ Some last.entry
+    -- the entry that settles a text of the operation is of its feeder
+    feeder_of : (part : TextKind) (text : Option (Bor (List ℕ))) → (last : IsLastSettled register (journal_of closed at) op.id part text) → slice_get (journal_of closed at) (length last.before) ≡ Some last.entry
     feeder_of part text last = ap (λ (all : List Entry). slice_get all (length last.before)) last.journal_is ∙ get_behind last.before last.entry last.after
 
-    is_its_feeder : (part : Part) (text : Option (Bor (List ℕ))) → (last : IsLastSettled register (journal_of closed at) op.id part text) → last.entry.feeder ≡ op.id.feeder
+    is_its_feeder : (part : TextKind) (text : Option (Bor (List ℕ))) → (last : IsLastSettled register (journal_of closed at) op.id part text) → last.entry.feeder ≡ op.id.feeder
     is_its_feeder part text last = own_feeder at (length last.before) last.entry (feeder_of part text last) op.id last.of_it.of_id
 
     module _ (of : Trace op.id.feeder) where
-      element_at : (part : Part) (text : Bor (List ℕ)) → IsLastSettled register (journal_of closed at) op.id part (Some text)
+      element_at : (part : TextKind) (text : Bor (List ℕ)) → IsLastSettled register (journal_of closed at) op.id part (Some text)
           → (place : ℕ) × IsLentAt of.trace of.traced.are.pieces of.traced.items register (journal_of closed at) op.id part place text
       element_at part text last =
           let found = of_step_in at (length last.before) last.entry (feeder_of part (Some text) last) op.id.feeder of (is_its_feeder part (Some text) last) in
@@ -129,7 +129,7 @@ module _ (tower : Contents) (chosen : MomentField) (shards : ℕ) (traces : List
           subst (λ (place : ℕ). IsLentAt of.trace of.traced.are.pieces of.traced.items register (journal_of closed at) op.id invocation place text)
           (invoked_at is.last.entry.edit op.id found.0 text is.last.of_it.of_id is.of_step.placed is.last.settles) is
 
-      later : (part : Part) → part ≢ invocation → (text : Option (Bor (List ℕ))) → IsLastSettled register (journal_of closed at) op.id part text
+      later : (part : TextKind) → part ≢ invocation → (text : Option (Bor (List ℕ))) → IsLastSettled register (journal_of closed at) op.id part text
           → IfSome text (IsLentBehind of.trace of.traced.are.pieces of.traced.items register (journal_of closed at) op.id part)
       later part other None last = tt
       later part other (Some text) last =
@@ -137,7 +137,7 @@ module _ (tower : Contents) (chosen : MomentField) (shards : ℕ) (traces : List
           let is = found.1 in
           (found.0, behind is.last.entry.edit op.id found.0 is.of_step.item part other is.last.of_it.of_id is.of_step.placed is.brings (λ t s. (is.of_step.texts invocation t s).0), is)
 
-    elements_of : ((part : Part) → IsLastSettled register (journal_of closed at) op.id part (text_of part op.parts)) → IsLentByTrace tower chosen traces logs register (journal_of closed at) op
+    elements_of : ((part : TextKind) → IsLastSettled register (journal_of closed at) op.id part (text_of part op.parts)) → IsLentByTrace tower chosen traces logs register (journal_of closed at) op
     elements_of last =
         let first = last invocation in
         let lt : op.id.feeder < length traces =
@@ -150,11 +150,11 @@ module _ (tower : Contents) (chosen : MomentField) (shards : ℕ) (traces : List
           amended = later of amendment amendment_is_other op.parts.amendment (last amendment);
         }
 
-  left : (register : ℕ) (journal : List Entry) (claim : Option Terms) (held : Claimed) → option_map (left_by journal register) claim ≡ Some held → held.ops ≡ standing_of register journal
+  left : (register : ℕ) (journal : List Entry) (claim : Option ClaimModel) (held : RegisterState) → option_map (left_by journal register) claim ≡ Some held → held.ops ≡ standing_of register journal
   left register journal None held e = absurd (cc)
-  left register journal (Some claim) held e = let same : left_by journal register claim ≡ held = cc in ap (λ (h : Claimed). h.ops) (sym same)
+  left register journal (Some claim) held e = let same : left_by journal register claim ≡ held = cc in ap (λ (h : RegisterState). h.ops) (sym same)
 
-  pub of_trace : (register : ℕ) (held : Claimed) → book_of closed register ≡ Some held → All (IsLentByTrace tower chosen traces logs register (journal_of closed (register % length closed))) held.ops
+  pub of_trace : (register : ℕ) (held : RegisterState) → book_of closed register ≡ Some held → All (IsLentByTrace tower chosen traces logs register (journal_of closed (register % length closed))) held.ops
   of_trace register held is =
       let at : ℕ = register % length closed in
       let lt : at < length closed = within_closed (λ shard. shard.books) closed at (register / length closed) held is in

@@ -1,4 +1,4 @@
--- Each text of what stands after a legal journal is what the last accepted edit that makes something of it makes of it.
+-- Each text of an operation that stands after a legal journal is what the last edit to settle it makes of it.
 use Rattle.std.proofs.Common.{◌≡◌, ℕ, ◌&&◌, ◌==◌, Bool, true, false, not, cond, List, [], ◌∷◌, ◌++◌, map, Option, Some, None, refl, sym, ap, subst, ◌∙◌, ◌⊎◌, inl, inr, append_assoc, append-nil, eqb-true}
 use Rattle.std.proofs.lemmas.List.{map-append}
 use Rattle.std.specs.Prelude.{All, IsTrue, filter, get_or}
@@ -15,7 +15,7 @@ use Rattle.intervals.specs.declared.edit.Lent.TheVariants as lents
 use Rattle.intervals.specs.Operation.{same_id}
 use Rattle.intervals.specs.Edit.{op_of, edit_id, parts_with, changed, amended, edited}
 use Rattle.intervals.specs.Refusal.{first_refusal, moments_refusal}
-use Rattle.intervals.specs.Terms.{Claimed}
+use Rattle.intervals.specs.Terms.{RegisterState}
 use Rattle.intervals.proofs.Ids.{Decides-same_id_is, not_taken}
 use Rattle.intervals.proofs.Accepted.{edit_accepted}
 use Rattle.intervals.proofs.Found.{find-None}
@@ -25,10 +25,10 @@ use Rattle.register_book.specs.Reply.{IsReply}
 use Rattle.shards.specs.declared.entry.Entry.{Entry}
 use Rattle.shards.specs.Plan.{Plan}
 use Rattle.shards.specs.Journal.{EachAfter, IsAnswered, is_accepted, is_accepted_of, accepted_edits, stand, standing_of, left_by}
-use Rattle.feeders.specs.Texts.{Part, invocation, answer, amendment, text_of, text_in, settled, IsEditOf, IsLastSettled}
+use Rattle.feeders.specs.Texts.{TextKind, invocation, answer, amendment, text_of, text_in, settled, IsEditOf, IsLastSettled}
 
--- a change brings a part or leaves it as it was
-brought_or_left : (part : Part) (parts : Parts) (lent : Lent) → ((text : Bor (List ℕ)) × (text_in part lent ≡ Some text) × (text_of part (parts_with parts lent) ≡ Some text)) ⊎ ((text_in part lent ≡ None) × (text_of part (parts_with parts lent) ≡ text_of part parts))
+-- a change brings a text of this kind, or leaves the operation's as it was
+brought_or_left : (part : TextKind) (parts : Parts) (lent : Lent) → ((text : Bor (List ℕ)) × (text_in part lent ≡ Some text) × (text_of part (parts_with parts lent) ≡ Some text)) ⊎ ((text_in part lent ≡ None) × (text_of part (parts_with parts lent) ≡ text_of part parts))
 brought_or_left invocation parts (lents.Answer text) = inr (refl, refl)
 brought_or_left invocation parts (lents.Amendment text) = inr (refl, refl)
 brought_or_left answer parts (lents.Answer text) = inl (text, refl, refl)
@@ -44,20 +44,20 @@ stand_append : (ops : List Op) (edits more : List Edit) → stand ops (edits ++ 
 stand_append ops [] more = refl
 stand_append ops (edit ∷ edits) more = stand_append (edited ops edit) edits more
 
--- what stands after one entry more
+-- the operations that stand after one entry more
 standing_push : (register : ℕ) (journal : List Entry) (entry : Entry) → standing_of register (journal ++ entry ∷ []) ≡ stand (standing_of register journal) (accepted_edits register (entry ∷ []))
 standing_push register journal entry =
     ap (λ (kept : List Entry). stand [] (map (λ (e : Entry). e.edit) kept)) (filter-append (is_accepted_of register) journal (entry ∷ []))
     ∙ ap (stand []) (map-append (λ (e : Entry). e.edit) (filter (is_accepted_of register) journal) (filter (is_accepted_of register) (entry ∷ [])))
     ∙ stand_append [] (accepted_edits register journal) (accepted_edits register (entry ∷ []))
 
--- each part of the operation is the last settled
+-- each text of the operation is what the last edit to settle it makes of it
 abbrev AreLast : ℕ → List Entry → Op → Type 0
-AreLast register journal op = (part : Part) → IsLastSettled register journal op.id part (text_of part op.parts)
+AreLast register journal op = (part : TextKind) → IsLastSettled register journal op.id part (text_of part op.parts)
 
 module _ (register : ℕ) (journal : List Entry) (entry : Entry) where
-  -- an entry that makes nothing of the part
-  stays : (id : OpId) (part : Part) (text : Option (Bor (List ℕ))) → (IsEditOf register id entry → settled part entry.edit ≡ None) → IsLastSettled register journal id part text → IsLastSettled register (journal ++ entry ∷ []) id part text
+  -- an entry that makes nothing of a text of this kind
+  stays : (id : OpId) (part : TextKind) (text : Option (Bor (List ℕ))) → (IsEditOf register id entry → settled part entry.edit ≡ None) → IsLastSettled register journal id part text → IsLastSettled register (journal ++ entry ∷ []) id part text
   stays id part text none last = record {
     before = last.before;
     entry = last.entry;
@@ -72,8 +72,8 @@ module _ (register : ℕ) (journal : List Entry) (entry : Entry) where
   stays_of_other : (op : Op) → (IsEditOf register op.id entry → ⊥) → AreLast register journal op → AreLast register (journal ++ entry ∷ []) op
   stays_of_other op other last part = stays op.id part (text_of part op.parts) (λ is. absurd (other is)) (last part)
 
-  -- an entry that settles it
-  settles_now : (id : OpId) (part : Part) (text : Option (Bor (List ℕ))) → IsEditOf register id entry → settled part entry.edit ≡ Some text → IsLastSettled register (journal ++ entry ∷ []) id part text
+  -- an entry that settles a text
+  settles_now : (id : OpId) (part : TextKind) (text : Option (Bor (List ℕ))) → IsEditOf register id entry → settled part entry.edit ≡ Some text → IsLastSettled register (journal ++ entry ∷ []) id part text
   settles_now id part text of_it settles = record {
     before = journal;
     entry = entry;
@@ -139,7 +139,7 @@ module _ (register : ℕ) (journal : List Entry) (entry : Entry) where
         All-weaker (AreLast register journal) (AreLast register (journal ++ entry ∷ []))
         (λ op last part. stays op.id part (text_of part op.parts) (λ _. ap (settled part) is) (last part)) ops last
 
-  not_refused : (held : Claimed) (edit : Edit) (reply : Reply) → is_accepted reply ≡ true → IsReply held edit reply → first_refusal held.ops edit ≡ None
+  not_refused : (held : RegisterState) (edit : Edit) (reply : Reply) → is_accepted reply ≡ true → IsReply held edit reply → first_refusal held.ops edit ≡ None
   not_refused held edit (Accepted holds) e is = edit_accepted held.claim held.ops edit is.0
   not_refused held edit (Refused refusal) e is = absurd (cc)
 
@@ -164,5 +164,5 @@ module _ (plan : Plan) (at register : ℕ) where
       subst (λ (all : List Entry). All (AreLast register all) (standing_of register all)) (append_assoc journal (entry ∷ []) rest)
       (after_more (journal ++ entry ∷ []) rest each.1 (after_entry register journal entry plan at each.0 last))
 
-  pub last_settled : (journal : List Entry) → EachAfter (IsAnswered plan at) [] journal → All (λ op. (part : Part) → IsLastSettled register journal op.id part (text_of part op.parts)) (standing_of register journal)
+  pub last_settled : (journal : List Entry) → EachAfter (IsAnswered plan at) [] journal → All (λ op. (part : TextKind) → IsLastSettled register journal op.id part (text_of part op.parts)) (standing_of register journal)
   last_settled journal legal = after_more [] journal legal (All-nil (AreLast register []))

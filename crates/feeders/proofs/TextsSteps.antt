@@ -1,4 +1,4 @@
--- What the step of an item is: of which operation, where it stands, and which text it brings.
+-- What the step of an item is: of which operation, at which place, and which text it brings.
 use Rattle.std.proofs.Common.{◌≡◌, ℕ, zero, suc, ◌+◌, ◌<◌, ◌≤◌, ◌==◌, Bool, true, false, cond, List, [], ◌∷◌, ◌++◌, length, reverse, Option, Some, None, Result, Ok, Err, IfSome, is_some, refl, sym, ap, subst, ◌∙◌, arith, eqb-true, length-append}
 use Rattle.std.specs.Prelude.{find, fold, filter_map, option_map, option_and_then}
 use Rattle.std.specs.Borrow.{Bor}
@@ -20,15 +20,15 @@ use Rattle.pairing.specs.declared.fault.PairFault.{PairFault}
 use Rattle.pairing.specs.declared.invocation.Invocation.{Invocation}
 use Rattle.pairing.specs.declared.step.Step.{Step}
 use Rattle.pairing.specs.declared.step.Step.TheVariants as steps
-use Rattle.pairing.specs.Accepted.{Placed, invocation as invoked, is_event_of, last_of, unanswered_of, register_of, fault_of, with_item, accepted}
+use Rattle.pairing.specs.Accepted.{Placed, invocation as invoked, is_event_of, last_of, unanswered_of, register_of, fault_of, with_accepted, accepted}
 use Rattle.pairing.specs.Step.{id_of, append_of, amendment_of, invoke_step, ok_step, event_step, edit_step, given_by, unless}
 use Rattle.pairing.proofs.Standing.{invocation_place}
 use Rattle.feeders.specs.Steps.{placed_from, placed, by_pairing, step_behind, steps_behind, steps_of}
-use Rattle.feeders.specs.Texts.{Part, invocation, answer, amendment, text_of, text_in, settled, brought_at, brought, IsPlaced}
+use Rattle.feeders.specs.Texts.{TextKind, invocation, answer, amendment, text_of, text_in, settled, brought_at, brought, IsPlaced}
 use Rattle.feeders.proofs.TextsItems.{Carries}
 use Rattle.feeders.proofs.TextsLists.{all_reverse, all_found, all_filter_map}
 
--- all before a place
+-- items that are all before a place
 
 abbrev Before : ℕ → List Placed → Type 0
 Before place taken = AllByRecursion (λ one. one.place < place) taken
@@ -42,16 +42,16 @@ before_more : (place : ℕ) (taken : List Placed) (one : Placed) → Before plac
 before_more place [] one h lt = (lt, tt)
 before_more place (first ∷ taken) one h lt = (h.0, before_more place taken one h.1 lt)
 
-before_with : (place : ℕ) (taken : List Placed) (one : Placed) → Before place taken → one.place < place → Before place (with_item taken one)
+before_with : (place : ℕ) (taken : List Placed) (one : Placed) → Before place taken → one.place < place → Before place (with_accepted taken one)
 before_with place taken one h lt = by_test (is_some (fault_of taken one.item))
   where
     by_test : (t : Bool) → Before place (cond t taken (taken ++ one ∷ []))
     by_test true = h
     by_test false = before_more place taken one h lt
 
-before_all : (place : ℕ) (taken items : List Placed) → Before place taken → Before place items → Before place (fold with_item taken items)
+before_all : (place : ℕ) (taken items : List Placed) → Before place taken → Before place items → Before place (fold with_accepted taken items)
 before_all place taken [] h k = h
-before_all place taken (one ∷ items) h k = before_all place (with_item taken one) items (before_with place taken one h k.0) k.1
+before_all place taken (one ∷ items) h k = before_all place (with_accepted taken one) items (before_with place taken one h k.0) k.1
 
 before_accepted : (items : List (Result Item FormFault)) → Before (length items) (accepted (placed items))
 before_accepted items = before_all (length items) [] (placed items) tt (before_placed 0 (length items) items (omega arith))
@@ -82,27 +82,27 @@ module _ (place : ℕ) (taken : List Placed) (before : Before place taken) where
 
 -- the step of an item
 
--- the edit is of the feeder's, may stand at the place, and a text that it brings is of this part and these bytes
-pub record IsEditAt (feeder place : ℕ) (bytes : List ℕ) (part_is : Option Part) (edit : Edit) : Type 0 where
+-- the edit is of the feeder's operation, may be at the place, and a text that it brings is of this kind and these bytes
+pub record IsEditAt (feeder place : ℕ) (bytes : List ℕ) (part_is : Option TextKind) (edit : Edit) : Type 0 where
   pub own : IfSome (edit_id edit) (λ id. id.feeder ≡ feeder)
   pub placed : IsPlaced place edit
-  pub texts : (part : Part) (text : Bor (List ℕ)) → settled part edit ≡ Some (Some text) → (part_is ≡ Some part) × (text.now ≡ bytes)
+  pub texts : (part : TextKind) (text : Bor (List ℕ)) → settled part edit ≡ Some (Some text) → (part_is ≡ Some part) × (text.now ≡ bytes)
 
 same_text : (text other : Bor (List ℕ)) (bytes : List ℕ) → other.now ≡ bytes → Some (Some other) ≡ Some (Some text) → text.now ≡ bytes
 same_text text other bytes is e = let same : other ≡ text = cc in ap (λ (t : Bor (List ℕ)). t.now) (sym same) ∙ is
 
-append_texts : (invoked : Bor (List ℕ)) (bytes : List ℕ) → invoked.now ≡ bytes → (part : Part) (text : Bor (List ℕ))
+append_texts : (invoked : Bor (List ℕ)) (bytes : List ℕ) → invoked.now ≡ bytes → (part : TextKind) (text : Bor (List ℕ))
     → Some (text_of part (record { invocation = invoked; answer = None; amendment = None })) ≡ Some (Some text) → (Some invocation ≡ Some part) × (text.now ≡ bytes)
 append_texts invoked bytes is invocation text e = (refl, same_text text invoked bytes is e)
 append_texts invoked bytes is answer text e = absurd (cc)
 append_texts invoked bytes is amendment text e = absurd (cc)
 
-answer_texts : (lent : Bor (List ℕ)) (bytes : List ℕ) → lent.now ≡ bytes → (part : Part) (text : Bor (List ℕ)) → option_map Some (text_in part (lents.Answer lent)) ≡ Some (Some text) → (Some answer ≡ Some part) × (text.now ≡ bytes)
+answer_texts : (lent : Bor (List ℕ)) (bytes : List ℕ) → lent.now ≡ bytes → (part : TextKind) (text : Bor (List ℕ)) → option_map Some (text_in part (lents.Answer lent)) ≡ Some (Some text) → (Some answer ≡ Some part) × (text.now ≡ bytes)
 answer_texts lent bytes is invocation text e = absurd (cc)
 answer_texts lent bytes is answer text e = (refl, same_text text lent bytes is e)
 answer_texts lent bytes is amendment text e = absurd (cc)
 
-amendment_texts : (lent : Bor (List ℕ)) (bytes : List ℕ) → lent.now ≡ bytes → (part : Part) (text : Bor (List ℕ)) → option_map Some (text_in part (lents.Amendment lent)) ≡ Some (Some text) → (Some amendment ≡ Some part) × (text.now ≡ bytes)
+amendment_texts : (lent : Bor (List ℕ)) (bytes : List ℕ) → lent.now ≡ bytes → (part : TextKind) (text : Bor (List ℕ)) → option_map Some (text_in part (lents.Amendment lent)) ≡ Some (Some text) → (Some amendment ≡ Some part) × (text.now ≡ bytes)
 amendment_texts lent bytes is invocation text e = absurd (cc)
 amendment_texts lent bytes is answer text e = absurd (cc)
 amendment_texts lent bytes is amendment text e = (refl, same_text text lent bytes is e)
@@ -110,7 +110,7 @@ amendment_texts lent bytes is amendment text e = (refl, same_text text lent byte
 edit_of : (register other : RegId) (edit another : Edit) → Some (steps.Edit register edit) ≡ Some (steps.Edit other another) → edit ≡ another
 edit_of register other edit another e = cc
 
-withdraws : (feeder place of : ℕ) (bytes : List ℕ) (part_is : Option Part) → of < place → IsEditAt feeder place bytes part_is (edits.Withdraw (id_of feeder of))
+withdraws : (feeder place of : ℕ) (bytes : List ℕ) (part_is : Option TextKind) → of < place → IsEditAt feeder place bytes part_is (edits.Withdraw (id_of feeder of))
 withdraws feeder place of bytes part_is lt = record { own = refl; placed = lt; texts = λ part text e. absurd (cc) }
 
 module _ (feeder place : ℕ) (bytes : List ℕ) (register : RegId) (edit : Edit) where
@@ -139,7 +139,7 @@ module _ (feeder place : ℕ) (bytes : List ℕ) (register : RegId) (edit : Edit
   of_event event stages.Info None is lower e = absurd (cc)
   of_event event stages.Info (Some one) is lower e = absurd (cc)
 
-  of_edit : (part_is : Option Part) (of : ℕ) (given : Edit) (on : Option RegId) → ((one : RegId) → on ≡ Some one → of < place) → (of < place → IsEditAt feeder place bytes part_is given)
+  of_edit : (part_is : Option TextKind) (of : ℕ) (given : Edit) (on : Option RegId) → ((one : RegId) → on ≡ Some one → of < place) → (of < place → IsEditAt feeder place bytes part_is given)
       → edit_step on given ≡ Some (steps.Edit register edit) → IsEditAt feeder place bytes part_is edit
   of_edit part_is of given (Some one) lower is e = subst (IsEditAt feeder place bytes part_is) (edit_of one register given edit e) (is (lower one refl))
   of_edit part_is of given None lower is e = absurd (cc)
@@ -149,7 +149,7 @@ module _ (feeder place : ℕ) (bytes : List ℕ) (register : RegId) (edit : Edit
       of_event event event.answer (unanswered_of taken event.process) is (unanswered_before place taken before event) e
   of_item taken (items.Amend of change) before is e =
       of_edit (Some amendment) of (edits.Amend (id_of feeder of) change) (register_of taken of) (register_before place taken before of)
-      (λ lt. record { own = refl; placed = lt; texts = subst (λ (lent : Lent). (part : Part) (text : Bor (List ℕ)) → option_map Some (text_in part lent) ≡ Some (Some text) → (Some amendment ≡ Some part) × (text.now ≡ bytes)) (sym is.1) (amendment_texts is.0 bytes is.2) }) e
+      (λ lt. record { own = refl; placed = lt; texts = subst (λ (lent : Lent). (part : TextKind) (text : Bor (List ℕ)) → option_map Some (text_in part lent) ≡ Some (Some text) → (Some amendment ≡ Some part) × (text.now ≡ bytes)) (sym is.1) (amendment_texts is.0 bytes is.2) }) e
   of_item taken (items.Withdraw of) before is e =
       of_edit None of (edits.Withdraw (id_of feeder of)) (register_of taken of) (register_before place taken before of) (withdraws feeder place of bytes None) e
   of_item taken (items.Claim on kind) before is e =
@@ -161,7 +161,7 @@ module _ (feeder place : ℕ) (bytes : List ℕ) (register : RegId) (edit : Edit
   of_step None step e = cc
   of_step (Some fault) step e = absurd (cc)
 
--- the element at the place of a step that is an edit
+-- the item at the place of a step that is an edit
 pub record IsFromItem (feeder : ℕ) (items : List (Result Item FormFault)) (place : ℕ) (edit : Edit) : Type 0 where
   pub item : Item
   pub item_is : slice_get items place ≡ Some (Ok item)

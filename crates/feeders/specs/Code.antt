@@ -1,20 +1,20 @@
--- The codes that users see of refused elements and of broken traces.
+-- The codes that users see for refused elements and for broken traces.
 use Rattle.std.specs.Prelude.{ℕ, List, codes}
-use Rattle.intervals.specs.Code.{code_of as code_of_refusal}
-use Rattle.jepsen_form.specs.Code.{code_of as code_of_form}
-use Rattle.pairing.specs.Code.{code_of as code_of_pair}
+use Rattle.intervals.specs.Code.{refusal_code as code_of_refusal}
+use Rattle.jepsen_form.specs.Code.{form_fault_code as code_of_form}
+use Rattle.pairing.specs.Code.{pair_fault_code as code_of_pair}
 use Rattle.feeders.specs.declared.log.BreakCode.{BreakCode}
 use Rattle.feeders.specs.declared.log.BreakCode.TheVariants.{Truncated, StrayClose, WrongClose, TooDeep, OddMap, TagWithoutElement, ReadFailed, TooLong}
 use Rattle.feeders.specs.declared.log.Code.{Code}
 use Rattle.feeders.specs.declared.log.Code.TheVariants.{Form, Pair, Register}
 
--- of a refused element
-abbrev pub code_of : Code → List ℕ
-code_of (Form fault) = code_of_form fault
-code_of (Pair fault) = code_of_pair fault
-code_of (Register refusal) = code_of_refusal refusal
+-- the printed code of why an element was refused: F of its form, P of the pairing, X of its register
+abbrev pub refused_code : Code → List ℕ
+refused_code (Form fault) = code_of_form fault
+refused_code (Pair fault) = code_of_pair fault
+refused_code (Register refusal) = code_of_refusal refusal
 
--- of what broke a trace
+-- the printed code of why a trace broke: E1 to E6 for a fault of its text, N1 or N2 where its reading broke off
 abbrev pub break_code_of : BreakCode → List ℕ
 break_code_of Truncated = codes "E1"
 break_code_of StrayClose = codes "E2"

@@ -7,7 +7,7 @@ use Rattle.register_book.specs.declared.reply.Reply.TheVariants.{Accepted, Refus
 use Rattle.pairing.specs.declared.step.Step.TheVariants as steps
 use Rattle.shards.specs.declared.entry.Answer.{Answer}
 use Rattle.shards.specs.declared.entry.Entry.{Entry}
-use Rattle.shards.specs.declared.entry.Numbered.{Numbered}
+use Rattle.shards.specs.declared.entry.NumberedEntry.{NumberedEntry}
 use Rattle.shards.specs.Plan.{Plan}
 use Rattle.shards.specs.Pass.{HasEntry, last_in}
 use Rattle.shards.specs.Journal.{EachAfter, IsJournalOf, count_by}
@@ -18,63 +18,63 @@ use Rattle.feeders.specs.declared.log.Line.{Line}
 use Rattle.feeders.specs.declared.log.What.{What}
 use Rattle.feeders.specs.declared.log.What.TheVariants.{Refused, Answered}
 use Rattle.feeders.specs.Setting.{Start}
-use Rattle.feeders.specs.Steps.{Taken}
+use Rattle.feeders.specs.Steps.{StepResult}
 
--- what became of one element: it was refused by its form or by the pairing; nothing was to be done; its edit was
--- entered in the journal of its register's shard, at a number and with a reply; its question was answered
+-- what became of an element: it was refused by its form or the pairing; it had no step; its edit was entered in its
+-- shard's journal, at a number and with a reply; or its question was answered
 pub data Doing : Type 0 where
   refused : (code : Code) → Doing
   nothing : Doing
   entered : (register : RegId) (edit : Edit) (number : ℕ) (reply : Reply) → Doing
   answered : (register : RegId) (answer : Answer) → Doing
 
--- the step that it was done for
-abbrev pub taken_of : Doing → Taken
+-- what the element of a doing came to: the step that was done, no step, or its refusal
+abbrev pub taken_of : Doing → StepResult
 taken_of (refused code) = Err code
 taken_of nothing = Ok None
 taken_of (entered register edit number reply) = Ok (Some (steps.Edit register edit))
 taken_of (answered register answer) = Ok (Some (steps.Ask register))
 
--- the entry of an edit whose register stands in the shard
-abbrev pub entry_in : ℕ → ℕ → ℕ → Doing → Option Numbered
+-- the entry that a doing made in shard `at`, with its number: that of an edit of a register there, or none
+abbrev pub entry_in : ℕ → ℕ → ℕ → Doing → Option NumberedEntry
 entry_in shards feeder at (refused code) = None
 entry_in shards feeder at nothing = None
 entry_in shards feeder at (entered register edit number reply) =
     if register.0 % shards == at then Some (numbered_entry number (entry_of feeder register edit reply)) else None
 entry_in shards feeder at (answered register answer) = None
 
--- a feeder's entries in a shard, with their numbers, in order
-abbrev pub entered_in : ℕ → ℕ → ℕ → List Doing → List Numbered
+-- the entries that a feeder's doings made in one shard, with their numbers, in order
+abbrev pub entered_in : ℕ → ℕ → ℕ → List Doing → List NumberedEntry
 entered_in shards feeder at doings = filter_map (entry_in shards feeder at) doings
 
--- what is noted of an edit's reply: a refusal
+-- what is noted of the reply to an edit: a refusal, or nothing where the edit was accepted
 abbrev pub what_of_reply : Reply → Option What
 what_of_reply (Accepted holds) = None
 what_of_reply (NotAccepted refusal) = Some (Refused (Register refusal))
 
--- what is noted of a doing: a refusal, whoever refused, and an answer
+-- what is noted of a doing: a refusal, whoever refused, or the answer to a question; else nothing
 abbrev pub what_of : Doing → Option What
 what_of (refused code) = Some (Refused code)
 what_of nothing = None
 what_of (entered register edit number reply) = what_of_reply reply
 what_of (answered register answer) = Some (Answered register answer)
 
--- a line for it, with the place of its element
+-- the log line for what is noted of the element at this place; no line where nothing is
 abbrev pub lines_at : ℕ → Option What → List Line
 lines_at place None = []
 lines_at place (Some what) = record { event = place; what = what } ∷ []
 
--- the lines of doings, of which the first is of the element at this place
+-- the log lines of these doings, the first of which is for the element at this place
 abbrev pub lines_from : ℕ → List Doing → List Line
 lines_from place [] = []
 lines_from place (doing ∷ doings) = lines_at place (what_of doing) ++ lines_from (place + 1) doings
 
--- the feeder's own entries in a shard after these doings: those that it began with, and those that it entered
-abbrev pub own_after : ℕ → Start → ℕ → List Doing → List Numbered
+-- the feeder's own entries in a shard after these doings: those that it began with, and then those that it entered
+abbrev pub own_after : ℕ → Start → ℕ → List Doing → List NumberedEntry
 own_after shards start at doings = start.had at ++ entered_in shards start.feeder at doings
 
--- the answer is the standing of its register after a legal journal of its shard, by feeders of the plan alone, which has
--- as many of the feeder's entries as it had of its own there before, and the last of these at its number
+-- the answer is the register's standing after a legal journal of its shard, by feeders of the plan alone, with as many
+-- of this feeder's entries as its pass had there before, the last of them at its number
 pub record IsAnswerAfter (plan : Plan) (start : Start) (before : List Doing) (register : RegId) (answer : Answer) : Type 0 where
   pub journal : List Entry
   pub of_shard : IsJournalOf plan (register.0 % plan.shards) journal
@@ -82,16 +82,16 @@ pub record IsAnswerAfter (plan : Plan) (start : Start) (before : List Doing) (re
   pub own : count_by start.feeder journal ≡ length (own_after plan.shards start (register.0 % plan.shards) before)
   pub last : IfSome (last_in (own_after plan.shards start (register.0 % plan.shards) before)) (HasEntry journal)
 
--- a question was answered so; of the rest its step and its entry say it all
+-- the answer to a question is one after what was done before it (`IsAnswerAfter`); nothing is said of other doings
 abbrev pub IsAnsweredAfter : Plan → Start → List Doing → Doing → Type 0
 IsAnsweredAfter plan start before (refused code) = Unit {0}
 IsAnsweredAfter plan start before nothing = Unit {0}
 IsAnsweredAfter plan start before (entered register edit number reply) = Unit {0}
 IsAnsweredAfter plan start before (answered register answer) = IsAnswerAfter plan start before register answer
 
--- the doings are for these steps, one for each; the lines are what is noted of them; and each question was
--- answered after what was done before it
-pub record AreDone (plan : Plan) (start : Start) (steps : List Taken) (lines : List Line) (doings : List Doing) : Type 0 where
+-- the doings are for these steps, one for each; the log lines are what is noted of them; and each question was answered
+-- after what was done before it
+pub record AreDone (plan : Plan) (start : Start) (steps : List StepResult) (lines : List Line) (doings : List Doing) : Type 0 where
   pub for_steps : map taken_of doings ≡ steps
   pub noted : lines ≡ lines_from 0 doings
   pub answers : EachAfter (IsAnsweredAfter plan start) [] doings

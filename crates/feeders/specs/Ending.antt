@@ -4,7 +4,7 @@ use Rattle.shards.specs.declared.fault.ShardFault.TheVariants as shards
 use Rattle.feeders.specs.declared.fault.RunFault.{RunFault}
 use Rattle.feeders.specs.declared.fault.RunFault.TheVariants.{Memory, Shard}
 
--- a shard's want of memory is the run's
+-- a shard's fault as the fault of its run: `Memory` where the shard was out of memory, else `Shard` with it
 abbrev pub ended_by : ShardFault → RunFault
 ended_by shards.Memory = Memory
 ended_by shards.UnknownRegister = Shard shards.UnknownRegister
@@ -13,8 +13,8 @@ ended_by (shards.PassMissing feeder) = Shard (shards.PassMissing feeder)
 ended_by (shards.Stranger shard feeder number) = Shard (shards.Stranger shard feeder number)
 ended_by shards.ForeignPass = Shard shards.ForeignPass
 
--- why a run may end so: out of memory, a journal is behind a feeder's pass, or it has a stranger. The registers of the
--- steps are the tower's, and the passes the auditor's, one for each feeder
+-- a run may end with this fault: out of memory, a journal without what a feeder's pass has seen of it, or an entry that
+-- its feeder's pass does not have; with no other, as steps name registers of the tower and each feeder has its pass
 abbrev pub MayEnd : RunFault → Type 0
 MayEnd Memory = Unit {0}
 MayEnd (Shard shards.UnknownRegister) = ⊥

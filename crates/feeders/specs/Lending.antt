@@ -1,19 +1,19 @@
--- For private clauses alone: which elements lend their text to a step.
+-- Which elements lend their text to a step. Only private clauses speak of it.
 use Rattle.std.specs.Prelude.{Bool, false, Some, None, is_some, Result, Ok, Err}
 use Rattle.intervals.specs.declared.edit.Edit.TheVariants as edits
 use Rattle.jepsen_form.specs.declared.fault.FormFault.{FormFault}
 use Rattle.jepsen_form.specs.declared.item.Item.{Item}
 use Rattle.pairing.specs.declared.step.Step.TheVariants as steps
-use Rattle.feeders.specs.Steps.{Taken}
+use Rattle.feeders.specs.Steps.{StepResult}
 use Rattle.feeders.specs.Texts.{brought}
 
--- whether the step of an element lends its text
+-- whether an item's step may lend its text: that of an invocation, of an answer that is `:ok`, or of an amendment
 abbrev pub is_lent : Result Item FormFault → Bool
 is_lent (Err fault) = false
 is_lent (Ok item) = is_some (brought item)
 
--- a step that lends no text, or none
-abbrev pub LendsNone : Taken → Type 0
+-- a step that lends no text (a withdrawal, a claim, a question), no step, or a refusal
+abbrev pub LendsNone : StepResult → Type 0
 LendsNone (Err code) = Unit {0}
 LendsNone (Ok None) = Unit {0}
 LendsNone (Ok (Some (steps.Edit register (edits.Append op)))) = ⊥

@@ -1,4 +1,4 @@
--- what the public clauses speak of
+-- words of the public clauses
 pub mod Setting
 pub mod Steps
 pub mod Prefixes
@@ -15,6 +15,6 @@ pub mod Texts
 -- words of private clauses
 pub mod Progress
 pub mod Pending
-pub mod Kept
+pub mod TailBuffer
 pub mod Lending
 pub mod Source

@@ -7,27 +7,27 @@ use Rattle.pairing.specs.declared.step.Step.{Step}
 use Rattle.pairing.specs.declared.step.Step.TheVariants as steps
 use Rattle.shards.specs.Plain.{PlainEdit, plain_edit}
 use Rattle.feeders.specs.declared.log.Code.{Code}
-use Rattle.feeders.specs.Steps.{Taken, steps_of}
+use Rattle.feeders.specs.Steps.{StepResult, steps_of}
 
--- a step as it reads
+-- a step as it reads, with its texts by their bytes: an edit of a register, or a question about one
 pub data PlainStep : Type 0 where
   edit : RegId → PlainEdit → PlainStep
   ask : RegId → PlainStep
 
--- each text is its bytes
+-- a step as it reads: its texts by their bytes
 abbrev pub plain_step : Step → PlainStep
 plain_step (steps.Edit register change) = edit register (plain_edit change)
 plain_step (steps.Ask register) = ask register
 
--- what an element comes to, as it reads
+-- what an element comes to, as it reads: a step with its texts by their bytes, no step, or the code of a refusal
 abbrev pub PlainTaken : Type 0
 PlainTaken = Result (Option PlainStep) Code
 
--- its step is as it reads; a refusal has no text
-abbrev pub plain_taken : Taken → PlainTaken
+-- what an element comes to, as it reads: its step's texts by their bytes; a refusal has none and stays as it is
+abbrev pub plain_taken : StepResult → PlainTaken
 plain_taken (Ok step) = Ok (option_map plain_step step)
 plain_taken (Err code) = Err code
 
--- the steps of a feeder's trace as they read
+-- the steps of a feeder's trace as they read, one for each of its elements, in order
 abbrev pub plain_steps : ℕ → List (Result Item FormFault) → List PlainTaken
 plain_steps feeder items = map plain_taken (steps_of feeder items)

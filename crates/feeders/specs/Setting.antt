@@ -1,32 +1,33 @@
--- What a feeder works with for the whole of a run.
+-- What a feeder works with during a run.
 use Rattle.std.specs.Prelude.{◌≡◌, ◌<◌, ℕ, List, []}
-use Rattle.tower_file.specs.Contents.{Contents}
+use Rattle.tower_file.specs.Contents.{TowerModel}
 use Rattle.jepsen_form.specs.declared.item.MomentField.{MomentField}
-use Rattle.shards.specs.declared.entry.Numbered.{Numbered}
+use Rattle.shards.specs.declared.entry.NumberedEntry.{NumberedEntry}
 use Rattle.shards.specs.Plan.{Plan}
-use Rattle.shards.specs.Pass.{IsPassOf, Passed, told}
+use Rattle.shards.specs.Pass.{IsPassOf, PassModel, own_entries}
 
--- a feeder as it begins: its number, and the entries of its own that its pass has in each shard
+-- how a feeder begins: its number, and the entries of its own that its pass has in each shard by then
 pub record Start : Type 0 where
   pub feeder : ℕ
-  pub had : ℕ → List Numbered
+  pub had : ℕ → List NumberedEntry
 
--- the feeder of this number, which begins with no entry
+-- the start of the feeder of this number, whose pass has no entry yet
 abbrev pub first_start : ℕ → Start
 first_start feeder = record { feeder = feeder; had = λ at. [] }
 
--- the pass is one of the plan's, and as it is at that start
-pub record IsStart (plan : Plan) (start : Start) (pass : Passed) : Type 0 where
+-- the pass is one of the plan's, of the start's feeder, and its own entries in each shard are those of the start
+pub record IsAtStart (plan : Plan) (start : Start) (pass : PassModel) : Type 0 where
   pub of_plan : IsPassOf plan pass
   pub feeder_is : pass.feeder ≡ start.feeder
-  pub had : (at : ℕ) → at < plan.shards → told pass at ≡ start.had at
+  pub had : (at : ℕ) → at < plan.shards → own_entries pass at ≡ start.had at
 
--- a feeder's work: for which plan, how the elements of its trace are read, and how it begins
+-- a feeder's work: for which plan, by which tower and moment field its elements are read, and how it begins
 pub record Setting : Type 0 where
   pub plan : Plan
-  pub tower : Contents
+  pub tower : TowerModel
   pub chosen : MomentField
   pub start : Start
 
-abbrev pub setting_of : Plan → Contents → MomentField → Start → Setting
+-- the setting of this plan, tower, moment field and start
+abbrev pub setting_of : Plan → TowerModel → MomentField → Start → Setting
 setting_of plan tower chosen start = record { plan = plan; tower = tower; chosen = chosen; start = start }

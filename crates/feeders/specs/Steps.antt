@@ -1,8 +1,8 @@
--- The steps of a trace: what each of its elements comes to, by those before it.
+-- The steps of a trace: what each of its elements comes to, given those before it.
 use Rattle.std.specs.Prelude.{ℕ, ◌+◌, ◌<◌, List, [], ◌∷◌, ◌++◌, length, Option, Some, None, Result, Ok, Err}
 use Rattle.std.specs.List.{AllZip}
-use Rattle.edn_reader.specs.Grammar.{Piece}
-use Rattle.tower_file.specs.Contents.{Contents}
+use Rattle.edn_reader.specs.Grammar.{ElementModel}
+use Rattle.tower_file.specs.Contents.{TowerModel}
 use Rattle.jepsen_form.specs.declared.fault.FormFault.{FormFault}
 use Rattle.jepsen_form.specs.declared.item.Item.{Item}
 use Rattle.jepsen_form.specs.declared.item.MomentField.{MomentField}
@@ -18,48 +18,50 @@ use Rattle.feeders.specs.declared.log.Code.{Code}
 use Rattle.feeders.specs.declared.log.Code.TheVariants.{Form, Pair}
 use Rattle.feeders.specs.Broken.{AreElements}
 
--- the elements of a trace as items, each refused by its form or not
-pub record AreItems (tower : Contents) (chosen : MomentField) (trace : List ℕ) (broken : Option Broken) (items : List (Result Item FormFault)) : Type 0 where
-  pub pieces : List Piece
+-- the items of a trace's elements, in order, each with the fault of its form instead where it has one; of a trace that
+-- broke those of the elements before that
+pub record AreItemsOfTrace (tower : TowerModel) (chosen : MomentField) (trace : List ℕ) (broken : Option Broken) (items : List (Result Item FormFault)) : Type 0 where
+  pub pieces : List ElementModel
   pub elements : AreElements trace broken pieces
   pub read : AllZip (IsItem tower chosen) pieces items
 
--- the items among elements, of which the first has this place, with their places; a refused one is not there
+-- the items of these elements with their places, of which the first is given; elements that are refused by their form
+-- are left out
 abbrev pub placed_from : ℕ → List (Result Item FormFault) → List Placed
 placed_from place [] = []
 placed_from place (Err fault ∷ items) = placed_from (place + 1) items
 placed_from place (Ok item ∷ items) = record { place = place; item = item } ∷ placed_from (place + 1) items
 
--- the items among the elements of a trace
+-- the items of a trace's elements with their places, from 0; elements that are refused by their form are left out
 abbrev pub placed : List (Result Item FormFault) → List Placed
 placed items = placed_from 0 items
 
--- what an element comes to: a step on a register, no step, or why it is refused
-abbrev pub Taken : Type 0
-Taken = Result (Option Step) Code
+-- what an element comes to: a step on a register, no step, or the code of why it is refused
+abbrev pub StepResult : Type 0
+StepResult = Result (Option Step) Code
 
--- what the pairing answers, with its refusal as a code
-abbrev pub by_pairing : Result (Option Step) PairFault → Taken
+-- what the pairing answered, with its refusal as a code of the log
+abbrev pub by_pairing : Result (Option Step) PairFault → StepResult
 by_pairing (Ok step) = Ok step
 by_pairing (Err fault) = Err (Pair fault)
 
--- what an element behind these comes to: it is refused by its form, or the pairing looks back over the items
--- before it
-abbrev pub step_behind : ℕ → List (Result Item FormFault) → Result Item FormFault → Taken
+-- what an element after the elements `before` comes to: it is refused by its form, or the pairing answers, which looks
+-- back over the items before it
+abbrev pub step_behind : ℕ → List (Result Item FormFault) → Result Item FormFault → StepResult
 step_behind feeder before (Err fault) = Err (Form fault)
 step_behind feeder before (Ok item) = by_pairing (step_of feeder (accepted (placed before)) (length before) item)
 
--- what elements behind these come to
-abbrev pub steps_behind : ℕ → List (Result Item FormFault) → List (Result Item FormFault) → List Taken
+-- what each of these elements comes to, in order, after the elements `before`
+abbrev pub steps_behind : ℕ → List (Result Item FormFault) → List (Result Item FormFault) → List StepResult
 steps_behind feeder before [] = []
 steps_behind feeder before (item ∷ items) = step_behind feeder before item ∷ steps_behind feeder (before ++ item ∷ []) items
 
--- the steps of a feeder's trace, one for each element, in order: the place of a step is its number
-abbrev pub steps_of : ℕ → List (Result Item FormFault) → List Taken
+-- the steps of a feeder's trace, one for each of its elements, in order; the place of a step is that of its element
+abbrev pub steps_of : ℕ → List (Result Item FormFault) → List StepResult
 steps_of feeder items = steps_behind feeder [] items
 
--- the register of a step is one of the plan's
-abbrev pub IsKnownStep : Plan → Taken → Type 0
+-- the register of the step, where there is a step, is one of the plan's
+abbrev pub IsKnownStep : Plan → StepResult → Type 0
 IsKnownStep plan (Err code) = Unit {0}
 IsKnownStep plan (Ok None) = Unit {0}
 IsKnownStep plan (Ok (Some (steps.Edit register edit))) = register.0 < length plan.claims

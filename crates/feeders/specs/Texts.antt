@@ -1,8 +1,8 @@
--- Where the texts of what stands come from: which edits of a journal brought them, and which elements of a trace they are.
+-- Where the texts of operations come from: which edits bring them, and which elements of a trace they are.
 use Rattle.std.specs.Prelude.{◌≡◌, ◌<◌, ℕ, List, ◌∷◌, ◌++◌, take, drop, length, Option, Some, None, option_map, Result, Ok, All, IfSome, IsTrue}
 use Rattle.std.specs.Borrow.{Bor}
 use Rattle.std.specs.List.{slice_get}
-use Rattle.edn_reader.specs.Grammar.{Piece}
+use Rattle.edn_reader.specs.Grammar.{ElementModel}
 use Rattle.intervals.specs.declared.operation.Op.{Op}
 use Rattle.intervals.specs.declared.operation.OpId.{OpId}
 use Rattle.intervals.specs.declared.operation.Parts.{Parts}
@@ -11,7 +11,7 @@ use Rattle.intervals.specs.declared.edit.Edit.TheVariants as edits
 use Rattle.intervals.specs.declared.edit.Lent.{Lent}
 use Rattle.intervals.specs.declared.edit.Lent.TheVariants as lents
 use Rattle.intervals.specs.Edit.{edit_id}
-use Rattle.tower_file.specs.Contents.{Contents}
+use Rattle.tower_file.specs.Contents.{TowerModel}
 use Rattle.jepsen_form.specs.declared.fault.FormFault.{FormFault}
 use Rattle.jepsen_form.specs.declared.item.Item.{Item}
 use Rattle.jepsen_form.specs.declared.item.Item.TheVariants as items
@@ -23,22 +23,22 @@ use Rattle.shards.specs.declared.entry.Entry.{Entry}
 use Rattle.shards.specs.Journal.{is_accepted_of}
 use Rattle.shards.specs.Plain.{plain_edit}
 use Rattle.feeders.specs.declared.log.Log.{Log}
-use Rattle.feeders.specs.Steps.{AreItems, steps_of}
+use Rattle.feeders.specs.Steps.{AreItemsOfTrace, steps_of}
 
--- the texts of an operation
-pub data Part : Type 0 where
-  invocation : Part
-  answer : Part
-  amendment : Part
+-- a kind of text that an operation has: of its invocation, of its answer, or of its amendment
+pub data TextKind : Type 0 where
+  invocation : TextKind
+  answer : TextKind
+  amendment : TextKind
 
--- the text of a part, where there is one
-abbrev pub text_of : Part → Parts → Option (Bor (List ℕ))
+-- the text of this kind that an operation has; an answer and an amendment are optional
+abbrev pub text_of : TextKind → Parts → Option (Bor (List ℕ))
 text_of invocation parts = Some parts.invocation
 text_of answer parts = parts.answer
 text_of amendment parts = parts.amendment
 
--- the text that a change brings as this part, where it brings this part
-abbrev pub text_in : Part → Lent → Option (Bor (List ℕ))
+-- the text of this kind that a change lends, or none
+abbrev pub text_in : TextKind → Lent → Option (Bor (List ℕ))
 text_in invocation (lents.Answer text) = None
 text_in invocation (lents.Amendment text) = None
 text_in answer (lents.Answer text) = Some text
@@ -46,21 +46,21 @@ text_in answer (lents.Amendment text) = None
 text_in amendment (lents.Answer text) = None
 text_in amendment (lents.Amendment text) = Some text
 
--- what an edit makes of this part of its operation, where it makes something of it: an append brings it or leaves
--- it out, an amendment brings the part that it lends, a withdrawal leaves it out, and a claim is of no operation
-abbrev pub settled : Part → Edit → Option (Option (Bor (List ℕ)))
+-- what an edit makes of this text of its operation: an append gives it or leaves it out, a withdrawal leaves it out, an
+-- amendment gives the one that it lends; none where the edit leaves it as it was
+abbrev pub settled : TextKind → Edit → Option (Option (Bor (List ℕ)))
 settled part (edits.Append op) = Some (text_of part op.parts)
 settled part (edits.Amend id change) = option_map Some (text_in part change.lent)
 settled part (edits.Withdraw id) = Some None
 settled part (edits.Claim kind) = None
 
--- an accepted edit of this operation of a register
+-- the entry is an accepted edit of this operation of a register
 pub record IsEditOf (register : ℕ) (id : OpId) (entry : Entry) : Type 0 where
   pub accepted : IsTrue (is_accepted_of register entry)
   pub of_id : edit_id entry.edit ≡ Some id
 
--- of the accepted edits of an operation, the last one in a journal that makes something of this part makes this of it
-pub record IsLastSettled (register : ℕ) (journal : List Entry) (id : OpId) (part : Part) (text : Option (Bor (List ℕ))) : Type 0 where
+-- of the accepted edits of an operation in a journal, the last one that makes something of this text makes this of it
+pub record IsLastSettled (register : ℕ) (journal : List Entry) (id : OpId) (part : TextKind) (text : Option (Bor (List ℕ))) : Type 0 where
   pub before : List Entry
   pub entry : Entry
   pub after : List Entry
@@ -69,15 +69,15 @@ pub record IsLastSettled (register : ℕ) (journal : List Entry) (id : OpId) (pa
   pub settles : settled part entry.edit ≡ Some text
   pub last : All (λ later. IsEditOf register id later → settled part later.edit ≡ None) after
 
--- the text that an event of that stage brings: an invocation or an `:ok`
-abbrev pub brought_at : Stage → Option Part
+-- the kind of text that an event brings: an invocation, or an answer that is `:ok`; none at `:fail` and `:info`
+abbrev pub brought_at : Stage → Option TextKind
 brought_at stages.Invoke = Some invocation
 brought_at stages.Ok = Some answer
 brought_at stages.Fail = None
 brought_at stages.Info = None
 
--- the text of its operation that an item brings, where it brings one
-abbrev pub brought : Item → Option Part
+-- the kind of text that an item brings of its operation (invocation, answer or amendment), or none
+abbrev pub brought : Item → Option TextKind
 brought (items.Event event) = brought_at event.answer
 brought (items.Amend of change) = Some amendment
 brought (items.Withdraw of) = None
@@ -85,30 +85,30 @@ brought (items.Claim register kind) = None
 brought (items.Ask register) = None
 brought items.Skipped = None
 
--- the trace of a feeder, its log, and the items among its elements
-pub record Reading (tower : Contents) (chosen : MomentField) (traces : List (List ℕ)) (logs : List Log) (feeder : ℕ) : Type 0 where
+-- a feeder's trace and log, and the items of the trace's elements
+pub record TraceReading (tower : TowerModel) (chosen : MomentField) (traces : List (List ℕ)) (logs : List Log) (feeder : ℕ) : Type 0 where
   pub trace : List ℕ
   pub log : Log
   pub items : List (Result Item FormFault)
   pub trace_is : slice_get traces feeder ≡ Some trace
   pub log_is : slice_get logs feeder ≡ Some log
-  pub are : AreItems tower chosen trace log.broken items
+  pub are : AreItemsOfTrace tower chosen trace log.broken items
 
 -- the element's bytes are those of the trace from its first place on
-abbrev pub IsSlice : List ℕ → Piece → Type 0
+abbrev pub IsSlice : List ℕ → ElementModel → Type 0
 IsSlice trace piece = take (length piece.text) (drop piece.start trace) ≡ piece.text
 
--- at which place of a trace an edit may stand: an append at the event of its id, another edit of an operation
--- behind it, and a claim anywhere
+-- the edit may be that of the element at this place: an append is at the event of its id, another edit of an operation
+-- after that, and a claim anywhere
 abbrev pub IsPlaced : ℕ → Edit → Type 0
 IsPlaced place (edits.Append op) = op.id.event ≡ place
 IsPlaced place (edits.Amend id change) = id.event < place
 IsPlaced place (edits.Withdraw id) = id.event < place
 IsPlaced place (edits.Claim kind) = Unit {0}
 
--- the entry reads as the edit of the step at this place of the feeder's trace; its operation, if any, is the
--- feeder's, and a text that it brings is the element there
-pub record IsOfStep (feeder : ℕ) (trace : List ℕ) (pieces : List Piece) (items : List (Result Item FormFault)) (entry : Entry) (place : ℕ) : Type 0 where
+-- the entry reads as the edit of the step at this place of the feeder's trace; an operation that it names is the
+-- feeder's, and a text that it lends is the element there
+pub record IsOfStep (feeder : ℕ) (trace : List ℕ) (pieces : List ElementModel) (items : List (Result Item FormFault)) (entry : Entry) (place : ℕ) : Type 0 where
   pub edit : Edit
   pub step : slice_get (steps_of feeder items) place ≡ Some (Ok (Some (steps.Edit entry.register edit)))
   pub reads : plain_edit entry.edit ≡ plain_edit edit
@@ -116,28 +116,29 @@ pub record IsOfStep (feeder : ℕ) (trace : List ℕ) (pieces : List Piece) (ite
   pub placed : IsPlaced place entry.edit
   pub item : Item
   pub item_is : slice_get items place ≡ Some (Ok item)
-  pub piece : Piece
+  pub piece : ElementModel
   pub element : slice_get pieces place ≡ Some piece
   pub slice : IsSlice trace piece
-  pub texts : (part : Part) (text : Bor (List ℕ)) → settled part entry.edit ≡ Some (Some text) → (brought item ≡ Some part) × (text.now ≡ piece.text)
+  pub texts : (part : TextKind) (text : Bor (List ℕ)) → settled part entry.edit ≡ Some (Some text) → (brought item ≡ Some part) × (text.now ≡ piece.text)
 
--- the text is the element at this place of the trace: the item there brings this part, and its edit is the last one
--- accepted of the operation that makes something of the part
-pub record IsLentAt (trace : List ℕ) (pieces : List Piece) (items : List (Result Item FormFault)) (register : ℕ) (journal : List Entry) (id : OpId) (part : Part) (place : ℕ) (text : Bor (List ℕ)) : Type 0 where
+-- the text is the element at this place of the trace: the item there brings a text of this kind, and its edit is the
+-- last accepted one of the operation that makes something of it
+pub record IsLentAt (trace : List ℕ) (pieces : List ElementModel) (items : List (Result Item FormFault)) (register : ℕ) (journal : List Entry) (id : OpId) (part : TextKind) (place : ℕ) (text : Bor (List ℕ)) : Type 0 where
   pub last : IsLastSettled register journal id part (Some text)
   pub of_step : IsOfStep id.feeder trace pieces items last.entry place
   pub brings : brought of_step.item ≡ Some part
   pub text_is : text.now ≡ of_step.piece.text
 
--- the same at a place behind the operation's
-abbrev pub IsLentBehind : List ℕ → List Piece → List (Result Item FormFault) → ℕ → List Entry → OpId → Part → Bor (List ℕ) → Type 0
+-- the text is an element of the trace at a place after the operation's: the item there brings a text of this kind, and
+-- its edit is the last accepted one of the operation that makes something of it
+abbrev pub IsLentBehind : List ℕ → List ElementModel → List (Result Item FormFault) → ℕ → List Entry → OpId → TextKind → Bor (List ℕ) → Type 0
 IsLentBehind trace pieces items register journal id part text =
     (place : ℕ) × (id.event < place) × IsLentAt trace pieces items register journal id part place text
 
--- each text of an operation of a register is an element of its feeder's trace: the invocation the one at the event
--- of its id, the answer and the amendment, where they are there, later ones
-pub record IsLentByTrace (tower : Contents) (chosen : MomentField) (traces : List (List ℕ)) (logs : List Log) (register : ℕ) (journal : List Entry) (op : Op) : Type 0 where
-  pub reading : Reading tower chosen traces logs op.id.feeder
+-- each text of an operation is an element of its feeder's trace: the invocation the one at the event of its id, an
+-- answer and an amendment later ones
+pub record IsLentByTrace (tower : TowerModel) (chosen : MomentField) (traces : List (List ℕ)) (logs : List Log) (register : ℕ) (journal : List Entry) (op : Op) : Type 0 where
+  pub reading : TraceReading tower chosen traces logs op.id.feeder
   pub invoked : IsLentAt reading.trace reading.are.pieces reading.items register journal op.id invocation op.id.event op.parts.invocation
   pub answered : IfSome op.parts.answer (IsLentBehind reading.trace reading.are.pieces reading.items register journal op.id answer)
   pub amended : IfSome op.parts.amendment (IsLentBehind reading.trace reading.are.pieces reading.items register journal op.id amendment)

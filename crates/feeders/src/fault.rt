@@ -9,9 +9,10 @@ use shards::ShardFault;
 use std::alloc::{AllocError, AllocFailed};
 use thiserror::Error;
 
+/// Why a run ends without its logs and journals.
 #[derive(Clone, Copy, Debug, PartialEq, Eq, Error)]
 pub enum RunFault {
-    /// A growth was refused.
+    /// Memory was refused.
     #[error("Memory")]
     Memory,
     /// A shard refused an edit, a question or the end.
@@ -19,12 +20,12 @@ pub enum RunFault {
     Shard(ShardFault),
 }
 
-/// Why a piece of a trace was not taken whole.
+/// Why a chunk of a trace was not taken whole, or why its end was not taken.
 #[derive(Clone, Copy, Debug, PartialEq, Eq, Error)]
 #[error("{fault} after {used} bytes")]
 pub struct FeedFault {
     pub fault: RunFault,
-    /// How many bytes of the piece were taken: the feeder goes on with the one after them.
+    /// How many bytes of the chunk were taken: the feeder goes on with the byte after them. 0 at the end of a trace.
     pub used: usize,
 }
 
@@ -60,7 +61,7 @@ impl From<Memory> for RunFault {
     }
 }
 
-/// Want of memory in a shard is want of memory.
+/// A shard that was out of memory gives `Memory`, any other fault `Shard`.
 impl From<ShardFault> for RunFault {
     ghost use Rattle.feeders.specs.Ending.{ended_by};
 

@@ -1,25 +1,25 @@
-//! A feeder whose trace comes in pieces.
+//! A feeder whose trace comes in chunks.
 
 ghost use Rattle.std.specs.Prelude.{◌≡◌, ◌≢◌, ◌+◌, ◌≤◌, ◌<◌, ◌^◌, ◌++◌, [], ℕ, List, length, take, drop, Ok, Some, IfErr, OnErr, OnOk, IsTrue, ◌↔◌, ◌⊎◌};
-ghost use Rattle.shards.specs.Pass.{Passed};
+ghost use Rattle.shards.specs.Pass.{PassModel};
 ghost use Rattle.shards.specs.Plan.{Plan, claims_of};
 ghost use Rattle.feeders.specs.Broken.{is_of_reading};
 ghost use Rattle.feeders.specs.Ending.{MayEnd};
 ghost use Rattle.feeders.specs.Feeding.{IsFedUpTo};
 ghost use Rattle.feeders.specs.Intake.{CanGoOn, HasEnded, IsAtEnd};
 ghost use Rattle.feeders.specs.Readers.{IsNotOfReading};
-ghost use Rattle.feeders.specs.Setting.{IsStart, Start, setting_of};
+ghost use Rattle.feeders.specs.Setting.{IsAtStart, Start, setting_of};
 
 use crate::fault::FeedFault;
-use crate::fed::Fed;
 use crate::intake::Intake;
-use crate::kept::Kept;
 use crate::log::{BreakCode, Broken, Log};
+use crate::outcome::FeederOutcome;
 use crate::pages::Pages;
 use crate::paging::Paging;
 use crate::pending::Pending;
 use crate::progress::Progress;
 use crate::site::Site;
+use crate::tail_buffer::TailBuffer;
 use edn_reader::Splitter;
 use edn_reader::laws::{no_fault_so_far, told_so_far};
 use jepsen_form::MomentField;
@@ -31,12 +31,12 @@ use tower_file::Tower;
 
 /// Whether a feeder goes on.
 #[derive(Clone, Copy, Debug, PartialEq, Eq)]
-pub enum Course {
-    /// It takes any piece, and the end.
+pub enum FeedState {
+    /// It takes any chunk, and the end.
     Open,
-    /// Memory or a shard refused: it goes on with the rest of the piece.
+    /// Memory or a shard refused: it goes on with the rest of the chunk.
     Paused,
-    /// Memory or a shard refused when its trace had ended: it goes on with the end.
+    /// Memory or a shard refused after the end of its trace was taken: it is ended again.
     Ending,
     /// Its trace broke.
     Broke,
@@ -44,11 +44,11 @@ pub enum Course {
     Ended,
 }
 
-/// Feeds a trace that comes in pieces, which may be cut anywhere, to the registers of a tower. It holds the bytes of an
-/// element that has not ended, and puts the texts that its steps lend on pages.
+/// Feeds a trace that comes in chunks, which may be cut anywhere, to the registers of a tower. It holds the bytes
+/// of an element that has not ended, and puts the texts that its steps lend on pages.
 ///
-/// Where memory or a shard refuses, nothing is lost: after a fault of [`feed`](Feeder::feed) it is fed the rest of the
-/// piece, from the byte after those that were used, and after one of [`end`](Feeder::end) it is ended again.
+/// Where memory or a shard refuses, nothing is lost: after a fault of [`feed`](Feeder::feed) feed it the rest of the
+/// chunk, from the byte after those that were used; after one of [`end`](Feeder::end) end it again.
 #[derive(Drop)]
 pub struct Feeder<'t> {
     field: MomentField,
@@ -56,26 +56,26 @@ pub struct Feeder<'t> {
     pages: &'t Pages,
     intake: Intake<'t>,
     paging: Paging,
-    course: Course,
+    state: FeedState,
 }
 
 impl<'t> Model for Feeder<'t> {
     ghost use Rattle.std.specs.Prelude.{◌≡◌, []};
-    ghost use Rattle.feeders.specs.declared.feeder.Course.TheVariants.{Open, Ending};
+    ghost use Rattle.feeders.specs.declared.feeder.FeedState.TheVariants.{Open, Ending};
     ghost use Rattle.feeders.specs.declared.pending.Pending.TheVariants.{Nothing};
-    ghost use Rattle.feeders.specs.Feeding.{Feeding};
+    ghost use Rattle.feeders.specs.Feeding.{FeederModel};
     ghost use Rattle.feeders.specs.Intake.{CanGoOn};
     ghost use Rattle.feeders.specs.Pending.{CanSettle};
 
-    ghost Value = { Feeding };
+    ghost Value = { FeederModel };
 
-    ghost view = { λ f. record { chosen = f.field; tower = f.tower.now; intake = f.intake; course = f.course } };
+    ghost view = { λ f. record { chosen = f.field; tower = f.tower.now; intake = f.intake; state = f.state } };
 
-    ghost invariant = { λ f. (f.course ≡ Open → CanGoOn [] f.intake × (f.intake.pending ≡ Nothing)) × (f.course ≡ Ending → CanSettle f.intake) };
+    ghost invariant = { λ f. (f.state ≡ Open → CanGoOn [] f.intake × (f.intake.pending ≡ Nothing)) × (f.state ≡ Ending → CanSettle f.intake) };
 }
 
 impl<'t> Feeder<'t> {
-    /// The feeder of that number, before the first byte.
+    /// The feeder of this number, before the first byte of its trace.
     pub fn new(
         alloc: Global,
         feeder: u32,
@@ -84,8 +84,8 @@ impl<'t> Feeder<'t> {
         pages: &'t Pages,
     ) -> Feeder<'t>
         ensures read { (result.chosen ≡ field) × (result.tower ≡ tower.now) }
-        ensures going { (result.course ≡ Course.Open) × (result.intake.splitter.taken ≡ 0) }
-        ensures fed { (plan : Plan) (start : Start) (pass : Passed) → IsStart plan start pass → start.feeder ≡ feeder → IsFedUpTo plan start [] [] result pass }
+        ensures going { (result.state ≡ FeedState.Open) × (result.intake.splitter.taken ≡ 0) }
+        ensures fed { (plan : Plan) (start : Start) (pass : PassModel) → IsAtStart plan start pass → start.feeder ≡ feeder → IsFedUpTo plan start [] [] result pass }
     {
         Feeder {
             field,
@@ -93,18 +93,18 @@ impl<'t> Feeder<'t> {
             pages,
             intake: Intake {
                 splitter: Splitter::new(alloc),
-                kept: Kept::new(alloc),
+                kept: TailBuffer::new(alloc),
                 progress: Progress::new(alloc, feeder),
                 pending: Pending::Nothing,
             },
             paging: Paging::new(),
-            course: Course::Open,
+            state: FeedState::Open,
         }
     }
 
-    /// Takes the next piece of the trace: its steps are carried out as soon as their elements have ended. Once the trace
-    /// broke or was ended it changes nothing. After a fault it is fed the rest of the piece, and goes on with the element
-    /// that had ended last, where that was not carried out.
+    /// Takes `piece`, the next chunk of the trace, and carries out each step as soon as its element has ended.
+    /// Once the trace broke or was ended nothing changes. After a fault feed it the rest of the chunk: it goes on
+    /// first with the element that had ended last, where that was not carried out.
     pub fn feed<O: Opening, R: Wait, G: Gate>(
         &mut self,
         rt: &R,
@@ -115,18 +115,18 @@ impl<'t> Feeder<'t> {
         piece: &[u8],
     ) -> Result<(), FeedFault>
         requires some { 0 < O.plan.shards }
-        requires rest { self.old.course ≡ Course.Paused → CanGoOn piece.now self.old.intake }
-        requires not_ending { self.old.course ≢ Course.Ending }
+        requires rest { self.old.state ≡ FeedState.Paused → CanGoOn piece.now self.old.intake }
+        requires not_ending { self.old.state ≢ FeedState.Ending }
         requires fits { self.old.intake.splitter.taken + length piece.now < 2 ^ 64 }
         ensures fed { OnOk result ((start : Start) (bytes : List ℕ) → IsFedUpTo O.plan start bytes piece.now self.old pass.old → IsFedUpTo O.plan start (bytes ++ piece.now) [] self.new pass.new) }
-        ensures taken { OnOk result (self.new.course ≡ Course.Open → self.new.intake.splitter.taken ≡ self.old.intake.splitter.taken + length piece.now) }
+        ensures taken { OnOk result (self.new.state ≡ FeedState.Open → self.new.intake.splitter.taken ≡ self.old.intake.splitter.taken + length piece.now) }
         ensures read { (self.new.chosen ≡ self.old.chosen) × (self.new.tower ≡ self.old.tower) }
-        ensures goes_on { OnOk result ((self.new.course ≢ Course.Paused) × (self.new.course ≢ Course.Ending)) }
-        ensures stays { OnOk result ((self.new.course ≡ Course.Open) ⊎ (self.new.course ≡ Course.Broke) ⊎ (self.old.course ≡ Course.Ended)) }
-        ensures over { self.old.course ≡ Course.Broke → (result ≡ Ok tt) × (self.new ≡ self.old) × (pass.new ≡ pass.old) }
-        ensures ended { self.old.course ≡ Course.Ended → (result ≡ Ok tt) × (self.new ≡ self.old) × (pass.new ≡ pass.old) }
+        ensures goes_on { OnOk result ((self.new.state ≢ FeedState.Paused) × (self.new.state ≢ FeedState.Ending)) }
+        ensures stays { OnOk result ((self.new.state ≡ FeedState.Open) ⊎ (self.new.state ≡ FeedState.Broke) ⊎ (self.old.state ≡ FeedState.Ended)) }
+        ensures over { self.old.state ≡ FeedState.Broke → (result ≡ Ok tt) × (self.new ≡ self.old) × (pass.new ≡ pass.old) }
+        ensures ended { self.old.state ≡ FeedState.Ended → (result ≡ Ok tt) × (self.new ≡ self.old) × (pass.new ≡ pass.old) }
         ensures used { IfErr result (λ failed. (failed.used ≤ length piece.now) × (self.new.intake.splitter.taken ≡ self.old.intake.splitter.taken + failed.used)) }
-        ensures paused { IfErr result (λ failed. (self.new.course ≡ Course.Paused) × CanGoOn (drop failed.used piece.now) self.new.intake) }
+        ensures paused { IfErr result (λ failed. (self.new.state ≡ FeedState.Paused) × CanGoOn (drop failed.used piece.now) self.new.intake) }
         ensures waits { IfErr result (λ failed. (start : Start) (bytes : List ℕ) → IsFedUpTo O.plan start bytes piece.now self.old pass.old
             → IsFedUpTo O.plan start (bytes ++ take failed.used piece.now) (drop failed.used piece.now) self.new pass.new) }
         ensures fault { IfErr result (λ failed. (start : Start) (bytes : List ℕ) → IsFedUpTo O.plan start bytes piece.now self.old pass.old
@@ -146,21 +146,21 @@ impl<'t> Feeder<'t> {
         let page = self.paging.page_of(self.pages, rt, alloc, pass, piece);
         match self.intake.take_piece(site, self.pages, pass, piece, page) {
             Ok(true) => {
-                self.course = Course::Open;
+                self.state = FeedState::Open;
                 Ok(())
             }
             Ok(false) => {
-                self.course = Course::Broke;
+                self.state = FeedState::Broke;
                 Ok(())
             }
             Err(failed) => {
-                self.course = Course::Paused;
+                self.state = FeedState::Paused;
                 Err(failed)
             }
         }
     }
 
-    /// Takes the end of the trace. Once the trace broke or was ended it changes nothing. After a fault it is called again.
+    /// Takes the end of the trace. Once the trace broke or was ended nothing changes. After a fault call it again.
     pub fn end<O: Opening, R: Wait, G: Gate>(
         &mut self,
         rt: &R,
@@ -170,17 +170,17 @@ impl<'t> Feeder<'t> {
         pass: &mut Pass<'t>,
     ) -> Result<(), FeedFault>
         requires some { 0 < O.plan.shards }
-        requires rest { self.old.course ≡ Course.Paused → CanGoOn [] self.old.intake }
+        requires rest { self.old.state ≡ FeedState.Paused → CanGoOn [] self.old.intake }
         ensures fed { OnOk result ((start : Start) (bytes : List ℕ) → IsFedUpTo O.plan start bytes [] self.old pass.old
             → HasEnded (setting_of O.plan self.old.tower self.old.chosen start) bytes self.new.intake pass.new) }
         ensures read { (self.new.chosen ≡ self.old.chosen) × (self.new.tower ≡ self.old.tower) }
         ensures by_text { OnOk result ((start : Start) (bytes : List ℕ) → IsFedUpTo O.plan start bytes [] self.old pass.old → IsNotOfReading self.new.intake.progress.log) }
-        ensures closed { OnOk result ((self.new.course ≡ Course.Ended) ⊎ (self.new.course ≡ Course.Broke)) }
-        ensures closes { OnOk result (self.old.course ≡ Course.Open → self.new.course ≡ Course.Ended) }
-        ensures over { self.old.course ≡ Course.Broke → (result ≡ Ok tt) × (self.new ≡ self.old) × (pass.new ≡ pass.old) }
-        ensures ended { self.old.course ≡ Course.Ended → (result ≡ Ok tt) × (self.new ≡ self.old) × (pass.new ≡ pass.old) }
+        ensures closed { OnOk result ((self.new.state ≡ FeedState.Ended) ⊎ (self.new.state ≡ FeedState.Broke)) }
+        ensures closes { OnOk result (self.old.state ≡ FeedState.Open → self.new.state ≡ FeedState.Ended) }
+        ensures over { self.old.state ≡ FeedState.Broke → (result ≡ Ok tt) × (self.new ≡ self.old) × (pass.new ≡ pass.old) }
+        ensures ended { self.old.state ≡ FeedState.Ended → (result ≡ Ok tt) × (self.new ≡ self.old) × (pass.new ≡ pass.old) }
         ensures used { IfErr result (λ failed. failed.used ≡ 0) }
-        ensures rest { self.new.course ≡ Course.Paused → CanGoOn [] self.new.intake }
+        ensures rest { self.new.state ≡ FeedState.Paused → CanGoOn [] self.new.intake }
         ensures waits { IfErr result (λ failed. (start : Start) (bytes : List ℕ) → IsFedUpTo O.plan start bytes [] self.old pass.old
             → IsFedUpTo O.plan start bytes [] self.new pass.new) }
         ensures fault { IfErr result (λ failed. (start : Start) (bytes : List ℕ) → IsFedUpTo O.plan start bytes [] self.old pass.old
@@ -203,23 +203,23 @@ impl<'t> Feeder<'t> {
         if let Err(fault) = self.intake.take_end(site, self.pages, pass) {
             return Err(FeedFault { fault, used: 0 });
         }
-        self.course = Course::Ending;
+        self.state = FeedState::Ending;
         self.settle_last(site, pass)
     }
 
-    /// Goes on with the last element of a trace whose end was taken.
+    /// Goes on with the last element of a trace whose end was taken, until its step is carried out.
     fn settle_last<O: Opening, R: Wait, G: Gate>(
         &mut self,
         site: Site<'_, '_, 't, O, R, G>,
         pass: &mut Pass<'t>,
     ) -> Result<(), FeedFault>
         requires some { 0 < O.plan.shards }
-        requires ending { self.old.course ≡ Course.Ending }
+        requires ending { self.old.state ≡ FeedState.Ending }
         ensures fed { OnOk result ((start : Start) (bytes : List ℕ) → IsAtEnd (setting_of O.plan site.entry.tower.now site.entry.field start) bytes self.old.intake pass.old
             → HasEnded (setting_of O.plan site.entry.tower.now site.entry.field start) bytes self.new.intake pass.new × IsNotOfReading self.new.intake.progress.log) }
         ensures read { (self.new.chosen ≡ self.old.chosen) × (self.new.tower ≡ self.old.tower) }
-        ensures closes { OnOk result (self.new.course ≡ Course.Ended) }
-        ensures ending { OnErr result (self.new.course ≡ Course.Ending) }
+        ensures closes { OnOk result (self.new.state ≡ FeedState.Ended) }
+        ensures ending { OnErr result (self.new.state ≡ FeedState.Ending) }
         ensures used { IfErr result (λ failed. failed.used ≡ 0) }
         ensures waits { OnErr result ((start : Start) (bytes : List ℕ) → IsAtEnd (setting_of O.plan site.entry.tower.now site.entry.field start) bytes self.old.intake pass.old
             → IsAtEnd (setting_of O.plan site.entry.tower.now site.entry.field start) bytes self.new.intake pass.new) }
@@ -228,7 +228,7 @@ impl<'t> Feeder<'t> {
     {
         match self.intake.settle(site, self.pages, pass) {
             Ok(()) => {
-                self.course = Course::Ended;
+                self.state = FeedState::Ended;
                 Ok(())
             }
             Err(fault) => Err(FeedFault { fault, used: 0 }),
@@ -237,21 +237,21 @@ impl<'t> Feeder<'t> {
 
     /// Whether the end of the trace was taken, and its last element waits.
     fn is_ending(&self) -> bool
-        ensures { IsTrue result ↔ (self.now.course ≡ Course.Ending) }
+        ensures { IsTrue result ↔ (self.now.state ≡ FeedState.Ending) }
     {
-        match self.course {
-            Course::Ending => true,
-            Course::Open | Course::Paused | Course::Broke | Course::Ended => false,
+        match self.state {
+            FeedState::Ending => true,
+            FeedState::Open | FeedState::Paused | FeedState::Broke | FeedState::Ended => false,
         }
     }
 
     /// Whether the trace broke or was ended.
     fn is_over(&self) -> bool
-        ensures { IsTrue result ↔ (self.now.course ≡ Course.Broke) ⊎ (self.now.course ≡ Course.Ended) }
+        ensures { IsTrue result ↔ (self.now.state ≡ FeedState.Broke) ⊎ (self.now.state ≡ FeedState.Ended) }
     {
-        match self.course {
-            Course::Broke | Course::Ended => true,
-            Course::Open | Course::Paused | Course::Ending => false,
+        match self.state {
+            FeedState::Broke | FeedState::Ended => true,
+            FeedState::Open | FeedState::Paused | FeedState::Ending => false,
         }
     }
 
@@ -264,22 +264,22 @@ impl<'t> Feeder<'t> {
 
     /// Whether the trace broke in what was fed.
     pub fn has_broken(&self) -> bool
-        ensures { IsTrue result ↔ self.now.course ≡ Course.Broke }
+        ensures { IsTrue result ↔ self.now.state ≡ FeedState.Broke }
     {
-        match self.course {
-            Course::Broke => true,
-            Course::Open | Course::Paused | Course::Ending | Course::Ended => false,
+        match self.state {
+            FeedState::Broke => true,
+            FeedState::Open | FeedState::Paused | FeedState::Ending | FeedState::Ended => false,
         }
     }
 
     /// Ends the trace where its reading broke off: an element that has not ended is dropped.
     pub fn break_off(&mut self, code: BreakCode)
-        requires going { self.old.course ≡ Course.Open }
+        requires going { self.old.state ≡ FeedState.Open }
         requires reading { IsTrue (is_of_reading code) }
-        ensures fed { (plan : Plan) (start : Start) (bytes : List ℕ) (pass : Passed) → IsFedUpTo plan start bytes [] self.old pass → HasEnded (setting_of plan self.old.tower self.old.chosen start) bytes self.new.intake pass }
+        ensures fed { (plan : Plan) (start : Start) (bytes : List ℕ) (pass : PassModel) → IsFedUpTo plan start bytes [] self.old pass → HasEnded (setting_of plan self.old.tower self.old.chosen start) bytes self.new.intake pass }
         ensures broken { self.new.intake.progress.log.broken ≡ Some (record { code = code; place = self.old.intake.splitter.taken }) }
         ensures read { (self.new.chosen ≡ self.old.chosen) × (self.new.tower ≡ self.old.tower) }
-        ensures closes { self.new.course ≡ Course.Ended }
+        ensures closes { self.new.state ≡ FeedState.Ended }
     {
         no_fault_so_far();
         told_so_far();
@@ -287,11 +287,11 @@ impl<'t> Feeder<'t> {
             code,
             place: self.intake.splitter.taken(),
         });
-        self.course = Course::Ended;
+        self.state = FeedState::Ended;
     }
 
-    /// What was done.
-    pub fn into_fed(self, pass: Pass<'t>) -> Fed<'t>
+    /// What the feeder leaves, given the pass that it was fed with: that pass and the log.
+    pub fn into_fed(self, pass: Pass<'t>) -> FeederOutcome<'t>
         ensures { (result.pass ≡ pass.entry) × (result.log ≡ self.entry.intake.progress.log) }
     {
         let Feeder { intake, .. } = self;

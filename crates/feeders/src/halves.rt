@@ -1,4 +1,4 @@
-//! Feeders by halves, in threads or in turn.
+//! Feeds several traces by halves, in threads or in turn.
 
 ghost use Rattle.std.specs.Prelude.{◌≡◌, ◌≤◌, ◌<◌, ◌++◌, All, Err, IfErr, IfOk, OnOk, length, map, take, drop, vec_len};
 ghost use Rattle.feeders.specs.declared.fault.RunFault.TheVariants.{Memory};
@@ -9,8 +9,8 @@ ghost use Rattle.feeders.specs.Progress.{AreFed, AreFresh, AreReadAndFed};
 ghost use Rattle.feeders.specs.Readers.{IsNotOfReading};
 
 use crate::fault::RunFault;
-use crate::fed::Fed;
 use crate::log::Log;
+use crate::outcome::FeederOutcome;
 use crate::pages::Pages;
 use crate::site::Site;
 use crate::stream::feed_reader;
@@ -23,20 +23,20 @@ use std::sync::Wait;
 use std::thread::{Threads, join};
 use tower_file::Tower;
 
-/// Goes through each trace with its pass. Of two traces or more the first half is fed by a thread of its own
-/// while this one feeds the rest; where no thread can be made, this one feeds both. Where several feeders fail
-/// the fault of the least one is answered, when all have ended.
+/// Feeds each trace with its pass. Of two traces or more the first half is fed by a thread of its own while this
+/// one feeds the rest; where no thread can be made, this one feeds both. Where several feeders fail the answer is
+/// the fault of the one with the least number, after all have ended.
 pub fn feed_all<'t, O: Opening + Send + Sync, R: Threads + Wait + Sync, G: Gate>(
     site: Site<'_, '_, 't, O, R, G>,
     mut passes: Vec<Pass<'t>>,
     traces: &[&'t [u8]],
-) -> Result<Vec<Fed<'t>>, RunFault>
+) -> Result<Vec<FeederOutcome<'t>>, RunFault>
     requires some { 0 < O.plan.shards }
     requires of_tower { O.plan.claims ≡ claims_of site.tower.now }
     requires fresh { AreFresh O.plan passes.items }
     requires each { vec_len passes ≡ length traces.now }
-    ensures fed { IfOk result (λ feds. AreFed O.plan site.entry.tower.now site.entry.field passes.entry.items traces.entry.now feds.items) }
-    ensures by_text { IfOk result (λ feds. All (λ fed. IsNotOfReading fed.log) feds.items) }
+    ensures fed { IfOk result (λ outcomes. AreFed O.plan site.entry.tower.now site.entry.field passes.entry.items traces.entry.now outcomes.items) }
+    ensures by_text { IfOk result (λ outcomes. All (λ fed. IsNotOfReading fed.log) outcomes.items) }
     ensures fault { IfErr result MayEnd }
 {
     if traces.len() < 2 {
@@ -46,49 +46,49 @@ pub fn feed_all<'t, O: Opening + Send + Sync, R: Threads + Wait + Sync, G: Gate>
     let rest = passes_from::<O>(&mut passes, front.len())?;
     let (first, second) = join(
         site.rt,
-        || -> Result<Vec<Fed>, RunFault>
+        || -> Result<Vec<FeederOutcome>, RunFault>
             requires { IsSync R.row × (0 < O.plan.shards) × (O.plan.claims ≡ claims_of site.tower.now) × AreFresh O.plan passes.items × (vec_len passes ≡ length front.now) }
-            ensures fed { IfOk result (λ feds. AreFed O.plan site.entry.tower.now site.entry.field passes.entry.items front.entry.now feds.items) }
-            ensures by_text { IfOk result (λ feds. All (λ fed. IsNotOfReading fed.log) feds.items) }
+            ensures fed { IfOk result (λ outcomes. AreFed O.plan site.entry.tower.now site.entry.field passes.entry.items front.entry.now outcomes.items) }
+            ensures by_text { IfOk result (λ outcomes. All (λ fed. IsNotOfReading fed.log) outcomes.items) }
             ensures fault { IfErr result MayEnd }
         { feed_all(site, passes, front) },
-        || -> Result<Vec<Fed>, RunFault>
+        || -> Result<Vec<FeederOutcome>, RunFault>
             requires { IsSync R.row × (0 < O.plan.shards) × (O.plan.claims ≡ claims_of site.tower.now) × AreFresh O.plan rest.items × (vec_len rest ≡ length back.now) }
-            ensures fed { IfOk result (λ feds. AreFed O.plan site.entry.tower.now site.entry.field rest.entry.items back.entry.now feds.items) }
-            ensures by_text { IfOk result (λ feds. All (λ fed. IsNotOfReading fed.log) feds.items) }
+            ensures fed { IfOk result (λ outcomes. AreFed O.plan site.entry.tower.now site.entry.field rest.entry.items back.entry.now outcomes.items) }
+            ensures by_text { IfOk result (λ outcomes. All (λ fed. IsNotOfReading fed.log) outcomes.items) }
             ensures fault { IfErr result MayEnd }
         { feed_all(site, rest, back) },
     );
     joined(first, second)
 }
 
-/// One trace with its pass, or none.
+/// Feeds the one trace with its pass, or none.
 fn feed_alone<'t, O: Opening, R: Wait, G: Gate>(
     site: Site<'_, '_, 't, O, R, G>,
     mut passes: Vec<Pass<'t>>,
     traces: &[&'t [u8]],
-) -> Result<Vec<Fed<'t>>, RunFault>
+) -> Result<Vec<FeederOutcome<'t>>, RunFault>
     requires some { 0 < O.plan.shards }
     requires of_tower { O.plan.claims ≡ claims_of site.tower.now }
     requires fresh { AreFresh O.plan passes.items }
     requires each { vec_len passes ≡ length traces.now }
     requires few { length traces.now < 2 }
-    ensures fed { IfOk result (λ feds. AreFed O.plan site.entry.tower.now site.entry.field passes.entry.items traces.entry.now feds.items) }
-    ensures by_text { IfOk result (λ feds. All (λ fed. IsNotOfReading fed.log) feds.items) }
+    ensures fed { IfOk result (λ outcomes. AreFed O.plan site.entry.tower.now site.entry.field passes.entry.items traces.entry.now outcomes.items) }
+    ensures by_text { IfOk result (λ outcomes. All (λ fed. IsNotOfReading fed.log) outcomes.items) }
     ensures fault { IfErr result MayEnd }
 {
-    let mut feds = Vec::new(site.alloc);
+    let mut outcomes = Vec::new(site.alloc);
     let Some(trace) = traces.first() else {
-        return Ok(feds);
+        return Ok(outcomes);
     };
     let Some(pass) = passes.pop() else {
-        return Ok(feds);
+        return Ok(outcomes);
     };
-    feds.push(feed_trace(site, pass, trace)?)?;
-    Ok(feds)
+    outcomes.push(feed_trace(site, pass, trace)?)?;
+    Ok(outcomes)
 }
 
-/// The same of what readers give.
+/// Feeds what each reader gives with its pass, by halves as `feed_all` does.
 pub fn read_all<
     't,
     O: Opening + Send + Sync,
@@ -105,12 +105,12 @@ pub fn read_all<
     pages: &'t Pages,
     mut passes: Vec<Pass<'t>>,
     mut readers: Vec<S>,
-) -> Result<Vec<Fed<'t>>, RunFault>
+) -> Result<Vec<FeederOutcome<'t>>, RunFault>
     requires some { 0 < O.plan.shards }
     requires of_tower { O.plan.claims ≡ claims_of tower.now }
     requires fresh { AreFresh O.plan passes.items }
     requires each { vec_len passes ≡ vec_len readers }
-    ensures fed { IfOk result (λ feds. AreReadAndFed O.plan tower.now field passes.entry.items (map S.remaining readers.items) feds.items) }
+    ensures fed { IfOk result (λ outcomes. AreReadAndFed O.plan tower.now field passes.entry.items (map S.remaining readers.items) outcomes.items) }
     ensures fault { IfErr result MayEnd }
 {
     let half = readers.len() / 2;
@@ -129,36 +129,36 @@ pub fn read_all<
     let rest = passes_from::<O>(&mut passes, half)?;
     let (first, second) = join(
         rt,
-        || -> Result<Vec<Fed>, RunFault>
+        || -> Result<Vec<FeederOutcome>, RunFault>
             requires { IsSync R.row × (0 < O.plan.shards) × (O.plan.claims ≡ claims_of tower.now) × AreFresh O.plan passes.items × (vec_len passes ≡ vec_len readers) }
-            ensures fed { IfOk result (λ feds. AreReadAndFed O.plan tower.entry.now field passes.entry.items (map S.remaining readers.items) feds.items) }
+            ensures fed { IfOk result (λ outcomes. AreReadAndFed O.plan tower.entry.now field passes.entry.items (map S.remaining readers.items) outcomes.items) }
             ensures fault { IfErr result MayEnd }
         {
             read_all(
                 rt, alloc, auditor, gate, tower, field, pages, passes, readers,
             )
         },
-        || -> Result<Vec<Fed>, RunFault>
+        || -> Result<Vec<FeederOutcome>, RunFault>
             requires { IsSync R.row × (0 < O.plan.shards) × (O.plan.claims ≡ claims_of tower.now) × AreFresh O.plan rest.items × (vec_len rest ≡ vec_len back) }
-            ensures fed { IfOk result (λ feds. AreReadAndFed O.plan tower.entry.now field rest.entry.items (map S.remaining back.items) feds.items) }
+            ensures fed { IfOk result (λ outcomes. AreReadAndFed O.plan tower.entry.now field rest.entry.items (map S.remaining back.items) outcomes.items) }
             ensures fault { IfErr result MayEnd }
         { read_all(rt, alloc, auditor, gate, tower, field, pages, rest, back) },
     );
     joined(first, second)
 }
 
-/// The same on this thread alone, the first half before the rest.
+/// Feeds what each reader gives with its pass, on this thread alone, the first half before the rest.
 pub fn read_in_turn<'t, O: Opening, R: Wait, G: Gate, S: Read + Drop>(
     site: Site<'_, 't, 't, O, R, G>,
     pages: &'t Pages,
     mut passes: Vec<Pass<'t>>,
     mut readers: Vec<S>,
-) -> Result<Vec<Fed<'t>>, RunFault>
+) -> Result<Vec<FeederOutcome<'t>>, RunFault>
     requires some { 0 < O.plan.shards }
     requires of_tower { O.plan.claims ≡ claims_of site.tower.now }
     requires fresh { AreFresh O.plan passes.items }
     requires each { vec_len passes ≡ vec_len readers }
-    ensures fed { IfOk result (λ feds. AreReadAndFed O.plan site.entry.tower.now site.entry.field passes.entry.items (map S.remaining readers.items) feds.items) }
+    ensures fed { IfOk result (λ outcomes. AreReadAndFed O.plan site.entry.tower.now site.entry.field passes.entry.items (map S.remaining readers.items) outcomes.items) }
     ensures fault { IfErr result MayEnd }
 {
     let half = readers.len() / 2;
@@ -172,48 +172,48 @@ pub fn read_in_turn<'t, O: Opening, R: Wait, G: Gate, S: Read + Drop>(
     joined(first, second)
 }
 
-/// One reader with its pass, or none.
+/// Feeds what the one reader gives with its pass, or nothing.
 fn read_alone<'t, O: Opening, R: Wait, G: Gate, S: Read + Drop>(
     site: Site<'_, 't, 't, O, R, G>,
     pages: &'t Pages,
     mut passes: Vec<Pass<'t>>,
     mut readers: Vec<S>,
-) -> Result<Vec<Fed<'t>>, RunFault>
+) -> Result<Vec<FeederOutcome<'t>>, RunFault>
     requires some { 0 < O.plan.shards }
     requires of_tower { O.plan.claims ≡ claims_of site.tower.now }
     requires fresh { AreFresh O.plan passes.items }
     requires each { vec_len passes ≡ vec_len readers }
     requires few { vec_len readers < 2 }
-    ensures fed { IfOk result (λ feds. AreReadAndFed O.plan site.entry.tower.now site.entry.field passes.entry.items (map S.remaining readers.items) feds.items) }
+    ensures fed { IfOk result (λ outcomes. AreReadAndFed O.plan site.entry.tower.now site.entry.field passes.entry.items (map S.remaining readers.items) outcomes.items) }
     ensures fault { IfErr result MayEnd }
 {
-    let mut feds = Vec::new(site.alloc);
+    let mut outcomes = Vec::new(site.alloc);
     let Some(reader) = readers.pop() else {
-        return Ok(feds);
+        return Ok(outcomes);
     };
     let Some(pass) = passes.pop() else {
-        return Ok(feds);
+        return Ok(outcomes);
     };
-    feds.push(feed_reader(site, pages, pass, reader)?)?;
-    Ok(feds)
+    outcomes.push(feed_reader(site, pages, pass, reader)?)?;
+    Ok(outcomes)
 }
 
-/// What two halves gave, in order. Where either failed, its fault; where both did, that of the first.
+/// What two halves gave, in order. Where one failed, its fault; where both did, that of the first.
 fn joined<'t>(
-    first: Result<Vec<Fed<'t>>, RunFault>,
-    second: Result<Vec<Fed<'t>>, RunFault>,
-) -> Result<Vec<Fed<'t>>, RunFault>
-    ensures both { IfOk first.entry (λ front. IfOk second.entry (λ back. IfOk result (λ feds. feds.items ≡ front.items ++ back.items) × IfErr result (λ fault. fault ≡ Memory))) }
+    first: Result<Vec<FeederOutcome<'t>>, RunFault>,
+    second: Result<Vec<FeederOutcome<'t>>, RunFault>,
+) -> Result<Vec<FeederOutcome<'t>>, RunFault>
+    ensures both { IfOk first.entry (λ front. IfOk second.entry (λ back. IfOk result (λ outcomes. outcomes.items ≡ front.items ++ back.items) × IfErr result (λ fault. fault ≡ Memory))) }
     ensures first { IfErr first.entry (λ fault. result ≡ Err fault) }
     ensures second { OnOk first.entry (IfErr second.entry (λ fault. result ≡ Err fault)) }
 {
-    let mut feds = first?;
+    let mut outcomes = first?;
     let mut more = second?;
-    feds.append(&mut more)?;
-    Ok(feds)
+    outcomes.append(&mut more)?;
+    Ok(outcomes)
 }
 
-/// Takes away the passes from a number on.
+/// Takes the passes from `number` on out of the list.
 fn passes_from<'t, O: Opening>(
     passes: &mut Vec<Pass<'t>>,
     number: usize,
@@ -227,17 +227,17 @@ fn passes_from<'t, O: Opening>(
     passes.split_off(number)
 }
 
-/// The passes and the logs.
-pub fn taken_apart<'t>(
+/// The passes and the logs of these outcomes, each in order.
+pub fn unzipped<'t>(
     alloc: Global,
-    feds: Vec<Fed<'t>>,
+    outcomes: Vec<FeederOutcome<'t>>,
 ) -> Result<(Vec<Pass<'t>>, Vec<Log<'t>>), AllocError>
-    ensures passes { IfOk result (λ parts. parts.0.items ≡ map (λ fed. fed.pass) feds.entry.items) }
-    ensures logs { IfOk result (λ parts. parts.1.items ≡ map (λ fed. fed.log) feds.entry.items) }
+    ensures passes { IfOk result (λ parts. parts.0.items ≡ map (λ fed. fed.pass) outcomes.entry.items) }
+    ensures logs { IfOk result (λ parts. parts.1.items ≡ map (λ fed. fed.log) outcomes.entry.items) }
 {
-    let mut passes = Vec::with_capacity(alloc, feds.len())?;
-    let mut logs = Vec::with_capacity(alloc, feds.len())?;
-    for fed in feds {
+    let mut passes = Vec::with_capacity(alloc, outcomes.len())?;
+    let mut logs = Vec::with_capacity(alloc, outcomes.len())?;
+    for fed in outcomes {
         passes.push_reserved(fed.pass);
         logs.push_reserved(fed.log);
     }

@@ -1,30 +1,30 @@
-//! What was taken of a trace that comes in pieces.
+//! What was taken of a trace that comes in chunks.
 
 ghost use Rattle.std.specs.Prelude.{◌≡◌, ◌+◌, ◌≤◌, ◌<◌, ◌^◌, ◌++◌, ◌∷◌, ◌-◌, [], ℕ, List, Result, length, take, drop, vec_len, vec_capacity, None, Ok, true, IfErr, IfOk, IfSome, OnErr, OnOk};
 ghost use Rattle.std.specs.List.{AllZip};
-ghost use Rattle.edn_reader.specs.Grammar.{Piece as APiece};
+ghost use Rattle.edn_reader.specs.Grammar.{ElementModel as APiece};
 ghost use Rattle.edn_reader.specs.Splitting.{IsLast};
 ghost use Rattle.jepsen_form.specs.declared.fault.FormFault.{FormFault as AFormFault};
 ghost use Rattle.jepsen_form.specs.declared.item.Item.{Item as AnItem};
 ghost use Rattle.jepsen_form.specs.Item.{IsItem};
-ghost use Rattle.shards.specs.Pass.{Passed};
+ghost use Rattle.shards.specs.Pass.{PassModel};
 ghost use Rattle.shards.specs.Plan.{Plan, claims_of};
 ghost use Rattle.feeders.specs.Ending.{MayEnd};
 ghost use Rattle.feeders.specs.Intake.{CanGoOn, GoesOver, GoesTo, HasFed, HasUsed, IsAtEnd};
-ghost use Rattle.feeders.specs.Kept.{Holds};
-ghost use Rattle.feeders.specs.Pending.{CanReadBehind, CanSettle, IsBeside, IsItemOfLast, IsPageOf, IsPending, IsSettled, IsToBeCarriedOut, IsToBePaired, count_of};
+ghost use Rattle.feeders.specs.TailBuffer.{AreLastBytes};
+ghost use Rattle.feeders.specs.Pending.{CanReadBehind, CanSettle, IsBeside, IsItemOfLast, IsPageOf, IsPending, AreSettled, IsToBeCarriedOut, IsToBePaired, count_of};
 ghost use Rattle.feeders.specs.Progress.{IsAhead, IsAt};
 ghost use Rattle.feeders.specs.Readers.{IsNotOfReading};
 ghost use Rattle.feeders.specs.Setting.{Setting, Start, setting_of};
 
 use crate::fault::{FeedFault, RunFault};
-use crate::kept::Kept;
 use crate::log::broken_by;
 use crate::next::take_element;
 use crate::pages::{Pages, part_of, text_on};
 use crate::pending::{Pending, hold_last, read_pending};
 use crate::progress::Progress;
 use crate::site::Site;
+use crate::tail_buffer::TailBuffer;
 use edn_reader::Splitter;
 use edn_reader::laws::each_is_element;
 use intervals::Memory;
@@ -34,25 +34,25 @@ use pairing::laws::steps_are_on_named_registers;
 use shards::{Gate, Opening, Pass};
 use std::sync::Wait;
 
-/// The bytes so far, of which those are kept that an element may still want, what their elements came to, and the last of
-/// these where it is not carried out yet.
+/// What is known of the bytes so far: the splitter after them, those that an element may still need, what their
+/// elements came to, and the last element where it is not carried out yet.
 #[derive(Drop)]
 pub struct Intake<'t> {
     pub splitter: Splitter,
-    pub kept: Kept,
+    pub kept: TailBuffer,
     pub progress: Progress<'t>,
     pub pending: Pending<'t>,
 }
 
 impl<'t> Intake<'t> {
-    /// Reads the element that is whole, from its kept bytes, which are then let go.
+    /// Reads the element that waits to be read, if any, from its kept bytes, which are then dropped.
     fn read_whole<O: Opening, R: Wait, G: Gate>(
         &mut self,
         site: Site<'_, '_, 't, O, R, G>,
         pages: &'t Pages,
     ) -> Result<(), Memory>
         requires can { CanSettle self.old }
-        ensures pending { (plan : Plan) (start : Start) (items : List (Result AnItem AFormFault)) (waiting : List APiece) (pass : Passed)
+        ensures pending { (plan : Plan) (start : Start) (items : List (Result AnItem AFormFault)) (waiting : List APiece) (pass : PassModel)
             → IsPending (setting_of plan site.entry.tower.now site.entry.field start) items waiting self.old pass
             → IsPending (setting_of plan site.entry.tower.now site.entry.field start) items waiting self.new pass }
         ensures goes { OnOk result (IsToBePaired self.new.pending) }
@@ -72,11 +72,11 @@ impl<'t> Intake<'t> {
         Ok(())
     }
 
-    /// Pairs the element that was read.
+    /// Pairs the element that was read, if one waits.
     fn pair_lent(&mut self) -> Result<(), Memory>
         requires can { CanSettle self.old }
         requires read { IsToBePaired self.old.pending }
-        ensures pending { (setting : Setting) (items : List (Result AnItem AFormFault)) (waiting : List APiece) (pass : Passed)
+        ensures pending { (setting : Setting) (items : List (Result AnItem AFormFault)) (waiting : List APiece) (pass : PassModel)
             → IsPending setting items waiting self.old pass → IsPending setting items waiting self.new pass }
         ensures goes { OnOk result (IsToBeCarriedOut self.new.pending) }
         ensures refused { OnErr result (count_of self.old.pending ≡ 1) }
@@ -92,7 +92,7 @@ impl<'t> Intake<'t> {
         Ok(())
     }
 
-    /// Carries out the step of the element that was paired.
+    /// Carries out the step of the element that was paired, if one waits.
     fn carry_out<O: Opening, R: Wait, G: Gate>(
         &mut self,
         site: Site<'_, '_, 't, O, R, G>,
@@ -104,7 +104,7 @@ impl<'t> Intake<'t> {
         ensures settled { OnOk result (self.new.pending ≡ Pending.Nothing) }
         ensures done { OnOk result ((start : Start) (items : List (Result AnItem AFormFault)) (waiting : List APiece)
             → IsPending (setting_of O.plan site.entry.tower.now site.entry.field start) items waiting self.old pass.old
-            → IsSettled (setting_of O.plan site.entry.tower.now site.entry.field start) items waiting self.new.progress pass.new) }
+            → AreSettled (setting_of O.plan site.entry.tower.now site.entry.field start) items waiting self.new.progress pass.new) }
         ensures waits { OnErr result ((setting : Setting) (items : List (Result AnItem AFormFault)) (waiting : List APiece)
             → setting.plan ≡ O.plan → IsPending setting items waiting self.old pass.old → IsPending setting items waiting self.new pass.new) }
         ensures can { CanSettle self.new }
@@ -126,7 +126,7 @@ impl<'t> Intake<'t> {
         Ok(())
     }
 
-    /// Goes on with the element that ended last, from where it stands, until its step is carried out.
+    /// Goes on with the element that waits, if any, until its step is carried out.
     pub fn settle<O: Opening, R: Wait, G: Gate>(
         &mut self,
         site: Site<'_, '_, 't, O, R, G>,
@@ -138,7 +138,7 @@ impl<'t> Intake<'t> {
         ensures settled { OnOk result (self.new.pending ≡ Pending.Nothing) }
         ensures done { OnOk result ((start : Start) (items : List (Result AnItem AFormFault)) (waiting : List APiece)
             → IsPending (setting_of O.plan site.entry.tower.now site.entry.field start) items waiting self.old pass.old
-            → IsSettled (setting_of O.plan site.entry.tower.now site.entry.field start) items waiting self.new.progress pass.new) }
+            → AreSettled (setting_of O.plan site.entry.tower.now site.entry.field start) items waiting self.new.progress pass.new) }
         ensures waits { OnErr result ((start : Start) (items : List (Result AnItem AFormFault)) (waiting : List APiece)
             → IsPending (setting_of O.plan site.entry.tower.now site.entry.field start) items waiting self.old pass.old
             → IsPending (setting_of O.plan site.entry.tower.now site.entry.field start) items waiting self.new pass.new) }
@@ -155,8 +155,8 @@ impl<'t> Intake<'t> {
         self.carry_out(site, pass)
     }
 
-    /// Takes the front of a piece, with which an element ended that begins at a place, its text where that lies on a page,
-    /// and its item where that was read.
+    /// Takes `front`, the prefix of a chunk with which an element ended that begins at the place `start`. The
+    /// element then waits. Its text is on `page`, and its item is `item`, where these are given.
     fn take_whole<'p, O: Opening, R: Wait, G: Gate>(
         &mut self,
         site: Site<'_, '_, 't, O, R, G>,
@@ -171,12 +171,12 @@ impl<'t> Intake<'t> {
         requires can { CanReadBehind start front.now self.old }
         requires page { IsPageOf page (drop (start - self.old.kept.from) (self.old.kept.bytes.items ++ front.now)) }
         requires item { IsItemOfLast site.tower.now site.field self.old.splitter (drop (start - self.old.kept.from) (self.old.kept.bytes.items ++ front.now)) item }
-        ensures pending { (plan : Plan) (begun : Start) (items : List (Result AnItem AFormFault)) (pass : Passed) (last : APiece)
+        ensures pending { (plan : Plan) (begun : Start) (items : List (Result AnItem AFormFault)) (pass : PassModel) (last : APiece)
             → IsLast self.old.splitter last → last.text ≡ drop (start - self.old.kept.from) (self.old.kept.bytes.items ++ front.entry.now)
             → IsAt plan begun items self.old.progress pass
             → IsPending (setting_of plan site.entry.tower.now site.entry.field begun) items (last ∷ []) self.new pass }
         ensures can { CanSettle self.new }
-        ensures holds { (taken : List ℕ) → Holds taken self.old.kept → Holds (taken ++ front.entry.now) self.new.kept }
+        ensures holds { (taken : List ℕ) → AreLastBytes taken self.old.kept → AreLastBytes (taken ++ front.entry.now) self.new.kept }
         ensures low { self.new.kept.from ≤ self.old.splitter.taken }
         ensures beside { (self.new.splitter ≡ self.old.splitter) × (self.new.progress.log.broken ≡ self.old.progress.log.broken) }
         ensures place { self.new.progress.place ≡ self.old.progress.place }
@@ -211,8 +211,9 @@ impl<'t> Intake<'t> {
         }
     }
 
-    /// Takes a piece, which lies on a page or does not, up to the end of the next element, whose step is carried out, or to
-    /// its own, and answers how many of its bytes were used; none where the trace broke.
+    /// Takes a chunk, which is also on `page` where that is given, up to the end of the next element, whose step
+    /// is then carried out, or else to its own end. The answer is how many of its bytes were used, or none where
+    /// the trace broke.
     fn take_next<O: Opening, R: Wait, G: Gate>(
         &mut self,
         site: Site<'_, '_, 't, O, R, G>,
@@ -280,8 +281,8 @@ impl<'t> Intake<'t> {
         }
     }
 
-    /// Takes a piece whole, which lies on a page or does not, and answers whether the trace goes on; it does not where it
-    /// broke.
+    /// Takes a whole chunk, which is also on `page` where that is given, and answers whether the trace goes on:
+    /// false where it broke.
     pub fn take_piece<O: Opening, R: Wait, G: Gate>(
         &mut self,
         site: Site<'_, '_, 't, O, R, G>,
@@ -323,7 +324,7 @@ impl<'t> Intake<'t> {
         Ok(true)
     }
 
-    /// Takes the end of the trace, behind which nothing comes. The element that ends with it then waits.
+    /// Takes the end of the trace. An element that ends with it then waits.
     pub fn take_end<O: Opening, R: Wait, G: Gate>(
         &mut self,
         site: Site<'_, '_, 't, O, R, G>,

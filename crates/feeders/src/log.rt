@@ -1,13 +1,13 @@
-//! What is noted of a trace.
+//! The log of a trace: what is noted of it, as its steps are carried out, and where it broke.
 
 ghost use Rattle.std.specs.Prelude.{◌≡◌, ◌∷◌, ◌++◌, ◌<◌, [], IfErr, OnErr, OnOk, Ok, Err, Some, length};
 ghost use Rattle.pairing.specs.declared.step.Step.TheVariants.{Edit as ToEdit, Ask};
-ghost use Rattle.shards.specs.Pass.{IsPassOf, Passed};
-ghost use Rattle.feeders.specs.Broken.{broken_by as break_of};
-ghost use Rattle.feeders.specs.Code.{break_code_of, code_of};
+ghost use Rattle.shards.specs.Pass.{IsPassOf, PassModel};
+ghost use Rattle.feeders.specs.Broken.{broken_by};
+ghost use Rattle.feeders.specs.Code.{break_code_of, refused_code};
 ghost use Rattle.feeders.specs.Steps.{IsKnownStep};
 ghost use Rattle.feeders.specs.Ending.{MayEnd};
-ghost use Rattle.feeders.specs.Progress.{GoesOn, IsKept};
+ghost use Rattle.feeders.specs.Progress.{GoesOn, HasSameLines};
 
 use crate::fault::RunFault;
 use crate::site::Site;
@@ -31,7 +31,7 @@ pub enum Code {
 impl Code {
     /// The code that users see.
     pub fn code(&self) -> &'static str
-        ensures { result.now ≡ code_of self.now }
+        ensures { result.now ≡ refused_code self.now }
     {
         match self {
             Code::Form(fault) => fault.code(),
@@ -41,21 +41,21 @@ impl Code {
     }
 }
 
-/// What is noted of an element.
+/// What is noted of an element: why it was refused, or the answer to its question.
 #[derive(Clone, Copy, Debug)]
 pub enum What<'t> {
     Refused(Code),
     Answered(RegId, Answer<'t>),
 }
 
-/// A refusal or an answer, with the place of the element in its trace, from 0.
+/// A log line: a refusal or an answer, with the place of the element among those of its trace, from 0.
 #[derive(Clone, Copy, Debug)]
 pub struct Line<'t> {
     pub event: u64,
     pub what: What<'t>,
 }
 
-/// Why a trace breaks off: by a fault of its text, or because its reading ends before it does.
+/// Why a trace broke: by a fault of its text (E), or because its reading broke off before its end (N).
 #[derive(Clone, Copy, Debug, PartialEq, Eq)]
 pub enum BreakCode {
     /// E1: it ends inside an element or a discard.
@@ -94,14 +94,14 @@ impl BreakCode {
     }
 }
 
-/// Where a trace broke, as a byte place.
+/// Why a trace broke, and at which byte of it, from 0.
 #[derive(Clone, Copy, Debug, PartialEq, Eq)]
 pub struct Broken {
     pub code: BreakCode,
     pub place: u64,
 }
 
-/// What is noted of a trace, in the order of its elements, and where it broke, where it did.
+/// What is noted of a trace, in the order of its elements, and where it broke, if it did.
 #[derive(Drop)]
 pub struct Log<'t> {
     pub lines: Vec<Line<'t>>,
@@ -109,7 +109,7 @@ pub struct Log<'t> {
 }
 
 impl<'t> Log<'t> {
-    /// Carries out the step of the element at a place.
+    /// Carries out the step of the element at `place`, where it has one, and notes a refusal or an answer.
     pub fn carry_out<O: Opening, R: Wait, G: Gate>(
         &mut self,
         site: Site<'_, '_, 't, O, R, G>,
@@ -119,7 +119,7 @@ impl<'t> Log<'t> {
     ) -> Result<(), RunFault>
         requires some { 0 < O.plan.shards }
         ensures done { OnOk result (GoesOn O.plan pass.old self.old pass.new self.new place (Ok step.entry)) }
-        ensures kept { OnErr result (IsKept self.old self.new × (pass.new ≡ pass.old)) }
+        ensures kept { OnErr result (HasSameLines self.old self.new × (pass.new ≡ pass.old)) }
         ensures broken { self.new.broken ≡ self.old.broken }
         ensures fault { IfErr result (λ fault. IsPassOf O.plan pass.old → IsKnownStep O.plan (Ok step.entry) → MayEnd fault) }
     {
@@ -130,10 +130,10 @@ impl<'t> Log<'t> {
         }
     }
 
-    /// Notes that the element at a place is refused before it reaches a register.
+    /// Notes that the element at `place` is refused before it reaches a register.
     pub fn refuse<O: Opening>(&mut self, place: u64, code: Code) -> Result<(), RunFault>
-        ensures done { OnOk result ((pass : Passed) → GoesOn O.plan pass self.old pass self.new place (Err code)) }
-        ensures kept { OnErr result (IsKept self.old self.new) }
+        ensures done { OnOk result ((pass : PassModel) → GoesOn O.plan pass self.old pass self.new place (Err code)) }
+        ensures kept { OnErr result (HasSameLines self.old self.new) }
         ensures broken { self.new.broken ≡ self.old.broken }
         ensures fault { IfErr result MayEnd }
     {
@@ -144,7 +144,8 @@ impl<'t> Log<'t> {
         Ok(())
     }
 
-    /// Has an edit entered. Room for its line is made first.
+    /// Submits an edit, and notes a refusal by its register. Room for the log line is made first, since nothing
+    /// may fail once the edit is entered.
     fn submit<O: Opening, R: Wait, G: Gate>(
         &mut self,
         site: Site<'_, '_, 't, O, R, G>,
@@ -155,7 +156,7 @@ impl<'t> Log<'t> {
     ) -> Result<(), RunFault>
         requires some { 0 < O.plan.shards }
         ensures done { OnOk result (GoesOn O.plan pass.old self.old pass.new self.new place (Ok (Some (ToEdit register edit.entry)))) }
-        ensures kept { OnErr result (IsKept self.old self.new × (pass.new ≡ pass.old)) }
+        ensures kept { OnErr result (HasSameLines self.old self.new × (pass.new ≡ pass.old)) }
         ensures broken { self.new.broken ≡ self.old.broken }
         ensures fault { IfErr result (λ fault. IsPassOf O.plan pass.old → register.0 < length O.plan.claims → MayEnd fault) }
     {
@@ -173,7 +174,7 @@ impl<'t> Log<'t> {
         Ok(())
     }
 
-    /// Notes the answer to a question. Room for its line is made first.
+    /// Asks whether a register holds, and notes the answer. Room for the log line is made first.
     fn ask<O: Opening, R: Wait, G: Gate>(
         &mut self,
         site: Site<'_, '_, 't, O, R, G>,
@@ -183,7 +184,7 @@ impl<'t> Log<'t> {
     ) -> Result<(), RunFault>
         requires some { 0 < O.plan.shards }
         ensures done { OnOk result (GoesOn O.plan pass.old self.old pass.new self.new place (Ok (Some (Ask register)))) }
-        ensures kept { OnErr result (IsKept self.old self.new × (pass.new ≡ pass.old)) }
+        ensures kept { OnErr result (HasSameLines self.old self.new × (pass.new ≡ pass.old)) }
         ensures broken { self.new.broken ≡ self.old.broken }
         ensures fault { IfErr result (λ fault. IsPassOf O.plan pass.old → register.0 < length O.plan.claims → MayEnd fault) }
     {
@@ -198,9 +199,9 @@ impl<'t> Log<'t> {
     }
 }
 
-/// A fault of the text as what broke the trace. Want of memory is none.
+/// The break of a trace by a fault of its text; none where the fault is that memory was refused.
 pub fn broken_by(fault: EdnFault) -> Option<Broken>
-    ensures { result ≡ break_of fault }
+    ensures { result ≡ broken_by fault }
 {
     let (code, place) = match fault {
         EdnFault::Truncated(place) => (BreakCode::Truncated, place),

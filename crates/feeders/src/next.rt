@@ -1,4 +1,4 @@
-//! The next element of a piece, and its item where one pass over its bytes gives both.
+//! The next element of a chunk, and its item where one pass over its bytes gives both.
 
 ghost use Rattle.std.specs.Prelude.{◌≡◌, ◌≤◌, ◌<◌, ◌+◌, ◌-◌, ◌^◌, length, take, drop, Ok, Err, IfErr, IfOk, IfSome};
 ghost use Rattle.edn_reader.specs.Splitting.{TakesOn};
@@ -8,15 +8,16 @@ use edn_reader::{EdnFault, Splitter, Taken};
 use jepsen_form::{FormFault, Item, MomentField, read_first};
 use tower_file::Tower;
 
-/// How much of a piece was taken, and the item of the element that ended, where it was read on the way.
+/// How much of a chunk was taken, and the item of the element that ended, where it was read on the way.
 #[derive(Drop)]
 pub struct Next<'p> {
     pub taken: Taken,
     pub item: Option<Result<Item<'p>, FormFault>>,
 }
 
-/// Takes a piece up to the end of the next element or to its own, as the splitter does. Where no element has begun and the
-/// piece begins with a usual one, the element and its item are read in one pass; the splitter takes all others.
+/// Takes a chunk up to the end of the next element, or else to its own end, as the splitter does. Where no element
+/// has begun and the chunk begins with one of the usual form, the element and its item are read in one pass; the
+/// splitter takes all others.
 pub fn take_element<'p>(
     splitter: &mut Splitter,
     piece: &'p [u8],

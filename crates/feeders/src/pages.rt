@@ -1,4 +1,4 @@
-//! Texts that outlive the piece which they came in.
+//! Texts that outlive the chunk in which they came.
 
 ghost use Rattle.std.specs.Prelude.{◌≡◌, ◌-◌, ◌≤◌, ℕ, List, take, drop, IfOk, IfSome};
 ghost use Rattle.feeders.specs.Pending.{IsPageOf};
@@ -8,13 +8,15 @@ use intervals::Memory;
 use std::alloc::Global;
 use std::sync::Wait;
 
-/// Texts that stay where they were put for as long as the pages themselves. Any number of threads may put texts there.
+/// Texts that stay where they were put for as long as the pages exist. Any number of threads may put texts there
+/// at once.
 #[derive(Drop)]
 pub struct Pages {
     texts: Shelf<Vec<u8>>,
 }
 
 impl Pages {
+    /// Pages without a text.
     pub fn new(alloc: Global) -> Result<Pages, Memory> {
         Ok(Pages {
             texts: Shelf::new(alloc)?,
@@ -32,14 +34,16 @@ impl Pages {
     }
 }
 
-/// The bytes of a page from one place to another.
+/// The bytes of a page from the place `from` to the place `to`, where there is a page that has these.
 pub fn part_of<'t>(page: Option<&'t [u8]>, from: usize, to: usize) -> Option<&'t [u8]>
     ensures { (bytes : List ℕ) → IsPageOf page.entry bytes → IsPageOf result (take (to - from) (drop from bytes)) }
 {
     page?.get(from..to)
 }
 
-/// The text of an element that begins at a place, and ends with these bytes of a page, whose first has the place `base`.
+/// The text, on a page, of an element that begins at the place `start` of the trace and ends with the page's first
+/// `used` bytes. The page's first byte has the place `base`; there is no text where the element begins before
+/// that.
 pub fn text_on<'t>(
     page: Option<&'t [u8]>,
     base: usize,

@@ -1,4 +1,4 @@
-//! Which pieces are put on a page whole.
+//! Which chunks are put on a page whole.
 
 ghost use Rattle.feeders.specs.Pending.{IsPageOf};
 
@@ -7,17 +7,19 @@ use shards::Pass;
 use std::alloc::Global;
 use std::sync::Wait;
 
-/// A piece is long from this length on. From a shorter one each text gets a page of its own.
+/// A chunk is long from this many bytes on. Of a shorter one each text that is lent gets a page of its own.
 const LONG: usize = 4_096;
 
-/// A long piece is put on a page where it has no more than so many bytes for each entry that came since the one before it
-/// began, or is the first: so what lies on pages and is not lent grows with the entries, and not with what is skipped.
+/// A long chunk is put on a page if it is the first, or has at most this many bytes for each entry that the feeder
+/// made since the long chunk before it began. So what is on pages and not lent grows with the entries, not with
+/// what is skipped.
 const BYTES_AN_ENTRY: u64 = 256;
 
-/// There are no more shards.
+/// There are at most this many shards.
 const SHARDS: u32 = 64;
 
-/// The length of a feeder's last long piece, 0 where there was none, and how many entries the feeder had submitted before it.
+/// The length in bytes of a feeder's last long chunk, 0 where there was none, and how many entries the feeder had
+/// submitted before it.
 #[derive(Clone, Copy)]
 pub struct Paging {
     length: usize,
@@ -32,7 +34,7 @@ impl Paging {
         }
     }
 
-    /// The page of the next piece, where it is put on one. Where memory for it is refused there is none.
+    /// The page of the next chunk; none where it is not put on one, or where memory for that is refused.
     pub fn page_of<'t, R: Wait>(
         &mut self,
         pages: &'t Pages,

@@ -1,15 +1,15 @@
 //! The element that ended last, until its step is carried out.
 
 ghost use Rattle.std.specs.Prelude.{◌≡◌, ◌<◌, ◌+◌, ◌^◌, ◌++◌, ◌∷◌, [], ℕ, List, Result, IfOk, OnErr, false, length};
-ghost use Rattle.edn_reader.specs.Grammar.{Piece as APiece, IsElement};
+ghost use Rattle.edn_reader.specs.Grammar.{ElementModel as APiece, IsElement};
 ghost use Rattle.edn_reader.specs.Lent.{piece_of};
 ghost use Rattle.edn_reader.specs.Splitting.{IsLast};
 ghost use Rattle.jepsen_form.specs.declared.fault.FormFault.{FormFault as AFormFault};
 ghost use Rattle.jepsen_form.specs.declared.item.Item.{Item as AnItem};
 ghost use Rattle.jepsen_form.specs.Item.{IsItem, answer_with};
-ghost use Rattle.shards.specs.Pass.{Passed};
+ghost use Rattle.shards.specs.Pass.{PassModel};
 ghost use Rattle.shards.specs.Plan.{Plan};
-ghost use Rattle.feeders.specs.Lending.{LendsNone, is_lent as lends};
+ghost use Rattle.feeders.specs.Lending.{LendsNone, is_lent};
 ghost use Rattle.feeders.specs.Pending.{IsItemOfLast, IsPageOf, IsReadAs};
 ghost use Rattle.feeders.specs.Progress.{IsAhead};
 ghost use Rattle.feeders.specs.Setting.{Start};
@@ -32,13 +32,13 @@ pub enum Pending<'t> {
     Nothing,
     /// It ended, and its bytes are kept from this place on.
     Whole(usize),
-    /// It was read, and its text lies on a page.
+    /// It was read, and its text is on a page.
     Lent(Result<Item<'t>, FormFault>),
     /// It was paired: its step, or why it is refused.
     Paired(Result<Option<Step<'t>>, Code>),
 }
 
-/// Reads an element, and holds its item.
+/// Reads an element whose text is on no page, and holds its item.
 pub fn read_pending<'t, O: Opening, R: Wait, G: Gate>(
     site: Site<'_, '_, 't, O, R, G>,
     pages: &'t Pages,
@@ -53,8 +53,8 @@ pub fn read_pending<'t, O: Opening, R: Wait, G: Gate>(
     hold_item(site, pages, progress, item, element.text(), None)
 }
 
-/// Holds the item of the element that ended last, which has this text, and lies on a page or does not; the item is read
-/// where it was not yet.
+/// Holds the item of the element that ended last, which has this text, also on a page where one is given. Where
+/// the item was not read yet, it is read here.
 pub fn hold_last<'t, 'p, O: Opening, R: Wait, G: Gate>(
     site: Site<'_, '_, 't, O, R, G>,
     pages: &'t Pages,
@@ -82,8 +82,9 @@ pub fn hold_last<'t, 'p, O: Opening, R: Wait, G: Gate>(
     }
 }
 
-/// Holds the item of an element with this text, which it lends from a page. Where the text lies on none yet, it is put on
-/// one if its step lends it; if it does not the element is paired at once, since its item may not outlive its bytes.
+/// Holds the item of an element with this text, which is lent from `page` where that is given. Else the text is
+/// put on a page of its own if its step lends it; if not, the element is paired at once, since its item cannot
+/// outlive the text.
 pub fn hold_item<'t, O: Opening, R: Wait, G: Gate>(
     site: Site<'_, '_, 't, O, R, G>,
     pages: &'t Pages,
@@ -120,9 +121,9 @@ fn from_page<'t>(item: Result<Item, FormFault>, page: &'t [u8]) -> Result<Item<'
     }
 }
 
-/// Whether the step of an element lends its text.
+/// Whether the step of an item may lend its text; false for a fault of the form.
 fn is_lent(item: &Result<Item, FormFault>) -> bool
-    ensures { result ≡ lends item.now }
+    ensures { result ≡ is_lent item.now }
 {
     match item {
         Ok(Item::Event(event)) => match event.answer {
@@ -135,7 +136,7 @@ fn is_lent(item: &Result<Item, FormFault>) -> bool
     }
 }
 
-/// A step that lends no text, for as long as may be.
+/// The step, which lends no text, with any lifetime.
 fn unlent<'t>(step: Result<Option<Step>, Code>) -> Result<Option<Step<'t>>, Code>
     ensures { LendsNone step.entry → result ≡ step.entry }
 {

@@ -1,18 +1,18 @@
-//! A feeder between two elements.
+//! What a feeder knows between two elements.
 
 ghost use Rattle.std.specs.Prelude.{◌≡◌, ◌+◌, ◌<◌, ◌^◌, ◌∷◌, ◌++◌, [], ℕ, List, Result, IfErr, IfOk, OnErr, OnOk, Err, None, Some, IsTrue, ◌↔◌};
 ghost use Rattle.jepsen_form.specs.declared.fault.FormFault.{FormFault as AFormFault};
 ghost use Rattle.jepsen_form.specs.declared.item.Item.{Item as AnItem};
-ghost use Rattle.shards.specs.Pass.{IsPassOf, Passed};
+ghost use Rattle.shards.specs.Pass.{IsPassOf, PassModel};
 ghost use Rattle.shards.specs.Plan.{Plan};
 ghost use Rattle.feeders.specs.Ending.{MayEnd};
 ghost use Rattle.feeders.specs.Progress.{IsAhead, IsAt, IsPaired, PairedUpTo};
-ghost use Rattle.feeders.specs.Setting.{IsStart, Start};
+ghost use Rattle.feeders.specs.Setting.{IsAtStart, Start};
 ghost use Rattle.feeders.specs.Steps.{IsKnownStep, by_pairing};
 
 use crate::fault::RunFault;
-use crate::fed::Fed;
 use crate::log::{Broken, Code, Log};
+use crate::outcome::FeederOutcome;
 use crate::site::Site;
 use intervals::Memory;
 use jepsen_form::{FormFault, Item};
@@ -21,7 +21,7 @@ use shards::{Gate, Opening, Pass};
 use std::alloc::Global;
 use std::sync::Wait;
 
-/// What is known after the elements so far.
+/// What a feeder knows after the elements so far.
 #[derive(Drop)]
 pub struct Progress<'t> {
     /// The place of the next element.
@@ -31,12 +31,12 @@ pub struct Progress<'t> {
 }
 
 impl<'t> Progress<'t> {
-    /// The state before the first element.
+    /// What it knows before the first element.
     pub fn new(alloc: Global, feeder: u32) -> Self
         ensures place { result.place ≡ 0 }
         ensures unbroken { result.log.broken ≡ None }
         ensures ahead { IsAhead result }
-        ensures at { (plan : Plan) (start : Start) (pass : Passed) → IsStart plan start pass → start.feeder ≡ feeder → IsAt plan start [] result pass }
+        ensures at { (plan : Plan) (start : Start) (pass : PassModel) → IsAtStart plan start pass → start.feeder ≡ feeder → IsAt plan start [] result pass }
     {
         Progress {
             place: 0,
@@ -48,7 +48,7 @@ impl<'t> Progress<'t> {
         }
     }
 
-    /// Pairs the next element, as it was read: its step, or why it is refused.
+    /// Pairs the next element, of which this is the item or the fault of its form: its step, or why it is refused.
     pub fn pair<'p>(
         &mut self,
         item: Result<Item<'p>, FormFault>,
@@ -56,7 +56,7 @@ impl<'t> Progress<'t> {
         requires ahead { IsAhead self.old }
         ensures place { self.new.place ≡ self.old.place }
         ensures last { OnOk result (PairedUpTo self.new) }
-        ensures paired { IfOk result (λ step. (plan : Plan) (start : Start) (items : List (Result AnItem AFormFault)) (pass : Passed) → IsAt plan start items self.old pass → IsPaired plan start items item.entry step self.new pass) }
+        ensures paired { IfOk result (λ step. (plan : Plan) (start : Start) (items : List (Result AnItem AFormFault)) (pass : PassModel) → IsAt plan start items self.old pass → IsPaired plan start items item.entry step self.new pass) }
         ensures log { self.new.log ≡ self.old.log }
         ensures kept { OnErr result (self.new ≡ self.old) }
     {
@@ -98,13 +98,13 @@ impl<'t> Progress<'t> {
         Ok(())
     }
 
-    /// What was done, up to the end of the trace or to where it broke.
-    pub fn end(self, pass: Pass<'t>, broken: Option<Broken>) -> Fed<'t>
+    /// What the feeder leaves, at the end of the trace or where it broke.
+    pub fn end(self, pass: Pass<'t>, broken: Option<Broken>) -> FeederOutcome<'t>
         ensures pass { result.pass ≡ pass.entry }
         ensures lines { result.log.lines ≡ self.entry.log.lines }
         ensures broken { result.log.broken ≡ broken }
     {
-        Fed {
+        FeederOutcome {
             pass,
             log: Log {
                 lines: self.log.lines,
@@ -120,7 +120,7 @@ fn wants_memory(step: &Result<Option<Step>, PairFault>) -> bool
     matches!(step, Err(PairFault::Memory))
 }
 
-/// What the pairing answered, with its refusal as a code.
+/// What the pairing answered, with its refusal as a code of the log.
 fn with_code<'p>(step: Result<Option<Step<'p>>, PairFault>) -> Result<Option<Step<'p>>, Code>
     ensures { result ≡ by_pairing step.entry }
 {

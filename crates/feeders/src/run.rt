@@ -7,7 +7,7 @@ ghost use Rattle.feeders.specs.Readers.{AreReadOf, IsNotOfReading};
 ghost use Rattle.feeders.specs.Run.{IsRun};
 
 use crate::fault::RunFault;
-use crate::halves::{feed_all, read_all, read_in_turn, taken_apart};
+use crate::halves::{feed_all, read_all, read_in_turn, unzipped};
 use crate::log::Log;
 use crate::pages::Pages;
 use crate::site::Site;
@@ -20,15 +20,16 @@ use std::sync::Wait;
 use std::thread::Threads;
 use tower_file::Tower;
 
-/// What is left of the traces: the journals and the books, and a log for each trace, by number.
+/// What a run leaves: the journals and the books, and a log for each trace, by the trace's number.
 #[derive(Drop)]
 pub struct Run<'t> {
     pub closed: Closed<'t>,
     pub logs: Vec<Log<'t>>,
 }
 
-/// Feeds each trace to the registers of a tower, each by a thread of its own, this one among them: feeder `i` has
-/// trace `i`. A moment stands under `:index` or under `:time`, as the field says. It waits for the shards' locks.
+/// Feeds traces to the registers of a tower, each by a thread of its own, this one among them: feeder `i` has
+/// trace `i`. Moments are read under `:index` or under `:time`, as `field` says. It waits for the shards' locks.
+/// Where feeders fail, the fault is that of the one with the least number.
 pub fn run_traces<'t, R: Threads + Wait + Sync, G: Gate>(
     rt: &R,
     alloc: Global,
@@ -48,9 +49,10 @@ pub fn run_traces<'t, R: Threads + Wait + Sync, G: Gate>(
 }
 
 /// Feeds what each reader gives, in pieces as they come, each by a thread of its own, this one among them: feeder `i` has
-/// reader `i`. The texts that steps lend go to the pages. A trace whose reading fails (N1), or takes more than
-/// 1,073,741,824 bytes or 16,777,216 read calls (N2), ends with the bytes that were read. A call that is interrupted is made
-/// again, and counts. It waits for the shards' locks and for other pushes to the pages.
+/// reader `i`. The texts that steps lend are copied to `pages`, one by one or with a whole piece. A trace whose
+/// reading fails (N1), or takes more than 1,073,741,824 bytes or 16,777,216 read calls (N2), ends with the bytes
+/// that were read. An interrupted call is made again, and counts. It waits for the shards' locks and for other
+/// pushes to the pages.
 pub fn run_readers<'t, R: Threads + Wait + Sync, S: Read + Drop + Send, G: Gate>(
     rt: &R,
     alloc: Global,
@@ -69,7 +71,8 @@ pub fn run_readers<'t, R: Threads + Wait + Sync, S: Read + Drop + Send, G: Gate>
     read_in::<Brand, R, S, G>(rt, alloc, tower, readers, pages, field, shards, gate)
 }
 
-/// The same on this thread alone, one reader after another: what meets on a register is always refused alike.
+/// Feeds what readers give, as `run_readers` does, but on this thread alone, one reader after another: so where
+/// traces meet on a register, each run refuses the same edits.
 pub fn run_in_turn<'t, R: Wait, S: Read + Drop, G: Gate>(
     rt: &R,
     alloc: Global,
@@ -88,7 +91,7 @@ pub fn run_in_turn<'t, R: Wait, S: Read + Drop, G: Gate>(
     turn_in::<Brand, R, S, G>(rt, alloc, tower, readers, pages, field, shards, gate)
 }
 
-/// The same in an opening.
+/// `run_readers` for the plan of the opening `O`.
 fn read_in<'t, O: Opening + Send + Sync, R: Threads + Wait + Sync, S: Read + Drop + Send, G: Gate>(
     rt: &R,
     alloc: Global,
@@ -106,17 +109,17 @@ fn read_in<'t, O: Opening + Send + Sync, R: Threads + Wait + Sync, S: Read + Dro
     ensures fault { IfErr result MayEnd }
 {
     let (auditor, passes) = Auditor::<O>::open(alloc, 0, tower, shards, readers.len() as u32)?;
-    let feds = read_all(
+    let outcomes = read_all(
         rt, alloc, &auditor, gate, tower, field, pages, passes, readers,
     )?;
-    let (passes, logs) = taken_apart(alloc, feds)?;
+    let (passes, logs) = unzipped(alloc, outcomes)?;
     match auditor.finish(passes) {
         Ok(closed) => Ok(Run { closed, logs }),
         Err(unfinished) => Err(RunFault::from(unfinished.fault)),
     }
 }
 
-/// The same in an opening.
+/// `run_traces` for the plan of the opening `O`.
 fn run_in<'t, O: Opening + Send + Sync, R: Threads + Wait + Sync, G: Gate>(
     rt: &R,
     alloc: Global,
@@ -142,15 +145,15 @@ fn run_in<'t, O: Opening + Send + Sync, R: Threads + Wait + Sync, G: Gate>(
         tower,
         field,
     };
-    let feds = feed_all(site, passes, traces)?;
-    let (passes, logs) = taken_apart(alloc, feds)?;
+    let outcomes = feed_all(site, passes, traces)?;
+    let (passes, logs) = unzipped(alloc, outcomes)?;
     match auditor.finish(passes) {
         Ok(closed) => Ok(Run { closed, logs }),
         Err(unfinished) => Err(RunFault::from(unfinished.fault)),
     }
 }
 
-/// The same in an opening, in turn.
+/// `run_in_turn` for the plan of the opening `O`.
 fn turn_in<'t, O: Opening, R: Wait, S: Read + Drop, G: Gate>(
     rt: &R,
     alloc: Global,
@@ -176,8 +179,8 @@ fn turn_in<'t, O: Opening, R: Wait, S: Read + Drop, G: Gate>(
         tower,
         field,
     };
-    let feds = read_in_turn(site, pages, passes, readers)?;
-    let (passes, logs) = taken_apart(alloc, feds)?;
+    let outcomes = read_in_turn(site, pages, passes, readers)?;
+    let (passes, logs) = unzipped(alloc, outcomes)?;
     match auditor.finish(passes) {
         Ok(closed) => Ok(Run { closed, logs }),
         Err(unfinished) => Err(RunFault::from(unfinished.fault)),

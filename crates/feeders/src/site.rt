@@ -1,4 +1,4 @@
-//! What a feeder is lent for the whole of a run.
+//! What a feeder is lent for a whole run.
 
 use jepsen_form::MomentField;
 use shards::{Auditor, Opening};

@@ -1,7 +1,7 @@
 //! A reader whose bytes and read calls are counted.
 
 ghost use Rattle.std.specs.Prelude.{◌≡◌, ◌≤◌, ◌<◌, ◌+◌, ◌++◌, ◌⊎◌, ℕ, true, List, [], Option, Ok, Err, IfOk, IfErr, IfSome, length, take};
-ghost use Rattle.feeders.specs.Source.{IsGiven};
+ghost use Rattle.feeders.specs.Source.{AreBytesOf};
 ghost use Rattle.feeders.specs.declared.source.TheConstants.{BYTE_LIMIT, CALL_LIMIT};
 
 use crate::log::BreakCode;
@@ -27,9 +27,9 @@ pub struct Source<R: Read> {
 }
 
 impl<R: Read> Source<R> {
-    /// A source that has given nothing.
+    /// A source of what the reader has left, of which nothing was given yet.
     pub fn new(reader: R) -> Source<R>
-        ensures given { (first : Option (List ℕ)) → first ≡ R.remaining reader → IsGiven first [] (R.remaining result.reader) result.past }
+        ensures given { (first : Option (List ℕ)) → first ≡ R.remaining reader → AreBytesOf first [] (R.remaining result.reader) result.past }
         ensures none { (result.given ≡ 0) × (result.calls ≡ 0) }
         ensures limits { (BYTE_LIMIT ≡ 1073741824) × (CALL_LIMIT ≡ 16777216) }
     {
@@ -41,13 +41,14 @@ impl<R: Read> Source<R> {
         }
     }
 
-    /// The next bytes, into the front of the buffer: how many there are, and none only at the end. A call that is
-    /// interrupted is made again. Bytes past the limit are not given: after them it answers `TooLong`.
+    /// Reads the next bytes into the beginning of `buffer`, and answers how many there are: 0 only at the end. An
+    /// interrupted call is made again. Bytes past the limit are not given: after those within it the answer is
+    /// `TooLong`, as it is when all read calls are used up.
     pub fn next(&mut self, buffer: &mut [u8]) -> Result<usize, BreakCode>
         requires room { 0 < length buffer.old }
-        ensures given { IfOk result (λ count. (first : Option (List ℕ)) (bytes : List ℕ) → IsGiven first bytes (R.remaining self.old.reader) self.old.past → IsGiven first (bytes ++ take count buffer.new) (R.remaining self.new.reader) self.new.past) }
-        ensures none_given { IfErr result (λ _. (first : Option (List ℕ)) (bytes : List ℕ) → IsGiven first bytes (R.remaining self.old.reader) self.old.past → IsGiven first bytes (R.remaining self.new.reader) self.new.past) }
-        ensures end { result ≡ Ok 0 → (first : Option (List ℕ)) (bytes : List ℕ) → IsGiven first bytes (R.remaining self.old.reader) self.old.past → IfSome first (λ all. all ≡ bytes) }
+        ensures given { IfOk result (λ count. (first : Option (List ℕ)) (bytes : List ℕ) → AreBytesOf first bytes (R.remaining self.old.reader) self.old.past → AreBytesOf first (bytes ++ take count buffer.new) (R.remaining self.new.reader) self.new.past) }
+        ensures none_given { IfErr result (λ _. (first : Option (List ℕ)) (bytes : List ℕ) → AreBytesOf first bytes (R.remaining self.old.reader) self.old.past → AreBytesOf first bytes (R.remaining self.new.reader) self.new.past) }
+        ensures end { result ≡ Ok 0 → (first : Option (List ℕ)) (bytes : List ℕ) → AreBytesOf first bytes (R.remaining self.old.reader) self.old.past → IfSome first (λ all. all ≡ bytes) }
         ensures count { IfOk result (λ count. (count ≤ length buffer.old) × (self.new.given ≡ self.old.given + count)) }
         ensures no_count { IfErr result (λ _. self.new.given ≡ self.old.given) }
         ensures code { IfErr result (λ code. (code ≡ BreakCode.ReadFailed) ⊎ (code ≡ BreakCode.TooLong)) }

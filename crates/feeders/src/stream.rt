@@ -1,15 +1,15 @@
-//! A feeder's way through what a reader gives.
+//! Feeds what a reader gives, chunk after chunk.
 
 ghost use Rattle.std.specs.Prelude.{◌≡◌, ◌<◌, IfErr, IfOk};
-ghost use Rattle.shards.specs.Pass.{fresh};
+ghost use Rattle.shards.specs.Pass.{new_pass};
 ghost use Rattle.shards.specs.Plan.{claims_of};
 ghost use Rattle.feeders.specs.Ending.{MayEnd};
 ghost use Rattle.feeders.specs.Progress.{IsReadAndFed};
 ghost use Rattle.feeders.specs.Setting.{first_start, setting_of};
 
 use crate::fault::RunFault;
-use crate::fed::Fed;
 use crate::feeder::Feeder;
+use crate::outcome::FeederOutcome;
 use crate::pages::Pages;
 use crate::site::Site;
 use crate::source::Source;
@@ -21,17 +21,17 @@ use std::sync::Wait;
 /// How many bytes are asked for in one read call.
 const PIECE: usize = 65_536;
 
-/// Reads a trace up to its end, to where it breaks or to where its reading does, and carries its steps out in order, each as
-/// soon as its element has ended.
+/// Reads a trace up to its end, to where it breaks or to where its reading breaks off, and carries its steps out in
+/// order, each as soon as its element has ended.
 pub fn feed_reader<'t, O: Opening, R: Wait, G: Gate, S: Read + Drop>(
     site: Site<'_, 't, 't, O, R, G>,
     pages: &'t Pages,
     mut pass: Pass<'t>,
     reader: S,
-) -> Result<Fed<'t>, RunFault>
+) -> Result<FeederOutcome<'t>, RunFault>
     requires some { 0 < O.plan.shards }
     requires of_tower { O.plan.claims ≡ claims_of site.tower.now }
-    requires fresh { pass ≡ fresh O.plan pass.feeder }
+    requires fresh { pass ≡ new_pass O.plan pass.feeder }
     requires known { pass.feeder < O.plan.feeders }
     ensures fed { IfOk result (IsReadAndFed (setting_of O.plan site.entry.tower.now site.entry.field (first_start pass.entry.feeder)) (S.remaining reader)) }
     ensures fault { IfErr result MayEnd }

@@ -1,7 +1,7 @@
-//! A feeder's way through its trace.
+//! Feeds a trace that is in memory as a whole.
 
 ghost use Rattle.std.specs.Prelude.{◌≡◌, ◌<◌, IfErr, IfOk};
-ghost use Rattle.shards.specs.Pass.{fresh};
+ghost use Rattle.shards.specs.Pass.{new_pass};
 ghost use Rattle.shards.specs.Plan.{claims_of};
 ghost use Rattle.feeders.specs.Ending.{MayEnd};
 ghost use Rattle.feeders.specs.Progress.{IsFed};
@@ -9,8 +9,8 @@ ghost use Rattle.feeders.specs.Readers.{IsNotOfReading};
 ghost use Rattle.feeders.specs.Setting.{first_start, setting_of};
 
 use crate::fault::RunFault;
-use crate::fed::Fed;
 use crate::log::broken_by;
+use crate::outcome::FeederOutcome;
 use crate::progress::Progress;
 use crate::site::Site;
 use edn_reader::Reader;
@@ -26,10 +26,10 @@ pub fn feed_trace<'t, O: Opening, R: Wait, G: Gate>(
     site: Site<'_, '_, 't, O, R, G>,
     mut pass: Pass<'t>,
     trace: &'t [u8],
-) -> Result<Fed<'t>, RunFault>
+) -> Result<FeederOutcome<'t>, RunFault>
     requires some { 0 < O.plan.shards }
     requires of_tower { O.plan.claims ≡ claims_of site.tower.now }
-    requires fresh { pass ≡ fresh O.plan pass.feeder }
+    requires fresh { pass ≡ new_pass O.plan pass.feeder }
     requires known { pass.feeder < O.plan.feeders }
     ensures fed { IfOk result (IsFed (setting_of O.plan site.entry.tower.now site.entry.field (first_start pass.entry.feeder)) trace.entry.now) }
     ensures by_text { IfOk result (λ fed. IsNotOfReading fed.log) }

@@ -1,4 +1,4 @@
--- The tests of specs/Judging.antt say what the sentences of specs/Kind.antt say.
+-- The tests of specs/Judging.antt decide the promises of specs/Kind.antt.
 use Rattle.std.proofs.Common.{◌≡◌, ℕ, zero, suc, ◌<◌, ◌≤◌, ◌⊎◌, inl, inr, Bool, true, false, ◌||◌, List, [], ◌∷◌, length, Option, Some, None, Decides, refl, sym, ap, subst, ◌∙◌, arith, eqb, ltb}
 use Rattle.std.specs.Prelude.{if◌then◌else◌, All, Any, Contains, IsTrue, slice_index_or}
 use Rattle.std.specs.List.{list_any}
@@ -8,12 +8,12 @@ use Rattle.intervals.specs.declared.operation.Op.{Op}
 use Rattle.intervals.specs.declared.operation.Moment.{Moment}
 use Rattle.intervals.specs.declared.operation.Value.{Value}
 use Rattle.intervals.specs.declared.operation.Value.TheVariants.{Nil, Int}
-use Rattle.intervals.specs.Terms.{Terms}
+use Rattle.intervals.specs.Terms.{ClaimModel}
 use Rattle.intervals.specs.Operation.{EndsBefore, Precedes, Overlaps, IsWrite, ends_before, precedes, overlaps, is_write, value_of, same_value}
 use Rattle.intervals.specs.Kind.{IsLastBefore, ReturnsLast, OverlapsWrite, IsAllowed, IsSafeRead, IsRegularRead}
-use Rattle.intervals.specs.Judging.{is_write_before, is_later, later_of, last_from, last_before, is_returned_at, returns_of, returns_last, is_write_over, overlaps_write, is_allowed, is_safe_read, is_returned_over, is_regular_read}
+use Rattle.intervals.specs.Judging.{is_write_before, is_later, later_begin, last_from, last_before, is_returned_at, returns_of, returns_last, is_write_over, overlaps_write, is_allowed, is_safe_read, is_returned_over, is_regular_read}
 
--- some element of a list
+-- a boolean that is not true is false
 pub false_unless : (b : Bool) → ¬ (b ≡ true) → b ≡ false
 false_unless true never = absurd (never refl)
 false_unless false never = refl
@@ -34,7 +34,7 @@ any_cases P x xs h = any_at P x xs h.0 h.1 h.2 h.3 h.4
 pub any_nil : {X : Type 0} (P : X → Type 0) → ¬ Any P []
 any_nil P h = absurd (omega (arith, h.2))
 
--- a test for some element decides whether there is one
+-- where a test decides of each element, its search of a list decides whether some element is so
 pub Decides-list_any : {X : Type 0} (p : X → Bool) (P : X → Type 0) → ((x : X) → Decides (p x) (P x)) → (xs : List X) → Decides (list_any p xs) (Any P xs)
 Decides-list_any p P each [] = (λ e. absurd (cc), λ h. absurd (any_nil P h))
 Decides-list_any {X} p P each (x ∷ xs) =
@@ -49,7 +49,7 @@ Decides-same_value Nil (Int y) = (λ e. absurd (cc), λ e. absurd (cc))
 Decides-same_value (Int x) Nil = (λ e. absurd (cc), λ e. absurd (cc))
 Decides-same_value (Int x) (Int y) = (λ e. ap Int ((Decides-int_eq x y).0 e), λ e. (Decides-int_eq x y).1 (cc))
 
--- a test decides that it is true
+-- a boolean decides whether it is true
 pub Decides-IsTrue : (b : Bool) → Decides b (IsTrue b)
 Decides-IsTrue b = (λ e. e, λ e. e)
 
@@ -63,28 +63,28 @@ Decides-precedes a b = Decides-ends_before a.end b.begin
 pub Decides-overlaps : (a b : Op) → Decides (overlaps a b) (Overlaps a b)
 Decides-overlaps a b = Decides-and _ _ (Decides-not _ (Decides-precedes a b)) (Decides-not _ (Decides-precedes b a))
 
--- w is a write that precedes r
+-- the second operation is a write that precedes the first
 abbrev pub IsWriteBefore : Op → Op → Type 0
 IsWriteBefore r w = IsWrite w × Precedes w r
 
 pub Decides-is_write_before : (r w : Op) → Decides (is_write_before r w) (IsWriteBefore r w)
 Decides-is_write_before r w = Decides-and (is_write w) (precedes w r) (Decides-IsTrue (is_write w)) (Decides-precedes w r)
 
--- the found one, if any, begins no later than m
+-- the optional moment found so far is not after the moment
 abbrev FoundBy : Option Moment → Moment → Type 0
 FoundBy None m = Unit {0}
 FoundBy (Some found) m = found.0 ≤ m.0
 
--- what one more operation makes of the found one
+-- one more operation is taken: it is a write that precedes the read, and begins after the moment found so far
 abbrev Takes : Op → Option Moment → Op → Type 0
-Takes r found w = (later_of r found w ≡ Some w.begin) × IsWriteBefore r w × FoundBy found w.begin
+Takes r found w = (later_begin r found w ≡ Some w.begin) × IsWriteBefore r w × FoundBy found w.begin
 
 abbrev NotLater : Op → Option Moment → Type 0
 NotLater w None = ⊥
 NotLater w (Some found) = w.begin.0 ≤ found.0
 
 abbrev Keeps : Op → Option Moment → Op → Type 0
-Keeps r found w = (later_of r found w ≡ found) × (IsWriteBefore r w → NotLater w found)
+Keeps r found w = (later_begin r found w ≡ found) × (IsWriteBefore r w → NotLater w found)
 
 later_found : (w : Op) (found : Option Moment) → is_later w found ≡ true → FoundBy found w.begin
 later_found w None e = tt
@@ -102,20 +102,20 @@ step_cases r found w false l e f = inr (rw e refl, λ h. absurd (not_from_Decide
 step : (r : Op) (found : Option Moment) (w : Op) → Takes r found w ⊎ Keeps r found w
 step r found w = step_cases r found w (is_write_before r w) (is_later w found) refl refl
 
--- where nothing is found, no write precedes r
+-- nothing is found, and no write of the list precedes the read
 abbrev NoneBefore : Op → Option Moment → List Op → Type 0
 NoneBefore r found ops = (found ≡ None) × All (λ w. ¬ IsWriteBefore r w) ops
 
-none_step : (r : Op) (found : Option Moment) (w : Op) (ops : List Op) → NoneBefore r (later_of r found w) ops → Takes r found w ⊎ Keeps r found w → NoneBefore r found (w ∷ ops)
+none_step : (r : Op) (found : Option Moment) (w : Op) (ops : List Op) → NoneBefore r (later_begin r found w) ops → Takes r found w ⊎ Keeps r found w → NoneBefore r found (w ∷ ops)
 none_step r found w ops h (inl t) = absurd (let e = sym t.0 ∙ h.0 in cc)
 none_step r None w ops h (inr k) = (refl, All-cons (λ v. ¬ IsWriteBefore r v) w ops k.1 h.1)
 none_step r (Some found) w ops h (inr k) = absurd (let e = sym k.0 ∙ h.0 in cc)
 
 pub last_from-None : (r : Op) (found : Option Moment) (ops : List Op) → last_from r found ops ≡ None → NoneBefore r found ops
 last_from-None r found [] e = (e, All-nil _)
-last_from-None r found (w ∷ ops) e = none_step r found w ops (last_from-None r (later_of r found w) ops e) (step r found w)
+last_from-None r found (w ∷ ops) e = none_step r found w ops (last_from-None r (later_begin r found w) ops e) (step r found w)
 
--- what is found is the beginning of a write before r, and none of those begins later
+-- the operation is a write that precedes the read, and begins at the moment
 abbrev BeginsThen : Op → Moment → Op → Type 0
 BeginsThen r m w = IsWriteBefore r w × (w.begin ≡ m)
 
@@ -124,11 +124,11 @@ pub record SomeBefore (r : Op) (found : Option Moment) (ops : List Op) (m : Mome
   pub last : All (λ w. IsWriteBefore r w → w.begin.0 ≤ m.0) ops
   pub after : FoundBy found m
 
-from_taken : (r : Op) (found : Option Moment) (w : Op) (ops : List Op) (m : Moment) → Takes r found w → Any (BeginsThen r m) ops ⊎ (later_of r found w ≡ Some m) → Any (BeginsThen r m) (w ∷ ops)
+from_taken : (r : Op) (found : Option Moment) (w : Op) (ops : List Op) (m : Moment) → Takes r found w → Any (BeginsThen r m) ops ⊎ (later_begin r found w ≡ Some m) → Any (BeginsThen r m) (w ∷ ops)
 from_taken r found w ops m t (inl any) = any_there (BeginsThen r m) w ops any
 from_taken r found w ops m t (inr e) = any_here (BeginsThen r m) w ops (t.1, (let f = sym t.0 ∙ e in cc))
 
-from_kept : (r : Op) (found : Option Moment) (w : Op) (ops : List Op) (m : Moment) → Keeps r found w → Any (BeginsThen r m) ops ⊎ (later_of r found w ≡ Some m) → Any (BeginsThen r m) (w ∷ ops) ⊎ (found ≡ Some m)
+from_kept : (r : Op) (found : Option Moment) (w : Op) (ops : List Op) (m : Moment) → Keeps r found w → Any (BeginsThen r m) ops ⊎ (later_begin r found w ≡ Some m) → Any (BeginsThen r m) (w ∷ ops) ⊎ (found ≡ Some m)
 from_kept r found w ops m k (inl any) = inl (any_there (BeginsThen r m) w ops any)
 from_kept r found w ops m k (inr e) = inr (sym k.0 ∙ e)
 
@@ -143,16 +143,16 @@ not_later_by : (w : Op) (found : Option Moment) (m : Moment) → NotLater w foun
 not_later_by w None m n h = absurd n
 not_later_by w (Some f) m n h = omega arith
 
-some_step : (r : Op) (found : Option Moment) (w : Op) (ops : List Op) (m : Moment) → SomeBefore r (later_of r found w) ops m → Takes r found w ⊎ Keeps r found w → SomeBefore r found (w ∷ ops) m
+some_step : (r : Op) (found : Option Moment) (w : Op) (ops : List Op) (m : Moment) → SomeBefore r (later_begin r found w) ops m → Takes r found w ⊎ Keeps r found w → SomeBefore r found (w ∷ ops) m
 some_step r found w ops m h (inl t) =
-    let by : FoundBy (Some w.begin) m = found_by m (later_of r found w) (Some w.begin) t.0 h.after in
+    let by : FoundBy (Some w.begin) m = found_by m (later_begin r found w) (Some w.begin) t.0 h.after in
     record {
       from = inl (from_taken r found w ops m t h.from);
       last = All-cons (λ v. IsWriteBefore r v → v.begin.0 ≤ m.0) w ops (λ _. by) h.last;
       after = found_by_later found w.begin m by t.2;
     }
 some_step r found w ops m h (inr k) =
-    let by : FoundBy found m = found_by m (later_of r found w) found k.0 h.after in
+    let by : FoundBy found m = found_by m (later_begin r found w) found k.0 h.after in
     record {
       from = from_kept r found w ops m k h.from;
       last = All-cons (λ v. IsWriteBefore r v → v.begin.0 ≤ m.0) w ops (λ b. not_later_by w found m (k.1 b) by) h.last;
@@ -164,9 +164,9 @@ found_itself found m e = found_by m (Some m) found (sym e) (omega arith)
 
 pub last_from-Some : (r : Op) (found : Option Moment) (ops : List Op) (m : Moment) → last_from r found ops ≡ Some m → SomeBefore r found ops m
 last_from-Some r found [] m e = record { from = inr e; last = All-nil _; after = found_itself found m e }
-last_from-Some r found (w ∷ ops) m e = some_step r found w ops m (last_from-Some r (later_of r found w) ops m e) (step r found w)
+last_from-Some r found (w ∷ ops) m e = some_step r found w ops m (last_from-Some r (later_begin r found w) ops m e) (step r found w)
 
--- w is the write before r that begins then, and r returns its value
+-- the operation is a write that precedes the read and begins at the moment, and the read returns its value
 abbrev IsReturnedAt : Op → Moment → Op → Type 0
 IsReturnedAt r begin w = IsWriteBefore r w × ((w.begin.0 ≡ begin.0) × (value_of w.act ≡ value_of r.act))
 
@@ -199,7 +199,7 @@ any_of P ops w h p = (h.0, w, h.1, h.2, p)
 all_of : (P : Op → Type 0) (ops : List Op) (w : Op) → All P ops → Contains ops w → P w
 all_of P ops w all h = All-contains P ops w all h
 
--- of a write before r that begins no later than any, and the beginning that was found
+-- the last write that precedes the read begins at the moment that was found
 begins_at_found : (ops : List Op) (r w : Op) (m : Moment) → IsLastBefore ops r w → SomeBefore r None ops m → w.begin.0 ≡ m.0
 begins_at_found ops r w m is some =
     let le : w.begin.0 ≤ m.0 = all_of (λ v. IsWriteBefore r v → v.begin.0 ≤ m.0) ops w some.last is.stands (is.write, is.before) in
@@ -246,12 +246,12 @@ Decides-is_allowed (Some values) initial value =
     (Decides-list_any (λ v. same_value v value) (λ v. v ≡ value) (λ v. Decides-same_value v value) values))
     (Decides-like (same_value initial value) sym sym (Decides-same_value initial value))
 
--- a choice by a test is the two implications
+-- where a test decides a fact, a choice by the test decides what is so in both cases
 Decides-either : {A B C : Type 0} (t a b : Bool) → Decides t A → Decides a B → Decides b C → Decides (if t then a else b) ((¬ A → C) × (A → B))
 Decides-either true a b dt da db = (λ e. (λ n. absurd (n (dt.0 refl)), λ _. da.0 e), λ h. da.1 (h.1 (dt.0 refl)))
 Decides-either false a b dt da db = (λ e. (λ _. db.0 e, λ h. absurd (not_from_Decides false dt refl h)), λ h. db.1 (h.0 (not_from_Decides false dt refl)))
 
-pub Decides-is_safe_read : (claim : Terms) (ops : List Op) (r : Op) → Decides (is_safe_read claim ops r) (IsSafeRead claim ops r)
+pub Decides-is_safe_read : (claim : ClaimModel) (ops : List Op) (r : Op) → Decides (is_safe_read claim ops r) (IsSafeRead claim ops r)
 Decides-is_safe_read claim ops r =
     Decides-either (overlaps_write ops r) _ _ (Decides-overlaps_write ops r) (Decides-is_allowed claim.domain claim.initial (value_of r.act)) (Decides-returns_last claim.initial ops r)
 
@@ -263,7 +263,7 @@ Decides-is_returned_over r w =
     Decides-like (is_returned_over r w) (λ (h : IsWriteOver r w × (value_of w.act ≡ value_of r.act)). (h.0.0, h.0.1, sym h.1)) (λ h. ((h.0, h.1), sym h.2))
     (Decides-and (is_write_over r w) (same_value (value_of w.act) (value_of r.act)) (Decides-is_write_over r w) (Decides-same_value (value_of w.act) (value_of r.act)))
 
-pub Decides-is_regular_read : (claim : Terms) (ops : List Op) (r : Op) → Decides (is_regular_read claim ops r) (IsRegularRead claim ops r)
+pub Decides-is_regular_read : (claim : ClaimModel) (ops : List Op) (r : Op) → Decides (is_regular_read claim ops r) (IsRegularRead claim ops r)
 Decides-is_regular_read claim ops r =
     Decides-or _ (returns_last claim.initial ops r)
     (Decides-list_any (is_returned_over r) (IsReturnedOver r) (Decides-is_returned_over r) ops)

@@ -1,4 +1,4 @@
--- An operation that stands apart behind those in front of it is accepted as an append to them.
+-- Operations for which `StandApart` is true can be appended again, each to those before it.
 use Rattle.std.proofs.Common.{◌≡◌, ◌≢◌, ◌<◌, ◌⊎◌, inl, inr, Bool, true, false, not, ◌&&◌, List, [], ◌∷◌, ◌++◌, Option, Some, None, refl, sym, ap, arith}
 use Rattle.std.specs.Prelude.{Contains, IsTrue, IfSome, option_map}
 use Rattle.std.specs.List.{AllPairs}
@@ -14,7 +14,7 @@ use Rattle.intervals.specs.Operation.{IsWrite, Overlaps, is_write, overlaps, sam
 use Rattle.intervals.specs.Edit.{op_of}
 use Rattle.intervals.specs.Refusal.{ends_by, has_large_moment, is_overlapped, kind_refusal, moment_taken, moments_refusal, overlap_refusal, reply_to, value_refusal, write_refusal}
 use Rattle.intervals.specs.Standing.{HasDistinctIds, IsHolder, IsInitial, IsMomentHolder, IsMomentOf, IsPermitted, ShareNoMoment, StandApart}
-use Rattle.intervals.specs.Terms.{Terms}
+use Rattle.intervals.specs.Terms.{ClaimModel}
 use Rattle.intervals.proofs.Agreement.{Decides-overlaps}
 use Rattle.intervals.proofs.Claimed.{HaveOtherValues}
 use Rattle.intervals.proofs.Holders.{nobody_back}
@@ -23,7 +23,7 @@ use Rattle.intervals.proofs.LeastOf.{least_from-none}
 use Rattle.intervals.proofs.Members.{all_from, here, one_or_so}
 use Rattle.intervals.proofs.MomentHolders.{none_exactly}
 
--- no operation in front has the id of a later one
+-- no operation before has the id of a later one
 new_id : (front : List Op) (op : Op) (rest : List Op) → HasDistinctIds (front ++ op ∷ rest) → op_of front op.id ≡ None
 new_id [] op rest distinct = refl
 new_id (a ∷ front) op rest distinct =
@@ -34,7 +34,7 @@ late_end : (end : Option Moment) (begin : Moment) → IfSome end (λ e. begin.0 
 late_end None begin late = refl
 late_end (Some end) begin late = grind (arith, nat_tests)
 
-module _ (claim : Terms) (front : List Op) (op : Op) (rest : List Op) (apart : StandApart claim (front ++ op ∷ rest)) where
+module _ (claim : ClaimModel) (front : List Op) (op : Op) (rest : List Op) (apart : StandApart claim (front ++ op ∷ rest)) where
   abbrev all : List Op
   all = front ++ op ∷ rest
 
@@ -49,7 +49,7 @@ module _ (claim : Terms) (front : List Op) (op : Op) (rest : List Op) (apart : S
       let other = All-contains (λ o. same_id o.id op.id ≡ false) front a (none_of front op.id (new_id front op rest apart.ids)) h in
       let same = (Decides-same_id_is a.id op.id).1 e in cc
 
-  -- what is so of each two is so of an operation in front and this one
+  -- what is so of each two operations is so of one before and this one
   so : (R : Op → Op → Type 0) → ((a b : Op) → R a b → R b a) → AllPairs R all → (a : Op) → Contains front a → R a op
   so R symmetric pairs a h = by_cases (one_or_so R symmetric all pairs a op (in_all a h) stands)
     where

@@ -9,7 +9,7 @@ use Rattle.intervals.specs.declared.operation.Value.{Value}
 use Rattle.intervals.specs.declared.edit.Edit.{Edit}
 use Rattle.intervals.specs.declared.claim.Kind.{Kind}
 use Rattle.intervals.specs.declared.claim.Kind.TheVariants.{Safe, Regular, Atomic}
-use Rattle.intervals.specs.Terms.{Terms, Claimed, unedited}
+use Rattle.intervals.specs.Terms.{ClaimModel, RegisterState, unedited}
 use Rattle.intervals.specs.Operation.{IsWrite, Precedes, judged, value_of}
 use Rattle.intervals.specs.Bare.{bare, bare_edit, bare_held}
 use Rattle.intervals.specs.Refusal.{standing}
@@ -17,7 +17,7 @@ use Rattle.intervals.specs.Kind.{KeepsPrecedence, ReadsNearest, value_after, Has
 use Rattle.intervals.proofs.JudgedAlone.{is_judged}
 use Rattle.intervals.proofs.Texts.{filter_bare, IsSafe-bare, IsRegular-bare, standing_alike}
 
--- an order of the images is the image of an order
+-- a permutation of the images is the image of a permutation
 module _ {X Y : Type 0} (f : X → Y) where
   map_swap : (xs : List X) (i j : ℕ) → i < length xs → j < length xs → map f (swap xs i j) ≡ swap (map f xs) i j
   map_swap [] i j p q = refl
@@ -71,7 +71,7 @@ reads_back : (value : Value) (order : List Op) → ReadsNearest value (map bare 
 reads_back value [] h = tt
 reads_back value (a ∷ later) h = (h.0, reads_back (value_after value a.act) later h.1)
 
-IsArranged-bare : (claim : Terms) (ops : List Op) → IsArranged claim ops → IsArranged claim (map bare ops)
+IsArranged-bare : (claim : ClaimModel) (ops : List Op) → IsArranged claim ops → IsArranged claim (map bare ops)
 IsArranged-bare claim ops h = (
   map bare h.0,
   record {
@@ -81,7 +81,7 @@ IsArranged-bare claim ops h = (
   },
 )
 
-IsArranged-back : (claim : Terms) (ops : List Op) → IsArranged claim (map bare ops) → IsArranged claim ops
+IsArranged-back : (claim : ClaimModel) (ops : List Op) → IsArranged claim (map bare ops) → IsArranged claim ops
 IsArranged-back claim ops h =
     let image = permuted_before bare (judged ops) h.0 (subst (λ (l : List Op). IsPermutation l h.0) (judged_bare ops) h.1.each_once) in (
       image.0,
@@ -104,40 +104,40 @@ no_write_back (op ∷ ops) value none =
     All-cons (λ w. IsWrite w → value_of w.act ≢ value) op ops (All-head (λ w. IsWrite w → value_of w.act ≢ value) (bare op) (map bare ops) none)
     (no_write_back ops value (All-tail (λ w. IsWrite w → value_of w.act ≢ value) (bare op) (map bare ops) none))
 
-atomic_both : (known : Bool) (claim : Terms) (ops : List Op) → IsAtomicWhere known claim (map bare ops) ↔ IsAtomicWhere known claim ops
+atomic_both : (known : Bool) (claim : ClaimModel) (ops : List Op) → IsAtomicWhere known claim (map bare ops) ↔ IsAtomicWhere known claim ops
 atomic_both true claim ops = (IsArranged-back claim ops, IsArranged-bare claim ops)
 atomic_both false claim ops = (
   (λ h. (h.0, no_write_back ops h.0 h.1, IsArranged-back (record claim { initial = h.0 }) ops h.2)),
   (λ h. (h.0, no_write_bare ops h.0 h.1, IsArranged-bare (record claim { initial = h.0 }) ops h.2)),
 )
 
-keeps_both : (kind : Kind) (claim : Terms) (ops : List Op) → Keeps kind claim (map bare ops) ↔ Keeps kind claim ops
+keeps_both : (kind : Kind) (claim : ClaimModel) (ops : List Op) → Keeps kind claim (map bare ops) ↔ Keeps kind claim ops
 keeps_both Safe claim ops = IsSafe-bare claim ops
 keeps_both Regular claim ops = IsRegular-bare claim ops
 keeps_both Atomic claim ops = atomic_both claim.known claim ops
 
-pub Holds-bare : (claim : Terms) (ops : List Op) → Holds claim (map bare ops) ↔ Holds claim ops
+pub Holds-bare : (claim : ClaimModel) (ops : List Op) → Holds claim (map bare ops) ↔ Holds claim ops
 Holds-bare claim ops = keeps_both claim.kind claim ops
 
-pub standing_bare : (claim : Terms) (edits : List Edit) → bare_held (standing (unedited claim) (map bare_edit edits)) ≡ bare_held (standing (unedited claim) edits)
+pub standing_bare : (claim : ClaimModel) (edits : List Edit) → bare_held (standing (unedited claim) (map bare_edit edits)) ≡ bare_held (standing (unedited claim) edits)
 standing_bare claim edits = standing_alike (unedited claim) (unedited claim) edits refl
 
--- of what is held twice, the same without its texts
-holds_alike : (one other : Claimed) → bare_held one ≡ bare_held other → Holds one.claim one.ops → Holds other.claim other.ops
+-- of two states that differ in texts alone, where one register holds the other does
+holds_alike : (one other : RegisterState) → bare_held one ≡ bare_held other → Holds one.claim one.ops → Holds other.claim other.ops
 holds_alike one other e h =
-    (Holds-bare other.claim other.ops).0 (subst (λ (held : Claimed). Holds held.claim held.ops) e ((Holds-bare one.claim one.ops).1 h))
+    (Holds-bare other.claim other.ops).0 (subst (λ (held : RegisterState). Holds held.claim held.ops) e ((Holds-bare one.claim one.ops).1 h))
 
 length_alike : (xs ys : List Op) → map bare xs ≡ map bare ys → length xs ≡ length ys
 length_alike xs ys e = sym (length-map xs bare) ∙ ap length e ∙ length-map ys bare
 
-pub decided_alike : (claim : Terms) (edits others : List Edit) → map bare_edit edits ≡ map bare_edit others
+pub decided_alike : (claim : ClaimModel) (edits others : List Edit) → map bare_edit edits ≡ map bare_edit others
     → let one = standing (unedited claim) edits in let other = standing (unedited claim) others in
     (one.claim ≡ other.claim) × (Holds one.claim one.ops ↔ Holds other.claim other.ops) × (length one.ops ≡ length other.ops)
 decided_alike claim edits others e =
     let one = standing (unedited claim) edits in
     let other = standing (unedited claim) others in
     let same : bare_held one ≡ bare_held other = sym (standing_bare claim edits) ∙ ap (λ (l : List Edit). bare_held (standing (unedited claim) l)) e ∙ standing_bare claim others in (
-      ap (λ (held : Claimed). held.claim) same,
+      ap (λ (held : RegisterState). held.claim) same,
       (holds_alike one other same, holds_alike other one (sym same)),
-      length_alike one.ops other.ops (ap (λ (held : Claimed). held.ops) same),
+      length_alike one.ops other.ops (ap (λ (held : RegisterState). held.ops) same),
     )

@@ -1,4 +1,4 @@
--- What a claim that nothing refuses says of the operations that stand.
+-- What is so of the operations that stand where a claim of another kind is not refused.
 use Rattle.std.proofs.Common.{◌≡◌, ◌≢◌, Bool, true, false, not, ◌&&◌, ◌⊎◌, inl, inr, List, [], ◌∷◌, ◌++◌, Option, Some, None, refl, sym, ap, subst, cond, ◌∙◌, arith}
 use Rattle.std.specs.Prelude.{All, Contains, IsTrue, option_map, slice_index_or}
 use Rattle.std.specs.List.{AllPairs, list_any}
@@ -17,7 +17,7 @@ use Rattle.intervals.specs.declared.refusal.Refusal.TheVariants.{ValueTaken}
 use Rattle.intervals.specs.Least.{IsLeast, least_by}
 use Rattle.intervals.specs.Refusal.{begin_number, first_overlap, first_repeat, first_there, holder_of, id_with, ids_with, is_overlapped, overlap_claimed, overlap_of, overlaps_another, repeat_claimed, repeat_of, to_kind_refusal}
 use Rattle.intervals.specs.Standing.{HasDistinctIds, HasNoOverlappingWrites, HasOwnValues, IsHolder, IsInitial, IsPermitted, StandApart}
-use Rattle.intervals.specs.Terms.{Terms}
+use Rattle.intervals.specs.Terms.{ClaimModel}
 use Rattle.intervals.proofs.Accepted.{one_writer_accepted}
 use Rattle.intervals.proofs.Agreement.{Decides-overlaps, false_unless}
 use Rattle.intervals.proofs.Found.{not_mapped}
@@ -26,14 +26,14 @@ use Rattle.intervals.proofs.Ids.{Decides-same_id_is, none_of}
 use Rattle.intervals.proofs.LeastOf.{least_by-IsLeast, least_from-None, least_from-none}
 use Rattle.intervals.proofs.Members.{all_from, here, one_or_so, there}
 
--- two writes have not one value
+-- where both operations are writes, their values differ
 abbrev pub HaveOtherValues : Op → Op → Type 0
 HaveOtherValues v w = IsWrite v → IsWrite w → value_of v.act ≢ value_of w.act
 
 any_none : (p : Op → Bool) (ops : List Op) → All (λ o. ¬ IsTrue (p o)) ops → ¬ (list_any p ops ≡ true)
 any_none p ops none t = let any = Any-from_list_any p ops t in All-contains (λ o. ¬ IsTrue (p o)) ops any.1 none (any.0, any.2, any.3) any.4
 
--- two operations of the ids of a list are apart by their ids
+-- where ids are distinct, the first operation's differs from all others
 apart_ids : (a : Op) (ops : List Op) → HasDistinctIds (a ∷ ops) → All (λ b. a.id ≢ b.id) ops
 apart_ids a ops distinct =
     All-weaker (λ b. same_id b.id a.id ≡ false) (λ b. a.id ≢ b.id) (λ b other same. let t = (Decides-same_id_is b.id a.id).1 (sym same) in cc) ops (none_of ops a.id distinct.0)
@@ -66,7 +66,7 @@ module _ (ops : List Op) (none : first_overlap ops ≡ None) where
   pub none_overlap : HasDistinctIds ops → HasNoOverlappingWrites ops
   none_overlap distinct = pairs_apart ops distinct (λ o h. h)
 
--- where no writes overlap, none is found
+-- where no writes overlap, no overlap is found
 pub overlap_nowhere : (ops : List Op) → HasNoOverlappingWrites ops → first_overlap ops ≡ None
 overlap_nowhere ops apart = ap (overlap_of ops) (least_from-none begin_number (overlaps_another ops) None ops (all_from (λ w. ¬ IsTrue (overlaps_another ops w)) ops none))
   where
@@ -83,7 +83,7 @@ overlap_nowhere ops apart = ap (overlap_of ops) (least_from-none begin_number (o
         by_pair x other (inl same) wx ww over = let t = (Decides-same_id_is x.id w.id).1 (ap (λ (o : Op). o.id) same) in absurd (let f = ap not t in cc)
         by_pair x other (inr apart) wx ww over = apart wx ww over
 
--- the write that is found, and the other one
+-- the two writes that are found are the first that overlaps another, and the first that overlaps it
 pub overlap_named : (ops : List Op) (a b : OpId) → first_overlap ops ≡ Some (a, b)
     → (w : Op) × (v : Op) × (w.id ≡ a) × (v.id ≡ b) × IsLeast begin_number (overlaps_another ops) ops w × IsLeast begin_number (is_overlapped w) ops v
 overlap_named ops a b = by_first (least_by begin_number (overlaps_another ops) ops) refl
@@ -99,8 +99,8 @@ overlap_named ops a b = by_first (least_by begin_number (overlaps_another ops) o
     by_first None is e = absurd (cc)
     by_first (Some w) is e = by_second w (least_by-IsLeast begin_number (overlaps_another ops) ops w is) (least_by begin_number (is_overlapped w) ops) refl e
 
-module _ (claim : Terms) where
-  -- the value of the write is neither the initial one nor that of one of these
+module _ (claim : ClaimModel) where
+  -- the value of the write is neither the initial one nor that of an operation before
   abbrev IsNew : List Op → Op → Type 0
   IsNew before w = IsWrite w → (¬ IsInitial claim (value_of w.act)) × All (λ v. ¬ IsHolder w v) before
 
@@ -157,11 +157,11 @@ module _ (claim : Terms) where
       ap (λ (first : Option (OpId × Holder)). first_there first (first_repeat claim (before ++ op ∷ []) ops)) (alone before op ops values)
       ∙ repeat_behind (before ++ op ∷ []) ops (subst (HasOwnValues claim) (sym (append_assoc before (op ∷ []) ops)) values)
 
-  -- where values are apart, none is found
+  -- where values are distinct, no repeat is found
   pub repeat_nowhere : (ops : List Op) → HasOwnValues claim ops → first_repeat claim [] ops ≡ None
   repeat_nowhere ops values = repeat_behind [] ops values
 
-  -- the write that is found, and those in front of it
+  -- the repeat that is found is a write of the list, and no operation before it is a repeat
   pub record IsRepeatAt (before ops : List Op) (id : OpId) (holder : Holder) : Type 0 where
     pub front : List Op
     pub write : Op
@@ -214,8 +214,8 @@ module _ (claim : Terms) where
             none = ap (λ (first : Option (OpId × Holder)). first_there first (first_repeat claim (before ++ op ∷ []) later.front)) is ∙ later.none;
           }
 
--- under the kind that is claimed
-pub claimed_apart : (kind : Kind) (claim : Terms) (ops : List Op) → StandApart claim ops → to_kind_refusal kind claim ops ≡ None → StandApart (record claim { kind = kind }) ops
+-- where the claim is not refused, `StandApart` is true under the claimed kind
+pub claimed_apart : (kind : Kind) (claim : ClaimModel) (ops : List Op) → StandApart claim ops → to_kind_refusal kind claim ops ≡ None → StandApart (record claim { kind = kind }) ops
 claimed_apart kind claim ops apart e = record {
   ids = apart.ids;
   moments = apart.moments;

@@ -1,4 +1,4 @@
--- What is so of each operation, or of each two, is so after an accepted edit that brings an operation of which it is so.
+-- What is so of each operation, or of each two, is so after an edit, if it is so of the operation that the edit makes.
 use Rattle.std.proofs.Common.{◌≡◌, ℕ, zero, suc, ◌<◌, Bool, true, false, not, List, [], ◌∷◌, length, Some, None, refl, sym, ap, ◌∙◌, cond, arith}
 use Rattle.std.specs.Prelude.{All, Contains, map, option_map, slice_index_or}
 use Rattle.std.specs.List.{AllPairs}
@@ -16,11 +16,11 @@ use Rattle.intervals.specs.Refusal.{first_refusal, moments_refusal}
 use Rattle.intervals.specs.Standing.{HasDistinctIds}
 use Rattle.intervals.proofs.Ids.{same_id-sym, same_id-trans, not_same_id, found_alike, found_by_id, none_of, distinct_pairs, not_taken}
 
--- an operation that has the edited id is the one that is changed
+-- the operation that has the id of an amendment, once changed, is the new one
 new_of : (ops : List Op) (id : OpId) (change : Change) (a : Op) → HasDistinctIds ops → Contains ops a → same_id a.id id ≡ true → new_op ops (Amend id change) ≡ Some (changed a change)
 new_of ops id change a d h s = ap (option_map (λ op. changed op change)) (sym (found_alike ops a.id id s) ∙ found_by_id ops a d h)
 
--- the element of a list at an index stands in it
+-- the element of a list at an index is in it
 contains_at : (ops : List Op) (k : ℕ) (d : Op) → k < length ops → Contains ops (slice_index_or ops k d)
 contains_at [] k d lt = absurd (omega arith)
 contains_at (a ∷ ops) zero d lt = (0, omega arith, refl)
@@ -48,7 +48,7 @@ module _ (R : Op → Op → Type 0) (symmetric : (a b : Op) → R a b → R b a)
   later_pairs : (a : Op) (ops : List Op) → AllPairs R (a ∷ ops) → AllPairs R ops
   later_pairs a ops pairs i j d lt lt' = pairs (suc i) (suc j) d (omega arith) (omega arith)
 
-  -- of two operations of different ids, changed where it has the edited id
+  -- two operations of different ids, one of which may be changed
   amended_pair : (id : OpId) (change : Change) (a b : Op) → same_id a.id b.id ≡ false → R a b
       → (same_id a.id id ≡ true → same_id b.id id ≡ false → R (changed a change) b)
       → (same_id b.id id ≡ true → same_id a.id id ≡ false → R (changed b change) a)
@@ -61,7 +61,7 @@ module _ (R : Op → Op → Type 0) (symmetric : (a b : Op) → R a b → R b a)
       by_cases false true p q = symmetric (changed b change) a (second q p)
       by_cases false false p q = r
 
-  -- each operation of the edited id, once changed, is so to each of another id
+  -- each operation of the edited id, once changed, is so with each operation of another id
   abbrev ChangedIs : OpId → Change → List Op → List Op → Type 0
   ChangedIs id change ops others = All (λ a. same_id a.id id ≡ true → All (λ b. same_id b.id id ≡ false → R (changed a change) b) others) ops
 

@@ -1,4 +1,4 @@
--- What the first of a list that passes a test is.
+-- The first operation of a list that passes a test.
 use Rattle.std.proofs.Common.{◌≡◌, suc, Bool, true, false, List, [], ◌∷◌, Option, Some, None, refl, cond, arith}
 use Rattle.std.specs.Prelude.{All, Contains, IsTrue, find, option_map}
 use Rattle.std.proofs.lemmas.List.Elements.{All-cons, All-nil, All-head, All-tail}
@@ -31,7 +31,7 @@ module _ (test : Op → Bool) where
       by_cases true not e = absurd (not refl)
       by_cases false not e = e
 
-  -- what is found stands and passes
+  -- what is found is in the list and passes
   pub find-Some : (ops : List Op) (op : Op) → find test ops ≡ Some op → Contains ops op × IsTrue (test op)
   find-Some [] op e = absurd (cc)
   find-Some (a ∷ ops) op e = by_cases (test a) refl e (find-Some ops op)

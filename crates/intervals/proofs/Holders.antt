@@ -1,4 +1,4 @@
--- Who has the value of a write already.
+-- What has the value of a write already, and the refusal by it (X8).
 use Rattle.std.proofs.Common.{Decides, ◌≡◌, ◌↔◌, Bool, true, false, not, ◌&&◌, List, Option, Some, None, refl, sym, ap, cond}
 use Rattle.std.specs.Prelude.{All, Contains, find, option_map, slice_index_or}
 use Rattle.std.proofs.lemmas.Bool.Decides.{Decides-and, Decides-not, Decides-like, not_from_Decides}
@@ -8,7 +8,7 @@ use Rattle.intervals.specs.declared.operation.Value.{Value}
 use Rattle.intervals.specs.declared.claim.Holder.TheVariants as holders
 use Rattle.intervals.specs.declared.refusal.Refusal.{Refusal}
 use Rattle.intervals.specs.declared.refusal.Refusal.TheVariants.{ValueTaken}
-use Rattle.intervals.specs.Terms.{Terms}
+use Rattle.intervals.specs.Terms.{ClaimModel}
 use Rattle.intervals.specs.Operation.{is_write, same_id, same_value, value_of}
 use Rattle.intervals.specs.Refusal.{as_holder, holder_of, is_holder, is_initial, value_refusal}
 use Rattle.intervals.specs.Standing.{IsHolder, IsInitial}
@@ -22,16 +22,16 @@ Decides-is_holder op other =
     Decides-like (is_holder op other) (λ h. (h.0.0, h.0.1, h.1)) (λ h. ((h.0, h.1), h.2))
     (Decides-and (not (same_id other.id op.id) && is_write other) (same_value (value_of other.act) (value_of op.act)) apart (Decides-same_value (value_of other.act) (value_of op.act)))
 
--- whether the value is the initial one, and the write found that has it, give the refusal
+-- the refusal, by whether the value is the initial one and by the other write of it, if any
 abbrev taken : Bool → Option Op → Option Refusal
 taken initial found = option_map ValueTaken (cond initial (Some holders.Initial) (option_map as_holder found))
 
-pub Decides-is_initial : (claim : Terms) (value : Value) → Decides (is_initial claim value) (IsInitial claim value)
+pub Decides-is_initial : (claim : ClaimModel) (value : Value) → Decides (is_initial claim value) (IsInitial claim value)
 Decides-is_initial claim value =
     Decides-like (is_initial claim value) (λ h. (h.0, sym h.1)) (λ h. (h.0, sym h.1))
     (Decides-and claim.known (same_value claim.initial value) (Decides-IsTrue claim.known) (Decides-same_value claim.initial value))
 
-module _ (claim : Terms) (ops : List Op) (op : Op) where
+module _ (claim : ClaimModel) (ops : List Op) (op : Op) where
   abbrev has_initial : Bool
   has_initial = is_initial claim (value_of op.act)
 
@@ -70,7 +70,7 @@ module _ (claim : Terms) (ops : List Op) (op : Op) where
         (λ h. rw (find-none (is_holder op) ops (λ k d lt holds. h.1 k d lt ((Decides-is_holder op (slice_index_or ops k d)).0 holds))) refl),
       )
 
-  -- where nobody has the value, the register at first has not, and no other write
+  -- where nothing has the value, neither the register at first nor another write has it
   pub nobody : holder_of claim ops op ≡ None → (¬ HasInitial) × All (λ other. ¬ IsHolder op other) ops
   nobody e = none_exactly.0 (ap (option_map ValueTaken) e)
 

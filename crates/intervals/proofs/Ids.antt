@@ -21,14 +21,14 @@ use Rattle.intervals.proofs.Found.{find-Some}
 abbrev id_of : ℕ → ℕ → OpId
 id_of feeder event = record { feeder = feeder; event = event }
 
--- ids that agree in both numbers are one
+-- ids that agree in both numbers are equal
 same_numbers : (f e g h : ℕ) → f ≡ g → e ≡ h → id_of f e ≡ id_of g h
 same_numbers f e g h p q = rw (p, q) refl
 
 Decides-same_id : (a b : OpId) → Decides (same_id a b) ((a.feeder ≡ b.feeder) × (a.event ≡ b.event))
 Decides-same_id a b = Decides-and (a.feeder == b.feeder) (a.event == b.event) (Decides-eqb a.feeder b.feeder) (Decides-eqb a.event b.event)
 
--- the test for one id decides it
+-- the test for equal ids decides whether they are equal
 pub Decides-same_id_is : (a b : OpId) → Decides (same_id a b) (a ≡ b)
 Decides-same_id_is a b = (
   (λ t. let h = (Decides-same_id a b).0 t in same_numbers a.feeder a.event b.feeder b.event h.0 h.1),
@@ -44,7 +44,7 @@ same_id-sym a b t = let h = (Decides-same_id a b).0 t in (Decides-same_id b a).1
 pub same_id-trans : (a b c : OpId) → same_id a b ≡ true → same_id b c ≡ true → same_id a c ≡ true
 same_id-trans a b c p q = let h = (Decides-same_id a b).0 p in let g = (Decides-same_id b c).0 q in (Decides-same_id a c).1 (h.0 ∙ g.0, h.1 ∙ g.1)
 
--- an id that is not the one of two that are the same is not the other
+-- an id that differs from one of two equal ids differs from the other
 pub not_same_id : (a b c : OpId) → same_id a b ≡ false → same_id c b ≡ true → same_id a c ≡ false
 not_same_id a b c f s = by_cases (same_id a c) refl
   where
@@ -62,7 +62,7 @@ other_way a b e = by_cases (same_id b a) refl
 pub found_alike : (ops : List Op) (a b : OpId) → same_id a b ≡ true → op_of ops a ≡ op_of ops b
 found_alike ops a b t = let h = (Decides-same_id a b).0 t in ap (op_of ops) (same_numbers a.feeder a.event b.feeder b.event h.0 h.1)
 
--- what is not found in a list is neither its first operation nor found in the rest
+-- where no operation of a list has an id, its first one has another
 not_first : (a : Op) (ops : List Op) (id : OpId) → op_of (a ∷ ops) id ≡ None → same_id a.id id ≡ false
 not_first a ops id = by_cases (same_id a.id id)
   where
@@ -84,12 +84,12 @@ not_among_more : (ops : List Op) (op : Op) (id : OpId) → op_of ops id ≡ None
 not_among_more [] op id e f = not_found op [] id f refl
 not_among_more (a ∷ ops) op id e f = not_found a (ops ++ op ∷ []) id (not_first a ops id e) (not_among_more ops op id (not_later a ops id e) f)
 
--- where nothing is found by an id, each operation has another
+-- where no operation is found by an id, each has another
 pub none_of : (ops : List Op) (id : OpId) → op_of ops id ≡ None → All (λ op. same_id op.id id ≡ false) ops
 none_of [] id e = All-nil _
 none_of (a ∷ ops) id e = All-cons (λ op. same_id op.id id ≡ false) a ops (not_first a ops id e) (none_of ops id (not_later a ops id e))
 
--- distinct ids, of each operation and each later one
+-- where ids are distinct, those of each two operations are
 pub distinct_pairs : (ops : List Op) → HasDistinctIds ops → AllPairs (λ a b. same_id a.id b.id ≡ false) ops
 distinct_pairs [] d = λ i j a lt lt'. absurd (omega arith)
 distinct_pairs (a ∷ ops) d =
@@ -164,16 +164,16 @@ found_at (a ∷ ops) op (suc k) d lt e = found_later a ops op d.0 (found_at ops 
 pub found_by_id : (ops : List Op) (op : Op) → HasDistinctIds ops → Contains ops op → op_of ops op.id ≡ Some op
 found_by_id ops op d h = found_at ops op h.0 d h.1 h.2
 
--- two operations of one id are one
+-- where ids are distinct, two operations of one id are equal
 pub one_of_id : (ops : List Op) → HasDistinctIds ops → (a b : Op) → Contains ops a → Contains ops b → a.id ≡ b.id → a ≡ b
 one_of_id ops distinct a b sa sb e = let p = found_by_id ops a distinct sa in let q = found_by_id ops b distinct sb in let r = ap (op_of ops) e in cc
 
--- what is found by an id that may be given stands and has it
+-- an operation that is found by an optional id stands and has it
 pub found_stands : (ops : List Op) (id : Option OpId) (x : Op) → found_by ops id ≡ Some x → Contains ops x × (has_id id x ≡ true)
 found_stands ops None x e = absurd (cc)
 found_stands ops (Some id) x e = find-Some (λ op. same_id op.id id) ops x e
 
--- and what stands and has it is found
+-- an operation that stands and has an optional id is found by it
 pub found_again : (ops : List Op) (id : Option OpId) (x : Op) → HasDistinctIds ops → Contains ops x → has_id id x ≡ true → found_by ops id ≡ Some x
 found_again ops None x distinct h t = absurd (cc)
 found_again ops (Some id) x distinct h t = sym (found_alike ops x.id id t) ∙ found_by_id ops x distinct h

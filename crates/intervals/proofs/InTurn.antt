@@ -1,4 +1,4 @@
--- Writes in turn of their beginnings: on a shelf, and looked for among all that stand.
+-- The next write by beginning: by an index of the writes, and by a search of all operations.
 use Rattle.std.proofs.Common.{◌≡◌, ◌==◌, ◌<◌, ◌≤◌, ◌⊎◌, inl, inr, Bool, true, false, not, ◌&&◌, List, [], ◌∷◌, ◌++◌, Option, Some, None, refl, sym, ap, subst, ◌∙◌, cond, arith}
 use Rattle.std.specs.Prelude.{Contains, IfSome, IsSomeAnd, find, is_some, option_map}
 use Rattle.std.proofs.lemmas.Bool.{and_parts, cases_order}
@@ -7,13 +7,13 @@ use Rattle.std.proofs.lemmas.List.Elements.{All-contains, All-push, Contains-app
 use Rattle.intervals.specs.declared.operation.Op.{Op}
 use Rattle.intervals.specs.declared.operation.OpId.{OpId}
 use Rattle.intervals.specs.declared.operation.Moment.{Moment}
-use Rattle.intervals.specs.declared.shelf.Shelf.{Shelf}
-use Rattle.intervals.specs.declared.shelf.Spot.{Spot}
+use Rattle.intervals.specs.declared.ordered_index.OrderedIndex.{OrderedIndex}
+use Rattle.intervals.specs.declared.ordered_index.Spot.{Spot}
 use Rattle.intervals.specs.Edit.{op_of}
-use Rattle.intervals.specs.InTurn.{AreInTurn, IsNextWrite, begins_then, spot_then}
-use Rattle.intervals.specs.Moments.{IsBehind}
+use Rattle.intervals.specs.InTurn.{AreWritesByBegin, IsNextWrite, begins_then, spot_then}
+use Rattle.intervals.specs.Moments.{IsLaterThan}
 use Rattle.intervals.specs.Operation.{IsWrite, is_write}
-use Rattle.intervals.specs.Shelf.{id_at, joined, place_at, same_spot}
+use Rattle.intervals.specs.OrderedIndex.{id_at, id_if_there, place_at, same_spot}
 use Rattle.intervals.specs.Standing.{HasDistinctIds}
 use Rattle.intervals.proofs.Found.{find-None, find-Some, not_mapped}
 use Rattle.intervals.proofs.Ids.{found_by_id}
@@ -39,10 +39,10 @@ find_still p (a ∷ ops) op w e = by_cases (p a) e (find_still p ops op w)
     by_cases true e rest = e
     by_cases false e rest = rest e
 
--- the shelf with one operation more in the list
+-- the index with one more operation in the list
 module _ (before : List Op) (op : Op) where
-  -- a read changes nothing
-  pub turn_with_read : (shelf : Shelf) → AreInTurn shelf before → is_write op ≡ false → AreInTurn shelf (before ++ op ∷ [])
+  -- a read does not change the index
+  pub turn_with_read : (shelf : OrderedIndex) → AreWritesByBegin shelf before → is_write op ≡ false → AreWritesByBegin shelf (before ++ op ∷ [])
   turn_with_read shelf are read m = are m ∙ ap (option_map (λ (w : Op). w.id)) (sym (find_past (begins_then m) before op (rw read refl)))
 
   other_begin : (m : Moment) → (op.begin.0 == m.0) ≡ false → begins_then m op ≡ false
@@ -52,8 +52,8 @@ module _ (before : List Op) (op : Op) where
       by_cases true = f
       by_cases false = refl
 
-  -- nor does a write where one stands at its beginning
-  pub turn_with_second : (shelf : Shelf) (id : OpId) → AreInTurn shelf before → id_at shelf (spot_then op.begin) ≡ Some id → AreInTurn shelf (before ++ op ∷ [])
+  -- nor does a write where the index has one at its beginning
+  pub turn_with_second : (shelf : OrderedIndex) (id : OpId) → AreWritesByBegin shelf before → id_at shelf (spot_then op.begin) ≡ Some id → AreWritesByBegin shelf (before ++ op ∷ [])
   turn_with_second shelf id are taken m = are m ∙ ap (option_map (λ (w : Op). w.id)) (by_moment (op.begin.0 == m.0) refl)
     where
       by_found : (found : Option Op) → find (begins_then op.begin) before ≡ found → find (begins_then op.begin) before ≡ find (begins_then op.begin) (before ++ op ∷ [])
@@ -66,23 +66,23 @@ module _ (before : List Op) (op : Op) where
           subst (λ (n : Moment). find (begins_then n) before ≡ find (begins_then n) (before ++ op ∷ [])) same (by_found (find (begins_then op.begin) before) refl)
       by_moment false f = sym (find_past (begins_then m) before op (other_begin m f))
 
-  -- a write that is put there
-  pub turn_with_write : (shelf held new : Shelf) → AreInTurn shelf before → is_write op ≡ true → id_at shelf (spot_then op.begin) ≡ None
+  -- a write is put at its beginning
+  pub turn_with_write : (shelf held new : OrderedIndex) → AreWritesByBegin shelf before → is_write op ≡ true → id_at shelf (spot_then op.begin) ≡ None
       → ((other : Spot) → id_at held other ≡ id_at shelf other)
       → ((other : Spot) → place_at new other ≡ cond (same_spot (spot_then op.begin) other) (Some (Some op.id)) (place_at held other))
-      → AreInTurn new (before ++ op ∷ [])
-  turn_with_write shelf held new are write none same put m = ap joined (put (spot_then m)) ∙ by_moment (op.begin.0 == m.0) refl
+      → AreWritesByBegin new (before ++ op ∷ [])
+  turn_with_write shelf held new are write none same put m = ap id_if_there (put (spot_then m)) ∙ by_moment (op.begin.0 == m.0) refl
     where
-      by_moment : (t : Bool) → (op.begin.0 == m.0) ≡ t → joined (cond (true && t) (Some (Some op.id)) (place_at held (spot_then m))) ≡ option_map (λ (w : Op). w.id) (find (begins_then m) (before ++ op ∷ []))
+      by_moment : (t : Bool) → (op.begin.0 == m.0) ≡ t → id_if_there (cond (true && t) (Some (Some op.id)) (place_at held (spot_then m))) ≡ option_map (λ (w : Op). w.id) (find (begins_then m) (before ++ op ∷ []))
       by_moment true t =
           let begins : op.begin ≡ m = same_moment op.begin m ((Decides-eqb op.begin.0 m.0).0 t) in
           let empty : find (begins_then m) before ≡ None = not_mapped (λ (w : Op). w.id) (find (begins_then m) before) (sym (are m) ∙ subst (λ (n : Moment). id_at shelf (spot_then n) ≡ None) begins none) in
           ap (option_map (λ (w : Op). w.id)) (sym (find_at (begins_then m) before op (rw (write, t) refl) empty))
       by_moment false f = same (spot_then m) ∙ are m ∙ ap (option_map (λ (w : Op). w.id)) (sym (find_past (begins_then m) before op (other_begin m f)))
 
--- the next write, by the shelf
-module _ (ops : List Op) (ids : HasDistinctIds ops) (shelf : Shelf) (are : AreInTurn shelf ops) (after : Option Moment) where
-  -- where no id stands, no write begins
+-- the next write, by the index
+module _ (ops : List Op) (ids : HasDistinctIds ops) (shelf : OrderedIndex) (are : AreWritesByBegin shelf ops) (after : Option Moment) where
+  -- where the index has no id, no write begins
   none_begins : (w : Op) → Contains ops w → IsWrite w → ¬ (id_at shelf (spot_then w.begin) ≡ None)
   none_begins w stands write e =
       let none = find-None (begins_then w.begin) ops (not_mapped (λ (w : Op). w.id) (find (begins_then w.begin) ops) (sym (are w.begin) ∙ e)) in
@@ -90,13 +90,13 @@ module _ (ops : List Op) (ids : HasDistinctIds ops) (shelf : Shelf) (are : AreIn
       let t = begins_itself w write in
       cc
 
-  pub none_next : ((m : Moment) → IsBehind after m → id_at shelf (spot_then m) ≡ None) → IsNextWrite ops after None
-  none_next none = all_from (λ w. IsWrite w → ¬ IsBehind after w.begin) ops (λ w stands write behind. none_begins w stands write (none w.begin behind))
+  pub none_next : ((m : Moment) → IsLaterThan after m → id_at shelf (spot_then m) ≡ None) → IsNextWrite ops after None
+  none_next none = all_from (λ w. IsWrite w → ¬ IsLaterThan after w.begin) ops (λ w stands write behind. none_begins w stands write (none w.begin behind))
 
-  pub next_found : (m : Moment) (id : OpId) (found : Option Op) → IsBehind after m → id_at shelf (spot_then m) ≡ Some id → ((n : Moment) → IsBehind after n → n.0 < m.0 → id_at shelf (spot_then n) ≡ None) → found ≡ op_of ops id → IsNextWrite ops after found
+  pub next_found : (m : Moment) (id : OpId) (found : Option Op) → IsLaterThan after m → id_at shelf (spot_then m) ≡ Some id → ((n : Moment) → IsLaterThan after n → n.0 < m.0 → id_at shelf (spot_then n) ≡ None) → found ≡ op_of ops id → IsNextWrite ops after found
   next_found m id found behind there none is = by_found (find (begins_then m) ops) refl
     where
-      by_order : (w v : Op) → w.begin.0 ≡ m.0 → Contains ops v → IsWrite v → IsBehind after v.begin → (v.begin.0 ≡ m.0) ⊎ ((v.begin.0 < m.0) ⊎ (m.0 < v.begin.0)) → w.begin.0 ≤ v.begin.0
+      by_order : (w v : Op) → w.begin.0 ≡ m.0 → Contains ops v → IsWrite v → IsLaterThan after v.begin → (v.begin.0 ≡ m.0) ⊎ ((v.begin.0 < m.0) ⊎ (m.0 < v.begin.0)) → w.begin.0 ≤ v.begin.0
       by_order w v b stands write after_it (inl e) = omega arith
       by_order w v b stands write after_it (inr (inl lt)) = absurd (none_begins v stands write (none v.begin after_it lt))
       by_order w v b stands write after_it (inr (inr gt)) = omega arith
@@ -112,36 +112,36 @@ module _ (ops : List Op) (ids : HasDistinctIds ops) (shelf : Shelf) (are : AreIn
           subst (IsNextWrite ops after) (sym it) (
             h.0,
             parts.0,
-            subst (IsBehind after) (sym (same_moment w.begin m begins)) behind,
-            all_from (λ v. IsWrite v → IsBehind after v.begin → w.begin.0 ≤ v.begin.0) ops (λ v stands write after_it. by_order w v begins stands write after_it (cases_order v.begin.0 m.0)),
+            subst (IsLaterThan after) (sym (same_moment w.begin m begins)) behind,
+            all_from (λ v. IsWrite v → IsLaterThan after v.begin → w.begin.0 ≤ v.begin.0) ops (λ v stands write after_it. by_order w v begins stands write after_it (cases_order v.begin.0 m.0)),
           )
 
--- the next write, with one operation more among those that were looked at
+-- the next write, with one more operation among those that were searched
 module _ (ops : List Op) (after : Option Moment) (op : Op) where
-  pub next_with : (next : Option Op) → IsNextWrite ops after next → IsWrite op × IsBehind after op.begin × IfSome next (λ n. op.begin.0 < n.begin.0) → IsNextWrite (ops ++ op ∷ []) after (Some op)
+  pub next_with : (next : Option Op) → IsNextWrite ops after next → IsWrite op × IsLaterThan after op.begin × IfSome next (λ n. op.begin.0 < n.begin.0) → IsNextWrite (ops ++ op ∷ []) after (Some op)
   next_with None none (write, behind, sooner) = (
     Contains-push ops op,
     write,
     behind,
-    All-push (λ v. IsWrite v → IsBehind after v.begin → op.begin.0 ≤ v.begin.0) ops op
-        (all_from (λ v. IsWrite v → IsBehind after v.begin → op.begin.0 ≤ v.begin.0) ops (λ v stands wv bv. absurd (All-contains (λ w. IsWrite w → ¬ IsBehind after w.begin) ops v none stands wv bv)))
+    All-push (λ v. IsWrite v → IsLaterThan after v.begin → op.begin.0 ≤ v.begin.0) ops op
+        (all_from (λ v. IsWrite v → IsLaterThan after v.begin → op.begin.0 ≤ v.begin.0) ops (λ v stands wv bv. absurd (All-contains (λ w. IsWrite w → ¬ IsLaterThan after w.begin) ops v none stands wv bv)))
         (λ wv bv. omega arith),
   )
   next_with (Some n) (stands, wn, bn, least) (write, behind, sooner) = (
     Contains-push ops op,
     write,
     behind,
-    All-push (λ v. IsWrite v → IsBehind after v.begin → op.begin.0 ≤ v.begin.0) ops op
-        (all_from (λ v. IsWrite v → IsBehind after v.begin → op.begin.0 ≤ v.begin.0) ops (λ v sv wv bv.
-        let le = All-contains (λ v. IsWrite v → IsBehind after v.begin → n.begin.0 ≤ v.begin.0) ops v least sv wv bv in omega arith))
+    All-push (λ v. IsWrite v → IsLaterThan after v.begin → op.begin.0 ≤ v.begin.0) ops op
+        (all_from (λ v. IsWrite v → IsLaterThan after v.begin → op.begin.0 ≤ v.begin.0) ops (λ v sv wv bv.
+        let le = All-contains (λ v. IsWrite v → IsLaterThan after v.begin → n.begin.0 ≤ v.begin.0) ops v least sv wv bv in omega arith))
         (λ wv bv. omega arith),
   )
 
-  pub next_still : (next : Option Op) → IsNextWrite ops after next → (IsWrite op → IsBehind after op.begin → IsSomeAnd next (λ n. n.begin.0 ≤ op.begin.0)) → IsNextWrite (ops ++ op ∷ []) after next
-  next_still None none later = All-push (λ w. IsWrite w → ¬ IsBehind after w.begin) ops op none (λ write behind. later write behind)
+  pub next_still : (next : Option Op) → IsNextWrite ops after next → (IsWrite op → IsLaterThan after op.begin → IsSomeAnd next (λ n. n.begin.0 ≤ op.begin.0)) → IsNextWrite (ops ++ op ∷ []) after next
+  next_still None none later = All-push (λ w. IsWrite w → ¬ IsLaterThan after w.begin) ops op none (λ write behind. later write behind)
   next_still (Some n) (stands, wn, bn, least) later = (
     Contains-append_left ops (op ∷ []) n stands,
     wn,
     bn,
-    All-push (λ v. IsWrite v → IsBehind after v.begin → n.begin.0 ≤ v.begin.0) ops op least later,
+    All-push (λ v. IsWrite v → IsLaterThan after v.begin → n.begin.0 ≤ v.begin.0) ops op least later,
   )

@@ -1,4 +1,4 @@
--- The look-ups by id and by moment, and what an edit leaves of them.
+-- What the look-ups by id and by moment find, and that they still do after an edit.
 use Rattle.std.proofs.Common.{◌≡◌, ◌≢◌, ◌==◌, ℕ, zero, suc, inl, inr, ◌⊎◌, Bool, true, false, not, ◌&&◌, List, [], ◌∷◌, ◌++◌, length, set, map, Option, Some, None, refl, sym, ap, subst, ◌∙◌, cond}
 use Rattle.std.specs.Prelude.{IfSome, IsSome, option_map}
 use Rattle.std.proofs.lemmas.Bool.Decides.{Decides-eqb, Decides-or}
@@ -12,7 +12,7 @@ use Rattle.intervals.specs.Operation.{same_id}
 use Rattle.intervals.specs.Edit.{op_of, amended, changed, edited, new_op}
 use Rattle.intervals.specs.Refusal.{is_at, is_moment_of, find_other_with, moments_refusal, first_refusal}
 use Rattle.intervals.specs.Standing.{IsMomentOf, ShareNoMoment}
-use Rattle.intervals.specs.Table.{standing, slot_at, IsIndexed}
+use Rattle.intervals.specs.Table.{ops_in_slots, slot_at, IsIndexed}
 use Rattle.intervals.proofs.Accepted.{shares_none, moments_accepted}
 use Rattle.intervals.proofs.Found.{find-None, find-Some}
 use Rattle.intervals.proofs.Ids.{Decides-same_id_is, same_id-refl, none_of, not_taken, other_way}
@@ -33,7 +33,7 @@ id_of (Some op) = Some op.id
 some_is : {X : Type 0} (a b : X) → Some a ≡ Some b → a ≡ b
 some_is a b e = cc
 
--- the holder of a moment, unless it is the operation itself
+-- the optional holder of a moment, or none where it is the operation itself
 abbrev pub other_of : Option OpId → OpId → Option OpId
 other_of None id = None
 other_of (Some holder) id = cond (same_id holder id) None (Some holder)
@@ -49,7 +49,7 @@ both false b e = (refl, e)
 same_moment : (a b : Moment) → a.0 ≡ b.0 → a ≡ b
 same_moment a b e = ap {B = Moment} (λ n. record { 0 = n }) e
 
--- the fact of a moment from its test
+-- where the test of a moment passes, the operation has the moment
 pub moment_of : (op : Op) (m : Moment) → is_moment_of op m ≡ true → IsMomentOf op m
 moment_of op m t = by_cases ((Decides-or (op.begin.0 == m.0) (is_at op.end m) (Decides-eqb op.begin.0 m.0) (λ t. t, λ t. t)).0 t)
   where
@@ -61,12 +61,12 @@ moment_of op m t = by_cases ((Decides-or (op.begin.0 == m.0) (is_at op.end m) (D
     by_cases (inl e) = inl (same_moment op.begin m e)
     by_cases (inr t) = inr (by_end op.end t)
 
--- what is so of the operation that is there, where it follows
+-- what follows of an optional thing
 pub if_some : {X : Type 0} (P Q : X → Type 0) → ((x : X) → P x → Q x) → (o : Option X) → IfSome o P → IfSome o Q
 if_some P Q f None p = tt
 if_some P Q f (Some x) p = f x p
 
--- the operation that an amendment leaves has its id
+-- the operation that an amendment makes has the amendment's id
 pub left_id : (ops : List Op) (id : OpId) (change : Change) (new : Op) → new_op ops (Amend id change) ≡ Some new → id ≡ new.id
 left_id ops id change new left = by_cases (op_of ops id) refl left
   where
@@ -76,7 +76,7 @@ left_id ops id change new left = by_cases (op_of ops id) refl left
         let own : op.id ≡ id = (Decides-same_id_is op.id id).0 (find-Some (λ op. same_id op.id id) ops op o).1 in
         sym own ∙ ap (λ (a : Op). a.id) (some_is (changed op change) new e)
 
--- and one of that id stands
+-- where an amendment makes an operation, one of its id stands
 pub left_stands : (ops : List Op) (id : OpId) (change : Change) (new : Op) → new_op ops (Amend id change) ≡ Some new → IsSome (op_of ops new.id)
 left_stands ops id change new left = subst (λ (id : OpId). IsSome (op_of ops id)) (left_id ops id change new left) (by_cases (op_of ops id) left)
   where
@@ -100,7 +100,7 @@ module _ (at : ℕ → Option Op) (place : OpId → Option ℕ) (holder : Moment
       by_cases false s = refl
       by_cases true s = absurd (other (one_slot j i b a f e ((Decides-same_id_is b.id id).0 s ∙ sym ((Decides-same_id_is a.id id).0 t))))
 
-  -- one slot gets another operation, or none
+  -- the look-ups, where one slot gets another operation, or none
   module _ (at' : ℕ → Option Op) (place' : OpId → Option ℕ) (holder' : Moment → Option OpId) (i : ℕ) (old new : Option Op)
       (was : at i ≡ old) (is : at' i ≡ new) (others : (j : ℕ) → j ≢ i → at' j ≡ at j)
       (places : (id : OpId) → place' id ≡ cond (has_id new id) (Some i) (cond (has_id old id) None (place id)))
@@ -154,7 +154,7 @@ module _ (at : ℕ → Option Op) (place : OpId → Option ℕ) (holder : Moment
             let f = sym (others j other) ∙ e in
             holders m ∙ rw (new_moments j op f other m t, old_moments old was j op f other m t) (indexed.held j op m f t)
 
-    -- an operation that has not what the old one has is in another slot
+    -- an operation that passes a test which the old one fails is in another slot
     elsewhere : (P : Option Op → Bool) (k : ℕ) (op : Op) → P old ≡ false → at k ≡ Some op → P (Some op) ≡ true → k ≢ i
     elsewhere P k op f e t same = let s : old ≡ Some op = sym was ∙ (ap at (sym same) ∙ e) in let u = ap P s in absurd (cc)
 
@@ -193,7 +193,7 @@ none_at : (i : ℕ) → slot_at [] i ≡ None
 none_at zero = refl
 none_at (suc i) = refl
 
--- of no slots nothing is found
+-- with no slots nothing is found
 pub indexed_none : (place : OpId → Option ℕ) (holder : Moment → Option OpId) → ((id : OpId) → place id ≡ None) → ((m : Moment) → holder m ≡ None) → IsIndexed (slot_at []) place holder
 indexed_none place holder no_place no_holder = record {
   placed = λ i op e. let none = none_at i in absurd (cc);
@@ -202,7 +202,7 @@ indexed_none place holder no_place no_holder = record {
   holds = λ m id e. let none = no_holder m in absurd (cc);
 }
 
--- look-ups that give the same are as good
+-- look-ups that find the same things are as good
 pub indexed_alike : (at at' : ℕ → Option Op) (place place' : OpId → Option ℕ) (holder holder' : Moment → Option OpId) → IsIndexed at place holder
     → ((i : ℕ) → at' i ≡ at i) → ((id : OpId) → place' id ≡ place id) → ((m : Moment) → holder' m ≡ holder m) → IsIndexed at' place' holder'
 indexed_alike at at' place place' holder holder' indexed e f g = record {
@@ -218,75 +218,75 @@ module _ (slots : List (Option Op)) (place : OpId → Option ℕ) (holder : Mome
   has_own_id id i op p e = let h = indexed.there id i p in let same : h.0 ≡ op = some_is h.0 op (sym h.1 ∙ e) in ap (λ (o : Op). same_id o.id id) (sym same) ∙ h.2
 
   -- what is in the slot of an id is the operation of that id
-  pub found_in_slot : (id : OpId) (i : ℕ) (op : Op) → place id ≡ Some i → slot_at slots i ≡ Some op → op_of (standing slots) id ≡ Some op
-  found_in_slot id i op p e = by_cases (op_of (standing slots) id) refl
+  pub found_in_slot : (id : OpId) (i : ℕ) (op : Op) → place id ≡ Some i → slot_at slots i ≡ Some op → op_of (ops_in_slots slots) id ≡ Some op
+  found_in_slot id i op p e = by_cases (op_of (ops_in_slots slots) id) refl
     where
       has : same_id op.id id ≡ true
       has = has_own_id id i op p e
 
-      by_cases : (o : Option Op) → op_of (standing slots) id ≡ o → o ≡ Some op
-      by_cases None o = let t : same_id op.id id ≡ true = has in let f = All-contains (λ op. same_id op.id id ≡ false) (standing slots) op (none_of (standing slots) id o) (slot_stands slots i op e) in absurd (cc)
+      by_cases : (o : Option Op) → op_of (ops_in_slots slots) id ≡ o → o ≡ Some op
+      by_cases None o = let t : same_id op.id id ≡ true = has in let f = All-contains (λ op. same_id op.id id ≡ false) (ops_in_slots slots) op (none_of (ops_in_slots slots) id o) (slot_stands slots i op e) in absurd (cc)
       by_cases (Some a) o =
-          let h = find-Some (λ op. same_id op.id id) (standing slots) a o in
+          let h = find-Some (λ op. same_id op.id id) (ops_in_slots slots) a o in
           let k = stands_in_slot slots a h.0 in
           let same = one_slot (slot_at slots) place holder indexed k.0 i a op k.1 e ((Decides-same_id_is a.id id).0 h.1 ∙ sym ((Decides-same_id_is op.id id).0 has)) in
           sym k.1 ∙ (ap (slot_at slots) same ∙ e)
 
   -- where an id has no slot, no operation has it
-  pub none_in_slot : (id : OpId) → ((i : ℕ) → place id ≡ Some i → slot_at slots i ≡ None) → op_of (standing slots) id ≡ None
-  none_in_slot id none = by_cases (op_of (standing slots) id) refl
+  pub none_in_slot : (id : OpId) → ((i : ℕ) → place id ≡ Some i → slot_at slots i ≡ None) → op_of (ops_in_slots slots) id ≡ None
+  none_in_slot id none = by_cases (op_of (ops_in_slots slots) id) refl
     where
-      by_cases : (o : Option Op) → op_of (standing slots) id ≡ o → o ≡ None
+      by_cases : (o : Option Op) → op_of (ops_in_slots slots) id ≡ o → o ≡ None
       by_cases None o = refl
       by_cases (Some a) o =
-          let h = find-Some (λ op. same_id op.id id) (standing slots) a o in
+          let h = find-Some (λ op. same_id op.id id) (ops_in_slots slots) a o in
           let k = stands_in_slot slots a h.0 in
           let e = none k.0 (ap place (sym ((Decides-same_id_is a.id id).0 h.1)) ∙ indexed.placed k.0 a k.1) in
           absurd (cc)
 
   -- the holder of a moment, unless it is the operation itself, is the other one that has it
-  pub other_found : (id : OpId) (m : Moment) → other_of (holder m) id ≡ option_map (λ op. op.id) (find_other_with (standing slots) id m)
-  other_found id m = by_cases (find_other_with (standing slots) id m) refl (holder m) refl
+  pub other_found : (id : OpId) (m : Moment) → other_of (holder m) id ≡ option_map (λ op. op.id) (find_other_with (ops_in_slots slots) id m)
+  other_found id m = by_cases (find_other_with (ops_in_slots slots) id m) refl (holder m) refl
     where
-      by_cases : (o : Option Op) → find_other_with (standing slots) id m ≡ o → (h : Option OpId) → holder m ≡ h → other_of h id ≡ option_map (λ op. op.id) o
+      by_cases : (o : Option Op) → find_other_with (ops_in_slots slots) id m ≡ o → (h : Option OpId) → holder m ≡ h → other_of h id ≡ option_map (λ op. op.id) o
       by_cases None o None h = refl
       by_cases None o (Some holder_id) h =
           let (k, a, e, t, same) = indexed.holds m holder_id h in
-          let none = All-contains (λ op. (not (same_id op.id id) && is_moment_of op m) ≡ false) (standing slots) a (find-None (λ op. not (same_id op.id id) && is_moment_of op m) (standing slots) o) (slot_stands slots k a e) in
+          let none = All-contains (λ op. (not (same_id op.id id) && is_moment_of op m) ≡ false) (ops_in_slots slots) a (find-None (λ op. not (same_id op.id id) && is_moment_of op m) (ops_in_slots slots) o) (slot_stands slots k a e) in
           let own : same_id a.id id ≡ true = not_other (same_id a.id id) (is_moment_of a m) none t in
           rw (← same, own) refl
       by_cases (Some x) o h e =
-          let f = find-Some (λ op. not (same_id op.id id) && is_moment_of op m) (standing slots) x o in
+          let f = find-Some (λ op. not (same_id op.id id) && is_moment_of op m) (ops_in_slots slots) x o in
           let k = stands_in_slot slots x f.0 in
           let (apart, t) = both (same_id x.id id) (is_moment_of x m) f.1 in
           let s : h ≡ Some x.id = sym e ∙ indexed.held k.0 x m k.1 t in
           rw (s, apart) refl
 
-  -- the same of what a look-up gave, and of the operations by another name
-  pub other_is : (id : OpId) (m : Moment) (found : Option OpId) (ops : List Op) → found ≡ holder m → standing slots ≡ ops → other_of found id ≡ option_map (λ op. op.id) (find_other_with ops id m)
+  -- the other operation that has a moment, by what the look-up found
+  pub other_is : (id : OpId) (m : Moment) (found : Option OpId) (ops : List Op) → found ≡ holder m → ops_in_slots slots ≡ ops → other_of found id ≡ option_map (λ op. op.id) (find_other_with ops id m)
   other_is id m found ops e f = rw (e, ← f) (other_found id m)
 
-  -- the moments of an operation that may be admitted are no other's
-  pub moments_free : (new : Op) → moments_refusal (standing slots) new ≡ None → (j : ℕ) (op : Op) → slot_at slots j ≡ Some op → same_id op.id new.id ≡ false → (m : Moment) → is_moment_of op m ≡ true → is_moment_of new m ≡ false
+  -- the moments of a new operation that is not refused are not those of another
+  pub moments_free : (new : Op) → moments_refusal (ops_in_slots slots) new ≡ None → (j : ℕ) (op : Op) → slot_at slots j ≡ Some op → same_id op.id new.id ≡ false → (m : Moment) → is_moment_of op m ≡ true → is_moment_of new m ≡ false
   moments_free new accepted j op e apart m t = by_cases (is_moment_of new m) refl
     where
       by_cases : (s : Bool) → is_moment_of new m ≡ s → s ≡ false
       by_cases false s = refl
-      by_cases true s = absurd (All-contains (λ other. same_id other.id new.id ≡ false → ShareNoMoment new other) (standing slots) op (shares_none (standing slots) new accepted) (slot_stands slots j op e) apart m (moment_of new m s) (moment_of op m t))
+      by_cases true s = absurd (All-contains (λ other. same_id other.id new.id ≡ false → ShareNoMoment new other) (ops_in_slots slots) op (shares_none (ops_in_slots slots) new accepted) (slot_stands slots j op e) apart m (moment_of new m s) (moment_of op m t))
 
-  -- the id of an operation that may be appended is no other's
-  pub id_free : (new : Op) → op_of (standing slots) new.id ≡ None → (j : ℕ) (op : Op) → slot_at slots j ≡ Some op → same_id op.id new.id ≡ false
-  id_free new none j op e = All-contains (λ op. same_id op.id new.id ≡ false) (standing slots) op (none_of (standing slots) new.id none) (slot_stands slots j op e)
+  -- the id of a new operation that may be appended is not that of another
+  pub id_free : (new : Op) → op_of (ops_in_slots slots) new.id ≡ None → (j : ℕ) (op : Op) → slot_at slots j ≡ Some op → same_id op.id new.id ≡ false
+  id_free new none j op e = All-contains (λ op. same_id op.id new.id ≡ false) (ops_in_slots slots) op (none_of (ops_in_slots slots) new.id none) (slot_stands slots j op e)
 
-  -- no other slot has the id of one
+  -- no slot but that of the id has an operation of it
   pub only_there : (id : OpId) (i : ℕ) (op : Op) → place id ≡ Some i → slot_at slots i ≡ Some op → IsOnlyAt slots i id
   only_there id i op p e = one_id (slot_at slots) place holder indexed i op id e (has_own_id id i op p e)
 
   -- the new operation of an amendment is that of the slot, changed
-  new_in_slot : (id : OpId) (change : Change) (i : ℕ) (op : Op) → place id ≡ Some i → slot_at slots i ≡ Some op → new_op (standing slots) (Amend id change) ≡ Some (changed op change)
+  new_in_slot : (id : OpId) (change : Change) (i : ℕ) (op : Op) → place id ≡ Some i → slot_at slots i ≡ Some op → new_op (ops_in_slots slots) (Amend id change) ≡ Some (changed op change)
   new_in_slot id change i op p e = ap (option_map (λ op. changed op change)) (found_in_slot id i op p e)
 
-  pub indexed_appended : (op : Op) (i : ℕ) (place' : OpId → Option ℕ) (holder' : Moment → Option OpId) → first_refusal (standing slots) (Append op) ≡ None → i ≡ length slots
+  pub indexed_appended : (op : Op) (i : ℕ) (place' : OpId → Option ℕ) (holder' : Moment → Option OpId) → first_refusal (ops_in_slots slots) (Append op) ≡ None → i ≡ length slots
       → ((id : OpId) → place' id ≡ cond (same_id op.id id) (Some i) (place id))
       → ((m : Moment) → holder' m ≡ cond (is_moment_of op m) (Some op.id) (holder m))
       → IsIndexed (slot_at (slots ++ Some op ∷ [])) place' holder'
@@ -294,12 +294,12 @@ module _ (slots : List (Option Op)) (place : OpId → Option ℕ) (holder : Mome
       indexed_after (slot_at slots) place holder indexed (slot_at (slots ++ Some op ∷ [])) place' holder' (length slots) None (Some op)
       (slot_at-past slots) (slot_at-more slots op) (slot_at-others slots op) (λ id. rw (← at_end) (places id)) holders
       (λ j other e apart. other_way other.id op.id (id_free op none j other e))
-      (λ j other e apart. moments_free op (moments_accepted (standing slots) (Append op) op accepted refl) j other e (id_free op none j other e))
+      (λ j other e apart. moments_free op (moments_accepted (ops_in_slots slots) (Append op) op accepted refl) j other e (id_free op none j other e))
     where
-      none : op_of (standing slots) op.id ≡ None
-      none = not_taken (op_of (standing slots) op.id) (moments_refusal (standing slots) op) accepted
+      none : op_of (ops_in_slots slots) op.id ≡ None
+      none = not_taken (op_of (ops_in_slots slots) op.id) (moments_refusal (ops_in_slots slots) op) accepted
 
-  pub indexed_amended : (new : Op) (i : ℕ) (op : Op) (holder' : Moment → Option OpId) → moments_refusal (standing slots) new ≡ None → op.id ≡ new.id → slot_at slots i ≡ Some op
+  pub indexed_amended : (new : Op) (i : ℕ) (op : Op) (holder' : Moment → Option OpId) → moments_refusal (ops_in_slots slots) new ≡ None → op.id ≡ new.id → slot_at slots i ≡ Some op
       → ((m : Moment) → holder' m ≡ cond (is_moment_of new m) (Some new.id) (cond (is_moment_of op m) None (holder m)))
       → IsIndexed (slot_at (set slots i (Some new))) place holder'
   indexed_amended new i op holder' accepted same e holders =
@@ -318,13 +318,13 @@ module _ (slots : List (Option Op)) (place : OpId → Option ℕ) (holder : Mome
       places : (q : OpId) → place q ≡ cond (same_id new.id q) (Some i) (cond (same_id op.id q) None (place q))
       places q = subst (λ (id : OpId). place q ≡ cond (same_id id q) (Some i) (cond (same_id op.id q) None (place q))) same (by_id q (same_id op.id q) refl)
 
-  -- the operation that an amendment leaves, in the slot of its id, leaves what the edit leaves
-  pub standing_left : (id : OpId) (change : Change) (i : ℕ) (op new : Op) → place new.id ≡ Some i → slot_at slots i ≡ Some op → new_op (standing slots) (Amend id change) ≡ Some new
-      → standing (set slots i (Some new)) ≡ edited (standing slots) (Amend id change)
+  -- to put the operation that an amendment makes into the slot of its id gives the edited operations
+  pub standing_left : (id : OpId) (change : Change) (i : ℕ) (op new : Op) → place new.id ≡ Some i → slot_at slots i ≡ Some op → new_op (ops_in_slots slots) (Amend id change) ≡ Some new
+      → ops_in_slots (set slots i (Some new)) ≡ edited (ops_in_slots slots) (Amend id change)
   standing_left id change i op new p e left =
-      let there : place id ≡ Some i = ap place (left_id (standing slots) id change new left) ∙ p in
+      let there : place id ≡ Some i = ap place (left_id (ops_in_slots slots) id change new left) ∙ p in
       let is : changed op change ≡ new = some_is (changed op change) new (sym (new_in_slot id change i op there e) ∙ left) in
-      subst (λ (o : Op). standing (set slots i (Some o)) ≡ map (amended id change) (standing slots)) is
+      subst (λ (o : Op). ops_in_slots (set slots i (Some o)) ≡ map (amended id change) (ops_in_slots slots)) is
       (standing_changed slots i op id change e (has_own_id id i op there e) (only_there id i op there e))
 
   pub indexed_without : (id : OpId) (i : ℕ) (op : Op) (place' : OpId → Option ℕ) (holder' : Moment → Option OpId) → place id ≡ Some i → slot_at slots i ≡ Some op

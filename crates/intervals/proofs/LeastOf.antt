@@ -1,4 +1,4 @@
--- What the fold over a list finds is the least that passes.
+-- What `least_by` finds is the operation of least key that passes the test.
 use Rattle.std.proofs.Common.{◌≡◌, ℕ, ◌≤◌, ◌⊎◌, inl, inr, Bool, true, false, List, [], ◌∷◌, Option, Some, None, refl, sym, ap, subst, ◌∙◌, arith, ltb}
 use Rattle.std.specs.Prelude.{All, Any, Contains, IsTrue}
 use Rattle.std.proofs.lemmas.Bool.Decides.{Decides-ltb, not_from_Decides}
@@ -9,7 +9,7 @@ use Rattle.intervals.proofs.Agreement.{any_here, any_there}
 use Rattle.intervals.proofs.Members.{all_from}
 
 module _ (key : Op → ℕ) (test : Op → Bool) where
-  -- the found one, if any, has a key that is no smaller
+  -- the optional one found so far has no lesser key
   abbrev pub From : ℕ → Option Op → Type 0
   From least None = Unit {0}
   From least (Some found) = least ≤ key found
@@ -40,7 +40,7 @@ module _ (key : Op → ℕ) (test : Op → Bool) where
   turn : (found : Option Op) (op : Op) → Taken found op ⊎ Left found op
   turn found op = turn_cases found op (test op) (is_less key op found) refl refl
 
-  -- where nothing is found, none passes
+  -- nothing is found, and no operation of the list passes
   abbrev pub NonePasses : Option Op → List Op → Type 0
   NonePasses found ops = (found ≡ None) × All (λ op. ¬ IsTrue (test op)) ops
 
@@ -57,7 +57,7 @@ module _ (key : Op → ℕ) (test : Op → Bool) where
   kept found op h (inl t) = absurd (h t.1)
   kept found op h (inr l) = l.0
 
-  -- where none passes, the found one stays
+  -- where none passes, the one found so far stays
   pub least_from-none : (found : Option Op) (ops : List Op) → All (λ op. ¬ IsTrue (test op)) ops → least_from key test found ops ≡ found
   least_from-none found [] h = refl
   least_from-none found (op ∷ ops) h =
@@ -122,7 +122,7 @@ module _ (key : Op → ℕ) (test : Op → Bool) where
   pub least_by-IsLeast : (ops : List Op) (least : Op) → least_by key test ops ≡ Some least → IsLeast key test ops least
   least_by-IsLeast ops least e = let h = least_from-Some None ops least e in is_least ops least h h.from
 
-  -- no two that pass have one key
+  -- operations that pass have different keys
   abbrev pub AreTold : List Op → Type 0
   AreTold ops = (a b : Op) → Contains ops a → Contains ops b → IsTrue (test a) → IsTrue (test b) → key a ≡ key b → a ≡ b
 
@@ -140,7 +140,7 @@ module _ (key : Op → ℕ) (test : Op → Bool) where
           let ge : key other ≤ key op = All-contains (λ o. IsTrue (test o) → key other ≤ key o) ops op it.least is.stands is.passes in
           e ∙ ap Some (told other op it.stands is.stands it.passes is.passes (omega arith))
 
-  -- fewer of them find the same where each that passes has one among them with no greater key
+  -- a part of the list has the same least one, if for each that passes it has one that passes with no greater key
   pub least_among : (ops few : List Op) → AreTold ops → ((op : Op) → Contains few op → Contains ops op)
       → ((op : Op) → Contains ops op → IsTrue (test op) → (best : Op) × Contains few best × IsTrue (test best) × (key best ≤ key op))
       → least_by key test ops ≡ least_by key test few

@@ -1,4 +1,4 @@
--- The members of a list of operations.
+-- Operations of a list: what is so of each, and of each two.
 use Rattle.std.proofs.Common.{◌≡◌, ℕ, ◌<◌, ◌⊎◌, inl, inr, suc, List, ◌∷◌, length, refl, sym, ap, subst, ◌∙◌, arith}
 use Rattle.std.specs.Prelude.{All, Contains, slice_index_or}
 use Rattle.std.specs.List.{AllPairs}
@@ -9,7 +9,7 @@ use Rattle.intervals.specs.declared.operation.Op.{Op}
 use Rattle.intervals.specs.declared.operation.Moment.{Moment}
 use Rattle.intervals.specs.Standing.{ShareNoMoment, HasDistinctMoments}
 
--- of all and of those that stand
+-- what is so of each operation of the list is so of all
 pub all_from : (P : Op → Type 0) (ops : List Op) → ((op : Op) → Contains ops op → P op) → All P ops
 all_from P ops each k d lt = each (slice_index_or ops k d) (Contains-get_or ops k d lt)
 
@@ -19,7 +19,7 @@ here a ops = (0, omega arith, refl)
 pub there : (a : Op) (ops : List Op) (op : Op) → Contains ops op → Contains (a ∷ ops) op
 there a ops op h = (suc h.0, omega (arith, h.1), h.2)
 
--- of two members of a list whose pairs are so, they are one or they are so
+-- where each pair of a list is so, two operations of it are equal or are so
 module _ (R : Op → Op → Type 0) (symmetric : (a b : Op) → R a b → R b a) (ops : List Op) (pairs : AllPairs R ops) where
   at_indices : (a b : Op) (i j : ℕ) → slice_index_or ops i a ≡ a → slice_index_or ops j b ≡ b → i < j → j < length ops → R a b
   at_indices a b i j p q lt lt' =
@@ -33,7 +33,7 @@ module _ (R : Op → Op → Type 0) (symmetric : (a b : Op) → R a b → R b a)
       by_cases (inr (inl lt)) = inr (at_indices a b i j p q lt j_in)
       by_cases (inr (inr gt)) = inr (symmetric b a (at_indices b a j i q p gt i_in))
 
--- moments of one number are one
+-- moments with the same number are equal
 pub same_moment : (m n : Moment) → m.0 ≡ n.0 → m ≡ n
 same_moment m n e = ap (λ (k : ℕ). let moment : Moment = record { 0 = k } in moment) e
 

@@ -1,4 +1,4 @@
--- The first two writes in turn that overlap are the first overlap.
+-- The first write by beginning that overlaps the next one, and that one, are the first overlap.
 use Rattle.std.proofs.Common.{◌≡◌, ◌<◌, ◌≤◌, ◌⊎◌, inl, inr, Bool, true, false, not, ◌&&◌, List, Option, Some, None, refl, sym, ap, subst, ◌∙◌, arith}
 use Rattle.std.specs.Prelude.{Contains, IsTrue, IfSome, option_map}
 use Rattle.std.specs.List.{list_any}
@@ -18,18 +18,18 @@ use Rattle.intervals.proofs.Ids.{Decides-same_id_is, found_by_id, same_id-refl}
 use Rattle.intervals.proofs.LeastOf.{AreTold, least_is, none_least}
 use Rattle.intervals.proofs.Members.{all_from, begin_apart}
 
--- a write that stands; and each write that begins before it precedes those that begin later
+-- a write of the list, and each write that begins before it precedes all that begin later
 pub record IsReached (ops : List Op) (w : Op) : Type 0 where
   pub stands : Contains ops w
   pub write : IsWrite w
   pub earlier : (v x : Op) → Contains ops v → Contains ops x → IsWrite v → IsWrite x → v.begin.0 < w.begin.0 → v.begin.0 < x.begin.0 → precedes v x ≡ true
 
--- what ends before a moment ends before a later one
+-- an end before a moment is before a later one
 ends_earlier : (end : Option Moment) (m n : Moment) → ends_before end m ≡ true → m.0 ≤ n.0 → ends_before end n ≡ true
 ends_earlier None m n e le = absurd (cc)
 ends_earlier (Some end) m n e le = let lt : end.0 < m.0 = (Decides-ends_before (Some end) m).0 e in (Decides-ends_before (Some end) n).1 (omega arith)
 
--- what ends after it begins does not end before that
+-- an end that is after its beginning is not before a moment up to the beginning
 not_before : (end : Option Moment) (begin m : Moment) → IfSome end (λ e. begin.0 < e.0) → m.0 ≤ begin.0 → ends_before end m ≡ false
 not_before None begin m ends le = refl
 not_before (Some end) begin m ends le = false_unless (ends_before (Some end) m) (λ t. let lt : end.0 < m.0 = (Decides-ends_before (Some end) m).0 t in omega (arith, ends))
@@ -78,7 +78,7 @@ module _ (ops : List Op) (ids : HasDistinctIds ops) (moments : HasDistinctMoment
       by_cases true = refl
       by_cases false = refl
 
-  -- a write that begins before the one that is reached overlaps none
+  -- a write that begins before the reached one overlaps none
   sooner_none : (w : Op) → IsReached ops w → (v : Op) → Contains ops v → IsWrite v → v.begin.0 < w.begin.0 → overlaps_another ops v ≡ false
   sooner_none w at v sv wv lt =
       none_another v (λ x sx. over_none v x sv sx (λ wx gt. at.earlier v x sv sx wv wx lt gt) (λ wx less. at.earlier x v sx sv wx wv (omega arith) less))
@@ -86,7 +86,7 @@ module _ (ops : List Op) (ids : HasDistinctIds ops) (moments : HasDistinctMoment
   not_passing : (v : Op) → overlaps_another ops v ≡ false → ¬ IsTrue (overlaps_another ops v)
   not_passing v e t = cc
 
-  -- the first write of all
+  -- the first write of all is reached
   pub reached_first : (w : Op) → IsNextWrite ops None (Some w) → IsReached ops w
   reached_first w (stands, write, behind, least) = record {
     stands = stands;
@@ -95,7 +95,7 @@ module _ (ops : List Op) (ids : HasDistinctIds ops) (moments : HasDistinctMoment
         let le = All-contains (λ v. IsWrite v → Unit {0} → w.begin.0 ≤ v.begin.0) ops v least sv wv tt in absurd (omega arith);
   }
 
-  -- the next one, where the reached one precedes it
+  -- the next write is reached where the reached one precedes it
   pub reached_next : (w n : Op) → IsReached ops w → IsNextWrite ops (Some w.begin) (Some n) → precedes w n ≡ true → IsReached ops n
   reached_next w n at (stands, write, behind, least) before = record {
     stands = stands;
@@ -113,7 +113,7 @@ module _ (ops : List Op) (ids : HasDistinctIds ops) (moments : HasDistinctMoment
       by_order v x sv sx wv wx lt gt (inr (inr later)) =
           let le = All-contains (λ v. IsWrite v → w.begin.0 < v.begin.0 → n.begin.0 ≤ v.begin.0) ops v least sv wv later in absurd (omega arith)
 
-  -- where none comes, none overlaps another
+  -- where there is no next write, no writes overlap
   pub overlap_none : (w : Op) → IsReached ops w → IsNextWrite ops (Some w.begin) None → first_overlap ops ≡ None
   overlap_none w at none = ap (overlap_of ops) (none_least begin_number (overlaps_another ops) ops each)
     where
@@ -137,7 +137,7 @@ module _ (ops : List Op) (ids : HasDistinctIds ops) (moments : HasDistinctMoment
           let parts = and_parts (is_write v) (list_any (is_overlapped v) ops) t in
           All-contains (λ w. IsWrite w → ¬ Unit {0}) ops v none sv parts.0 tt
 
-  -- the next one, where the reached one does not precede it, is the other of the first overlap
+  -- where the reached one does not precede the next, the two are the first overlap
   pub overlap_found : (w n : Op) → IsReached ops w → IsNextWrite ops (Some w.begin) (Some n) → precedes w n ≡ false → first_overlap ops ≡ Some (w.id, n.id)
   overlap_found w n at (stands, write, behind, least) overlapping =
       ap (overlap_of ops) (least_is begin_number (overlaps_another ops) ops w (told (overlaps_another ops)) first)

@@ -1,4 +1,4 @@
--- Rows whose keys rise: what a search from the latest on finds, and what one row more or another value in a row changes.
+-- Rows whose keys rise: what a search finds, and what one more row or another value in a row changes.
 use Rattle.std.proofs.Common.{◌≡◌, ◌⊎◌, inl, inr, ℕ, zero, suc, ◌+◌, ◌-◌, ◌<◌, ◌≤◌, Bool, true, false, cond, List, [], ◌∷◌, ◌++◌, length, get_or, set, drop, slice_get, ◌↔◌, Option, Some, None, refl, sym, ap, ◌∙◌, arith}
 use Rattle.std.specs.Prelude.{All}
 use Rattle.std.specs.Option.{option_flatten, option_or}
@@ -30,14 +30,14 @@ by_first false true v w rest apart r e = refl
 by_first b false v w rest apart r e = e
 
 module _ {K X : Type 0} (eq : K → K → Bool) (laws : IsEquivalence eq) where
-  -- of rows none of which has the key none is found
+  -- where no row has the key, none is found
   pub absent : (rows : List (K × X)) (key : K) → All (λ row. eq key row.0 ≡ false) rows → lookup (eq key) rows ≡ None
   absent [] key none = refl
   absent (row ∷ rows) key none =
       ap (λ (t : Bool). cond t (Some row.1) (lookup (eq key) rows)) (All-head (λ (r : K × X). eq key r.0 ≡ false) row rows none)
       ∙ absent rows key (All-tail (λ (r : K × X). eq key r.0 ≡ false) row rows none)
 
-  -- nor of a key that is equal to it
+  -- nor is one found for a key that is equal to it
   pub absent_alike : (rows : List (K × X)) (key q : K) → All (λ row. eq key row.0 ≡ false) rows → eq key q ≡ true → lookup (eq q) rows ≡ None
   absent_alike rows key q none same = absent rows q (λ k d within. sym (laws.congr key q (get_or rows k d).0 same) ∙ none k d within)
 
@@ -49,7 +49,7 @@ module _ {K X : Type 0} (eq : K → K → Bool) (laws : IsEquivalence eq) where
       ap (λ (t : Bool). cond t (Some row.1) (lookup (eq key) rows)) (first.0 0 d (omega arith) (omega arith))
       ∙ first_row rows key i d (omega arith) (λ k e low below. first.0 (suc k) e (omega arith) (omega arith), λ inside. first.1 lt)
 
-  -- another value in the first row of a key is the key's
+  -- another value in the first row of a key is the value of the key
   set_there : (rows : List (K × X)) (key q : K) (i : ℕ) (d : K × X) (v : X) → i < length rows → IsFirstMatchOrLen (λ row. eq key row.0) rows i
       → lookup (eq q) (set rows i ((get_or rows i d).0, v)) ≡ cond (eq key q) (Some v) (lookup (eq q) rows)
   set_there [] key q i d v lt first = absurd (omega arith)
@@ -72,7 +72,7 @@ module _ {K X : Type 0} (eq : K → K → Bool) (laws : IsEquivalence eq) where
       → lookup (eq q) (set rows i (row.0, v)) ≡ cond (eq key q) (Some v) (lookup (eq q) rows)
   set_row rows key q i row v is lt first = ap (λ (r : K × X). lookup (eq q) (set rows i (r.0, v))) is ∙ set_there rows key q i row v lt first
 
-  -- a row more at the end is found where none before it has the key
+  -- one more row at the end is found where none before it has the key
   pub pushed : (rows : List (K × X)) (key q : K) (v : X) → All (λ row. eq key row.0 ≡ false) rows
       → lookup (eq q) (rows ++ (key, v) ∷ []) ≡ cond (eq key q) (Some v) (lookup (eq q) rows)
   pushed [] key q v none = ap (λ (b : Bool). cond b (Some v) None) (laws.symm q key)
@@ -88,7 +88,7 @@ keys_there (row ∷ rows) zero d v lt (suc j) e within = refl
 keys_there (row ∷ rows) (suc i) d v lt zero e within = refl
 keys_there (row ∷ rows) (suc i) d v lt (suc j) e within = keys_there rows i d v (omega arith) j e (omega arith)
 
--- another value in a row that was read leaves the keys
+-- another value in a row that was read changes no key
 same_keys : {K X : Type 0} (rows : List (K × X)) (i : ℕ) (row : K × X) (v : X) → row ≡ get_or rows i row → i < length rows → (j : ℕ) (e : K × X) → j < length rows → key_at (set rows i (row.0, v)) j e ≡ key_at rows j e
 same_keys {K} {X} rows i row v is lt j e within = ap (λ (r : K × X). key_at (set rows i (r.0, v)) j e) is ∙ keys_there rows i row v lt j e within
 
@@ -123,7 +123,7 @@ at_most_two Equal = omega arith
 at_most_two Greater = omega arith
 
 module _ {K : Type 0} (cmp : K → K → Ordering) (total : IsTotalOrder cmp) where
-  -- what is less than a key that is not greater is less
+  -- a key that is less than one that is not greater is less
   less_up_to : (a b q : K) → cmp a b ≡ Less → (cmp b q ≡ Less) ⊎ (cmp b q ≡ Equal) → cmp a q ≡ Less
   less_up_to a b q e (inl f) = total.trans a b q e f
   less_up_to a b q e (inr f) = sym (alike_right total b q a f) ∙ e
@@ -173,13 +173,13 @@ module _ {K X : Type 0} (eq : K → K → Bool) (cmp : K → K → Ordering) (to
         inside : 0 < length rows
         inside = is_there last rows e
 
-    -- the rows in front of one that is not greater are less
+    -- the rows before one that is not greater are less
     pub less_before : (key : K) (from : ℕ) (d e : K × Option X) → from < length rows → (cmp (key_at rows from d) key ≡ Less) ⊎ (cmp (key_at rows from d) key ≡ Equal) → (i : ℕ) → i < from → cmp (key_at rows i e) key ≡ Less
     less_before key from d e within up_to i lt =
         ap (λ (r : K × Option X). cmp r.0 key) (get_or_default rows i e d (omega arith))
         ∙ less_up_to cmp total (key_at rows i d) (key_at rows from d) key (rising i from d lt within) up_to
 
-    -- the rows from a place on compare with a key one ever greater than the other
+    -- the rows from a place on are in order by how they compare with the key, as a binary search asks
     pub searchable : (key : K) (from : ℕ) → IsNonDecreasingBy (λ row. ordering_index (cmp row.0 key)) (drop from rows)
     searchable key from i j d le within = by_cases (cases_lt i j)
       where
@@ -194,24 +194,24 @@ module _ {K X : Type 0} (eq : K → K → Bool) (cmp : K → K → Ordering) (to
             rw (at i, at j) (rises cmp total (key_at rows (from + i) d) (key_at rows (from + j) d) key (rising (from + i) (from + j) d (omega arith) (omega (arith, long))))
         by_cases (inr ge) = let same : i ≡ j = omega arith in omega (arith, ap (λ (n : ℕ). ordering_index (cmp (key_at (drop from rows) n d) key)) same)
 
-    -- a row whose key is not told apart from a key is the first of that key
+    -- a row whose key compares as equal is the first of the key
     first_of : (key : K) (i : ℕ) → i < length rows → ((d : K × Option X) → cmp (key_at rows i d) key ≡ Equal) → IsFirstMatchOrLen (λ row. eq key row.0) rows i
     first_of key i within here = (
       (λ k d low below. other_less eq cmp total ties (key_at rows k d) key (less_up_to cmp total (key_at rows k d) (key_at rows i d) key (rising k i d below within) (inr (here d)))),
       (λ lt d. equal eq cmp total ties (key_at rows i d) key (here d)),
     )
 
-    -- so is one that was read and is equal to it
+    -- a row that was read and is equal to the key is the first of it
     pub first_read : (key : K) (i : ℕ) (row : K × Option X) → i < length rows → eq (key_at rows i row) key ≡ true → IsFirstMatchOrLen (λ row. eq key row.0) rows i
     first_read key i row within same =
         first_of key i within (λ d. ap (λ (r : K × Option X). cmp r.0 key) (get_or_default rows i d row within) ∙ tied (cmp (key_at rows i row) key) (sym (ties (key_at rows i row) key) ∙ same))
 
-    -- and one that a search from a place on found
+    -- a row that a search from a place on found is the first of the key
     pub found_from : (key : K) (from i : ℕ) → i < length (drop from rows) → HoldsAt (λ row. cmp row.0 key ≡ Equal) (drop from rows) i → IsFirstMatchOrLen (λ row. eq key row.0) rows (from + i)
     found_from key from i within is =
         first_of key (from + i) (omega (arith, length-drop from rows, within)) (λ d. ap (λ (r : K × Option X). cmp r.0 key) (sym (get_or-drop from rows i d)) ∙ is d)
 
-    -- where it found none, and the rows in front are less, no row has the key
+    -- where the search found none, and the rows before the place are less, no row has the key
     pub none_from : (key : K) (from i : ℕ) (e : K × Option X) → ((k : ℕ) → k < from → cmp (key_at rows k e) key ≡ Less) → from ≤ length rows
         → (IsNonDecreasingBy (λ row. ordering_index (cmp row.0 key)) (drop from rows) → IsPartitionPoint (λ row. cmp row.0 key ≡ Less) (λ row. cmp row.0 key ≡ Greater) (drop from rows) i) → All (λ row. eq key row.0 ≡ false) rows
     none_from key from i e less within parted k d lt = by_front (cases_lt k from)
@@ -236,7 +236,7 @@ module _ {K X : Type 0} (eq : K → K → Bool) (cmp : K → K → Ordering) (to
         by_front (inl lt) = other_less eq cmp total ties (key_at rows k d) key (ap (λ (j : K). cmp j key) (sym same_row) ∙ less k lt)
         by_front (inr le) = by_part le (cases_lt (k - from) i)
 
-    -- one row more of a key past all of them
+    -- the rows rise with one more row, of a key past all of them
     pub rising_push : (key : K) (v : Option X) → IsPast rows key → AreRising cmp (rows ++ (key, v) ∷ [])
     rising_push key v past = all_pairs_push (λ (a b : K × Option X). cmp a.0 b.0 ≡ Less) rows (key, v) rising past
 
@@ -245,7 +245,7 @@ module _ {K X : Type 0} (eq : K → K → Bool) (cmp : K → K → Ordering) (to
     past_front key q v past k d within =
         ap (λ (r : K × Option X). cmp r.0 q) (sym (get_or_append_left rows ((key, v) ∷ []) d k within)) ∙ past k d (omega (arith, length-append rows ((key, v) ∷ [])))
 
-    -- another value in a row that was read
+    -- the rows rise with another value in a row that was read
     pub rising_set : (i : ℕ) (row : K × Option X) (v : Option X) → row ≡ get_or rows i row → i < length rows → AreRising cmp (set rows i (row.0, v))
     rising_set i row v is lt a b e less within =
         let long : length (set rows i (row.0, v)) ≡ length rows = length-set rows i (row.0, v) in
@@ -260,17 +260,17 @@ module _ {K X : Type 0} (eq : K → K → Bool) (cmp : K → K → Ordering) (to
     pub past_alike : (key q : K) → eq key q ≡ true → IsPast rows q → IsPast rows key
     past_alike key q same past k d within = alike_right total key q (key_at rows k d) (tied (cmp key q) (sym (ties key q) ∙ same)) ∙ past k d within
 
--- the value of a key by its row, where that gets a value
+-- the value of a key where its row gets a value
 pub value_put : {X : Type 0} (b : Bool) (v : X) (row : Option (Option X)) (other : Option X) → option_or (option_flatten (cond b (Some (Some v)) row)) other ≡ cond b (Some v) (option_or (option_flatten row) other)
 value_put true v row other = refl
 value_put false v row other = refl
 
--- by the others, where its row has none
+-- the value of a key where it has no row and gets a value among the other keys
 pub value_beside : {X : Type 0} (b : Bool) (v : X) (row : Option (Option X)) (other : Option X) → (b ≡ true → row ≡ None) → option_or (option_flatten row) (cond b (Some v) other) ≡ cond b (Some v) (option_or (option_flatten row) other)
 value_beside true v row other none = rw (none refl) refl
 value_beside false v row other none = refl
 
--- and where it goes from both
+-- the value of a key where it is removed from both
 pub value_gone : {X : Type 0} (b : Bool) (row : Option (Option X)) (other : Option X) → option_or (option_flatten (cond b (Some None) row)) (cond b None other) ≡ cond b None (option_or (option_flatten row) other)
 value_gone true row other = refl
 value_gone false row other = refl
@@ -279,7 +279,7 @@ pub none_gone : {X : Type 0} (b : Bool) (row : Option (Option X)) (other : Optio
 none_gone true row other none = rw (none refl) refl
 none_gone false row other none = refl
 
--- among the others a key that is not there stays away
+-- a key that is not among the others is not there after another key is put
 pub still_none : {X : Type 0} (b : Bool) (v other : Option X) → other ≡ None → (b ≡ true → v ≡ None) → cond b v other ≡ None
 still_none true v other none away = away refl
 still_none false v other none away = none

@@ -1,4 +1,4 @@
--- A list of slots, of which some are empty, and the operations in them.
+-- A list of slots, of which some may be empty, and the operations in them.
 use Rattle.std.proofs.Common.{◌≡◌, ◌≢◌, ◌<◌, ◌≤◌, ◌+◌, ◌-◌, ℕ, zero, suc, true, false, not, List, [], ◌∷◌, ◌++◌, length, set, map, Option, Some, None, refl, sym, ap, ◌∙◌, length-append, append-nil, arith}
 use Rattle.std.specs.Prelude.{Contains, filter}
 use Rattle.std.specs.List.{slice_get}
@@ -8,18 +8,18 @@ use Rattle.intervals.specs.declared.operation.OpId.{OpId}
 use Rattle.intervals.specs.declared.edit.Change.{Change}
 use Rattle.intervals.specs.Operation.{same_id}
 use Rattle.intervals.specs.Edit.{amended, changed}
-use Rattle.intervals.specs.Table.{standing, slot_at}
+use Rattle.intervals.specs.Table.{ops_in_slots, slot_at}
 
--- an operation in a slot stands
-pub slot_stands : (slots : List (Option Op)) (i : ℕ) (op : Op) → slot_at slots i ≡ Some op → Contains (standing slots) op
+-- an operation in a slot is one of the operations
+pub slot_stands : (slots : List (Option Op)) (i : ℕ) (op : Op) → slot_at slots i ≡ Some op → Contains (ops_in_slots slots) op
 slot_stands [] i op e = absurd (cc)
 slot_stands (None ∷ slots) zero op e = absurd (cc)
 slot_stands (Some a ∷ slots) zero op e = (0, omega arith, let same : a ≡ op = cc in same)
 slot_stands (None ∷ slots) (suc i) op e = slot_stands slots i op e
 slot_stands (Some a ∷ slots) (suc i) op e = let h = slot_stands slots i op e in (suc h.0, omega (arith, h.1), h.2)
 
--- an operation that stands is in a slot
-pub stands_in_slot : (slots : List (Option Op)) (op : Op) → Contains (standing slots) op → (i : ℕ) × (slot_at slots i ≡ Some op)
+-- each operation is in a slot
+pub stands_in_slot : (slots : List (Option Op)) (op : Op) → Contains (ops_in_slots slots) op → (i : ℕ) × (slot_at slots i ≡ Some op)
 stands_in_slot [] op h = absurd (omega (arith, h.1))
 stands_in_slot (None ∷ slots) op h = let k = stands_in_slot slots op h in (suc k.0, k.1)
 stands_in_slot (Some a ∷ slots) op (zero, lt, e) = (0, ap Some e)
@@ -30,18 +30,18 @@ slot_within [] i op e = absurd (cc)
 slot_within (slot ∷ slots) zero op e = omega arith
 slot_within (slot ∷ slots) (suc i) op e = let lt = slot_within slots i op e in omega arith
 
--- no more stand than there are slots
-pub few_stand : (slots : List (Option Op)) → length (standing slots) ≤ length slots
+-- there are no more operations than slots
+pub few_stand : (slots : List (Option Op)) → length (ops_in_slots slots) ≤ length slots
 few_stand [] = omega arith
 few_stand (None ∷ slots) = let le = few_stand slots in omega arith
 few_stand (Some op ∷ slots) = let le = few_stand slots in omega arith
 
-pub standing_more : (slots : List (Option Op)) (op : Op) → standing (slots ++ Some op ∷ []) ≡ standing slots ++ op ∷ []
+pub standing_more : (slots : List (Option Op)) (op : Op) → ops_in_slots (slots ++ Some op ∷ []) ≡ ops_in_slots slots ++ op ∷ []
 standing_more [] op = refl
 standing_more (None ∷ slots) op = standing_more slots op
 standing_more (Some a ∷ slots) op = ap (λ ops. a ∷ ops) (standing_more slots op)
 
-pub standing_shorter : (slots : List (Option Op)) → standing (slots ++ None ∷ []) ≡ standing slots
+pub standing_shorter : (slots : List (Option Op)) → ops_in_slots (slots ++ None ∷ []) ≡ ops_in_slots slots
 standing_shorter [] = refl
 standing_shorter (None ∷ slots) = standing_shorter slots
 standing_shorter (Some a ∷ slots) = ap (λ ops. a ∷ ops) (standing_shorter slots)
@@ -56,9 +56,9 @@ last_of : (slots : List (Option Op)) (slot : Option Op) → slice_get (slots ++ 
 last_of [] slot = refl
 last_of (first ∷ slots) slot = last_of slots slot
 
--- an empty slot that is taken from the end changes nothing
+-- to drop an empty slot at the end changes no operation
 pub empty_popped : (before after : List (Option Op)) (popped : Option (Option Op)) → before ≡ after ++ option_to_list popped → slice_get before (length before - 1) ≡ Some None
-    → (standing after ≡ standing before) × ((i : ℕ) → slot_at after i ≡ slot_at before i)
+    → (ops_in_slots after ≡ ops_in_slots before) × ((i : ℕ) → slot_at after i ≡ slot_at before i)
 empty_popped before after None e last = let same : before ≡ after = e ∙ append-nil after in rw same (refl, λ i. refl)
 empty_popped before after (Some slot) e last =
     let at : length before - 1 ≡ length after = omega (arith, ap length e, length-append after (slot ∷ [])) in
@@ -92,20 +92,20 @@ slot_at-set_others (slot ∷ slots) zero new (suc j) other = refl
 slot_at-set_others (slot ∷ slots) (suc i) new zero other = refl
 slot_at-set_others (slot ∷ slots) (suc i) new (suc j) other = slot_at-set_others slots i new j (λ e. other (ap suc e))
 
--- of the slots from a place on, none but that one has the id
+-- no slot but this one has an operation of the id
 abbrev pub IsOnlyAt : List (Option Op) → ℕ → OpId → Type 0
 IsOnlyAt slots i id = (j : ℕ) (op : Op) → slot_at slots j ≡ Some op → j ≢ i → same_id op.id id ≡ false
 
--- none of them has it
+-- no slot has an operation of the id
 abbrev pub HasNone : List (Option Op) → OpId → Type 0
 HasNone slots id = (j : ℕ) (op : Op) → slot_at slots j ≡ Some op → same_id op.id id ≡ false
 
-all_kept : (slots : List (Option Op)) (id : OpId) → HasNone slots id → filter (λ op. not (same_id op.id id)) (standing slots) ≡ standing slots
+all_kept : (slots : List (Option Op)) (id : OpId) → HasNone slots id → filter (λ op. not (same_id op.id id)) (ops_in_slots slots) ≡ ops_in_slots slots
 all_kept [] id none = refl
 all_kept (None ∷ slots) id none = all_kept slots id (λ j. none (suc j))
 all_kept (Some a ∷ slots) id none = rw (none 0 a refl) (ap (λ ops. a ∷ ops) (all_kept slots id (λ j. none (suc j))))
 
-all_same : (slots : List (Option Op)) (id : OpId) (change : Change) → HasNone slots id → map (amended id change) (standing slots) ≡ standing slots
+all_same : (slots : List (Option Op)) (id : OpId) (change : Change) → HasNone slots id → map (amended id change) (ops_in_slots slots) ≡ ops_in_slots slots
 all_same [] id change none = refl
 all_same (None ∷ slots) id change none = all_same slots id change (λ j. none (suc j))
 all_same (Some a ∷ slots) id change none = rw (none 0 a refl) (ap (λ ops. a ∷ ops) (all_same slots id change (λ j. none (suc j))))
@@ -116,9 +116,9 @@ later_none slot slots id only j op e = only (suc j) op e (λ h. absurd (omega ar
 later_only : (slot : Option Op) (slots : List (Option Op)) (i : ℕ) (id : OpId) → IsOnlyAt (slot ∷ slots) (suc i) id → IsOnlyAt slots i id
 later_only slot slots i id only j op e other = only (suc j) op e (λ h. other (omega arith))
 
--- a slot made empty takes its operation out
+-- to empty a slot takes its operation out
 pub standing_without : (slots : List (Option Op)) (i : ℕ) (op : Op) (id : OpId) → slot_at slots i ≡ Some op → same_id op.id id ≡ true → IsOnlyAt slots i id
-    → standing (set slots i None) ≡ filter (λ op. not (same_id op.id id)) (standing slots)
+    → ops_in_slots (set slots i None) ≡ filter (λ op. not (same_id op.id id)) (ops_in_slots slots)
 standing_without [] i op id e t only = absurd (cc)
 standing_without (None ∷ slots) zero op id e t only = absurd (cc)
 standing_without (Some a ∷ slots) zero op id e t only =
@@ -129,16 +129,16 @@ standing_without (None ∷ slots) (suc i) op id e t only = standing_without slot
 standing_without (Some a ∷ slots) (suc i) op id e t only =
     rw (only 0 a refl (λ h. absurd (omega arith))) (ap (λ ops. a ∷ ops) (standing_without slots i op id e t (later_only (Some a) slots i id only)))
 
-pub one_less : (slots : List (Option Op)) (i : ℕ) (op : Op) → slot_at slots i ≡ Some op → length (standing (set slots i None)) + 1 ≡ length (standing slots)
+pub one_less : (slots : List (Option Op)) (i : ℕ) (op : Op) → slot_at slots i ≡ Some op → length (ops_in_slots (set slots i None)) + 1 ≡ length (ops_in_slots slots)
 one_less [] i op e = absurd (cc)
 one_less (None ∷ slots) zero op e = absurd (cc)
 one_less (Some a ∷ slots) zero op e = omega arith
 one_less (None ∷ slots) (suc i) op e = one_less slots i op e
 one_less (Some a ∷ slots) (suc i) op e = let h = one_less slots i op e in omega arith
 
--- a slot with another operation changes the one that was there
+-- to put the changed operation into a slot changes the one that was there
 pub standing_changed : (slots : List (Option Op)) (i : ℕ) (op : Op) (id : OpId) (change : Change) → slot_at slots i ≡ Some op → same_id op.id id ≡ true → IsOnlyAt slots i id
-    → standing (set slots i (Some (changed op change))) ≡ map (amended id change) (standing slots)
+    → ops_in_slots (set slots i (Some (changed op change))) ≡ map (amended id change) (ops_in_slots slots)
 standing_changed [] i op id change e t only = absurd (cc)
 standing_changed (None ∷ slots) zero op id change e t only = absurd (cc)
 standing_changed (Some a ∷ slots) zero op id change e t only =
@@ -149,7 +149,7 @@ standing_changed (None ∷ slots) (suc i) op id change e t only = standing_chang
 standing_changed (Some a ∷ slots) (suc i) op id change e t only =
     rw (only 0 a refl (λ h. absurd (omega arith))) (ap (λ ops. a ∷ ops) (standing_changed slots i op id change e t (later_only (Some a) slots i id only)))
 
-pub as_many : (slots : List (Option Op)) (i : ℕ) (op new : Op) → slot_at slots i ≡ Some op → length (standing (set slots i (Some new))) ≡ length (standing slots)
+pub as_many : (slots : List (Option Op)) (i : ℕ) (op new : Op) → slot_at slots i ≡ Some op → length (ops_in_slots (set slots i (Some new))) ≡ length (ops_in_slots slots)
 as_many [] i op new e = absurd (cc)
 as_many (None ∷ slots) zero op new e = absurd (cc)
 as_many (Some a ∷ slots) zero op new e = refl

@@ -16,9 +16,9 @@ use Rattle.intervals.specs.declared.operation.Moment.{Moment}
 use Rattle.intervals.specs.declared.operation.Value.{Value}
 use Rattle.intervals.specs.declared.operation.Value.TheVariants.{Nil, Int}
 use Rattle.intervals.specs.contracts.operation.ValueOrd.TheImpl as value_ord
-use Rattle.intervals.specs.declared.shelf.Spot.{Spot}
+use Rattle.intervals.specs.declared.ordered_index.Spot.{Spot}
 use Rattle.intervals.specs.Operation.{same_value}
-use Rattle.intervals.specs.Shelf.{spot_cmp, spot_of}
+use Rattle.intervals.specs.OrderedIndex.{spot_cmp, spot_of}
 use Rattle.intervals.proofs.Agreement.{Decides-same_value}
 
 abbrev value_cmp : Value → Value → Ordering
@@ -40,7 +40,7 @@ value_back Nil (Int y) = refl
 value_back (Int x) Nil = refl
 value_back (Int x) (Int y) = int_cmp_total.antisymm x y
 
--- at one value the moments decide
+-- of one value, the moments decide
 at_value : (v : Value) (a b : Moment) → spot_cmp (spot_of v a) (spot_of v b) ≡ nat_cmp b.0 a.0
 at_value v a b = rw (value_itself v) refl
 
@@ -86,7 +86,7 @@ value_above v m limit key h k =
     (tied_above (value_cmp key.value v) (nat_cmp key.moment.0 limit.0) (nat_cmp m.0 key.moment.0) h
     (rw (← value_back v key.value) k))
 
--- the same where the bound is in the range
+-- a spot between two spots of a value has that value, where the bound is in the range
 tied_upto : (o p q : Ordering) → is_gt (ordering_then o p) ≡ false → is_lt (ordering_then o q) ≡ false → o ≡ Equal
 tied_upto Less p q h k = absurd (cc)
 tied_upto Equal p q h k = refl
@@ -134,7 +134,7 @@ module _ (map : BTreeMap Spot (Option OpId)) (v : Value) where
   abbrev chosen : Spot → Option OpId → Bool → Option (Moment × Option OpId)
   chosen key id t = if t then Some (key.moment, id) else None
 
-  -- the last place in front of a spot of the value is the nearest of the value after it, or none is
+  -- the last place before a spot of the value, in the order of spots, is that of the next moment, or there is none
   pub first_place : (from : Moment) (key : Spot) (id : Option OpId) (front : List (Spot × Option OpId)) → IsRangeOf spot_cmp Unbounded (Excluded (spot_of v from)) map (front ++ (key, id) ∷ [])
       → MatchOption (chosen key id (same_value key.value v))
       ((m : Moment) → from.0 < m.0 → at m ≡ None)
@@ -159,7 +159,7 @@ module _ (map : BTreeMap Spot (Option OpId)) (v : Value) where
       by_cases false t =
           λ m gt. none_unless (at m) (λ is. let e = (Decides-same_value key.value v).1 (value_below v m from key entry.0 (least m gt is)) in cc)
 
-  -- the first place behind a spot of the value is the nearest of the value before it, or none is
+  -- the first place after a spot of the value, in the order of spots, is that of the moment before, or there is none
   pub last_place : (limit : Moment) (key : Spot) (id : Option OpId) (rest : List (Spot × Option OpId)) → IsRangeOf spot_cmp (Excluded (spot_of v limit)) Unbounded map ((key, id) ∷ rest)
       → MatchOption (chosen key id (same_value key.value v))
       ((m : Moment) → m.0 < limit.0 → at m ≡ None)
@@ -184,7 +184,7 @@ module _ (map : BTreeMap Spot (Option OpId)) (v : Value) where
       by_cases false t =
           λ m lt. none_unless (at m) (λ is. let e = (Decides-same_value key.value v).1 (value_above v m limit key entry.0 (greatest m lt is)) in cc)
 
-  -- the last place in front of a spot of the value or at it is the first of the value from there on, or none is
+  -- the last place up to a spot of the value is that of the first moment from there on, or there is none
   pub first_place_from : (from : Moment) (key : Spot) (id : Option OpId) (front : List (Spot × Option OpId)) → IsRangeOf spot_cmp Unbounded (Included (spot_of v from)) map (front ++ (key, id) ∷ [])
       → MatchOption (chosen key id (same_value key.value v))
       ((m : Moment) → from.0 ≤ m.0 → at m ≡ None)
@@ -209,7 +209,7 @@ module _ (map : BTreeMap Spot (Option OpId)) (v : Value) where
       by_cases false t =
           λ m ge. none_unless (at m) (λ is. let e = (Decides-same_value key.value v).1 (value_upto v m from key entry.0 (least m ge is)) in cc)
 
-  -- the first place behind a spot of the value or at it is the last of the value up to there, or none is
+  -- the first place from a spot of the value on is that of the last moment up to there, or there is none
   pub last_place_upto : (limit : Moment) (key : Spot) (id : Option OpId) (rest : List (Spot × Option OpId)) → IsRangeOf spot_cmp (Included (spot_of v limit)) Unbounded map ((key, id) ∷ rest)
       → MatchOption (chosen key id (same_value key.value v))
       ((m : Moment) → m.0 ≤ limit.0 → at m ≡ None)
@@ -234,7 +234,7 @@ module _ (map : BTreeMap Spot (Option OpId)) (v : Value) where
       by_cases false t =
           λ m le. none_unless (at m) (λ is. let e = (Decides-same_value key.value v).1 (value_from v m limit key entry.0 (greatest m le is)) in cc)
 
--- a range before a spot, and one after a spot, by their equals
+-- a range before a spot, or after it, is one of an equal spot and list
 pub range_before : (map : BTreeMap Spot (Option OpId)) (a b : Spot) (found list : List (Spot × Option OpId)) → a ≡ b → found ≡ list → IsRangeOf spot_cmp Unbounded (Excluded a) map found → IsRangeOf spot_cmp Unbounded (Excluded b) map list
 range_before map a b found list e f range = subst (IsRangeOf spot_cmp Unbounded (Excluded b) map) f (subst (λ (s : Spot). IsRangeOf spot_cmp Unbounded (Excluded s) map found) e range)
 

@@ -1,4 +1,4 @@
--- What one accepted edit keeps, a list of edits keeps.
+-- `StandApart` is true after each accepted edit, and so after any list of edits.
 use Rattle.std.proofs.Common.{◌≡◌, ◌≢◌, ◌<◌, false, List, [], ◌∷◌, Option, Some, None, refl, sym, ap, ◌∙◌, cond, arith}
 use Rattle.std.specs.Prelude.{IfSome, is_some, slice_index_or}
 use Rattle.std.specs.List.{AllPairs}
@@ -9,7 +9,7 @@ use Rattle.intervals.specs.declared.edit.Edit.{Edit}
 use Rattle.intervals.specs.declared.edit.Edit.TheVariants.{Append, Amend, Withdraw, Claim}
 use Rattle.intervals.specs.declared.refusal.Refusal.{Refusal}
 use Rattle.intervals.specs.declared.claim.Kind.TheVariants.{Atomic}
-use Rattle.intervals.specs.Terms.{Terms, Claimed, IsKnownUnlessAtomic, unedited}
+use Rattle.intervals.specs.Terms.{ClaimModel, RegisterState, IsKnownUnlessAtomic, unedited}
 use Rattle.intervals.specs.Operation.{IsWrite, Overlaps, same_id, value_of}
 use Rattle.intervals.specs.Edit.{edited, new_op, claim_after}
 use Rattle.intervals.specs.Refusal.{first_refusal, has_large_moment, moments_refusal, reply_to, carried_out, after_edit, standing}
@@ -19,15 +19,15 @@ use Rattle.intervals.proofs.EachPair.{each_edited, pairs_edited}
 use Rattle.intervals.proofs.Claimed.{HaveOtherValues, claimed_apart}
 use Rattle.intervals.proofs.Accepted.{claim_accepted, one_writer_known, edit_accepted, moments_accepted, write_accepted, ends_late, moments_low, shares_none, overlaps_none, values_free}
 
--- two writes do not overlap
+-- where both operations are writes, they do not overlap
 abbrev pub AreApart : Op → Op → Type 0
 AreApart v w = IsWrite v → IsWrite w → ¬ Overlaps v w
 
 no_pairs : (R : Op → Op → Type 0) → AllPairs R []
 no_pairs R = λ i j d lt lt'. absurd (omega arith)
 
--- where nothing stands
-pub nothing_apart : (claim : Terms) → StandApart claim []
+-- where no operation stands
+pub nothing_apart : (claim : ClaimModel) → StandApart claim []
 nothing_apart claim = record {
   ids = tt;
   moments = no_pairs ShareNoMoment;
@@ -38,8 +38,8 @@ nothing_apart claim = record {
   values = λ atomic. record { apart = no_pairs HaveOtherValues; new = All-nil _ };
 }
 
--- after an edit that is accepted
-module _ (claim : Terms) (ops : List Op) (edit : Edit) (apart : StandApart claim ops) (e : reply_to claim ops edit ≡ None) where
+-- after an accepted edit
+module _ (claim : ClaimModel) (ops : List Op) (edit : Edit) (apart : StandApart claim ops) (e : reply_to claim ops edit ≡ None) where
   accepted : first_refusal ops edit ≡ None
   accepted = edit_accepted claim ops edit e
 
@@ -80,61 +80,61 @@ module _ (claim : Terms) (ops : List Op) (edit : Edit) (apart : StandApart claim
     values = values_kept;
   }
 
-pub carried_out_apart : (held : Claimed) (edit : Edit) → StandApart held.claim held.ops → reply_to held.claim held.ops edit ≡ None
+pub carried_out_apart : (held : RegisterState) (edit : Edit) → StandApart held.claim held.ops → reply_to held.claim held.ops edit ≡ None
     → StandApart (carried_out held edit).claim (carried_out held edit).ops
 carried_out_apart held (Append op) apart e = edited_apart held.claim held.ops (Append op) apart e
 carried_out_apart held (Amend id change) apart e = edited_apart held.claim held.ops (Amend id change) apart e
 carried_out_apart held (Withdraw id) apart e = edited_apart held.claim held.ops (Withdraw id) apart e
 carried_out_apart held (Claim kind) apart e = claimed_apart kind held.claim held.ops apart (claim_accepted kind held.claim held.ops e)
 
--- a safe or regular register's initial value stays known
-pub carried_out_known : (held : Claimed) (edit : Edit) → IsKnownUnlessAtomic held.claim → reply_to held.claim held.ops edit ≡ None → IsKnownUnlessAtomic (carried_out held edit).claim
+-- the initial value of a safe or regular register stays known
+pub carried_out_known : (held : RegisterState) (edit : Edit) → IsKnownUnlessAtomic held.claim → reply_to held.claim held.ops edit ≡ None → IsKnownUnlessAtomic (carried_out held edit).claim
 carried_out_known held (Append op) known e = known
 carried_out_known held (Amend id change) known e = known
 carried_out_known held (Withdraw id) known e = known
 carried_out_known held (Claim kind) known e = one_writer_known kind held.claim held.ops (claim_accepted kind held.claim held.ops e)
 
 -- after one edit, accepted or not
-after_one : (P : Claimed → Type 0) (held : Claimed) (edit : Edit) → P held → (reply_to held.claim held.ops edit ≡ None → P (carried_out held edit)) → P (after_edit held edit)
+after_one : (P : RegisterState → Type 0) (held : RegisterState) (edit : Edit) → P held → (reply_to held.claim held.ops edit ≡ None → P (carried_out held edit)) → P (after_edit held edit)
 after_one P held edit p kept = by_cases (reply_to held.claim held.ops edit) refl
   where
     by_cases : (reply : Option Refusal) → reply_to held.claim held.ops edit ≡ reply → P (cond (is_some reply) held (carried_out held edit))
     by_cases (Some refusal) e = p
     by_cases None e = kept e
 
-after_all : (held : Claimed) (edits : List Edit) → StandApart held.claim held.ops → StandApart (standing held edits).claim (standing held edits).ops
+after_all : (held : RegisterState) (edits : List Edit) → StandApart held.claim held.ops → StandApart (standing held edits).claim (standing held edits).ops
 after_all held [] apart = apart
 after_all held (edit ∷ edits) apart =
-    after_all (after_edit held edit) edits (after_one (λ (h : Claimed). StandApart h.claim h.ops) held edit apart (carried_out_apart held edit apart))
+    after_all (after_edit held edit) edits (after_one (λ (h : RegisterState). StandApart h.claim h.ops) held edit apart (carried_out_apart held edit apart))
 
-known_after_all : (held : Claimed) (edits : List Edit) → IsKnownUnlessAtomic held.claim → IsKnownUnlessAtomic (standing held edits).claim
+known_after_all : (held : RegisterState) (edits : List Edit) → IsKnownUnlessAtomic held.claim → IsKnownUnlessAtomic (standing held edits).claim
 known_after_all held [] known = known
 known_after_all held (edit ∷ edits) known =
-    known_after_all (after_edit held edit) edits (after_one (λ (h : Claimed). IsKnownUnlessAtomic h.claim) held edit known (carried_out_known held edit known))
+    known_after_all (after_edit held edit) edits (after_one (λ (h : RegisterState). IsKnownUnlessAtomic h.claim) held edit known (carried_out_known held edit known))
 
-pub standing_known : (claim : Terms) (edits : List Edit) → IsKnownUnlessAtomic claim → IsKnownUnlessAtomic (standing (unedited claim) edits).claim
+pub standing_known : (claim : ClaimModel) (edits : List Edit) → IsKnownUnlessAtomic claim → IsKnownUnlessAtomic (standing (unedited claim) edits).claim
 standing_known claim edits known = known_after_all (unedited claim) edits known
 
-pub standing_apart : (claim : Terms) (edits : List Edit) → StandApart (standing (unedited claim) edits).claim (standing (unedited claim) edits).ops
+pub standing_apart : (claim : ClaimModel) (edits : List Edit) → StandApart (standing (unedited claim) edits).claim (standing (unedited claim) edits).ops
 standing_apart claim edits = after_all (unedited claim) edits (nothing_apart claim)
 
--- the claims are the same but for the kind
-abbrev pub IsOfKind : Terms → Terms → Type 0
+-- the two claims differ in the kind at most
+abbrev pub IsOfKind : ClaimModel → ClaimModel → Type 0
 IsOfKind claim other = other ≡ record claim { kind = other.kind }
 
-of_kind_after : (claim : Terms) (edit : Edit) → IsOfKind claim (claim_after claim edit)
+of_kind_after : (claim : ClaimModel) (edit : Edit) → IsOfKind claim (claim_after claim edit)
 of_kind_after claim (Append op) = refl
 of_kind_after claim (Amend id change) = refl
 of_kind_after claim (Withdraw id) = refl
 of_kind_after claim (Claim kind) = refl
 
-kind_alone : (held : Claimed) (edits : List Edit) → IsOfKind held.claim (standing held edits).claim
+kind_alone : (held : RegisterState) (edits : List Edit) → IsOfKind held.claim (standing held edits).claim
 kind_alone held [] = refl
 kind_alone held (edit ∷ edits) =
-    let after : Claimed = after_edit held edit in
-    let last : Terms = (standing after edits).claim in
+    let after : RegisterState = after_edit held edit in
+    let last : ClaimModel = (standing after edits).claim in
     kind_alone after edits
-    ∙ ap (λ (claim : Terms). record claim { kind = last.kind }) (after_one (λ (h : Claimed). IsOfKind held.claim h.claim) held edit refl (λ e. of_kind_after held.claim edit))
+    ∙ ap (λ (claim : ClaimModel). record claim { kind = last.kind }) (after_one (λ (h : RegisterState). IsOfKind held.claim h.claim) held edit refl (λ e. of_kind_after held.claim edit))
 
-pub kind_alone_changes : (claim : Terms) (edits : List Edit) → IsOfKind claim (standing (unedited claim) edits).claim
+pub kind_alone_changes : (claim : ClaimModel) (edits : List Edit) → IsOfKind claim (standing (unedited claim) edits).claim
 kind_alone_changes claim edits = kind_alone (unedited claim) edits

@@ -7,13 +7,13 @@ use Rattle.intervals.specs.declared.edit.Change.{Change}
 use Rattle.intervals.specs.declared.edit.Lent.TheVariants.{Answer}
 use Rattle.intervals.specs.declared.edit.Edit.{Edit}
 use Rattle.intervals.specs.declared.edit.Edit.TheVariants.{Append, Amend, Withdraw, Claim}
-use Rattle.intervals.specs.Terms.{Claimed}
+use Rattle.intervals.specs.Terms.{RegisterState}
 
 -- an empty text
 abbrev pub no_text : Bor (List ℕ)
 no_text = record { ref_ptr = (0, 0); now = [] }
 
--- an empty invocation, and no other text
+-- the parts of an operation without texts: an empty invocation, no answer, and no amendment
 abbrev pub no_parts : Parts
 no_parts = record { invocation = no_text; answer = None; amendment = None }
 
@@ -21,7 +21,7 @@ no_parts = record { invocation = no_text; answer = None; amendment = None }
 abbrev pub bare : Op → Op
 bare op = record op { parts = no_parts }
 
--- the change without its text
+-- the change with an empty text as the answer in place of its own text
 abbrev pub bare_change : Change → Change
 bare_change change = record change { lent = Answer no_text }
 
@@ -32,6 +32,6 @@ bare_edit (Amend id change) = Amend id (bare_change change)
 bare_edit (Withdraw id) = Withdraw id
 bare_edit (Claim kind) = Claim kind
 
--- what is held, without the texts of its operations
-abbrev pub bare_held : Claimed → Claimed
+-- the state of a register without the texts of its operations
+abbrev pub bare_held : RegisterState → RegisterState
 bare_held held = record { claim = held.claim; ops = map bare held.ops }

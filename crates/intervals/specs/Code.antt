@@ -3,18 +3,19 @@ use Rattle.std.specs.Prelude.{ℕ, List, codes}
 use Rattle.intervals.specs.declared.refusal.Refusal.{Refusal}
 use Rattle.intervals.specs.declared.refusal.Refusal.TheVariants.{UnknownOp, OpTaken, EndNotAfterBegin, MomentTaken, MomentTooLarge, NotAWriter, WritesOverlap, ValueTaken, OutOfDomain, ClaimFixed, ClaimWriters, ClaimOverlap, ClaimRepeats, ClaimInitial}
 
-abbrev pub code_of : Refusal → List ℕ
-code_of UnknownOp = codes "X1"
-code_of OpTaken = codes "X2"
-code_of EndNotAfterBegin = codes "X3"
-code_of (MomentTaken moment id) = codes "X4"
-code_of MomentTooLarge = codes "X5"
-code_of NotAWriter = codes "X6"
-code_of (WritesOverlap id) = codes "X7"
-code_of (ValueTaken holder) = codes "X8"
-code_of OutOfDomain = codes "X9"
-code_of ClaimFixed = codes "X10"
-code_of ClaimWriters = codes "X11"
-code_of (ClaimOverlap id other) = codes "X12"
-code_of (ClaimRepeats id holder) = codes "X13"
-code_of ClaimInitial = codes "X14"
+-- the code of the refusal, as users see it: X1 to X14
+abbrev pub refusal_code : Refusal → List ℕ
+refusal_code UnknownOp = codes "X1"
+refusal_code OpTaken = codes "X2"
+refusal_code EndNotAfterBegin = codes "X3"
+refusal_code (MomentTaken moment id) = codes "X4"
+refusal_code MomentTooLarge = codes "X5"
+refusal_code NotAWriter = codes "X6"
+refusal_code (WritesOverlap id) = codes "X7"
+refusal_code (ValueTaken holder) = codes "X8"
+refusal_code OutOfDomain = codes "X9"
+refusal_code ClaimFixed = codes "X10"
+refusal_code ClaimWriters = codes "X11"
+refusal_code (ClaimOverlap id other) = codes "X12"
+refusal_code (ClaimRepeats id holder) = codes "X13"
+refusal_code ClaimInitial = codes "X14"

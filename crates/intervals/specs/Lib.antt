@@ -1,3 +1,4 @@
+-- words of the public clauses
 pub mod Operation
 pub mod Least
 pub mod Terms
@@ -10,9 +11,10 @@ pub mod Code
 pub mod Kind
 pub mod Judging
 pub mod Histories
-pub mod Shelf
+pub mod OrderedIndex
+pub mod Table
+-- words of private clauses
 pub mod Rising
 pub mod Moments
 pub mod InTurn
 pub mod FirstWrites
-pub mod Table

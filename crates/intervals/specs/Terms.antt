@@ -12,10 +12,9 @@ use Rattle.intervals.specs.declared.claim.Kind.TheVariants.{Atomic}
 use Rattle.intervals.specs.declared.claim.Writers.{Writers}
 use Rattle.intervals.specs.declared.claim.Writers.TheVariants.{Any, Listed}
 
--- the claimed kind, the writers (none listed: any process), the value before any write, whether that is known
--- (where it is not, the value says nothing), the value set (none given: every value), and whether the kind may not
--- change
-pub record Terms : Type 0 where
+-- what a claim says: kind, writers (none listed: any process), initial value and whether that is known (if not, the
+-- value means nothing), domain (none given: all values), and whether the kind is fixed
+pub record ClaimModel : Type 0 where
   pub kind : Kind
   pub writers : Option (List ℤ)
   pub initial : Value
@@ -28,18 +27,18 @@ abbrev pub writers_of : Writers → Option (List ℤ)
 writers_of Any = None
 writers_of (Listed processes) = Some processes.items
 
--- the value before any write; nil where nobody knows it
+-- the initial value, which the register has before any write; nil where nobody knows it
 abbrev pub value_at_first : Initial → Value
 value_at_first (Known value) = value
 value_at_first Unknown = Nil
 
--- it is known
+-- whether the initial value is known
 abbrev pub is_known : Initial → Bool
 is_known (Known value) = true
 is_known Unknown = false
 
--- what a claim of the program says
-abbrev pub terms_of : Claim → Terms
+-- what a `Claim` of the program says, as a `ClaimModel`
+abbrev pub terms_of : Claim → ClaimModel
 terms_of claim = record {
   kind = claim.kind;
   writers = writers_of claim.writers;
@@ -49,15 +48,15 @@ terms_of claim = record {
   fixed = claim.fixed;
 }
 
--- a safe or regular register's initial value is known
-abbrev pub IsKnownUnlessAtomic : Terms → Type 0
+-- the claimed kind is atomic or the initial value is known
+abbrev pub IsKnownUnlessAtomic : ClaimModel → Type 0
 IsKnownUnlessAtomic claim = claim.kind ≢ Atomic → claim.known ≡ true
 
--- a claim, and the operations that are held under it
-pub record Claimed : Type 0 where
-  pub claim : Terms
+-- the state of a register: its claim, and the operations that stand
+pub record RegisterState : Type 0 where
+  pub claim : ClaimModel
   pub ops : List Op
 
--- a claim under which no operation is held yet
-abbrev pub unedited : Terms → Claimed
+-- the state of a register before any edit: the claim, and no operation
+abbrev pub unedited : ClaimModel → RegisterState
 unedited claim = record { claim = claim; ops = [] }

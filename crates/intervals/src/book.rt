@@ -1,7 +1,9 @@
+//! The operations of one register that stand, in a table where nothing is prepared.
+
 ghost use Rattle.std.specs.Prelude.{◌≡◌, ◌↔◌, [], List, length, None, OnOk, OnErr, IsSome, IsTrue, option_copied};
-ghost use Rattle.intervals.specs.Edit.{op_of, edited, new_op as new_one};
+ghost use Rattle.intervals.specs.Edit.{op_of, edited, new_op};
 ghost use Rattle.intervals.specs.Refusal.{first_refusal, ok_unless};
-ghost use Rattle.intervals.specs.Table.{standing};
+ghost use Rattle.intervals.specs.Table.{ops_in_slots};
 
 use crate::{Edit, Memory, Op, OpId, OpTable, Refusal};
 use std::alloc::Global;
@@ -25,6 +27,7 @@ impl<'t> Model for OpBook<'t> {
 }
 
 impl<'t> OpBook<'t> {
+    /// A book without operations.
     pub fn new(alloc: Global) -> Self
         ensures { result ≡ [] }
     {
@@ -45,40 +48,41 @@ impl<'t> OpBook<'t> {
         self.table.is_empty()
     }
 
-    /// The operations in the order of their appends; a place that a withdrawn one left is empty.
+    /// The operations in the order of their appends. A slot is empty where an operation was withdrawn.
     pub fn slots(&self) -> &[Option<Op<'t>>]
-        ensures { standing result.now ≡ self.now }
+        ensures { ops_in_slots result.now ≡ self.now }
     {
         self.table.slots()
     }
 
+    /// The operation of that id.
     pub fn get(&self, id: OpId) -> Option<&Op<'t>>
         ensures { option_copied result ≡ op_of self.now id }
     {
         self.table.get(id)
     }
 
-    /// The operation that the edit adds or changes, as it is afterwards.
+    /// The operation that the edit appends or changes, as it is afterwards.
     pub fn new_op(&self, edit: &Edit<'t>) -> Option<Op<'t>>
-        ensures { result ≡ new_one self.now edit.now }
+        ensures { result ≡ new_op self.now edit.now }
     {
         self.table.target(edit).new
     }
 
-    /// The first refusal, from `UnknownOp` to `MomentTooLarge`, that holds of the edit. Whether a
-    /// write is one that the register's claim allows is its judge's to say.
+    /// The first refusal, from `UnknownOp` to `MomentTooLarge`, that the edit meets. The others depend on the
+    /// claim, which the book does not know.
     pub fn check(&self, edit: &Edit<'t>) -> Result<(), Refusal>
         ensures { result ≡ ok_unless (first_refusal self.now edit.now) }
     {
         self.table.check(edit, &self.table.target(edit))
     }
 
-    /// Carries out an edit that `check` accepts. A withdrawal takes no memory.
+    /// Carries out an edit that `check` accepts. Where memory is refused nothing changes.
     pub fn admit(&mut self, edit: Edit<'t>) -> Result<(), Memory>
         requires { first_refusal self.old edit ≡ None }
         ensures ok { OnOk result (self.new ≡ edited self.old edit.entry) }
         ensures err { OnErr result (self.new ≡ self.old) }
-        ensures memory { OnErr result (IsSome (new_one self.old edit.entry)) }
+        ensures memory { OnErr result (IsSome (new_op self.old edit.entry)) }
     {
         let target = self.table.target(&edit);
         if let Some(op) = &target.new {

@@ -1,10 +1,12 @@
+//! What a register claims: its kind, its writers, its initial value and its domain.
+
 ghost use Rattle.std.specs.Prelude.{◌≡◌, Vec, IfOk, option_map};
 ghost use Rattle.std.specs.declared.alloc.Global.{Global};
 ghost use Rattle.intervals.specs.declared.operation.Value.{Value};
 ghost use Rattle.std.specs.List.{list_any};
 ghost use Rattle.std.specs.Ordering.{int_eq};
 ghost use Rattle.intervals.specs.Operation.{same_value};
-ghost use Rattle.intervals.specs.Refusal.{may_write as allows, is_in_domain, is_initial as is_at_first, is_one_writer};
+ghost use Rattle.intervals.specs.Refusal.{may_write, is_in_domain, is_initial, is_one_writer};
 ghost use Rattle.intervals.specs.Terms.{terms_of, writers_of};
 
 use crate::{Memory, OpId, Value, is_same_value};
@@ -32,8 +34,8 @@ pub enum Initial {
     Unknown,
 }
 
-/// A register's claimed kind, its writers, its value before any write, its value set, where one is
-/// given, and whether its kind may not change.
+/// A register's claimed kind, its writers, its value before any write, its domain (none: all values), and whether
+/// its kind is fixed.
 #[derive(Debug, Drop)]
 pub struct Claim {
     pub kind: Kind,
@@ -43,7 +45,7 @@ pub struct Claim {
     pub fixed: bool,
 }
 
-/// What a value belongs to: a write, or the register before any write.
+/// What has a value: a write, or the register before any write.
 #[derive(Clone, Copy, Debug, PartialEq, Eq)]
 pub enum Holder {
     Op(OpId),
@@ -51,7 +53,7 @@ pub enum Holder {
 }
 
 impl Writers {
-    /// Whether they are a list of exactly one.
+    /// Whether they are a list of exactly one process.
     pub fn is_one(&self) -> bool
         ensures { result ≡ is_one_writer (writers_of self.now) }
     {
@@ -63,7 +65,7 @@ impl Writers {
 }
 
 impl Claim {
-    /// Another claim that says the same.
+    /// A copy of the claim; an error where memory is refused.
     pub fn try_clone(&self, alloc: Global) -> Result<Claim, Memory>
         ensures { IfOk result (λ copy. terms_of copy ≡ terms_of self.now) }
     {
@@ -78,7 +80,7 @@ impl Claim {
 
     /// Whether the process is a writer of the register.
     pub fn may_write(&self, process: i64) -> bool
-        ensures { result ≡ allows (terms_of self.now).writers process }
+        ensures { result ≡ may_write (terms_of self.now).writers process }
     {
         match &self.writers {
             Writers::Any => true,
@@ -106,14 +108,14 @@ impl Claim {
         }
     }
 
-    /// Whether the value is the initial one, which is known.
+    /// Whether the value is the initial one, and that is known.
     pub fn is_initial(&self, value: Value) -> bool
-        ensures { result ≡ is_at_first (terms_of self.now) value }
+        ensures { result ≡ is_initial (terms_of self.now) value }
     {
         self.has_known_initial() && is_same_value(self.at_first(), value)
     }
 
-    /// Whether the value is in the value set, or none is given.
+    /// Whether the value is in the domain, or there is no domain.
     pub fn has_in_domain(&self, value: Value) -> bool
         ensures { result ≡ is_in_domain (terms_of self.now).domain value }
     {

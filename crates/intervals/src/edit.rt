@@ -1,17 +1,19 @@
+//! Edits of a register, and what a change makes of an operation.
+
 ghost use Rattle.std.specs.Prelude.{◌≡◌};
-ghost use Rattle.intervals.specs.Edit.{changed as after_change, amended as op_amended, edit_id, act_with, parts_with};
+ghost use Rattle.intervals.specs.Edit.{changed, amended, edit_id, act_with, parts_with};
 
 use crate::{Act, Kind, Moment, Op, OpId, Parts, Value};
 
-/// The element that a change was read from, and the part of the operation that it becomes.
+/// The element that a change was read from, as text: it becomes the operation's answer, or its amendment.
 #[derive(Clone, Copy, Debug)]
 pub enum Lent<'t> {
     Answer(&'t [u8]),
     Amendment(&'t [u8]),
 }
 
-/// What an amendment gives: each part that is there replaces the old one. An end of `Some(None)`
-/// reopens the operation.
+/// What an amendment gives: each part that is there replaces the old one. An end of `Some(None)` takes the
+/// operation's end away.
 #[derive(Clone, Copy, Debug)]
 pub struct Change<'t> {
     pub value: Option<Value>,
@@ -20,7 +22,7 @@ pub struct Change<'t> {
     pub lent: Lent<'t>,
 }
 
-/// One change of what stands of a register.
+/// An edit of a register: of the operations that stand, or of the claimed kind.
 #[derive(Clone, Copy, Debug)]
 pub enum Edit<'t> {
     Append(Op<'t>),
@@ -31,7 +33,7 @@ pub enum Edit<'t> {
 }
 
 impl Edit<'_> {
-    /// The id of the operation that the edit adds, changes or takes out; none of a claim.
+    /// The id of the operation that the edit appends, changes or takes out; none of a claim.
     pub fn id(&self) -> Option<OpId>
         ensures { result ≡ edit_id self.now }
     {
@@ -46,7 +48,7 @@ impl Edit<'_> {
 
 /// The operation after the change.
 pub fn changed<'t>(op: &Op<'t>, change: &Change<'t>) -> Op<'t>
-    ensures { result ≡ after_change op.now change.now }
+    ensures { result ≡ changed op.now change.now }
 {
     Op {
         id: op.id,
@@ -58,9 +60,9 @@ pub fn changed<'t>(op: &Op<'t>, change: &Change<'t>) -> Op<'t>
     }
 }
 
-/// The operation, changed where it has that id.
+/// The operation after the change where it has that id, else as it is.
 pub fn amended<'t>(op: &Op<'t>, id: OpId, change: &Change<'t>) -> Op<'t>
-    ensures { result ≡ op_amended id change.now op.now }
+    ensures { result ≡ amended id change.now op.now }
 {
     if op.has_id(id) {
         changed(op, change)

@@ -9,10 +9,10 @@ ghost use Rattle.intervals.specs.Rising.{HasRoom};
 use crate::rising::RisingMap;
 use crate::{Moment, Op, OpId};
 
-/// The greatest moment that an operation may have: two of them and a sign fit 64 bits.
+/// The greatest moment that an operation may have: the sum of two of them, with a sign, fits into 64 bits.
 const GREATEST_MOMENT: u64 = 4611686018427387903;
 
-/// Puts the operation at its moments.
+/// Puts the operation's id at its moments.
 pub(crate) fn put_moments(moments: &mut RisingMap<Moment, OpId>, op: &Op)
     requires order { AreMoments moments.old }
     requires room { HasRoom moments.old 2 }
@@ -25,7 +25,8 @@ pub(crate) fn put_moments(moments: &mut RisingMap<Moment, OpId>, op: &Op)
     }
 }
 
-/// Takes the operation away from its moments, and puts what becomes of it at its own. What it keeps is not touched.
+/// Takes the operation's id away from the moments that it no longer has, and puts it at those that are new. What
+/// it keeps is not touched.
 pub(crate) fn move_moments(moments: &mut RisingMap<Moment, OpId>, old: &Op, new: &Op)
     requires order { AreMoments moments.old }
     requires id { old.now.id ≡ new.now.id }
@@ -44,7 +45,7 @@ pub(crate) fn move_moments(moments: &mut RisingMap<Moment, OpId>, old: &Op, new:
     }
 }
 
-/// Takes the operation away from the moment, unless it keeps it.
+/// Takes the id away from the moment, unless the operation keeps it.
 fn leave(moments: &mut RisingMap<Moment, OpId>, moment: Moment, new: &Op)
     requires { AreMoments moments.old }
     ensures order { AreMoments moments.new }
@@ -56,7 +57,7 @@ fn leave(moments: &mut RisingMap<Moment, OpId>, moment: Moment, new: &Op)
     }
 }
 
-/// Puts the operation at the moment, unless it has it already.
+/// Puts the operation's id at the moment, unless it had it already.
 fn enter(moments: &mut RisingMap<Moment, OpId>, moment: Moment, old: &Op)
     requires order { AreMoments moments.old }
     requires room { HasRoom moments.old 1 }
@@ -70,7 +71,7 @@ fn enter(moments: &mut RisingMap<Moment, OpId>, moment: Moment, old: &Op)
     }
 }
 
-/// Takes the operation away from its moments.
+/// Takes the operation's id away from its moments.
 pub(crate) fn take_moments(moments: &mut RisingMap<Moment, OpId>, op: &Op)
     requires { AreMoments moments.old }
     ensures order { AreMoments moments.new }
@@ -83,7 +84,7 @@ pub(crate) fn take_moments(moments: &mut RisingMap<Moment, OpId>, op: &Op)
     }
 }
 
-/// Whether its end is not after its beginning.
+/// Whether the operation has an end that is not after its beginning.
 pub(crate) fn ends_too_early(op: &Op) -> bool
     ensures { result ≡ has_early_end op.now }
 {
@@ -93,7 +94,7 @@ pub(crate) fn ends_too_early(op: &Op) -> bool
     }
 }
 
-/// Whether one of its moments is past the greatest.
+/// Whether the operation begins or ends past the greatest moment.
 pub(crate) fn is_too_large(op: &Op) -> bool
     ensures { result ≡ has_large_moment op.now }
 {
@@ -104,7 +105,7 @@ pub(crate) fn is_too_large(op: &Op) -> bool
     op.begin.0 > GREATEST_MOMENT || end_is_past
 }
 
-/// Whether the operation begins or ends then.
+/// Whether the operation begins or ends at the moment.
 fn has_moment(op: &Op, moment: Moment) -> bool
     ensures { result ≡ is_moment_of op.now moment }
 {

@@ -1,11 +1,13 @@
+//! Operations: ids, moments, values and texts; which of two precedes the other, and whether they overlap.
+
 ghost use Rattle.std.specs.Prelude.{◌≡◌, ◌↔◌, IsTrue};
-ghost use Rattle.intervals.specs.Operation.{Precedes, Overlaps, is_write as writes, is_judged_read as judged_read, same_id, same_value, value_of, precedes as does_precede, overlaps as does_overlap};
-ghost use Rattle.intervals.specs.Judging.{end_number as number_of_end};
+ghost use Rattle.intervals.specs.Operation.{Precedes, Overlaps, is_write, is_judged_read, same_id, same_value, value_of, precedes, overlaps};
+ghost use Rattle.intervals.specs.Judging.{end_number};
 
 use std::alloc::{AllocError, AllocFailed};
 use thiserror::Error;
 
-/// No memory was left for a growth.
+/// Out of memory: an allocation was refused.
 #[derive(Clone, Copy, Debug, PartialEq, Eq, Error)]
 #[error("out of memory")]
 pub struct Memory;
@@ -26,7 +28,7 @@ impl<T: Drop> From<AllocFailed<T>> for Memory {
 #[derive(Clone, Copy, Debug, PartialEq, Eq, PartialOrd, Ord, Hash)]
 pub struct Moment(pub u64);
 
-/// What a register holds.
+/// What a register holds: nil, or an integer.
 #[derive(Clone, Copy, Debug, PartialEq, Eq, PartialOrd, Ord)]
 pub enum Value {
     Nil,
@@ -37,7 +39,7 @@ pub enum Value {
 #[derive(Clone, Copy, Debug, PartialEq, Eq)]
 pub struct RegId(pub u32);
 
-/// An operation's name: its trace, and the place of its invocation there.
+/// An operation's id: its trace, and the place of its invocation there, both counted from 0.
 #[derive(Clone, Copy, Debug, PartialEq, Eq, PartialOrd, Ord, Hash)]
 pub struct OpId {
     pub feeder: u32,
@@ -51,7 +53,7 @@ pub enum Act {
     Write(Value),
 }
 
-/// The elements of the trace that an operation was read from, tags included.
+/// The elements of the trace that an operation was read from, as text, tags included.
 #[derive(Clone, Copy, Debug)]
 pub struct Parts<'t> {
     pub invocation: &'t [u8],
@@ -59,7 +61,7 @@ pub struct Parts<'t> {
     pub amendment: Option<&'t [u8]>,
 }
 
-/// A read or a write of one register: an interval of the clock. With no end it is unfinished.
+/// A read or a write of one register: an interval of the clock. Without an end it is unfinished.
 #[derive(Clone, Copy, Debug)]
 pub struct Op<'t> {
     pub id: OpId,
@@ -71,15 +73,16 @@ pub struct Op<'t> {
 }
 
 impl Op<'_> {
-    /// Whether that id is its own.
+    /// Whether the operation has that id.
     pub fn has_id(&self, id: OpId) -> bool
         ensures { result ≡ same_id self.now.id id }
     {
         self.id == id
     }
 
+    /// Whether the operation is a write.
     pub fn is_write(&self) -> bool
-        ensures { result ≡ writes self.now }
+        ensures { result ≡ is_write self.now }
     {
         match self.act {
             Act::Write(_) => true,
@@ -97,16 +100,16 @@ impl Op<'_> {
         }
     }
 
-    /// Whether it is a read that has an end.
+    /// Whether the operation is a read that has an end: such a read alone is judged.
     pub fn is_judged_read(&self) -> bool
-        ensures { result ≡ judged_read self.now }
+        ensures { result ≡ is_judged_read self.now }
     {
         !self.is_write() && self.end.is_some()
     }
 
-    /// The number of the moment at which it ended, 0 where it did not.
+    /// The number of the moment at which the operation ended, 0 where it has no end.
     pub fn end_number(&self) -> u64
-        ensures { result ≡ number_of_end self.now }
+        ensures { result ≡ end_number self.now }
     {
         match self.end {
             Some(end) => end.0,
@@ -115,7 +118,7 @@ impl Op<'_> {
     }
 }
 
-/// Whether two values are one.
+/// Whether two values are equal.
 pub fn is_same_value(a: Value, b: Value) -> bool
     ensures { result ≡ same_value a b }
 {
@@ -125,7 +128,7 @@ pub fn is_same_value(a: Value, b: Value) -> bool
 /// Whether the first operation ended before the second began.
 pub fn precedes(a: &Op, b: &Op) -> bool
     ensures precedes { IsTrue result ↔ Precedes a.now b.now }
-    ensures test { result ≡ does_precede a.now b.now }
+    ensures test { result ≡ precedes a.now b.now }
 {
     match a.end {
         Some(end) => end.0 < b.begin.0,
@@ -136,7 +139,7 @@ pub fn precedes(a: &Op, b: &Op) -> bool
 /// Whether neither operation ended before the other began.
 pub fn overlaps(a: &Op, b: &Op) -> bool
     ensures overlaps { IsTrue result ↔ Overlaps a.now b.now }
-    ensures test { result ≡ does_overlap a.now b.now }
+    ensures test { result ≡ overlaps a.now b.now }
 {
     !precedes(a, b) && !precedes(b, a)
 }

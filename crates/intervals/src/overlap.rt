@@ -1,39 +1,40 @@
-//! Which writes that stand overlap.
+//! The first overlap of writes: what is in the way of a claim to be safe or regular.
 
 ghost use Rattle.std.specs.Prelude.{◌≡◌, ◌<◌, ◌≤◌, ◌++◌, ◌∷◌, [], List, true, false, None, Some, MatchOption, IfOk, IfSome, IsSomeAnd, OnOk};
 ghost use Rattle.intervals.specs.declared.operation.Moment.{Moment as AMoment};
 ghost use Rattle.intervals.specs.declared.operation.Op.{Op as AnOp};
-ghost use Rattle.intervals.specs.InTurn.{AreInTurn, IsNextWrite, spot_then};
-ghost use Rattle.intervals.specs.Moments.{IsBehind};
+ghost use Rattle.intervals.specs.InTurn.{AreWritesByBegin, IsNextWrite, spot_then};
+ghost use Rattle.intervals.specs.Moments.{IsLaterThan};
 ghost use Rattle.intervals.specs.Operation.{IsWrite};
-ghost use Rattle.intervals.specs.Refusal.{first_overlap as first_that_overlap};
-ghost use Rattle.intervals.specs.Shelf.{id_at};
+ghost use Rattle.intervals.specs.Refusal.{first_overlap};
+ghost use Rattle.intervals.specs.OrderedIndex.{id_at};
 ghost use Rattle.intervals.specs.Standing.{HasDistinctIds, HasDistinctMoments, HasEndsAfterBeginnings};
-ghost use Rattle.intervals.specs.Table.{standing};
+ghost use Rattle.intervals.specs.Table.{ops_in_slots};
 
-use crate::{Memory, Moment, Op, OpId, OpTable, Shelf, Spot, Value, precedes};
+use crate::{Memory, Moment, Op, OpId, OpTable, OrderedIndex, Spot, Value, precedes};
 use std::alloc::Global;
 
 impl<'t> OpTable<'t> {
-    /// The write of least beginning that overlaps another write, and of those that it overlaps the one of
-    /// least beginning. It takes the time of a look-up for each write; where memory is refused each next write is
-    /// looked for among all operations.
+    /// Of the writes that overlap another one the one that begins first, and of those that overlap it the one that
+    /// begins first. It takes a look-up for each write; where memory is refused each next write is looked for
+    /// among all operations.
     pub fn first_overlap(&self, alloc: Global) -> Option<(OpId, OpId)>
         requires ids { HasDistinctIds self.now.ops }
         requires moments { HasDistinctMoments self.now.ops }
         requires ends { HasEndsAfterBeginnings self.now.ops }
-        ensures { result ≡ first_that_overlap self.now.ops }
+        ensures { result ≡ first_overlap self.now.ops }
     {
         self.first_in_turn(&turn_of(alloc, self.slots()))
     }
 
-    /// The same, with the writes in turn of their beginnings, where there is memory for them.
-    fn first_in_turn(&self, turn: &Option<Shelf>) -> Option<(OpId, OpId)>
-        requires turn { IfSome turn.now (λ turn. AreInTurn turn self.now.ops) }
+    /// The first overlap, by an optional index of the writes by beginning. Each write is compared with the next
+    /// alone.
+    fn first_in_turn(&self, turn: &Option<OrderedIndex>) -> Option<(OpId, OpId)>
+        requires turn { IfSome turn.now (λ turn. AreWritesByBegin turn self.now.ops) }
         requires ids { HasDistinctIds self.now.ops }
         requires moments { HasDistinctMoments self.now.ops }
         requires ends { HasEndsAfterBeginnings self.now.ops }
-        ensures { result ≡ first_that_overlap self.now.ops }
+        ensures { result ≡ first_overlap self.now.ops }
     {
         let mut write = self.next_write(turn, None)?;
         while let Some(next) = self.next_write(turn, Some(write.begin)) {
@@ -45,9 +46,9 @@ impl<'t> OpTable<'t> {
         None
     }
 
-    /// Of the writes that begin behind the moment the one that begins first; of all where none is given.
-    fn next_write(&self, turn: &Option<Shelf>, after: Option<Moment>) -> Option<Op<'t>>
-        requires turn { IfSome turn.now (λ turn. AreInTurn turn self.now.ops) }
+    /// Of the writes that begin after the moment the one that begins first; of all where none is given.
+    fn next_write(&self, turn: &Option<OrderedIndex>, after: Option<Moment>) -> Option<Op<'t>>
+        requires turn { IfSome turn.now (λ turn. AreWritesByBegin turn self.now.ops) }
         requires ids { HasDistinctIds self.now.ops }
         ensures { IsNextWrite self.now.ops after result }
     {
@@ -61,9 +62,9 @@ impl<'t> OpTable<'t> {
     }
 }
 
-/// The writes in turn of their beginnings, where there is memory for them.
-fn turn_of(alloc: Global, slots: &[Option<Op>]) -> Option<Shelf>
-    ensures { IfSome result (λ turn. AreInTurn turn (standing slots.now)) }
+/// An index of the writes by beginning, or none where memory is refused.
+fn turn_of(alloc: Global, slots: &[Option<Op>]) -> Option<OrderedIndex>
+    ensures { IfSome result (λ turn. AreWritesByBegin turn (ops_in_slots slots.now)) }
 {
     match writes_in_turn(alloc, slots) {
         Ok(turn) => Some(turn),
@@ -71,10 +72,10 @@ fn turn_of(alloc: Global, slots: &[Option<Op>]) -> Option<Shelf>
     }
 }
 
-fn writes_in_turn(alloc: Global, slots: &[Option<Op>]) -> Result<Shelf, Memory>
-    ensures { IfOk result (λ turn. AreInTurn turn (standing slots.now)) }
+fn writes_in_turn(alloc: Global, slots: &[Option<Op>]) -> Result<OrderedIndex, Memory>
+    ensures { IfOk result (λ turn. AreWritesByBegin turn (ops_in_slots slots.now)) }
 {
-    let mut turn = Shelf::new(alloc);
+    let mut turn = OrderedIndex::new(alloc);
     for slot in slots {
         if let Some(op) = slot {
             put_in_turn(&mut turn, op)?;
@@ -83,9 +84,9 @@ fn writes_in_turn(alloc: Global, slots: &[Option<Op>]) -> Result<Shelf, Memory>
     Ok(turn)
 }
 
-/// Puts the operation at its beginning, where it is a write.
-fn put_in_turn(turn: &mut Shelf, op: &Op) -> Result<(), Memory>
-    ensures { (before : List AnOp) → AreInTurn turn.old before → OnOk result (AreInTurn turn.new (before ++ op.now ∷ [])) }
+/// Puts the operation into the index at its beginning, where it is a write.
+fn put_in_turn(turn: &mut OrderedIndex, op: &Op) -> Result<(), Memory>
+    ensures { (before : List AnOp) → AreWritesByBegin turn.old before → OnOk result (AreWritesByBegin turn.new (before ++ op.now ∷ [])) }
 {
     let spot = Spot {
         value: Value::Nil,
@@ -98,12 +99,12 @@ fn put_in_turn(turn: &mut Shelf, op: &Op) -> Result<(), Memory>
     Ok(())
 }
 
-/// The first id behind the moment, of those on a shelf of moments alone.
-fn first_behind(turn: &Shelf, after: Option<Moment>) -> Option<(Moment, OpId)>
+/// The first id after the moment, or of all where none is given, with its moment; in an index of moments alone.
+fn first_behind(turn: &OrderedIndex, after: Option<Moment>) -> Option<(Moment, OpId)>
     ensures { MatchOption result
-        ((m : AMoment) → IsBehind after m → id_at turn.now (spot_then m) ≡ None)
-        (λ found. IsBehind after found.0 × (id_at turn.now (spot_then found.0) ≡ Some found.1)
-        × ((m : AMoment) → IsBehind after m → m.0 < found.0.0 → id_at turn.now (spot_then m) ≡ None)) }
+        ((m : AMoment) → IsLaterThan after m → id_at turn.now (spot_then m) ≡ None)
+        (λ found. IsLaterThan after found.0 × (id_at turn.now (spot_then found.0) ≡ Some found.1)
+        × ((m : AMoment) → IsLaterThan after m → m.0 < found.0.0 → id_at turn.now (spot_then m) ≡ None)) }
 {
     match after {
         Some(moment) => turn.first_after(Value::Nil, moment),
@@ -111,9 +112,9 @@ fn first_behind(turn: &Shelf, after: Option<Moment>) -> Option<(Moment, OpId)>
     }
 }
 
-/// Of the writes in the slots that begin behind the moment the one that begins first.
+/// Of the writes in the slots that begin after the moment the one that begins first.
 fn next_among<'t>(slots: &[Option<Op<'t>>], after: Option<Moment>) -> Option<Op<'t>>
-    ensures { IsNextWrite (standing slots.now) after result }
+    ensures { IsNextWrite (ops_in_slots slots.now) after result }
 {
     let mut next: Option<Op<'t>> = None;
     for slot in slots {
@@ -126,10 +127,10 @@ fn next_among<'t>(slots: &[Option<Op<'t>>], after: Option<Moment>) -> Option<Op<
     next
 }
 
-/// Whether it is a write that begins behind the moment, and before the next one so far.
+/// Whether the operation is a write that begins after the moment, and before the next write found so far.
 fn comes_sooner(op: &Op, after: Option<Moment>, next: &Option<Op>) -> bool
-    ensures sooner { result ≡ true → IsWrite op.now × IsBehind after op.now.begin × IfSome next.now (λ n. op.now.begin.0 < n.begin.0) }
-    ensures not { result ≡ false → IsWrite op.now → IsBehind after op.now.begin → IsSomeAnd next.now (λ n. n.begin.0 ≤ op.now.begin.0) }
+    ensures sooner { result ≡ true → IsWrite op.now × IsLaterThan after op.now.begin × IfSome next.now (λ n. op.now.begin.0 < n.begin.0) }
+    ensures not { result ≡ false → IsWrite op.now → IsLaterThan after op.now.begin → IsSomeAnd next.now (λ n. n.begin.0 ≤ op.now.begin.0) }
 {
     let is_behind = match after {
         Some(after) => after.0 < op.begin.0,

@@ -10,8 +10,8 @@ use std::alloc::Global;
 use std::collections::HashMap;
 use std::hash::Hash;
 
-/// A value for each key. A key that comes after all before it gets a row of its own, the latest last; the others
-/// are found by their hash. A row stays where its key goes.
+/// A value for each key. A key that comes after those of all rows gets a row of its own, the last one; other keys
+/// are found by their hash. Where a key is removed its row stays, without a value.
 #[derive(Drop)]
 pub struct RisingMap<K: Ord + Hash + Copy, V: Copy> {
     rows: Vec<(K, Option<V>)>,
@@ -43,7 +43,7 @@ impl<K: Ord + Hash + Copy + Drop, V: Copy + Drop> RisingMap<K, V> {
         }
     }
 
-    /// Makes room for as many more keys.
+    /// Makes room for this many more keys.
     pub(crate) fn reserve(&mut self, keys: usize) -> Result<(), Memory>
         ensures order { IsInOrder K.eq K.cmp self.old → IsInOrder K.eq K.cmp self.new }
         ensures values { (key : K) → value_at K.eq self.new key ≡ value_at K.eq self.old key }
@@ -55,7 +55,7 @@ impl<K: Ord + Hash + Copy + Drop, V: Copy + Drop> RisingMap<K, V> {
         Ok(())
     }
 
-    /// Puts a value at the key, where there is room for one more.
+    /// Puts the value at the key. It takes no memory: there is room.
     pub(crate) fn put(&mut self, key: K, value: V)
         requires order { IsInOrder K.eq K.cmp self.old }
         requires room { HasRoom self.old 1 }
@@ -74,7 +74,7 @@ impl<K: Ord + Hash + Copy + Drop, V: Copy + Drop> RisingMap<K, V> {
         }
     }
 
-    /// Takes the value of the key out.
+    /// Removes the value of the key.
     pub(crate) fn remove(&mut self, key: K)
         requires { IsInOrder K.eq K.cmp self.old }
         ensures order { IsInOrder K.eq K.cmp self.new }
@@ -108,7 +108,7 @@ fn value_of<K: Ord + Copy + Drop, V: Copy>(rows: &[(K, Option<V>)], key: K) -> O
     rows[row].1
 }
 
-/// The row of the key, looked for from the latest rows on.
+/// The number of the row of the key. The latest rows are looked at first.
 fn row_of<K: Ord + Copy + Drop, V: Copy>(rows: &[(K, Option<V>)], key: K) -> Option<usize>
     requires { AreRising K.cmp rows.now }
     ensures within { IfSome result (λ i. i < length rows.now) }
@@ -125,7 +125,7 @@ fn row_of<K: Ord + Copy + Drop, V: Copy>(rows: &[(K, Option<V>)], key: K) -> Opt
     }
 }
 
-/// The row of the key, where it is one of the last eight: most look-ups are for these.
+/// The number of the row of the key, where it is one of the last eight: most look-ups are for these.
 fn late_row_of<K: Ord + Copy, V: Copy>(rows: &[(K, Option<V>)], key: K) -> Option<usize>
     requires { AreRising K.cmp rows.now }
     ensures within { IfSome result (λ i. i < length rows.now) }
@@ -143,7 +143,7 @@ fn late_row_of<K: Ord + Copy, V: Copy>(rows: &[(K, Option<V>)], key: K) -> Optio
     None
 }
 
-/// A row in front of which all keys are less.
+/// The number of a row before which all keys are less: from the end back by steps that grow fourfold.
 fn start_for<K: Ord + Copy, V: Copy>(rows: &[(K, Option<V>)], key: K) -> usize
     requires { AreRising K.cmp rows.now }
     ensures within { result ≤ length rows.now }

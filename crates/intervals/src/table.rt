@@ -4,11 +4,11 @@ ghost use Rattle.std.specs.Prelude.{◌≡◌, ◌↔◌, ◌<◌, ◌≤◌, �
 ghost use Rattle.intervals.specs.declared.edit.Change.{Change as AChange};
 ghost use Rattle.intervals.specs.declared.operation.Op.{Op as AnOp};
 ghost use Rattle.intervals.specs.declared.operation.OpId.{OpId as AnId};
-ghost use Rattle.intervals.specs.Edit.{op_of, found_by, edited, new_op as new_one};
+ghost use Rattle.intervals.specs.Edit.{op_of, found_by, edited, new_op};
 ghost use Rattle.intervals.specs.Operation.{same_id};
 ghost use Rattle.intervals.specs.Refusal.{first_refusal, moments_refusal, ok_unless, find_other_with};
 ghost use Rattle.intervals.specs.Target.{IsTargetOf};
-ghost use Rattle.intervals.specs.Table.{ArePlaces, admitted, place_of, prepared_after, standing, slot_at};
+ghost use Rattle.intervals.specs.Table.{AreSlots, admitted, slot_of_id, prepared_after, ops_in_slots, slot_at};
 
 use crate::moments::{ends_too_early, is_too_large, move_moments, put_moments, take_moments};
 use crate::rising::RisingMap;
@@ -17,8 +17,7 @@ use crate::{Edit, Memory, Moment, Op, OpId, Refusal};
 use std::alloc::Global;
 use std::marker::Model;
 
-/// The operations of one register that stand, in the order of their appends, and room for one more that
-/// was prepared.
+/// The operations of one register that stand, in the order of their appends, and prepared room for one more.
 #[derive(Drop)]
 pub struct OpTable<'t> {
     slots: Vec<Option<Op<'t>>>,
@@ -31,21 +30,22 @@ pub struct OpTable<'t> {
 impl<'t> Model for OpTable<'t> {
     ghost use Rattle.std.specs.Prelude.{◌≡◌, IfSome, length};
     ghost use Rattle.intervals.specs.Moments.{AreMoments, holder_at};
-    ghost use Rattle.intervals.specs.Table.{ArePlaces, HasSlotRoom, IsIndexed, Tabled, place_of, slot_at, standing};
+    ghost use Rattle.intervals.specs.Table.{AreSlots, HasSlotRoom, IsIndexed, TableModel, slot_of_id, slot_at, ops_in_slots};
 
-    ghost Value = { Tabled };
+    ghost Value = { TableModel };
 
-    ghost view = { λ t. record { ops = standing t.slots.items; prepared = t.prepared } };
+    ghost view = { λ t. record { ops = ops_in_slots t.slots.items; prepared = t.prepared } };
 
     ghost invariant = { λ t.
-        IsIndexed (slot_at t.slots.items) (place_of t.places) (holder_at t.moments)
-        × (t.count ≡ length (standing t.slots.items))
-        × ArePlaces t.places
+        IsIndexed (slot_at t.slots.items) (slot_of_id t.places) (holder_at t.moments)
+        × (t.count ≡ length (ops_in_slots t.slots.items))
+        × AreSlots t.places
         × AreMoments t.moments
         × IfSome t.prepared (λ op. HasSlotRoom t.slots t.places t.moments) };
 }
 
 impl<'t> OpTable<'t> {
+    /// A table without operations.
     pub fn new(alloc: Global) -> Self
         ensures { result ≡ record { ops = []; prepared = None } }
     {
@@ -70,13 +70,14 @@ impl<'t> OpTable<'t> {
         self.count == 0
     }
 
-    /// The operations in the order of their appends; a place that a withdrawn one left is empty.
+    /// The operations in the order of their appends. A slot is empty where an operation was withdrawn.
     pub fn slots(&self) -> &[Option<Op<'t>>]
-        ensures { standing result.now ≡ self.now.ops }
+        ensures { ops_in_slots result.now ≡ self.now.ops }
     {
         self.slots.as_slice()
     }
 
+    /// The operation of that id.
     pub fn get(&self, id: OpId) -> Option<&Op<'t>>
         ensures { option_copied result ≡ op_of self.now.ops id }
     {
@@ -84,14 +85,14 @@ impl<'t> OpTable<'t> {
         Some(op)
     }
 
-    /// The operation of that id, where one is given and stands.
+    /// The operation of the optional id.
     pub fn find(&self, id: Option<OpId>) -> Option<Op<'t>>
         ensures { result ≡ found_by self.now.ops id }
     {
         self.get(id?).copied()
     }
 
-    /// What the edit is about, found once for the check, the judge and the table.
+    /// The operations that the edit is about, found once for the check, the judge and the table.
     pub fn target(&self, edit: &Edit<'t>) -> Target<'t>
         ensures { IsTargetOf self.now.ops edit.now result }
     {
@@ -103,7 +104,7 @@ impl<'t> OpTable<'t> {
         }
     }
 
-    /// The operation of that id, where one is given and stands, behind the slot that it is in.
+    /// The slot of the optional id and the operation in it; slot 0 where there is no operation.
     fn look_up(&self, id: Option<OpId>) -> (usize, Option<&Op<'t>>)
         ensures { option_copied result.1 ≡ found_by self.now.ops id }
     {
@@ -116,8 +117,8 @@ impl<'t> OpTable<'t> {
         }
     }
 
-    /// The first refusal, from `UnknownOp` to `MomentTooLarge`, that holds of the edit.
-    /// Whether a write is one that the register's claim allows is its judge's to say.
+    /// The first refusal, from `UnknownOp` to `MomentTooLarge`, that the edit meets. The others depend on the
+    /// claim, which the table does not know.
     pub fn check(&self, edit: &Edit<'t>, target: &Target<'t>) -> Result<(), Refusal>
         requires { IsTargetOf self.now.ops edit.now target.now }
         ensures { result ≡ ok_unless (first_refusal self.now.ops edit.now) }
@@ -146,8 +147,7 @@ impl<'t> OpTable<'t> {
         self.prepared
     }
 
-    /// Makes room for the operation: to admit the edit that leaves it takes no memory then, whatever
-    /// is withdrawn before.
+    /// Makes room for the operation: to admit the edit that makes it takes no memory then, even after withdrawals.
     pub fn prepare(&mut self, op: &Op<'t>) -> Result<(), Memory>
         requires { self.old.prepared ≡ None }
         ensures ok { OnOk result (self.new ≡ record self.old { prepared = Some op.now }) }
@@ -160,19 +160,19 @@ impl<'t> OpTable<'t> {
         Ok(())
     }
 
-    /// Lets the room for the prepared operation go.
+    /// Forgets the prepared operation. The table keeps the memory.
     pub fn release(&mut self)
         ensures { self.new ≡ record self.old { prepared = None } }
     {
         self.prepared = None;
     }
 
-    /// Carries out an edit that `check` accepts. An operation that it adds or changes was prepared.
+    /// Carries out an edit that `check` accepts. The operation that it appends or changes was prepared.
     pub fn admit(&mut self, edit: &Edit<'t>, target: &Target<'t>)
         requires accepted { first_refusal self.old.ops edit.now ≡ None }
         requires target { IsTargetOf self.old.ops edit.now target.now }
-        requires room { IfSome (new_one self.old.ops edit.now) (λ op. self.old.prepared ≡ Some op) }
-        ensures { self.new ≡ record { ops = edited self.old.ops edit.now; prepared = prepared_after (new_one self.old.ops edit.now) self.old.prepared } }
+        requires room { IfSome (new_op self.old.ops edit.now) (λ op. self.old.prepared ≡ Some op) }
+        ensures { self.new ≡ record { ops = edited self.old.ops edit.now; prepared = prepared_after (new_op self.old.ops edit.now) self.old.prepared } }
     {
         match edit {
             Edit::Append(op) => self.append(op),
@@ -200,12 +200,12 @@ impl<'t> OpTable<'t> {
         self.prepared = None;
     }
 
-    /// Puts the operation in the slot of the one of its id, which is looked for in the slot `first` first.
+    /// Puts the operation in the slot of the one of its id. The slot `first` is tried before the id is looked up.
     fn amend(&mut self, op: &Op<'t>, first: usize)
         requires stands { IsSome (op_of self.old.ops op.now.id) }
         requires accepted { moments_refusal self.old.ops op.now ≡ None }
         requires room { self.old.prepared ≡ Some op.now }
-        ensures { (id : AnId) (change : AChange) → new_one self.old.ops (Edit.Amend id change) ≡ Some op.now → self.new ≡ admitted self.old (Edit.Amend id change) }
+        ensures { (id : AnId) (change : AChange) → new_op self.old.ops (Edit.Amend id change) ≡ Some op.now → self.new ≡ admitted self.old (Edit.Amend id change) }
     {
         let Some((place, old)) = find_slot_from(self.slots.as_slice(), &self.places, op.id, first)
         else {
@@ -216,7 +216,7 @@ impl<'t> OpTable<'t> {
         self.prepared = None;
     }
 
-    /// Takes the operation of that id out, which is looked for in the slot `first` first.
+    /// Takes the operation of that id out. The slot `first` is tried before the id is looked up.
     fn withdraw(&mut self, id: OpId, first: usize)
         requires { first_refusal self.old.ops (Edit.Withdraw id) ≡ None }
         ensures { self.new ≡ admitted self.old (Edit.Withdraw id) }
@@ -252,7 +252,7 @@ impl<'t> OpTable<'t> {
         Ok(())
     }
 
-    /// The other operation that has the moment.
+    /// The id of the other operation that has the moment.
     fn other_with(&self, id: OpId, moment: Moment) -> Option<OpId>
         ensures { result ≡ option_map (λ op. op.id) (find_other_with self.now.ops id moment) }
     {
@@ -267,31 +267,30 @@ fn find_slot<'b, 't>(
     places: &RisingMap<OpId, usize>,
     id: OpId,
 ) -> Option<(usize, &'b Op<'t>)>
-    requires { ArePlaces places.now }
-    ensures place { IfSome result (λ found. place_of places.now id ≡ Some found.0) }
+    requires { AreSlots places.now }
+    ensures place { IfSome result (λ found. slot_of_id places.now id ≡ Some found.0) }
     ensures slot { IfSome result (λ found. slot_at slots.now found.0 ≡ Some found.1.now) }
     ensures within { IfSome result (λ found. found.0 < length slots.now) }
-    ensures none { result ≡ None → (i : ℕ) → place_of places.now id ≡ Some i → slot_at slots.now i ≡ None }
+    ensures none { result ≡ None → (i : ℕ) → slot_of_id places.now id ≡ Some i → slot_at slots.now i ≡ None }
 {
     let place = places.get(id)?;
     let op = slots.get(place)?.as_ref()?;
     Some((place, op))
 }
 
-/// The slot of that id and the operation in it, where each operation stands in the slot of its own id. The slot `first`
-/// is looked at before the id is looked up.
+/// The slot of that id and the operation in it. The slot `first` is tried before the id is looked up.
 fn find_slot_from<'b, 't>(
     slots: &'b [Option<Op<'t>>],
     places: &RisingMap<OpId, usize>,
     id: OpId,
     first: usize,
 ) -> Option<(usize, &'b Op<'t>)>
-    requires order { ArePlaces places.now }
-    requires placed { (i : ℕ) (op : AnOp) → slot_at slots.now i ≡ Some op → place_of places.now op.id ≡ Some i }
-    ensures place { IfSome result (λ found. place_of places.now id ≡ Some found.0) }
+    requires order { AreSlots places.now }
+    requires placed { (i : ℕ) (op : AnOp) → slot_at slots.now i ≡ Some op → slot_of_id places.now op.id ≡ Some i }
+    ensures place { IfSome result (λ found. slot_of_id places.now id ≡ Some found.0) }
     ensures slot { IfSome result (λ found. slot_at slots.now found.0 ≡ Some found.1.now) }
     ensures within { IfSome result (λ found. found.0 < length slots.now) }
-    ensures none { result ≡ None → (i : ℕ) → place_of places.now id ≡ Some i → slot_at slots.now i ≡ None }
+    ensures none { result ≡ None → (i : ℕ) → slot_of_id places.now id ≡ Some i → slot_at slots.now i ≡ None }
 {
     if let Some(Some(op)) = slots.get(first) {
         if op.has_id(id) {
@@ -301,9 +300,9 @@ fn find_slot_from<'b, 't>(
     find_slot(slots, places, id)
 }
 
-/// Takes the empty slots at the end out.
+/// Drops the empty slots at the end.
 fn drop_empty_end(slots: &mut Vec<Option<Op>>)
-    ensures standing { standing slots.new.items ≡ standing slots.old.items }
+    ensures standing { ops_in_slots slots.new.items ≡ ops_in_slots slots.old.items }
     ensures slots { (i : ℕ) → slot_at slots.new.items i ≡ slot_at slots.old.items i }
     ensures len { vec_len slots.new ≤ vec_len slots.old }
     ensures capacity { vec_capacity slots.new ≡ vec_capacity slots.old }

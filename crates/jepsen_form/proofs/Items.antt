@@ -1,11 +1,11 @@
--- An element has one item.
+-- An element has one item or fault, wherever its text is in memory.
 use Rattle.std.proofs.Common.{◌≡◌, ℕ, ℤ, Bool, true, false, List, [], ◌∷◌, Option, Some, None, Result, Ok, Err, refl, sym, ap, subst, ◌∙◌}
 use Rattle.std.specs.Prelude.{if◌then◌else◌, codes}
 use Rattle.std.specs.List.{AllByRecursion}
 use Rattle.std.specs.Borrow.{Bor}
 use Rattle.edn_reader.specs.declared.element.ElementKind.{ElementKind}
 use Rattle.edn_reader.specs.declared.element.ElementKind.TheVariants as kinds
-use Rattle.edn_reader.specs.Grammar.{Piece, IsElement}
+use Rattle.edn_reader.specs.Grammar.{ElementModel, IsElement}
 use Rattle.edn_reader.specs.Pairs.{is_word, values_of, HasMembers, HasPairs}
 use Rattle.intervals.specs.declared.edit.Change.{Change}
 use Rattle.intervals.specs.declared.edit.Lent.TheVariants.{Amendment}
@@ -13,7 +13,7 @@ use Rattle.intervals.specs.declared.claim.Kind.{Kind}
 use Rattle.intervals.specs.declared.operation.Moment.{Moment}
 use Rattle.intervals.specs.declared.operation.RegId.{RegId}
 use Rattle.intervals.specs.declared.operation.Value.{Value}
-use Rattle.tower_file.specs.Contents.{Contents}
+use Rattle.tower_file.specs.Contents.{TowerModel}
 use Rattle.tower_file.specs.Steps.{◌>>=◌}
 use Rattle.edn_reader.specs.Given.{Given, One, given}
 use Rattle.edn_reader.specs.Integer.{int_of}
@@ -28,49 +28,49 @@ use Rattle.jepsen_form.specs.declared.fault.FormFault.TheVariants.{BadType, NotA
 use Rattle.jepsen_form.specs.Fields.{UnderValue, NoValue, AValue, ManyValues, IsUnderValue, missing, plain, vector, repeated, Fields, fields_of, two_of, by_two}
 use Rattle.jepsen_form.specs.Item.{the_one, at_most_one, is_there, value_stated, moment_of, end_of, the_stage, the_action, the_register, the_moment, if_told, value_told, by_process, change_of, edited_place, kind_stated, claim_of, edit_by, question_of, register_named, item_of, IsItem, no_map, of_map, text_at, lying_at, answer_with}
 
--- what is known of vectors and maps
+-- what is known of vectors and maps: there is a list of their members or pairs, and only one
 abbrev pub SomeMembers : Type 0
-SomeMembers = (piece : Piece) → IsElement piece → piece.core.kind ≡ kinds.Vector → (members : List Piece) × HasMembers piece members
+SomeMembers = (piece : ElementModel) → IsElement piece → piece.core.kind ≡ kinds.Vector → (members : List ElementModel) × HasMembers piece members
 
 abbrev pub OneMembers : Type 0
-OneMembers = (piece : Piece) (firsts seconds : List Piece) → HasMembers piece firsts → HasMembers piece seconds → firsts ≡ seconds
+OneMembers = (piece : ElementModel) (firsts seconds : List ElementModel) → HasMembers piece firsts → HasMembers piece seconds → firsts ≡ seconds
 
 abbrev pub SomePairs : Type 0
-SomePairs = (piece : Piece) → IsElement piece → piece.core.kind ≡ kinds.Map → (pairs : List (Piece × Piece)) × HasPairs piece pairs
+SomePairs = (piece : ElementModel) → IsElement piece → piece.core.kind ≡ kinds.Map → (pairs : List (ElementModel × ElementModel)) × HasPairs piece pairs
 
 abbrev pub OnePairs : Type 0
-OnePairs = (piece : Piece) (firsts seconds : List (Piece × Piece)) → HasPairs piece firsts → HasPairs piece seconds → firsts ≡ seconds
+OnePairs = (piece : ElementModel) (firsts seconds : List (ElementModel × ElementModel)) → HasPairs piece firsts → HasPairs piece seconds → firsts ≡ seconds
 
-abbrev ArePairsOfElements : List (Piece × Piece) → Type 0
+abbrev ArePairsOfElements : List (ElementModel × ElementModel) → Type 0
 ArePairsOfElements = AllByRecursion (λ pair. IsElement pair.0 × IsElement pair.1)
 
 abbrev pub ElementPairs : Type 0
-ElementPairs = (piece : Piece) (pairs : List (Piece × Piece)) → HasPairs piece pairs → ArePairsOfElements pairs
+ElementPairs = (piece : ElementModel) (pairs : List (ElementModel × ElementModel)) → HasPairs piece pairs → ArePairsOfElements pairs
 
 abbrev pub ElementValues : Type 0
-ElementValues = (key : List ℕ) (pairs : List (Piece × Piece)) → ArePairsOfElements pairs → AllByRecursion IsElement (values_of key pairs)
+ElementValues = (key : List ℕ) (pairs : List (ElementModel × ElementModel)) → ArePairsOfElements pairs → AllByRecursion IsElement (values_of key pairs)
 
 -- ---- one item at most
 
-one_under_value : OneMembers → (found : Given Piece) (first second : UnderValue) → IsUnderValue found first → IsUnderValue found second → first ≡ second
+one_under_value : OneMembers → (found : Given ElementModel) (first second : UnderValue) → IsUnderValue found first → IsUnderValue found second → first ≡ second
 one_under_value one found first second missing missing = refl
 one_under_value one found first second (plain none) (plain other) = refl
 one_under_value one found first second (plain none) (vector members has is) = absurd (none has.kind)
 one_under_value one found first second (vector members has is) (plain none) = absurd (none has.kind)
 one_under_value one found first second (vector {piece = piece} members has is) (vector others other_has other_is) =
-    sym is ∙ ap (λ (list : List Piece). by_two piece (two_of list)) (one piece members others has other_has) ∙ other_is
+    sym is ∙ ap (λ (list : List ElementModel). by_two piece (two_of list)) (one piece members others has other_has) ∙ other_is
 one_under_value one found first second repeated repeated = refl
 
--- an event of these parts and this text
+-- the event of these parts and this text
 abbrev event_with : ℤ → Stage → Action → Option RegId → Value → Option Moment → Bor (List ℕ) → Result Item FormFault
 event_with process stage action register value moment text =
     Ok (items.Event (record { process = process; answer = stage; action = action; register = register; value = value; moment = moment; text = text }))
 
--- an amendment of these parts and this text
+-- the amendment of these parts and this text
 abbrev amend_with : ℕ → Option Value → Option Moment → Option (Option Moment) → Bor (List ℕ) → Result Item FormFault
 amend_with of value begin end text = Ok (items.Amend of (record { value = value; begin = begin; end = end; lent = Amendment text }))
 
--- what puts one text in the place of another, and changes nothing else of an answer
+-- a function that puts one text in the place of another, and changes nothing else of an answer
 record Retells (told : Result Item FormFault → Result Item FormFault) (old new : Bor (List ℕ)) : Type 0 where
   pub fault : (fault : FormFault) → told (Err fault) ≡ Err fault
   pub event : (process : ℤ) (stage : Stage) (action : Action) (register : Option RegId) (value : Value) (moment : Option Moment)
@@ -91,12 +91,12 @@ through_inner : {A B : Type 0} {told : Result Item FormFault → Result Item For
 through_inner retells (Ok x) f g k each = each x
 through_inner retells (Err fault) f g k each = retells.fault fault
 
--- a choice of answers
+-- a function of answers goes into a choice between two of them
 one_of : (told : Result Item FormFault → Result Item FormFault) (test : Bool) (first second third fourth : Result Item FormFault) → told first ≡ second → told third ≡ fourth → told (if test then first else third) ≡ (if test then second else fourth)
 one_of told true first second third fourth same other = same
 one_of told false first second third fourth same other = other
 
--- the event of what was read so far, and what is read after it
+-- what is left to read of an event after its moment, its value, its register, its action, its stage
 abbrev with_moment : ℤ → Bor (List ℕ) → Stage → Action → Option RegId → Value → Option Moment → Result Item FormFault
 with_moment process text stage action register value moment = event_with process stage action register value moment text
 
@@ -106,13 +106,13 @@ with_value found process text stage action register value = if_told stage (the_m
 abbrev with_register : Fields → UnderValue → ℤ → Bor (List ℕ) → Stage → Action → Option RegId → Result Item FormFault
 with_register found said process text stage action register = value_told stage action said >>= with_value found process text stage action register
 
-abbrev with_action : Contents → Fields → UnderValue → ℤ → Bor (List ℕ) → Stage → Action → Result Item FormFault
+abbrev with_action : TowerModel → Fields → UnderValue → ℤ → Bor (List ℕ) → Stage → Action → Result Item FormFault
 with_action tower found said process text stage action = if_told stage (the_register tower said) >>= with_register found said process text stage action
 
-abbrev with_stage : Contents → Fields → UnderValue → ℤ → Bor (List ℕ) → Stage → Result Item FormFault
+abbrev with_stage : TowerModel → Fields → UnderValue → ℤ → Bor (List ℕ) → Stage → Result Item FormFault
 with_stage tower found said process text stage = the_action found.action >>= with_action tower found said process text stage
 
-retold_process : (told : Result Item FormFault → Result Item FormFault) (old new : Bor (List ℕ)) → Retells told old new → (tower : Contents) (found : Fields) (said : UnderValue) (process : Option ℤ)
+retold_process : (told : Result Item FormFault → Result Item FormFault) (old new : Bor (List ℕ)) → Retells told old new → (tower : TowerModel) (found : Fields) (said : UnderValue) (process : Option ℤ)
     → told (by_process tower found said old process) ≡ by_process tower found said new process
 retold_process told old new retells tower found said None = retells.skipped
 retold_process told old new retells tower found said (Some process) =
@@ -149,27 +149,27 @@ amendment found text = edited_place found >>= (λ of. change_of found text >>= a
 abbrev withdrawal : Fields → Result Item FormFault
 withdrawal found = edited_place found >>= (λ of. Ok (items.Withdraw of))
 
-abbrev no_withdrawal : Contents → Fields → Piece → Result Item FormFault
+abbrev no_withdrawal : TowerModel → Fields → ElementModel → Result Item FormFault
 no_withdrawal tower found keyword = if is_word (codes ":claim") keyword then claim_of tower found else Err BadType
 
-abbrev no_amendment : Contents → Fields → Piece → Result Item FormFault
+abbrev no_amendment : TowerModel → Fields → ElementModel → Result Item FormFault
 no_amendment tower found keyword = if is_word (codes ":withdraw") keyword then withdrawal found else no_withdrawal tower found keyword
 
--- a claim of that register
+-- the claim of a register, once its kind is read
 abbrev with_claimed : Fields → RegId → Result Item FormFault
 with_claimed found register = the_one fields.Claimed found.claimed >>= kind_stated >>= (λ kind. Ok (items.Claim register kind))
 
--- what comes of two steps one after the other
+-- a function of answers leaves two steps in a row where it leaves what follows them
 retold_twice : {A B : Type 0} {told : Result Item FormFault → Result Item FormFault} {old new : Bor (List ℕ)} → Retells told old new → (answer : Result A FormFault) (read : A → Result B FormFault) (f : B → Result Item FormFault)
     → ((x : B) → told (f x) ≡ f x) → told (answer >>= read >>= f) ≡ (answer >>= read >>= f)
 retold_twice retells answer read f each = through retells (answer >>= read) f f each
 
-retold_claim : (told : Result Item FormFault → Result Item FormFault) (old new : Bor (List ℕ)) → Retells told old new → (tower : Contents) (found : Fields) → told (claim_of tower found) ≡ claim_of tower found
+retold_claim : (told : Result Item FormFault → Result Item FormFault) (old new : Bor (List ℕ)) → Retells told old new → (tower : TowerModel) (found : Fields) → told (claim_of tower found) ≡ claim_of tower found
 retold_claim told old new retells tower found =
     retold_twice retells (the_one fields.Register found.register) (register_named tower) (with_claimed found) (λ register.
     retold_twice retells (the_one fields.Claimed found.claimed) kind_stated (λ kind. Ok (items.Claim register kind)) (retells.claim register))
 
-retold_edit : (told : Result Item FormFault → Result Item FormFault) (old new : Bor (List ℕ)) → Retells told old new → (tower : Contents) (found : Fields) (keyword : Piece)
+retold_edit : (told : Result Item FormFault → Result Item FormFault) (old new : Bor (List ℕ)) → Retells told old new → (tower : TowerModel) (found : Fields) (keyword : ElementModel)
     → told (edit_by tower found old keyword) ≡ edit_by tower found new keyword
 retold_edit told old new retells tower found keyword =
     one_of told (is_word (codes ":amend") keyword) (amendment found old) (amendment found new) (no_amendment tower found keyword) (no_amendment tower found keyword)
@@ -179,16 +179,16 @@ retold_edit told old new retells tower found keyword =
     (one_of told (is_word (codes ":claim") keyword) (claim_of tower found) (claim_of tower found) (Err BadType) (Err BadType)
     (retold_claim told old new retells tower found) (retells.fault BadType)))
 
-abbrev question_part : Contents → Fields → Result Item FormFault
+abbrev question_part : TowerModel → Fields → Result Item FormFault
 question_part tower found = the_one fields.Ask found.ask >>= question_of tower
 
-abbrev event_part : Contents → Fields → UnderValue → Bor (List ℕ) → Result Item FormFault
+abbrev event_part : TowerModel → Fields → UnderValue → Bor (List ℕ) → Result Item FormFault
 event_part tower found said text = the_one fields.Process found.process >>= (λ piece. by_process tower found said text (int_of piece))
 
-abbrev no_edit : Contents → Fields → UnderValue → Bor (List ℕ) → Result Item FormFault
+abbrev no_edit : TowerModel → Fields → UnderValue → Bor (List ℕ) → Result Item FormFault
 no_edit tower found said text = if is_there found.ask then question_part tower found else event_part tower found said text
 
-retold : (told : Result Item FormFault → Result Item FormFault) (old new : Bor (List ℕ)) → Retells told old new → (tower : Contents) (found : Fields) (said : UnderValue)
+retold : (told : Result Item FormFault → Result Item FormFault) (old new : Bor (List ℕ)) → Retells told old new → (tower : TowerModel) (found : Fields) (said : UnderValue)
     → told (item_of tower found said old) ≡ item_of tower found said new
 retold told old new retells tower found said =
     one_of told (is_there found.edit) (the_one fields.Edit found.edit >>= edit_by tower found old) (the_one fields.Edit found.edit >>= edit_by tower found new) (no_edit tower found said old) (no_edit tower found said new)
@@ -198,7 +198,7 @@ retold told old new retells tower found said =
     (through retells (the_one fields.Process found.process) (λ piece. by_process tower found said old (int_of piece)) (λ piece. by_process tower found said new (int_of piece)) (λ piece.
     retold_process told old new retells tower found said (int_of piece))))
 
--- two answers that are the same but for the place of a text
+-- two answers are equal but for the place of their text in memory
 abbrev Alike : ℕ × ℕ → Result Item FormFault → Result Item FormFault → Type 0
 Alike place first second = lying_at place first ≡ lying_at place second
 
@@ -213,25 +213,25 @@ lies place text = record {
   skipped = refl;
 }
 
-same_item : (place : ℕ × ℕ) (tower : Contents) (found : Fields) (said : UnderValue) (first second : Bor (List ℕ)) → first.now ≡ second.now → Alike place (item_of tower found said first) (item_of tower found said second)
+same_item : (place : ℕ × ℕ) (tower : TowerModel) (found : Fields) (said : UnderValue) (first second : Bor (List ℕ)) → first.now ≡ second.now → Alike place (item_of tower found said first) (item_of tower found said second)
 same_item place tower found said first second same =
     retold (lying_at place) first (text_at place first) (lies place first) tower found said
     ∙ ap (λ (bytes : List ℕ). item_of tower found said (record { ref_ptr = place; now = bytes })) same
     ∙ sym (retold (lying_at place) second (text_at place second) (lies place second) tower found said)
 
--- what the value of these pairs says
-abbrev Says : List (Piece × Piece) → UnderValue → Type 0
+-- what the pairs say under `:value`
+abbrev Says : List (ElementModel × ElementModel) → UnderValue → Type 0
 Says pairs said = IsUnderValue (given (values_of (codes ":value") pairs)) said
 
-same_parts : OneMembers → (place : ℕ × ℕ) (tower : Contents) (chosen : MomentField) (pairs others : List (Piece × Piece)) (said other_said : UnderValue) (first second : Bor (List ℕ)) → pairs ≡ others → Says pairs said → Says others other_said → first.now ≡ second.now
+same_parts : OneMembers → (place : ℕ × ℕ) (tower : TowerModel) (chosen : MomentField) (pairs others : List (ElementModel × ElementModel)) (said other_said : UnderValue) (first second : Bor (List ℕ)) → pairs ≡ others → Says pairs said → Says others other_said → first.now ≡ second.now
     → Alike place (item_of tower (fields_of chosen pairs) said first) (item_of tower (fields_of chosen others) other_said second)
 same_parts one place tower chosen pairs others said other_said first second same says other_says bytes =
-    let said_same = one_under_value one (given (values_of (codes ":value") others)) said other_said (subst (λ (list : List (Piece × Piece)). Says list said) same says) other_says in
+    let said_same = one_under_value one (given (values_of (codes ":value") others)) said other_said (subst (λ (list : List (ElementModel × ElementModel)). Says list said) same says) other_says in
     same_item place tower (fields_of chosen pairs) said first second bytes
-    ∙ ap (λ (list : List (Piece × Piece)). lying_at place (item_of tower (fields_of chosen list) said second)) same
+    ∙ ap (λ (list : List (ElementModel × ElementModel)). lying_at place (item_of tower (fields_of chosen list) said second)) same
     ∙ ap (λ (said : UnderValue). lying_at place (item_of tower (fields_of chosen others) said second)) said_same
 
-pub at_most_one_item : OneMembers → OnePairs → (tower : Contents) (chosen : MomentField) (piece : Piece) (first second : Result Item FormFault) (place : ℕ × ℕ) → IsItem tower chosen piece first → IsItem tower chosen piece second → Alike place first second
+pub at_most_one_item : OneMembers → OnePairs → (tower : TowerModel) (chosen : MomentField) (piece : ElementModel) (first second : Result Item FormFault) (place : ℕ × ℕ) → IsItem tower chosen piece first → IsItem tower chosen piece second → Alike place first second
 at_most_one_item members pairs tower chosen piece first second place (no_map none) (no_map other) = refl
 at_most_one_item members pairs tower chosen piece first second place (no_map none) (of_map found said text has says same) = absurd (none found has)
 at_most_one_item members pairs tower chosen piece first second place (of_map found said text has says same) (no_map none) = absurd (none found has)
@@ -251,14 +251,14 @@ is_of text old = record {
   skipped = refl;
 }
 
-pub elsewhere : (tower : Contents) (chosen : MomentField) (piece : Piece) (item : Result Item FormFault) (text : Bor (List ℕ)) → IsItem tower chosen piece item → text.now ≡ piece.text → IsItem tower chosen piece (answer_with text item)
+pub elsewhere : (tower : TowerModel) (chosen : MomentField) (piece : ElementModel) (item : Result Item FormFault) (text : Bor (List ℕ)) → IsItem tower chosen piece item → text.now ≡ piece.text → IsItem tower chosen piece (answer_with text item)
 elsewhere tower chosen piece item text (no_map none) same = no_map none
 elsewhere tower chosen piece item text (of_map pairs said old has says was) same =
     subst (IsItem tower chosen piece) (sym (retold (answer_with text) old text (is_of text old) tower (fields_of chosen pairs) said)) (of_map pairs said text has says same)
 
 -- ---- one item at least
 
-under_value_of_one : SomeMembers → (piece : Piece) (kind : ElementKind) → piece.core.kind ≡ kind → IsElement piece → (said : UnderValue) × IsUnderValue (One piece) said
+under_value_of_one : SomeMembers → (piece : ElementModel) (kind : ElementKind) → piece.core.kind ≡ kind → IsElement piece → (said : UnderValue) × IsUnderValue (One piece) said
 under_value_of_one some piece kinds.Vector e whole = let members = some piece whole e in (by_two piece (two_of members.0), vector members.0 members.1 refl)
 under_value_of_one some piece kinds.Atom e whole = (AValue piece, plain (λ other. cc))
 under_value_of_one some piece kinds.Char e whole = (AValue piece, plain (λ other. cc))
@@ -268,27 +268,27 @@ under_value_of_one some piece kinds.Map e whole = (AValue piece, plain (λ other
 under_value_of_one some piece kinds.Set e whole = (AValue piece, plain (λ other. cc))
 under_value_of_one some piece kinds.Tagged e whole = (AValue piece, plain (λ other. cc))
 
-under_value_of_values : SomeMembers → (values : List Piece) → AllByRecursion IsElement values → (said : UnderValue) × IsUnderValue (given values) said
+under_value_of_values : SomeMembers → (values : List ElementModel) → AllByRecursion IsElement values → (said : UnderValue) × IsUnderValue (given values) said
 under_value_of_values some [] whole = (NoValue, missing)
 under_value_of_values some (value ∷ []) whole = under_value_of_one some value value.core.kind refl whole.0
 under_value_of_values some (value ∷ other ∷ values) whole = (ManyValues, repeated)
 
-pub under_value_of_pairs : SomeMembers → ElementPairs → ElementValues → (piece : Piece) (pairs : List (Piece × Piece)) → HasPairs piece pairs → (said : UnderValue) × Says pairs said
+pub under_value_of_pairs : SomeMembers → ElementPairs → ElementValues → (piece : ElementModel) (pairs : List (ElementModel × ElementModel)) → HasPairs piece pairs → (said : UnderValue) × Says pairs said
 under_value_of_pairs some whole values piece pairs has = under_value_of_values some (values_of (codes ":value") pairs) (values (codes ":value") pairs (whole piece pairs has))
 
-abbrev SomeItem : Contents → MomentField → Piece → Type 0
+abbrev SomeItem : TowerModel → MomentField → ElementModel → Type 0
 SomeItem tower chosen piece = (item : Result Item FormFault) × IsItem tower chosen piece item
 
-item_of_map : SomeMembers → ElementPairs → ElementValues → (tower : Contents) (chosen : MomentField) (piece : Piece) (pairs : List (Piece × Piece)) → HasPairs piece pairs → SomeItem tower chosen piece
+item_of_map : SomeMembers → ElementPairs → ElementValues → (tower : TowerModel) (chosen : MomentField) (piece : ElementModel) (pairs : List (ElementModel × ElementModel)) → HasPairs piece pairs → SomeItem tower chosen piece
 item_of_map some whole values tower chosen piece pairs has =
     let text : Bor (List ℕ) = record { ref_ptr = (0, 0); now = piece.text } in
     let said = under_value_of_pairs some whole values piece pairs has in
     (item_of tower (fields_of chosen pairs) said.0 text, of_map pairs said.0 text has said.1 refl)
 
-item_of_other : (tower : Contents) (chosen : MomentField) (piece : Piece) → (piece.core.kind ≡ kinds.Map → ⊥) → SomeItem tower chosen piece
+item_of_other : (tower : TowerModel) (chosen : MomentField) (piece : ElementModel) → (piece.core.kind ≡ kinds.Map → ⊥) → SomeItem tower chosen piece
 item_of_other tower chosen piece other = (Err NotAMap, no_map (λ pairs has. other has.kind))
 
-item_by_kind : SomeMembers → SomePairs → ElementPairs → ElementValues → (tower : Contents) (chosen : MomentField) (piece : Piece) (kind : ElementKind) → piece.core.kind ≡ kind → IsElement piece → SomeItem tower chosen piece
+item_by_kind : SomeMembers → SomePairs → ElementPairs → ElementValues → (tower : TowerModel) (chosen : MomentField) (piece : ElementModel) (kind : ElementKind) → piece.core.kind ≡ kind → IsElement piece → SomeItem tower chosen piece
 item_by_kind some some_pairs whole values tower chosen piece kinds.Map e is = let pairs = some_pairs piece is e in item_of_map some whole values tower chosen piece pairs.0 pairs.1
 item_by_kind some some_pairs whole values tower chosen piece kinds.Atom e is = item_of_other tower chosen piece (λ other. cc)
 item_by_kind some some_pairs whole values tower chosen piece kinds.Char e is = item_of_other tower chosen piece (λ other. cc)
@@ -298,5 +298,5 @@ item_by_kind some some_pairs whole values tower chosen piece kinds.Vector e is =
 item_by_kind some some_pairs whole values tower chosen piece kinds.Set e is = item_of_other tower chosen piece (λ other. cc)
 item_by_kind some some_pairs whole values tower chosen piece kinds.Tagged e is = item_of_other tower chosen piece (λ other. cc)
 
-pub at_least_one_item : SomeMembers → SomePairs → ElementPairs → ElementValues → (tower : Contents) (chosen : MomentField) (piece : Piece) → IsElement piece → SomeItem tower chosen piece
+pub at_least_one_item : SomeMembers → SomePairs → ElementPairs → ElementValues → (tower : TowerModel) (chosen : MomentField) (piece : ElementModel) → IsElement piece → SomeItem tower chosen piece
 at_least_one_item some some_pairs whole values tower chosen piece is = item_by_kind some some_pairs whole values tower chosen piece piece.core.kind refl is

@@ -8,11 +8,11 @@ use Rattle.std.proofs.lemmas.List.{length-map}
 use Rattle.std.proofs.lemmas.List.Quantifiers.{position-Some}
 use Rattle.std.proofs.lemmas.Bool.Decides.{nat_tests}
 use Rattle.std.proofs.Common.{arith}
-use Rattle.edn_reader.specs.Grammar.{Piece, untagged}
+use Rattle.edn_reader.specs.Grammar.{ElementModel, untagged}
 use Rattle.edn_reader.specs.Pairs.{is_word}
 use Rattle.edn_reader.specs.Integer.{int_of}
 use Rattle.intervals.specs.declared.operation.RegId.{RegId}
-use Rattle.tower_file.specs.Contents.{Contents, Register}
+use Rattle.tower_file.specs.Contents.{TowerModel, Register}
 use Rattle.tower_file.specs.Steps.{◌>>=◌}
 use Rattle.jepsen_form.specs.declared.item.Stage.{Stage}
 use Rattle.jepsen_form.specs.declared.item.Stage.TheVariants as stages
@@ -25,11 +25,11 @@ use Rattle.jepsen_form.specs.Fields.{Fields, fields_of, UnderValue, NoValue, AVa
 use Rattle.jepsen_form.specs.Item.{the_one, is_there, the_stage, the_action, the_register, the_moment, if_told, value_told, event_of, by_process, change_of, edited_place, kind_stated, claim_of, edit_by, question_of, register_named, item_of, IsItem, no_map, of_map}
 use Rattle.jepsen_form.specs.Whole.{NamesBelow}
 
--- a register is one of the first so many
+-- a register has a number below this one
 abbrev IsBelow : ℕ → RegId → Type 0
 IsBelow count id = id.0 < count
 
--- what an answer of a step gives holds of what comes after it
+-- a property of a step's result, from a property of the result of the step before it
 after : {A B : Type 0} (P : A → Type 0) (Q : B → Type 0) (answer : Result A FormFault) (f : A → Result B FormFault) → IfOk answer P → ((x : A) → P x → IfOk (f x) Q) → IfOk (answer >>= f) Q
 after P Q (Ok x) f holds each = each x holds
 after P Q (Err fault) f holds each = tt
@@ -50,12 +50,12 @@ number_below : (names : List (List ℕ)) (name : List ℕ) (count : ℕ) → len
 number_below names name count same None is = tt
 number_below names name count same (Some n) is = let below = (position-Some (bytes_eq name) names n name is).0 in omega (arith, same, below)
 
-named_below : (tower : Contents) (piece : Piece) → IfOk (register_named tower piece) (IsBelow (length tower.registers))
+named_below : (tower : TowerModel) (piece : ElementModel) → IfOk (register_named tower piece) (IsBelow (length tower.registers))
 named_below tower piece =
     let names = map (λ (register : Register). register.name) tower.registers in
     number_below names (untagged piece).text (length tower.registers) (length-map tower.registers (λ register. register.name)) (position (bytes_eq (untagged piece).text) names) refl
 
-register_below : (tower : Contents) (said : UnderValue) → IfOk (the_register tower said) (IsBelow (length tower.registers))
+register_below : (tower : TowerModel) (said : UnderValue) → IfOk (the_register tower said) (IsBelow (length tower.registers))
 register_below tower NoValue = only_below (length tower.registers) (length tower.registers == 1) refl
 register_below tower (AValue value) = only_below (length tower.registers) (length tower.registers == 1) refl
 register_below tower (NamedValue name value) = named_below tower name
@@ -69,7 +69,7 @@ told_below count stages.Ok (Err fault) below = tt
 told_below count stages.Fail answer below = tt
 told_below count stages.Info answer below = tt
 
-event_below : (tower : Contents) (found : Fields) (said : UnderValue) (text : Bor (List ℕ)) (process : ℤ) → IfOk (event_of tower found said text process) (NamesBelow (length tower.registers))
+event_below : (tower : TowerModel) (found : Fields) (said : UnderValue) (text : Bor (List ℕ)) (process : ℤ) → IfOk (event_of tower found said text process) (NamesBelow (length tower.registers))
 event_below tower found said text process =
     let count : ℕ = length tower.registers in
     after _ (NamesBelow count) (the_stage found.stage) _ (whatever _) (λ stage _.
@@ -78,18 +78,18 @@ event_below tower found said text process =
     after _ (NamesBelow count) (value_told stage action said) _ (whatever _) (λ value _.
     after _ (NamesBelow count) (if_told stage (the_moment found.moment)) _ (whatever _) (λ moment _. below)))))
 
-process_below : (tower : Contents) (found : Fields) (said : UnderValue) (text : Bor (List ℕ)) (process : Option ℤ) → IfOk (by_process tower found said text process) (NamesBelow (length tower.registers))
+process_below : (tower : TowerModel) (found : Fields) (said : UnderValue) (text : Bor (List ℕ)) (process : Option ℤ) → IfOk (by_process tower found said text process) (NamesBelow (length tower.registers))
 process_below tower found said text None = tt
 process_below tower found said text (Some process) = event_below tower found said text process
 
-claim_below : (tower : Contents) (found : Fields) → IfOk (claim_of tower found) (NamesBelow (length tower.registers))
+claim_below : (tower : TowerModel) (found : Fields) → IfOk (claim_of tower found) (NamesBelow (length tower.registers))
 claim_below tower found =
     let count : ℕ = length tower.registers in
     after (IsBelow count) (NamesBelow count) (the_one fields.Register found.register >>= register_named tower) _
     (after _ (IsBelow count) (the_one fields.Register found.register) _ (whatever _) (λ name _. named_below tower name)) (λ register below.
     after _ (NamesBelow count) (the_one fields.Claimed found.claimed >>= kind_stated) _ (whatever _) (λ kind _. below))
 
-edit_below : (tower : Contents) (found : Fields) (text : Bor (List ℕ)) (keyword : Piece) → IfOk (edit_by tower found text keyword) (NamesBelow (length tower.registers))
+edit_below : (tower : TowerModel) (found : Fields) (text : Bor (List ℕ)) (keyword : ElementModel) → IfOk (edit_by tower found text keyword) (NamesBelow (length tower.registers))
 edit_below tower found text keyword =
     let count : ℕ = length tower.registers in
     either (NamesBelow count) (is_word (codes ":amend") keyword) _ _
@@ -98,10 +98,10 @@ edit_below tower found text keyword =
     (after _ (NamesBelow count) (edited_place found) _ (whatever _) (λ of _. tt))
     (either (NamesBelow count) (is_word (codes ":claim") keyword) _ _ (claim_below tower found) tt))
 
-question_below : (tower : Contents) (name : Piece) → IfOk (question_of tower name) (NamesBelow (length tower.registers))
+question_below : (tower : TowerModel) (name : ElementModel) → IfOk (question_of tower name) (NamesBelow (length tower.registers))
 question_below tower name = after (IsBelow (length tower.registers)) (NamesBelow (length tower.registers)) (register_named tower name) _ (named_below tower name) (λ id below. below)
 
-item_below : (tower : Contents) (found : Fields) (said : UnderValue) (text : Bor (List ℕ)) → IfOk (item_of tower found said text) (NamesBelow (length tower.registers))
+item_below : (tower : TowerModel) (found : Fields) (said : UnderValue) (text : Bor (List ℕ)) → IfOk (item_of tower found said text) (NamesBelow (length tower.registers))
 item_below tower found said text =
     let Below : Item → Type 0 = NamesBelow (length tower.registers) in
     either Below (is_there found.edit) _ _
@@ -111,6 +111,6 @@ item_below tower found said text =
     (after _ Below (the_one fields.Process found.process) _ (whatever _) (λ piece _. process_below tower found said text (int_of piece))))
 
 -- a register that an item names is one of the tower's
-pub names_below : (tower : Contents) (chosen : MomentField) (piece : Piece) (answer : Result Item FormFault) → IsItem tower chosen piece answer → IfOk answer (NamesBelow (length tower.registers))
+pub names_below : (tower : TowerModel) (chosen : MomentField) (piece : ElementModel) (answer : Result Item FormFault) → IsItem tower chosen piece answer → IfOk answer (NamesBelow (length tower.registers))
 names_below tower chosen piece answer (no_map none) = tt
 names_below tower chosen piece answer (of_map pairs said text has says same) = item_below tower (fields_of chosen pairs) said text

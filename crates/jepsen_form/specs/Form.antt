@@ -1,19 +1,19 @@
--- Words for private clauses alone: what the program has found in a map so far. No caller needs them.
+-- What the program has found in a map so far; for private clauses alone.
 use Rattle.std.specs.Prelude.{ℕ, Bool, true, false, ◌==◌, List, length, Option, Some, None, codes, if◌then◌else◌}
 use Rattle.std.specs.Str.{bytes_eq}
-use Rattle.edn_reader.specs.Grammar.{Piece}
+use Rattle.edn_reader.specs.Grammar.{ElementModel}
 use Rattle.edn_reader.specs.Lent.{piece_of}
 use Rattle.edn_reader.specs.Given.{Given, Missing, one_more, seen}
 use Rattle.jepsen_form.specs.declared.item.MomentField.{MomentField}
 use Rattle.jepsen_form.specs.declared.fault.FormField.{FormField}
 use Rattle.jepsen_form.specs.declared.fault.FormField.TheVariants as fields
-use Rattle.jepsen_form.specs.declared.form.Form.{Form}
-use Rattle.jepsen_form.specs.declared.said.Said.{Said}
-use Rattle.jepsen_form.specs.declared.said.Said.TheVariants as variants
+use Rattle.jepsen_form.specs.declared.form.EventFields.{EventFields}
+use Rattle.jepsen_form.specs.declared.said.ParsedValue.{ParsedValue}
+use Rattle.jepsen_form.specs.declared.said.ParsedValue.TheVariants as variants
 use Rattle.jepsen_form.specs.Fields.{Fields, moment_key, UnderValue, NoValue, AValue, NamedValue, ManyValues}
 
--- Each field as it was found.
-abbrev pub seen_all : Form → Fields
+-- the fields that an `EventFields` has found so far
+abbrev pub seen_all : EventFields → Fields
 seen_all form = record {
   process = seen form.process;
   stage = seen form.stage;
@@ -29,7 +29,7 @@ seen_all form = record {
   claimed = seen form.claimed;
 }
 
--- No field found yet.
+-- the fields before any pair of a map: each is missing
 abbrev pub nothing : Fields
 nothing = record {
   process = Missing;
@@ -46,18 +46,18 @@ nothing = record {
   claimed = Missing;
 }
 
--- What stands under a key with one value more, where the value stands under it.
-abbrev pub more_if : Bool → Given Piece → Piece → Given Piece
+-- what is under a key once one more value is, where the test that the value is under this key holds
+abbrev pub more_if : Bool → Given ElementModel → ElementModel → Given ElementModel
 more_if true found value = one_more found value
 more_if false found value = found
 
--- Whether a key is this keyword.
+-- the test that an optional keyword is there and is this one
 abbrev pub is_key : List ℕ → Option (List ℕ) → Bool
 is_key keyword None = false
 is_key keyword (Some word) = bytes_eq word keyword
 
--- The fields with one pair more: the keyword that its key is, and its value.
-abbrev pub noted : MomentField → Fields → Option (List ℕ) → Piece → Fields
+-- the fields after one more pair of a map, by the keyword that its key is, or none, and by its value
+abbrev pub noted : MomentField → Fields → Option (List ℕ) → ElementModel → Fields
 noted chosen found key value = record {
   process = more_if (is_key (codes ":process") key) found.process value;
   stage = more_if (is_key (codes ":type") key) found.stage value;
@@ -73,15 +73,15 @@ noted chosen found key value = record {
   claimed = more_if (is_key (codes ":kind") key) found.claimed value;
 }
 
--- A field, where it is meant.
+-- this field where a test holds, else none
 abbrev only_if : Bool → FormField → Option FormField
 only_if is field = if is then Some field else None
 
--- One of two fields, or none.
+-- this field where a test holds, else another optional field
 abbrev first_if : Bool → FormField → Option FormField → Option FormField
 first_if is field other = if is then Some field else other
 
--- The field that a keyword names; its length leaves few that it can be.
+-- the field that a keyword names, or none; after the moment's one, only the few of the keyword's length are compared
 abbrev pub field_of : MomentField → List ℕ → Option FormField
 field_of chosen word =
     if bytes_eq word (moment_key chosen) then Some fields.Moment
@@ -94,8 +94,8 @@ field_of chosen word =
     else if length word == 9 then only_if (bytes_eq word (codes ":register")) fields.Register
     else None
 
--- The fields with one value more under one of them, if any.
-abbrev pub with_more : Option FormField → Fields → Piece → Fields
+-- the fields with one more value under an optional one of them
+abbrev pub with_more : Option FormField → Fields → ElementModel → Fields
 with_more None found value = found
 with_more (Some fields.Process) found value = record found { process = one_more found.process value }
 with_more (Some fields.Stage) found value = record found { stage = one_more found.stage value }
@@ -110,8 +110,8 @@ with_more (Some fields.Ask) found value = record found { ask = one_more found.as
 with_more (Some fields.Register) found value = record found { register = one_more found.register value }
 with_more (Some fields.Claimed) found value = record found { claimed = one_more found.claimed value }
 
--- What the program found under :value.
-abbrev pub under_value : Said → UnderValue
+-- what the program found under `:value`, as an `UnderValue`
+abbrev pub under_value : ParsedValue → UnderValue
 under_value variants.Nothing = NoValue
 under_value (variants.Plain value) = AValue (piece_of value)
 under_value (variants.Named name value) = NamedValue (piece_of name) (piece_of value)

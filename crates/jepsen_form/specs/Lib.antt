@@ -1,5 +1,7 @@
+-- words of the public clauses
 pub mod Fields
 pub mod Item
 pub mod Code
-pub mod Form
 pub mod Whole
+-- words of private clauses
+pub mod Form

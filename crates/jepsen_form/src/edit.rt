@@ -9,16 +9,16 @@ ghost use Rattle.jepsen_form.specs.Whole.{IsWhole};
 
 use crate::element::{given_begin, given_end, given_value, needed, read_kind, read_place};
 use crate::fault::{FormFault, FormField};
-use crate::form::Form;
+use crate::form::EventFields;
 use crate::item::Item;
 use crate::said::find_register;
 use edn_reader::Element;
 use intervals::{Change, Lent};
 use tower_file::Tower;
 
-/// The edit that a keyword names.
+/// The edit that a keyword names, or its first fault.
 pub fn read_edit<'t>(
-    form: &Form<'t>,
+    form: &EventFields<'t>,
     keyword: &Element<'t>,
     text: &'t [u8],
     tower: &Tower,
@@ -42,13 +42,13 @@ pub fn read_edit<'t>(
     }
 }
 
-fn place_edited(form: &Form) -> Result<u64, FormFault>
+fn place_edited(form: &EventFields) -> Result<u64, FormFault>
     ensures { result ≡ edited_place (seen_all form.now) }
 {
     read_place(&needed(&form.of, FormField::Of)?)
 }
 
-fn read_change<'t>(form: &Form<'t>, text: &'t [u8]) -> Result<Change<'t>, FormFault>
+fn read_change<'t>(form: &EventFields<'t>, text: &'t [u8]) -> Result<Change<'t>, FormFault>
     ensures { result ≡ change_of (seen_all form.now) text.entry }
 {
     let value = given_value(&form.value)?;

@@ -1,7 +1,7 @@
 //! What single fields and elements say.
 
 ghost use Rattle.std.specs.Prelude.{◌≡◌};
-ghost use Rattle.edn_reader.specs.Grammar.{Piece};
+ghost use Rattle.edn_reader.specs.Grammar.{ElementModel};
 ghost use Rattle.edn_reader.specs.Lent.{piece_of};
 ghost use Rattle.edn_reader.specs.Given.{seen};
 ghost use Rattle.jepsen_form.specs.Item.{the_one, at_most_one, is_there, stage_of, action_of, value_stated, moment_of, end_of, place_of, kind_stated};
@@ -106,7 +106,7 @@ pub fn read_moment(element: &Element) -> Result<Moment, FormFault>
     }
 }
 
-/// A moment, or nil for an operation that has no end.
+/// A moment, or nil, which reopens the operation.
 fn read_end(element: &Element) -> Result<Option<Moment>, FormFault>
     ensures { result ≡ end_of (piece_of element.now) }
 {
@@ -116,7 +116,7 @@ fn read_end(element: &Element) -> Result<Option<Moment>, FormFault>
     Ok(Some(read_moment(element)?))
 }
 
-/// The kind that a claim names, by its keyword as in a tower file.
+/// The kind that a claim names, by the keyword that a tower file has for it.
 pub fn read_kind(element: &Element) -> Result<Kind, FormFault>
     ensures { result ≡ kind_stated (piece_of element.now) }
 {

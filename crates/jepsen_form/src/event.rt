@@ -9,16 +9,16 @@ ghost use Rattle.jepsen_form.specs.Whole.{IsWhole};
 
 use crate::element::{needed, read_action, read_moment, read_stage};
 use crate::fault::{FormFault, FormField};
-use crate::form::Form;
+use crate::form::EventFields;
 use crate::item::{Action, Event, Item, Stage};
-use crate::said::{Said, register_by, said_by, value_by};
+use crate::said::{ParsedValue, register_by, said_by, value_by};
 use edn_reader::Field;
 use intervals::{Moment, RegId};
 use tower_file::Tower;
 
-/// The event of a process, skipped where the process is no integer that fits.
+/// The event of a process; skipped where the process is no integer of 64 bits.
 pub fn read_event<'t>(
-    form: &Form<'t>,
+    form: &EventFields<'t>,
     process: Option<i64>,
     text: &'t [u8],
     tower: &Tower,
@@ -33,7 +33,7 @@ pub fn read_event<'t>(
 }
 
 fn event_by<'t>(
-    form: &Form<'t>,
+    form: &EventFields<'t>,
     process: i64,
     text: &'t [u8],
     tower: &Tower,
@@ -70,8 +70,8 @@ fn action_in(field: &Field) -> Result<Action, FormFault>
     read_action(&needed(field, FormField::Action)?)
 }
 
-/// The register of an invocation or of an answer that is `:ok`.
-fn register_in(stage: Stage, said: &Said, tower: &Tower) -> Result<Option<RegId>, FormFault>
+/// The register of an invocation or of an answer that is `:ok`; of other events it is not read.
+fn register_in(stage: Stage, said: &ParsedValue, tower: &Tower) -> Result<Option<RegId>, FormFault>
     ensures { result ≡ if_told stage (the_register tower.now (under_value said.now)) }
 {
     match stage {
@@ -80,7 +80,7 @@ fn register_in(stage: Stage, said: &Said, tower: &Tower) -> Result<Option<RegId>
     }
 }
 
-/// The moment of an invocation or of an answer that is `:ok`.
+/// The moment of an invocation or of an answer that is `:ok`; of other events it is not read.
 fn moment_in(stage: Stage, field: &Field) -> Result<Option<Moment>, FormFault>
     ensures { result ≡ if_told stage (the_moment (seen field.now)) }
 {

@@ -1,7 +1,7 @@
 //! Why an element of a trace is no item.
 
 ghost use Rattle.std.specs.Prelude.{◌≡◌};
-ghost use Rattle.jepsen_form.specs.Code.{code_of};
+ghost use Rattle.jepsen_form.specs.Code.{form_fault_code};
 
 use thiserror::Error;
 
@@ -28,24 +28,25 @@ pub enum FormField {
 /// The first fault of an element, in the order in which its fields are read.
 #[derive(Clone, Copy, Debug, PartialEq, Eq, Error)]
 pub enum FormFault {
+    /// The element is no map.
     #[error("F1 NotAMap")]
     NotAMap,
     /// A field that is needed is missing.
     #[error("F2 MissingField")]
     MissingField(FormField),
-    /// A field that is read stands twice.
+    /// A field that is read is there more than once.
     #[error("F3 DuplicateField")]
     DuplicateField(FormField),
-    /// The `:type`, the `:edit` or the `:kind` is none that is known.
+    /// The `:type`, the `:edit` or the `:kind` is not one of the known words.
     #[error("F4 BadType")]
     BadType,
     /// The `:f` is neither `:read` nor `:write`.
     #[error("F5 UnsupportedF")]
     UnsupportedF,
-    /// The `:value` is neither `nil` nor an integer that fits, or the `:of` no integer from 0.
+    /// The `:value` is neither `nil` nor an integer of 64 bits, or the `:of` is no such integer from 0 on.
     #[error("F6 BadValue")]
     BadValue,
-    /// A moment is no integer from 0.
+    /// A moment is no integer of 64 bits from 0 on.
     #[error("F7 BadMoment")]
     BadMoment,
     /// The tower has no register for the `:value`, the `:ask` or the `:register`.
@@ -54,9 +55,9 @@ pub enum FormFault {
 }
 
 impl FormFault {
-    /// The code that users see.
+    /// The code that users see: F1 to F8.
     pub fn code(&self) -> &'static str
-        ensures { result.now ≡ code_of self.now }
+        ensures { result.now ≡ form_fault_code self.now }
     {
         match self {
             FormFault::NotAMap => "F1",

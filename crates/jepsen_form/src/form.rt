@@ -2,7 +2,7 @@
 
 ghost use Rattle.std.specs.Prelude.{◌≡◌, List, Some};
 ghost use Rattle.std.specs.Str.{bytes_eq};
-ghost use Rattle.edn_reader.specs.Grammar.{Piece};
+ghost use Rattle.edn_reader.specs.Grammar.{ElementModel};
 ghost use Rattle.edn_reader.specs.Given.{one_more, seen};
 ghost use Rattle.edn_reader.specs.Pairs.{keyword_of};
 ghost use Rattle.edn_reader.specs.Lent.{piece_of, PairsLeft};
@@ -13,9 +13,9 @@ use crate::fault::FormField;
 use crate::item::MomentField;
 use edn_reader::{Element, Field, MapView};
 
-/// The fields of events, of edits and of questions.
+/// What was found so far under the keys of events, edits and questions.
 #[derive(Clone, Copy)]
-pub struct Form<'t> {
+pub struct EventFields<'t> {
     pub process: Field<'t>,
     pub stage: Field<'t>,
     pub action: Field<'t>,
@@ -30,10 +30,10 @@ pub struct Form<'t> {
     pub claimed: Field<'t>,
 }
 
-/// Goes over the pairs once, and puts each field where the form lies.
-pub fn fill<'t>(form: &mut Form<'t>, map: &MapView<'t>, chosen: MomentField)
+/// Goes over the pairs of a map once, and notes each in `form`.
+pub fn fill<'t>(form: &mut EventFields<'t>, map: &MapView<'t>, chosen: MomentField)
     requires { seen_all form.old ≡ nothing }
-    ensures { (pairs : List (Piece × Piece)) → PairsLeft map.now pairs → seen_all form.new ≡ fields_of chosen pairs }
+    ensures { (pairs : List (ElementModel × ElementModel)) → PairsLeft map.now pairs → seen_all form.new ≡ fields_of chosen pairs }
 {
     let mut left = *map;
     while let Some((key, value)) = left.next_pair() {
@@ -42,10 +42,10 @@ pub fn fill<'t>(form: &mut Form<'t>, map: &MapView<'t>, chosen: MomentField)
 }
 
 #[inline(always)]
-pub fn no_fields<'t>() -> Form<'t>
+pub fn no_fields<'t>() -> EventFields<'t>
     ensures { seen_all result ≡ nothing }
 {
-    Form {
+    EventFields {
         process: Field::Absent,
         stage: Field::Absent,
         action: Field::Absent,
@@ -61,8 +61,13 @@ pub fn no_fields<'t>() -> Form<'t>
     }
 }
 
-/// One pair more.
-pub fn note<'t>(form: &mut Form<'t>, key: &Element<'t>, value: Element<'t>, chosen: MomentField)
+/// Notes one more pair of a map.
+pub fn note<'t>(
+    form: &mut EventFields<'t>,
+    key: &Element<'t>,
+    value: Element<'t>,
+    chosen: MomentField,
+)
     ensures { seen_all form.new ≡ noted chosen (seen_all form.old) (keyword_of (piece_of key.now)) (piece_of value.entry) }
 {
     let Some(word) = key.as_keyword() else {
@@ -74,9 +79,9 @@ pub fn note<'t>(form: &mut Form<'t>, key: &Element<'t>, value: Element<'t>, chos
     }
 }
 
-/// One value more under a field.
+/// Adds one value under a field.
 #[inline(always)]
-fn put<'t>(form: &mut Form<'t>, field: FormField, value: Element<'t>)
+fn put<'t>(form: &mut EventFields<'t>, field: FormField, value: Element<'t>)
     ensures { seen_all form.new ≡ with_more (Some field) (seen_all form.old) (piece_of value.entry) }
 {
     match field {
@@ -95,7 +100,7 @@ fn put<'t>(form: &mut Form<'t>, field: FormField, value: Element<'t>)
     }
 }
 
-/// One value more. Within the loop over the pairs it would take the form to pieces.
+/// Adds one value. It is not inlined: within the loop over the pairs it would take `EventFields` to pieces.
 #[inline(never)]
 fn add<'t>(field: &mut Field<'t>, value: Element<'t>)
     ensures { seen field.new ≡ one_more (seen field.old) (piece_of value.entry) }
@@ -107,7 +112,7 @@ fn add<'t>(field: &mut Field<'t>, value: Element<'t>)
     }
 }
 
-/// The field that a keyword names. The length of a keyword leaves few that it can be.
+/// The field that a keyword names, or none. The length of a keyword leaves few that it can be.
 fn field_of(word: &[u8], chosen: MomentField) -> Option<FormField>
     ensures { result ≡ field_of chosen word.now }
 {
@@ -130,7 +135,7 @@ fn field_of(word: &[u8], chosen: MomentField) -> Option<FormField>
     }
 }
 
-/// Whether a word is this key. Where the key is written at the call, its few bytes are compared in place.
+/// Whether a word is this key. It is inlined: the few bytes of a key that is written at the call are compared there.
 #[inline(always)]
 pub fn is(word: &[u8], key: &[u8]) -> bool
     ensures { result ≡ bytes_eq word.now key.now }

@@ -1,4 +1,4 @@
-//! What the elements of a trace are.
+//! Items: what the elements of a trace are read as.
 
 ghost use Rattle.std.specs.Prelude.{◌≡◌};
 ghost use Rattle.jepsen_form.specs.Item.{item_with, lent_with};
@@ -22,7 +22,7 @@ pub enum Stage {
 }
 
 /// An event of one process. The register and the moment are there for `Invoke` and `Ok`; the value
-/// is `Nil` for an invoked read and for the other two. The text is its whole element.
+/// is `Nil` for an invoked read, for `Fail` and for `Info`. The text is that of the whole element.
 #[derive(Clone, Copy, Debug)]
 pub struct Event<'t> {
     pub process: i64,
@@ -34,8 +34,8 @@ pub struct Event<'t> {
     pub text: &'t [u8],
 }
 
-/// What an element is. `of` is the place of an invocation in the same trace. An event of a process
-/// that is no integer is skipped.
+/// What an element of a trace is read as. `of` is the place of an invocation in the same trace. An event of a
+/// process that is no integer is skipped.
 #[derive(Clone, Copy, Debug)]
 pub enum Item<'t> {
     Event(Event<'t>),
@@ -47,7 +47,7 @@ pub enum Item<'t> {
 }
 
 impl Item<'_> {
-    /// The same item, which lends its text from another place.
+    /// This item with another text to lend in place of its own.
     pub fn with_text<'p>(self, text: &'p [u8]) -> Item<'p>
         ensures { result ≡ item_with text.entry self.entry }
     {
@@ -87,7 +87,7 @@ fn part_with<'p>(lent: Lent, text: &'p [u8]) -> Lent<'p>
     }
 }
 
-/// The field that an event's moment stands under: `:index` or `:time`.
+/// The field that events have their moment under: `:index` or `:time`.
 #[derive(Clone, Copy, Debug, PartialEq, Eq)]
 pub enum MomentField {
     Index,

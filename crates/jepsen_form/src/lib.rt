@@ -1,7 +1,7 @@
 //! Reads one element of a trace: an event of a process, an edit, a question, or nothing.
 //!
 //! A trace is EDN as Jepsen writes histories, in this project's profile (docs/FORMATS.md). The fields of a
-//! map are read in one fixed order, and the first that will not do is the fault, from F1 to F8. Tags and
+//! map are read in one fixed order, and the first that is wrong gives the fault, from F1 to F8. Tags and
 //! fields of other names change nothing; events of a process that is no integer are skipped. An item lends
 //! the text of its element, and no call takes memory.
 //!
@@ -11,10 +11,10 @@
 //!                                      // an Event: process 0 invokes a write of 5 on register 0 at 2
 //! ```
 //!
-//! The first row of `tests.rt` is this element; its other rows have each form and each fault. Begin with
-//! `read_item`: its clauses name the item of an element (specs/Item.antt, over the fields of Fields.antt)
-//! and what each item has (Whole.antt). Form.antt serves private clauses alone. `laws` says that each
-//! element has one item.
+//! The first row of `items.rt` in the crate `form_tests` is this element; its other rows have each form and each
+//! fault. Begin with `read_item`: its clauses name the item of an element (`specs/Item.antt`, over the fields of
+//! `Fields.antt`) and what each item has (`Whole.antt`). `Form.antt` serves private clauses alone. `laws` says that
+//! each element has one item.
 #![tactic(auto)]
 
 mod edit;
@@ -30,6 +30,3 @@ mod said;
 pub use fault::{FormFault, FormField};
 pub use item::{Action, Event, Item, MomentField, Stage};
 pub use read::{read_first, read_item};
-
-#[cfg(test)]
-mod tests;

@@ -1,7 +1,7 @@
 //! From an element to an item.
 
 ghost use Rattle.std.specs.Prelude.{◌≡◌, ◌+◌, ◌<◌, ◌^◌, length, IfOk, IfSome};
-ghost use Rattle.edn_reader.specs.Flat.{IsFirst};
+ghost use Rattle.edn_reader.specs.Flat.{BeginsWithElement};
 ghost use Rattle.edn_reader.specs.Given.{seen};
 ghost use Rattle.edn_reader.specs.Lent.{piece_of};
 ghost use Rattle.jepsen_form.specs.Fields.{UnderValue, IsUnderValue};
@@ -13,7 +13,7 @@ use crate::edit::read_edit;
 use crate::element::{is_given, needed};
 use crate::event::read_event;
 use crate::fault::{FormFault, FormField};
-use crate::form::{Form, fill, no_fields, note};
+use crate::form::{EventFields, fill, no_fields, note};
 use crate::item::{Item, MomentField};
 use crate::said::find_register;
 use edn_reader::laws::{members_of_vector, pairs_of_map};
@@ -41,10 +41,10 @@ pub fn read_item<'t>(
     }
 }
 
-/// The element that bytes begin with, behind white bytes, and its item, in one pass over them. It reads a map without a
-/// tag or with one, whose keys are words and whose values are words and vectors of words, with white bytes between them;
-/// where the bytes begin with anything else, or end within the map, it answers none, and says nothing of what they are.
-/// The first of the bytes has this place.
+/// The element that bytes begin with, after white bytes, and its item, in one pass over them. It reads a map with at
+/// most one tag, whose keys are words and whose values are words and vectors of words, with white bytes between
+/// them. Where the bytes begin with anything else, or end within the map, it returns none, and says nothing of what
+/// they are. The first of the bytes has this `place`.
 pub fn read_first<'t>(
     bytes: &'t [u8],
     place: usize,
@@ -52,7 +52,7 @@ pub fn read_first<'t>(
     tower: &Tower,
 ) -> Option<(Element<'t>, Result<Item<'t>, FormFault>)>
     requires { place + length bytes.now < 2 ^ 64 }
-    ensures first { IfSome result (λ found. IsFirst bytes.entry.now place (piece_of found.0)) }
+    ensures first { IfSome result (λ found. BeginsWithElement bytes.entry.now place (piece_of found.0)) }
     ensures item { IfSome result (λ found. IsItem tower.now field (piece_of found.0) found.1) }
     ensures whole { IfSome result (λ found. IfOk found.1 IsWhole) }
 {
@@ -72,7 +72,7 @@ pub fn read_first<'t>(
     }
 }
 
-fn item_in<'t>(form: &Form<'t>, text: &'t [u8], tower: &Tower) -> Result<Item<'t>, FormFault>
+fn item_in<'t>(form: &EventFields<'t>, text: &'t [u8], tower: &Tower) -> Result<Item<'t>, FormFault>
     ensures item { (said : UnderValue) → IsUnderValue (seen form.now.value) said → result ≡ item_of tower.now (seen_all form.now) said text.entry }
     ensures whole { IfOk result IsWhole }
 {

@@ -2,7 +2,7 @@
 
 ghost use Rattle.std.specs.Prelude.{◌≡◌, List};
 ghost use Rattle.std.specs.Option.{option_map};
-ghost use Rattle.edn_reader.specs.Grammar.{Piece};
+ghost use Rattle.edn_reader.specs.Grammar.{ElementModel};
 ghost use Rattle.edn_reader.specs.Given.{One, seen};
 ghost use Rattle.edn_reader.specs.Lent.{piece_of, MembersLeft};
 ghost use Rattle.jepsen_form.specs.Fields.{UnderValue, IsUnderValue, two_of};
@@ -16,8 +16,9 @@ use edn_reader::{Element, Field, VectorView};
 use intervals::{RegId, Value};
 use tower_file::Tower;
 
+/// What is under `:value`.
 #[derive(Clone, Copy)]
-pub enum Said<'t> {
+pub enum ParsedValue<'t> {
     Nothing,
     /// A value of the tower's only register.
     Plain(Element<'t>),
@@ -26,31 +27,31 @@ pub enum Said<'t> {
     Repeated,
 }
 
-pub fn said_by<'t>(field: &Field<'t>) -> Said<'t>
+pub fn said_by<'t>(field: &Field<'t>) -> ParsedValue<'t>
     ensures { (said : UnderValue) → IsUnderValue (seen field.now) said → under_value result ≡ said }
 {
     match field {
-        Field::Absent => Said::Nothing,
+        Field::Absent => ParsedValue::Nothing,
         Field::Once(element) => said_in(element),
-        Field::Twice => Said::Repeated,
+        Field::Twice => ParsedValue::Repeated,
     }
 }
 
-fn said_in<'t>(element: &Element<'t>) -> Said<'t>
+fn said_in<'t>(element: &Element<'t>) -> ParsedValue<'t>
     ensures { (said : UnderValue) → IsUnderValue (One (piece_of element.now)) said → under_value result ≡ said }
 {
     let Some(vector) = element.as_vector() else {
-        return Said::Plain(*element);
+        return ParsedValue::Plain(*element);
     };
     match the_two(&vector) {
-        Some((name, value)) => Said::Named(name, value),
-        None => Said::Plain(*element),
+        Some((name, value)) => ParsedValue::Named(name, value),
+        None => ParsedValue::Plain(*element),
     }
 }
 
-/// The elements of a vector of exactly two.
+/// The elements of a vector of exactly two; none of any other.
 fn the_two<'t>(vector: &VectorView<'t>) -> Option<(Element<'t>, Element<'t>)>
-    ensures { (members : List Piece) → MembersLeft vector.now members → option_map (λ two. (piece_of two.0, piece_of two.1)) result ≡ two_of members }
+    ensures { (members : List ElementModel) → MembersLeft vector.now members → option_map (λ two. (piece_of two.0, piece_of two.1)) result ≡ two_of members }
 {
     let mut ahead = *vector;
     let Some(first) = ahead.next() else {
@@ -66,13 +67,13 @@ fn the_two<'t>(vector: &VectorView<'t>) -> Option<(Element<'t>, Element<'t>)>
 }
 
 /// The register that an event is about.
-pub fn register_by(said: &Said, tower: &Tower) -> Result<RegId, FormFault>
+pub fn register_by(said: &ParsedValue, tower: &Tower) -> Result<RegId, FormFault>
     ensures { result ≡ the_register tower.now (under_value said.now) }
 {
     match said {
-        Said::Nothing | Said::Plain(_) => sole_register(tower),
-        Said::Named(name, _) => find_register(name, tower),
-        Said::Repeated => Err(FormFault::DuplicateField(FormField::Value)),
+        ParsedValue::Nothing | ParsedValue::Plain(_) => sole_register(tower),
+        ParsedValue::Named(name, _) => find_register(name, tower),
+        ParsedValue::Repeated => Err(FormFault::DuplicateField(FormField::Value)),
     }
 }
 
@@ -96,8 +97,8 @@ pub fn find_register(name: &Element, tower: &Tower) -> Result<RegId, FormFault>
     }
 }
 
-/// The value of an event; an invoked read has none yet.
-pub fn value_by(said: &Said, stage: Stage, action: Action) -> Result<Value, FormFault>
+/// The value of an event; `Nil` of an invoked read, of `:fail` and of `:info`, of which it is not read.
+pub fn value_by(said: &ParsedValue, stage: Stage, action: Action) -> Result<Value, FormFault>
     ensures { result ≡ value_told stage action (under_value said.now) }
 {
     match (stage, action) {
@@ -106,12 +107,12 @@ pub fn value_by(said: &Said, stage: Stage, action: Action) -> Result<Value, Form
     }
 }
 
-fn given_by(said: &Said) -> Result<Value, FormFault>
+fn given_by(said: &ParsedValue) -> Result<Value, FormFault>
     ensures { result ≡ the_value (under_value said.now) }
 {
     match said {
-        Said::Nothing => Ok(Value::Nil),
-        Said::Plain(value) | Said::Named(_, value) => read_value(value),
-        Said::Repeated => Err(FormFault::DuplicateField(FormField::Value)),
+        ParsedValue::Nothing => Ok(Value::Nil),
+        ParsedValue::Plain(value) | ParsedValue::Named(_, value) => read_value(value),
+        ParsedValue::Repeated => Err(FormFault::DuplicateField(FormField::Value)),
     }
 }

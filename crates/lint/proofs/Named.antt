@@ -8,14 +8,14 @@ use Rattle.std.proofs.lemmas.Slice.Zip.{AllZip-long}
 use Rattle.edn_reader.specs.declared.fault.EdnFault.{EdnFault}
 use Rattle.edn_reader.specs.declared.fault.EdnFault.TheVariants as edn
 use Rattle.edn_reader.specs.Fault.{AreElementsBefore, AreElementsSoFar, IsBeginning}
-use Rattle.edn_reader.specs.Grammar.{Piece}
+use Rattle.edn_reader.specs.Grammar.{ElementModel}
 use Rattle.edn_reader.specs.Text.{IsText}
-use Rattle.tower_file.specs.Contents.{Contents}
+use Rattle.tower_file.specs.Contents.{TowerModel}
 use Rattle.jepsen_form.specs.declared.fault.FormFault.{FormFault}
 use Rattle.jepsen_form.specs.declared.item.Item.{Item}
 use Rattle.jepsen_form.specs.declared.item.MomentField.{MomentField}
 use Rattle.jepsen_form.specs.Item.{IsItem}
-use Rattle.shards.specs.Closing.{Ended}
+use Rattle.shards.specs.Closing.{ClosedShard}
 use Rattle.shards.specs.Plan.{Plan}
 use Rattle.feeders.specs.declared.log.Broken.{Broken}
 use Rattle.feeders.specs.declared.log.Line.{Line}
@@ -28,13 +28,13 @@ use Rattle.feeders.specs.Run.{EachNumbered, IsTraced}
 use Rattle.feeders.specs.Steps.{steps_behind}
 use Rattle.lint.specs.Found.{NamesElements}
 
--- a text has elements before its fault, if it has no fault all of them
+-- a text has elements before its fault, and all of them where it has no fault
 abbrev pub TextHasThem : Type 0
-TextHasThem = (input : List ℕ) (pieces : List Piece) → IsText input pieces → AreElementsBefore input pieces
+TextHasThem = (input : List ℕ) (pieces : List ElementModel) → IsText input pieces → AreElementsBefore input pieces
 
--- those that have ended in a front of it are the first of them
+-- the elements that have ended in a prefix of a text are the first of its elements
 abbrev pub FrontHasFirst : Type 0
-FrontHasFirst = (bytes more : List ℕ) (pieces all : List Piece) → AreElementsSoFar bytes [] pieces → AreElementsBefore (bytes ++ more) all → IsBeginning pieces all
+FrontHasFirst = (bytes more : List ℕ) (pieces all : List ElementModel) → AreElementsSoFar bytes [] pieces → AreElementsBefore (bytes ++ more) all → IsBeginning pieces all
 
 here : (place bound : ℕ) (what : Option What) → place < bound → All (λ (line : Line). line.event < bound) (lines_at place what)
 here place bound None below = All-nil (λ (line : Line). line.event < bound)
@@ -54,10 +54,10 @@ as_many : (feeder : ℕ) (before items : List (Result Item FormFault)) → lengt
 as_many feeder before [] = refl
 as_many feeder before (item ∷ items) = ap suc (as_many feeder (before ++ item ∷ []) items)
 
-longer : (one other : List Piece) → IsBeginning one other → length one ≤ length other
+longer : (one other : List ElementModel) → IsBeginning one other → length one ≤ length other
 longer one other begins = omega (arith, ap length begins.1, length-append one begins.0)
 
-same_length : (text : List ℕ) (one other : List Piece) → AreElementsBefore text one → AreElementsBefore text other → length one ≡ length other
+same_length : (text : List ℕ) (one other : List ElementModel) → AreElementsBefore text one → AreElementsBefore text other → length one ≡ length other
 same_length text one other is_one is_other =
     omega (arith, longer other one (is_one.2 other is_other.0 is_other.1), longer one other (is_other.2 one is_one.0 is_one.1))
 
@@ -76,10 +76,10 @@ of_text fault broken is reading =
     absurd (cc)
 
 module _ (law : TextHasThem) (front : FrontHasFirst) where
-  whole : (text : List ℕ) (pieces all : List Piece) → AreElementsBefore text pieces → AreElementsBefore text all → length pieces ≤ length all
+  whole : (text : List ℕ) (pieces all : List ElementModel) → AreElementsBefore text pieces → AreElementsBefore text all → length pieces ≤ length all
   whole text pieces all is are = omega (arith, same_length text pieces all is are)
 
-  up_to : (reading : Bool) (text trace : List ℕ) (broken : Broken) (pieces all : List Piece) → is_of_reading broken.code ≡ reading → IsReadUpTo reading text trace
+  up_to : (reading : Bool) (text trace : List ℕ) (broken : Broken) (pieces all : List ElementModel) → is_of_reading broken.code ≡ reading → IsReadUpTo reading text trace
       → BrokeByText trace broken pieces ⊎ BrokeByReading trace broken pieces → AreElementsBefore text all → length pieces ≤ length all
   up_to false text trace broken pieces all code read (inl is) are = whole text pieces all (subst (λ (bytes : List ℕ). AreElementsBefore bytes pieces) read is.2) are
   up_to false text trace broken pieces all code read (inr is) are = absurd cc
@@ -88,12 +88,12 @@ module _ (law : TextHasThem) (front : FrontHasFirst) where
       longer pieces all (front trace read.0 pieces all is.3 (subst (λ (bytes : List ℕ). AreElementsBefore bytes all) read.1 are))
 
   -- the text has as many elements as were read of it, or more
-  enough : (text trace : List ℕ) (broken : Option Broken) (pieces all : List Piece) → IsReadUpTo (broke_reading broken) text trace → AreElements trace broken pieces → AreElementsBefore text all
+  enough : (text trace : List ℕ) (broken : Option Broken) (pieces all : List ElementModel) → IsReadUpTo (broke_reading broken) text trace → AreElements trace broken pieces → AreElementsBefore text all
       → length pieces ≤ length all
   enough text trace None pieces all read is are = whole text pieces all (subst (λ (bytes : List ℕ). AreElementsBefore bytes pieces) read (law trace pieces is)) are
   enough text trace (Some broken) pieces all read is are = up_to (is_of_reading broken.code) text trace broken pieces all refl read is are
 
-  module _ (plan : Plan) (tower : Contents) (chosen : MomentField) (closed : List Ended) where
+  module _ (plan : Plan) (tower : TowerModel) (chosen : MomentField) (closed : List ClosedShard) where
     pub names : (feeder : ℕ) (text trace : List ℕ) (log : Log) → IsTraced plan tower chosen closed feeder trace log → IsReadUpTo (broke_reading log.broken) text trace → NamesElements text log
     names feeder text trace log is read pieces are =
         let many : length is.doings ≡ length is.are.pieces =

@@ -1,10 +1,10 @@
--- How grave findings are, their codes, and the status that a run ends with.
+-- How grave findings are, their codes, and the status with which a run ends.
 use Rattle.std.specs.Prelude.{ℕ, Bool, true, false, List, codes, ◌||◌, if◌then◌else◌}
 use Rattle.std.specs.Borrow.{Bor}
 use Rattle.std.specs.List.{list_any}
 use Rattle.std.specs.Str.{bytes_eq}
-use Rattle.feeders.specs.Code.{break_code_of, code_of as code_of_refused}
-use Rattle.tower_file.specs.Tower.{code_of as code_of_fault}
+use Rattle.feeders.specs.Code.{break_code_of, refused_code as code_of_refused}
+use Rattle.tower_file.specs.Tower.{tower_fault_code as code_of_fault}
 use Rattle.lint.specs.declared.finding.Amiss.{Amiss}
 use Rattle.lint.specs.declared.finding.Amiss.TheVariants.{Refused, Broken, Tower, Noted}
 use Rattle.lint.specs.declared.finding.Finding.{Finding}
@@ -14,7 +14,7 @@ use Rattle.lint.specs.declared.finding.Note.{Note}
 use Rattle.lint.specs.declared.finding.Note.TheVariants.{Skipped, NoOperation, Unused, NoValue, NearField, Unread, Unanswered, SilentWriter, SameMoment, OutOfProportion, Rests, RestsOnEdit}
 use Rattle.lint.specs.declared.finding.TraceFindings.{TraceFindings}
 
--- a break and a fault of the tower file are errors, a refusal a warning, and what is taken a note
+-- the grade of what is amiss: an error for a break and a fault of the tower file, a warning for a refusal, else a note
 abbrev pub grade_of : Amiss → Grade
 grade_of (Refused event code) = grades.Warning
 grade_of (Broken code) = grades.Error
@@ -36,12 +36,12 @@ code_of_note OutOfProportion = codes "L7"
 code_of_note (Rests read) = codes "L8"
 code_of_note (RestsOnEdit operation) = codes "L8"
 
--- the code that users see
-abbrev pub code_of : Amiss → List ℕ
-code_of (Refused event code) = code_of_refused code
-code_of (Broken code) = break_code_of code
-code_of (Tower fault) = code_of_fault fault
-code_of (Noted event note) = code_of_note note
+-- the code of what is amiss, as users see it
+abbrev pub finding_code : Amiss → List ℕ
+finding_code (Refused event code) = code_of_refused code
+finding_code (Broken code) = break_code_of code
+finding_code (Tower fault) = code_of_fault fault
+finding_code (Noted event note) = code_of_note note
 
 -- the word of a grade
 abbrev pub grade_word : Grade → List ℕ
@@ -49,6 +49,7 @@ grade_word grades.Error = codes "error"
 grade_word grades.Warning = codes "warning"
 grade_word grades.Note = codes "note"
 
+-- two grades are equal
 abbrev pub same_grade : Grade → Grade → Bool
 same_grade grades.Error grades.Error = true
 same_grade grades.Error grades.Warning = false
@@ -60,6 +61,7 @@ same_grade grades.Note grades.Error = false
 same_grade grades.Note grades.Warning = false
 same_grade grades.Note grades.Note = true
 
+-- a finding is of this grade
 abbrev pub is_of_grade : Grade → Finding → Bool
 is_of_grade grade finding = same_grade (grade_of finding.what) grade
 
@@ -67,18 +69,18 @@ is_of_grade grade finding = same_grade (grade_of finding.what) grade
 abbrev pub has_grade : Grade → List TraceFindings → Bool
 has_grade grade traces = list_any (λ trace. list_any (is_of_grade grade) trace.findings.items) traces
 
--- a note of this code
+-- a note has this code
 abbrev pub is_of_code : List ℕ → Finding → Bool
-is_of_code code note = bytes_eq (code_of note.what) code
+is_of_code code note = bytes_eq (finding_code note.what) code
 
--- a note of some trace is of this code
+-- a note of some trace has this code
 abbrev pub has_note : List ℕ → List TraceFindings → Bool
 has_note code traces = list_any (λ trace. list_any (is_of_code code) trace.notes.items) traces
 
--- a note of some trace is of one of these codes
+-- a note of some trace has one of these codes
 abbrev pub has_denied : List (Bor (List ℕ)) → List TraceFindings → Bool
 has_denied denied traces = list_any (λ code. has_note code.now traces) denied
 
--- 2 with an error, else 3 with a warning or a note of a code that is denied, else 0
-abbrev pub status_of : List (Bor (List ℕ)) → List TraceFindings → ℕ
-status_of denied traces = if has_grade grades.Error traces then 2 else if has_grade grades.Warning traces || has_denied denied traces then 3 else 0
+-- the status of `lint`: 2 with an error, else 3 with a warning or a note whose code is denied, else 0
+abbrev pub lint_status : List (Bor (List ℕ)) → List TraceFindings → ℕ
+lint_status denied traces = if has_grade grades.Error traces then 2 else if has_grade grades.Warning traces || has_denied denied traces then 3 else 0

@@ -1,5 +1,6 @@
-pub mod Place
-pub mod Spot
+-- words of the public clauses
+pub mod LineColumn
+pub mod Location
 pub mod Found
 pub mod Grade
 pub mod Message

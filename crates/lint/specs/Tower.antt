@@ -5,30 +5,30 @@ use Rattle.tower_file.specs.declared.fault.TowerFault.{TowerFault}
 use Rattle.lint.specs.declared.finding.Amiss.TheVariants.{Tower}
 use Rattle.lint.specs.declared.finding.Finding.{Finding}
 use Rattle.lint.specs.declared.finding.TraceFindings.{TraceFindings}
-use Rattle.lint.specs.declared.spot.Spot.{Spot}
-use Rattle.lint.specs.Place.{place_of}
-use Rattle.lint.specs.Spot.{spot_of_byte}
+use Rattle.lint.specs.declared.location.Location.{Location}
+use Rattle.lint.specs.LineColumn.{place_of_byte}
+use Rattle.lint.specs.Location.{spot_of_byte}
 
--- the spot of a span; that of the first byte of the text where there is none
-abbrev pub spot_of_span : List ℕ → Option (ℕ × ℕ) → Spot
-spot_of_span text (Some span) = record { start = span.0; end = span.1; place = place_of text span.0 }
+-- the spot of these bytes; that of the first byte of the text where none are given
+abbrev pub spot_of_span : List ℕ → Option (ℕ × ℕ) → Location
+spot_of_span text (Some span) = record { start = span.0; end = span.1; place = place_of_byte text span.0 }
 spot_of_span text None = spot_of_byte text 0
 
--- one file with these findings and notes
+-- what is found is of one file, with these findings and notes
 pub record IsOneFile (findings notes : Vec Finding Global) (traces : List TraceFindings) : Type 0 where
   pub one : TraceFindings
   pub traces_are : traces ≡ one ∷ []
   pub findings_are : one.findings ≡ findings
   pub notes_are : one.notes ≡ notes
 
--- one file with one finding and no note: the fault, at its span
+-- what is found is of one file, with one finding and no note: the fault of a tower file, at these bytes
 pub record IsOneFault (text : List ℕ) (fault : TowerFault) (span : Option (ℕ × ℕ)) (traces : List TraceFindings) : Type 0 where
   pub one : TraceFindings
   pub traces_are : traces ≡ one ∷ []
   pub found : one.findings.items ≡ record { what = Tower fault; spot = spot_of_span text span } ∷ []
   pub alone : one.notes.items ≡ []
 
--- one file in which nothing is amiss, and some things may not be meant
+-- what is found is of one file, and is nothing but notes
 pub record HasNotesAlone (traces : List TraceFindings) : Type 0 where
   pub one : TraceFindings
   pub traces_are : traces ≡ one ∷ []

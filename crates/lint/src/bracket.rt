@@ -1,4 +1,4 @@
-//! What stands open at a byte of a text, by a plain scan. It is printed beside a break, and nothing rests on it.
+//! Which bracket is open at a byte of a text, by a plain scan. It is printed beside a break; no clause speaks of it.
 
 ghost use Rattle.std.specs.Prelude.{◌≤◌, ◌<◌, ◌+◌, length};
 
@@ -6,7 +6,7 @@ use memchr::memchr;
 use memchr::memmem::find;
 use std::alloc::{AllocError, Global};
 
-/// The innermost bracket that opens from the one byte on and is not closed before the other.
+/// The innermost bracket that opens at `from` or after it, and is not closed before `to`.
 pub fn innermost_open(
     alloc: Global,
     text: &[u8],
@@ -29,7 +29,7 @@ pub fn innermost_open(
     Ok(open.last().copied())
 }
 
-/// The first byte behind a bracket at which a line begins with `{`, where there is one before the end of the text.
+/// The first byte after a bracket at which a line begins with `{`, or none.
 pub fn next_map_line(text: &[u8], open: usize) -> Option<usize> {
     let from = open.min(text.len());
     match find(&text[from..], b"\n{") {
@@ -38,7 +38,7 @@ pub fn next_map_line(text: &[u8], open: usize) -> Option<usize> {
     }
 }
 
-/// The byte behind what begins here: a text, a comment, a character or a single byte.
+/// The byte after what begins here: a string, a comment, a character or a single byte.
 fn behind(text: &[u8], at: usize) -> usize
     requires { at < length text.now }
     ensures { at < result }
@@ -54,7 +54,7 @@ fn behind(text: &[u8], at: usize) -> usize
     }
 }
 
-/// The byte behind the quote that closes, from a byte inside a text.
+/// The byte after the closing quote, from a byte inside a string; the end of the text where there is none.
 fn behind_quoted(text: &[u8], from: usize) -> usize
     requires { from ≤ length text.now }
     ensures { from ≤ result }

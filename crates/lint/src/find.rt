@@ -3,16 +3,16 @@
 ghost use Rattle.std.specs.Prelude.{◌≡◌, ◌≤◌, ◌<◌, ◌++◌, ℕ, List, Some, All, IfErr, IfOk, OnOk, length, map};
 ghost use Rattle.std.specs.List.{AllZip, flat_map};
 ghost use Rattle.std.specs.Option.{option_to_list};
-ghost use Rattle.shards.specs.Closing.{Ended};
+ghost use Rattle.shards.specs.Closing.{ClosedShard};
 ghost use Rattle.feeders.specs.declared.log.Log.{Log as ALog};
 ghost use Rattle.feeders.specs.Ending.{MayEnd};
 ghost use Rattle.feeders.specs.Readers.{AreReadOf};
 ghost use Rattle.feeders.specs.Run.{IsRun};
-ghost use Rattle.lint.specs.Found.{AreFound, IsFoundIn, NamesElements, found_of_break, found_of_line};
+ghost use Rattle.lint.specs.Found.{AreFoundIn, IsFoundIn, NamesElements, found_of_break, found_of_line};
 
 use crate::finding::{Amiss, Finding, Findings, TraceFindings};
+use crate::location::{Location, elements_of, spot_of_one};
 use crate::notes::{Look, Noted, notes_of};
-use crate::spot::{Spot, elements_of, spot_of_one};
 use crate::suspect::Suspects;
 use edn_reader::laws::elements_of_a_prefix;
 use feeders::{Broken, Line, Log, Pages, RunFault, What, run_in_turn};
@@ -23,8 +23,8 @@ use std::alloc::{AllocError, Global};
 use std::sync::Wait;
 use tower_file::Tower;
 
-/// What is amiss in traces that are fed in turn to the registers of a tower. A moment stands under `:index` or under
-/// `:time`, as the field says.
+/// Finds what is amiss in traces, by a run in which they are fed in turn to the registers of a tower. The field says
+/// whether a moment is under `:index` or under `:time`.
 pub fn lint<R: Wait>(
     rt: &R,
     alloc: Global,
@@ -33,8 +33,8 @@ pub fn lint<R: Wait>(
     field: MomentField,
 ) -> Result<Findings, RunFault>
     requires traces { (1 ≤ length texts.now) × (length texts.now ≤ 256) }
-    ensures found { IfOk result (λ found. (closed : List Ended) × (logs : List ALog) × (traces : List (List ℕ)) × AreReadOf (map (λ text. Some text.now) texts.entry.now) logs traces
-        × IsRun tower.now field 1 traces closed logs × AreFound (map (λ text. text.now) texts.entry.now) logs found.traces.items) }
+    ensures found { IfOk result (λ found. (closed : List ClosedShard) × (logs : List ALog) × (traces : List (List ℕ)) × AreReadOf (map (λ text. Some text.now) texts.entry.now) logs traces
+        × IsRun tower.now field 1 traces closed logs × AreFoundIn (map (λ text. text.now) texts.entry.now) logs found.traces.items) }
     ensures fault { IfErr result MayEnd }
 {
     elements_of_a_prefix();
@@ -53,7 +53,7 @@ pub fn lint<R: Wait>(
     Ok(Findings { traces, unused })
 }
 
-/// Of each register of the tower whether no operation of it stands.
+/// For each register of the tower, whether none of its operations stands.
 fn unused_in(alloc: Global, tower: &Tower, closed: &Closed) -> Result<Vec<bool>, AllocError> {
     let mut unused = Vec::new(alloc);
     for number in 0..tower.len() {
@@ -69,11 +69,11 @@ fn is_unused(closed: &Closed, id: RegId) -> bool {
     }
 }
 
-/// The findings of each trace by its log.
+/// The findings of each trace, by its log.
 fn find_all(look: Look, texts: &[&[u8]], logs: &[Log]) -> Result<Vec<TraceFindings>, RunFault>
     requires each { length logs.now ≡ length texts.now }
     requires named { AllZip NamesElements (map (λ text. text.now) texts.now) logs.now }
-    ensures found { IfOk result (λ traces. AreFound (map (λ text. text.now) texts.entry.now) logs.now traces.items) }
+    ensures found { IfOk result (λ traces. AreFoundIn (map (λ text. text.now) texts.entry.now) logs.now traces.items) }
     ensures memory { IfErr result (λ fault. fault ≡ RunFault.Memory) }
 {
     let mut traces = Vec::new(look.alloc);
@@ -107,7 +107,11 @@ fn find_in(look: Look, feeder: usize, text: &[u8], log: &Log) -> Result<TraceFin
     })
 }
 
-fn push_lines(findings: &mut Vec<Finding>, spots: &[Spot], lines: &[Line]) -> Result<(), AllocError>
+fn push_lines(
+    findings: &mut Vec<Finding>,
+    spots: &[Location],
+    lines: &[Line],
+) -> Result<(), AllocError>
     requires named { All (λ line. line.event < length spots.now) lines.now }
     ensures { OnOk result (findings.new.items ≡ findings.old.items ++ flat_map (found_of_line spots.now) lines.now) }
 {
@@ -119,8 +123,8 @@ fn push_lines(findings: &mut Vec<Finding>, spots: &[Spot], lines: &[Line]) -> Re
     Ok(())
 }
 
-/// What a line says is amiss: an answer is nothing amiss.
-fn finding_of_line(spots: &[Spot], line: &Line) -> Option<Finding>
+/// The finding of a log line: a refusal is one, an answer is none.
+fn finding_of_line(spots: &[Location], line: &Line) -> Option<Finding>
     requires named { line.now.event < length spots.now }
     ensures { option_to_list result ≡ found_of_line spots.now line.now }
 {

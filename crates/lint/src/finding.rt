@@ -1,10 +1,10 @@
-//! What is amiss in the traces, and what a run of `lint` ends with.
+//! What is amiss in traces and tower files, and the status of a run of `lint`.
 
 ghost use Rattle.std.specs.Prelude.{◌≡◌, ◌++◌, OnOk};
 ghost use Rattle.std.specs.List.{list_any};
-ghost use Rattle.lint.specs.Grade.{code_of, code_of_note, grade_of, grade_word, has_denied as has_denied_note, has_grade, has_note as has_note_of, is_of_code, is_of_grade, status_of};
+ghost use Rattle.lint.specs.Grade.{finding_code, code_of_note, grade_of, grade_word, has_denied, has_grade, has_note, is_of_code, is_of_grade, lint_status};
 
-use crate::spot::Spot;
+use crate::location::Location;
 use feeders::{BreakCode, Code};
 use intervals::OpId;
 use jepsen_form::FormField;
@@ -15,49 +15,49 @@ use tower_file::{TowerFault, TowerField};
 /// What is amiss.
 #[derive(Clone, Copy, Debug)]
 pub enum Amiss {
-    /// The element of this number is refused: it is left out.
+    /// The element of this number is refused and left out.
     Refused(u64, Code),
-    /// The text breaks off here: what follows is not judged.
+    /// The text breaks off here, and what follows is not judged.
     Broken(BreakCode),
-    /// The tower file says no tower: nothing is judged.
+    /// The file says no tower, and nothing is judged.
     Tower(TowerFault),
-    /// It is taken as it stands: the element of this number, or another part of a file.
+    /// This is taken as it is, though it may not be meant: the element of this number, or another part of a file.
     Noted(Option<u64>, Note),
 }
 
-/// What is taken, and may not be meant.
+/// What is taken as it is, and may not be meant.
 #[derive(Clone, Copy, Debug, PartialEq, Eq)]
 pub enum Note {
-    /// An element that looks like a client's is skipped: its process is no integer.
+    /// An element that looks like a client's read or write is skipped, since its process is no integer.
     Skipped,
-    /// No element invokes an operation.
+    /// No element of the trace invokes an operation.
     NoOperation,
-    /// A register of the tower of which no operation stands.
+    /// A register of the tower has no operation.
     Unused,
-    /// An answer of a read or an invocation of a write without a value.
+    /// An answer of a read or an invocation of a write has no value.
     NoValue,
-    /// A field that is not read is near this one, which is absent.
+    /// A field is not read, and its name is near that of this one, which is absent.
     NearField(FormField),
-    /// A field of a tower file that is not read, and the one that it is near, which is absent.
+    /// A field of a tower file is not read; its name may be near that of this one, which is absent.
     Unread(Option<TowerField>),
-    /// An invocation that has no answer.
+    /// An invocation has no answer.
     Unanswered,
-    /// A claimed writer of an atomic register: no trace has an event of this process.
+    /// No trace has an event of this process, which is claimed to write an atomic register.
     SilentWriter(i64),
-    /// The event of this number has its moment too.
+    /// An earlier event of the trace, of this number, has the same moment.
     SameMoment(u64),
-    /// A moment that is at least 1000 times the ones before and behind it.
+    /// A moment is at least 1000 times the one before it and the one after it.
     OutOfProportion,
-    /// A refused write of the value that this read returned, which shows that its register fails.
+    /// A write is refused whose value this read returned; the read shows that its register fails.
     Rests(OpId),
-    /// A refused edit of this operation, which shows that its register fails; or a refused claim of that register.
+    /// An edit of this operation is refused, which shows that its register fails; or a claim of that register is.
     RestsOnEdit(OpId),
 }
 
-/// How grave it is.
+/// How grave a finding is.
 #[derive(Clone, Copy, Debug, PartialEq, Eq)]
 pub enum Grade {
-    /// Nothing, or only the front, can be judged.
+    /// Nothing can be judged, or only what is before it.
     Error,
     /// An element is left out.
     Warning,
@@ -69,18 +69,18 @@ pub enum Grade {
 #[derive(Clone, Copy, Debug)]
 pub struct Finding {
     pub what: Amiss,
-    pub spot: Spot,
+    pub spot: Location,
 }
 
 /// What is found in one trace: its findings by place, its notes by place, and the spots of its elements by number.
 #[derive(Drop)]
 pub struct TraceFindings {
-    pub spots: Vec<Spot>,
+    pub spots: Vec<Location>,
     pub findings: Vec<Finding>,
     pub notes: Vec<Finding>,
-    /// Of each element whether it is an invocation that has neither an `:ok` nor a `:fail`.
+    /// For each element, whether it is an invocation that has neither an `:ok` nor a `:fail`.
     pub unfinished: Vec<bool>,
-    /// The processes of its events.
+    /// The processes of the trace's events.
     pub processes: BTreeSet<i64>,
 }
 
@@ -88,7 +88,7 @@ pub struct TraceFindings {
 #[derive(Drop)]
 pub struct Findings {
     pub traces: Vec<TraceFindings>,
-    /// Of each register of the tower whether no operation of it stands; empty where there is no trace.
+    /// For each register of the tower, whether none of its operations stands; empty where there is no trace.
     pub unused: Vec<bool>,
 }
 
@@ -116,9 +116,9 @@ impl Amiss {
         }
     }
 
-    /// The code that users see.
+    /// The code of what is amiss, as users see it.
     pub fn code(&self) -> &'static str
-        ensures { result.now ≡ code_of self.now }
+        ensures { result.now ≡ finding_code self.now }
     {
         match self {
             Amiss::Refused(_, code) => code.code(),
@@ -130,7 +130,7 @@ impl Amiss {
 }
 
 impl Note {
-    /// The code that users see.
+    /// The code of the note, as users see it.
     pub fn code(&self) -> &'static str
         ensures { result.now ≡ code_of_note self.now }
     {
@@ -164,7 +164,7 @@ impl TraceFindings {
 }
 
 impl Findings {
-    /// Puts the files of others behind its own.
+    /// Adds what others found in their files.
     pub fn append(&mut self, others: Findings) -> Result<(), AllocError>
         ensures { OnOk result (self.new.traces.items ≡ self.old.traces.items ++ others.traces.items) }
     {
@@ -182,9 +182,9 @@ impl Findings {
                 .any(|trace| trace.processes.contains(&process))
     }
 
-    /// With which status a run ends: 2 with an error, else 3 with a warning or a note of a code that is denied, else 0.
+    /// The status with which a run ends: 2 with an error, else 3 with a warning or a note whose code is denied, else 0.
     pub fn status(&self, denied: &[&str]) -> u8
-        ensures { result ≡ status_of denied.now self.now.traces.items }
+        ensures { result ≡ lint_status denied.now self.now.traces.items }
     {
         if self.has(Grade::Error) {
             2
@@ -196,13 +196,13 @@ impl Findings {
     }
 
     fn has_denied(&self, denied: &[&str]) -> bool
-        ensures { result ≡ has_denied_note denied.now self.now.traces.items }
+        ensures { result ≡ has_denied denied.now self.now.traces.items }
     {
         denied.iter().any(|code| self.has_note(code))
     }
 
     fn has_note(&self, code: &str) -> bool
-        ensures { result ≡ has_note_of code.now self.now.traces.items }
+        ensures { result ≡ has_note code.now self.now.traces.items }
     {
         self.traces.iter().any(|trace| trace.has_note(code))
     }

@@ -1,14 +1,14 @@
-//! Findings as workflow commands, which annotate files.
+//! Findings as GitHub's workflow commands, which annotate files.
 
 use crate::finding::{Finding, Findings, Grade};
 use crate::message::push_message;
-use crate::source::Source;
+use crate::source::SourceText;
 use std::alloc::AllocError;
 
 /// A command for each finding, by trace and place: `::warning file=run.edn,line=3,col=1,title=X7::..`.
 pub fn push_github(
     text: &mut String,
-    sources: &[Source],
+    sources: &[SourceText],
     found: &Findings,
 ) -> Result<(), AllocError> {
     let traces = found.traces.as_slice();
@@ -24,7 +24,7 @@ pub fn push_github(
 
 fn push_commands(
     text: &mut String,
-    source: &Source,
+    source: &SourceText,
     findings: &[Finding],
 ) -> Result<(), AllocError> {
     for finding in findings {
@@ -33,7 +33,11 @@ fn push_commands(
     Ok(())
 }
 
-fn push_command(text: &mut String, source: &Source, finding: &Finding) -> Result<(), AllocError> {
+fn push_command(
+    text: &mut String,
+    source: &SourceText,
+    finding: &Finding,
+) -> Result<(), AllocError> {
     text.push_str("::")?;
     text.push_str(command_of(finding.what.grade()))?;
     text.push_str(" file=")?;
@@ -57,7 +61,7 @@ fn command_of(grade: Grade) -> &'static str {
     }
 }
 
-/// A property, with what would end it behind a percent sign.
+/// A property, with what would end it as a percent sign and two digits.
 fn push_property(text: &mut String, property: &str) -> Result<(), AllocError> {
     for character in property.chars() {
         match character {

@@ -1,13 +1,13 @@
-//! What the first bytes of a file say of it.
+//! What the first bytes of a file say about how it can be read.
 
-/// A code, and what may help.
+/// A code, and words that may help.
 #[derive(Clone, Copy)]
 pub struct Hint {
     pub code: &'static str,
     pub words: &'static str,
 }
 
-/// What may help with a file that is not read as it was meant: as a tower file, or as a trace.
+/// What may help with a file that is not read as it is meant: as a tower file, or as a trace.
 pub fn hint_of(text: &[u8], is_tower: bool) -> Option<Hint> {
     if text.starts_with(b"\xef\xbb\xbf") {
         return with_code(

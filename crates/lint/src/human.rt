@@ -4,10 +4,10 @@ use crate::bracket::{innermost_open, next_map_line};
 use crate::finding::{Amiss, Finding, Findings, Grade, Note};
 use crate::head::{push_head, push_place};
 use crate::hint::hint_of;
+use crate::location::{Location, spot_of_one};
 use crate::message::{field_word, push_id, tower_word};
-use crate::snippet::{Mark, push_blanks, push_margin, push_mark, push_plain, width_of};
-use crate::source::Source;
-use crate::spot::{Spot, spot_of_one};
+use crate::snippet::{Underline, push_blanks, push_margin, push_mark, push_plain, width_of};
+use crate::source::SourceText;
 use crate::suggest::{meant_in_element, meant_in_tower, meant_key};
 use crate::tally::{Count, Tally};
 use edn_reader::EdnFault;
@@ -21,29 +21,29 @@ use tower_file::TowerFault;
 #[derive(Clone, Copy)]
 struct View<'a, 't> {
     alloc: Global,
-    sources: &'a [Source<'t>],
+    sources: &'a [SourceText<'t>],
     found: &'a Findings,
     most: usize,
 }
 
-/// Of how many findings of a code it is looked for what may have been meant.
+/// For how many findings of each code, at most, a word is suggested that may have been meant.
 const SUGGESTED: usize = 3;
 
-/// A finding, which trace it is of, how wide its line numbers are, and how many of its code were shown before.
+/// A finding, the trace it is of, the width of its line numbers, and how many findings of its code were shown before.
 #[derive(Clone, Copy)]
 struct Case<'t> {
     trace: usize,
-    source: Source<'t>,
+    source: SourceText<'t>,
     finding: Finding,
     width: usize,
     before: usize,
 }
 
-/// So many findings of each code, in order, each with its line, and how many there are; 0 is all.
+/// Adds the first findings of each code (all, where `most` is 0), each with its line, and how many there are.
 pub fn push_human(
     text: &mut String,
     alloc: Global,
-    sources: &[Source],
+    sources: &[SourceText],
     found: &Findings,
     most: usize,
 ) -> Result<(), AllocError> {
@@ -60,7 +60,7 @@ pub fn push_human(
     push_totals(text, &tally)
 }
 
-/// The findings of a trace, and then its notes.
+/// Adds the findings of a trace, and then its notes.
 fn push_trace(
     text: &mut String,
     view: View,
@@ -78,7 +78,7 @@ fn push_trace(
     push_hints(text, view, trace)
 }
 
-/// What may help with a file in which something is amiss, by its first bytes, or because it was given before.
+/// What may help with a file in which something is amiss: by its first bytes, or since it is a copy of an earlier one.
 fn push_hints(text: &mut String, view: View, trace: usize) -> Result<(), AllocError> {
     let (Some(source), Some(found)) = (view.sources.get(trace), view.found.traces.get(trace)) else {
         return Ok(());
@@ -94,7 +94,7 @@ fn push_hints(text: &mut String, view: View, trace: usize) -> Result<(), AllocEr
 
 fn push_hint(
     text: &mut String,
-    source: &Source,
+    source: &SourceText,
     code: &str,
     words: &str,
 ) -> Result<(), AllocError> {
@@ -107,7 +107,7 @@ fn push_hint(
     text.push_str("\n\n")
 }
 
-fn is_given_before(sources: &[Source], trace: usize, source: &Source) -> bool {
+fn is_given_before(sources: &[SourceText], trace: usize, source: &SourceText) -> bool {
     for earlier in sources.iter().take(trace) {
         if earlier.text == source.text {
             return true;
@@ -159,18 +159,18 @@ fn push_case(text: &mut String, view: View, case: Case) -> Result<(), AllocError
     text.push_str("\n")
 }
 
-/// What a line below the lines of a file begins with.
+/// The beginning of a line below the lines of a file.
 fn push_foot(text: &mut String, width: usize) -> Result<(), AllocError> {
     push_blanks(text, width)?;
     text.push_str(" = ")
 }
 
-/// Where it is: the file, the line and the column.
+/// Where a finding is: the file, the line and the column.
 fn push_arrow(
     text: &mut String,
     width: usize,
-    source: Source,
-    spot: &Spot,
+    source: SourceText,
+    spot: &Location,
 ) -> Result<(), AllocError> {
     push_blanks(text, width)?;
     text.push_str("--> ")?;
@@ -198,7 +198,7 @@ fn push_refused(
         push_meant(text, word)?;
     }
     text.push_str("\n")?;
-    if let (Code::Form(FormFault::UnsupportedF), 0) = (code, case.before) {
+    if let (Code::Format(FormFault::UnsupportedF), 0) = (code, case.before) {
         push_foot(text, case.width)?;
         text.push_str(
             "only reads and writes are judged: a register that meets another :f is not covered by its verdict\n",
@@ -207,7 +207,7 @@ fn push_refused(
     Ok(())
 }
 
-/// What a refused element may have meant. The file behind the traces is the tower file.
+/// What a refused element may have meant. The last file, after the traces, is the tower file.
 fn meant_by_refused<'t>(
     view: View<'_, 't>,
     case: Case,
@@ -271,7 +271,7 @@ fn push_meant(text: &mut String, word: &[u8]) -> Result<(), AllocError> {
     text.push_str("?")
 }
 
-/// A file of which as a whole something is noted.
+/// A note on a file as a whole.
 fn push_file(text: &mut String, case: Case) -> Result<(), AllocError> {
     push_blanks(text, case.width)?;
     text.push_str("--> ")?;
@@ -279,7 +279,7 @@ fn push_file(text: &mut String, case: Case) -> Result<(), AllocError> {
     text.push_str("\n")
 }
 
-/// The other event that a note speaks of.
+/// The other event or operation that a note speaks of.
 fn beside(case: Case, note: Note) -> Option<OpId> {
     match (note, u32::try_from(case.trace)) {
         (Note::SameMoment(event), Ok(feeder)) => Some(OpId { feeder, event }),
@@ -289,8 +289,8 @@ fn beside(case: Case, note: Note) -> Option<OpId> {
     }
 }
 
-fn mark_of<'t>(case: Case<'t>, sign: char) -> Mark<'t> {
-    Mark {
+fn mark_of<'t>(case: Case<'t>, sign: char) -> Underline<'t> {
+    Underline {
         source: case.source,
         spot: case.finding.spot,
         sign,
@@ -310,8 +310,11 @@ fn met_by(code: Code) -> (Option<OpId>, Option<OpId>) {
     }
 }
 
-/// The spot of the invocation of an operation, and the file that it stands in.
-fn invocation_of<'t>(view: View<'_, 't>, id: Option<OpId>) -> Option<(OpId, Source<'t>, Spot)> {
+/// The invocation of an operation: its file and its spot.
+fn invocation_of<'t>(
+    view: View<'_, 't>,
+    id: Option<OpId>,
+) -> Option<(OpId, SourceText<'t>, Location)> {
     let Some(id) = id else {
         return None;
     };
@@ -325,7 +328,7 @@ fn invocation_of<'t>(view: View<'_, 't>, id: Option<OpId>) -> Option<(OpId, Sour
     }
 }
 
-/// The last of the lines that are shown with a finding.
+/// The greatest line number that is shown with a finding.
 fn last_line(view: View, finding: &Finding) -> usize {
     let line = finding.spot.place.line;
     match finding.what {
@@ -344,7 +347,7 @@ fn line_of(view: View, id: Option<OpId>) -> usize {
     }
 }
 
-/// An operation that is met, where it stands.
+/// An operation that is met, at its invocation.
 fn push_met(text: &mut String, view: View, case: Case, id: Option<OpId>) -> Result<(), AllocError> {
     let Some((id, source, spot)) = invocation_of(view, id) else {
         return Ok(());
@@ -355,7 +358,7 @@ fn push_met(text: &mut String, view: View, case: Case, id: Option<OpId>) -> Resu
         push_place(text, &source, &spot)?;
         text.push_str("\n")?;
     }
-    let mark = Mark {
+    let mark = Underline {
         source,
         spot,
         sign: '-',
@@ -369,7 +372,7 @@ fn push_met(text: &mut String, view: View, case: Case, id: Option<OpId>) -> Resu
     text.push_str("\n")
 }
 
-/// Whether it is an invocation that has neither an `:ok` nor a `:fail`.
+/// Whether the operation has neither an `:ok` nor a `:fail`.
 fn is_unfinished(view: View, id: OpId) -> bool {
     match view.found.traces.get(id.feeder as usize) {
         Some(found) => match found.unfinished.get(id.event as usize) {
@@ -380,7 +383,7 @@ fn is_unfinished(view: View, id: OpId) -> bool {
     }
 }
 
-/// Where a text breaks, with the bracket that is open there. A text that ends too early is shown at the bracket.
+/// Where a text breaks, with the bracket that is open there. A text that ends too early is shown at that bracket.
 fn push_broken(
     text: &mut String,
     view: View,
@@ -433,7 +436,7 @@ fn push_part(
     text.push_str("\n")
 }
 
-/// Where a text ends too early: the bracket that is open there, if one is.
+/// Where a text ends too early: at the bracket that is open there, if one is.
 fn push_end(text: &mut String, view: View, case: Case) -> Result<(), AllocError> {
     match open_at(view, case)? {
         Some(open) => push_truncated(text, case, open),
@@ -442,7 +445,7 @@ fn push_end(text: &mut String, view: View, case: Case) -> Result<(), AllocError>
 }
 
 /// The innermost bracket that is open where a text breaks.
-fn open_at(view: View, case: Case) -> Result<Option<Spot>, AllocError> {
+fn open_at(view: View, case: Case) -> Result<Option<Location>, AllocError> {
     let from = read_up_to(view, case.trace);
     let bytes = case.source.text;
     match innermost_open(view.alloc, bytes, from, case.finding.spot.start)? {
@@ -451,10 +454,10 @@ fn open_at(view: View, case: Case) -> Result<Option<Spot>, AllocError> {
     }
 }
 
-/// The bracket that is never closed, and the next line that begins with a brace inside it.
-fn push_truncated(text: &mut String, case: Case, open: Spot) -> Result<(), AllocError> {
+/// The bracket that is never closed, and the next line inside it that begins with a brace.
+fn push_truncated(text: &mut String, case: Case, open: Location) -> Result<(), AllocError> {
     push_top(text, case, &open)?;
-    let mark = Mark {
+    let mark = Underline {
         source: case.source,
         spot: open,
         sign: '^',
@@ -464,7 +467,7 @@ fn push_truncated(text: &mut String, case: Case, open: Spot) -> Result<(), Alloc
     let Some(line) = next_map_line(case.source.text, open.start) else {
         return Ok(());
     };
-    let suspect = Mark {
+    let suspect = Underline {
         source: case.source,
         spot: spot_of_one(case.source.text, line),
         sign: '-',
@@ -473,11 +476,11 @@ fn push_truncated(text: &mut String, case: Case, open: Spot) -> Result<(), Alloc
     text.push_str(" a line that begins with { inside it: is a } missing above?\n")
 }
 
-/// The byte that breaks a text, and the bracket that it does not close.
-fn push_wrong(text: &mut String, case: Case, open: Option<Spot>) -> Result<(), AllocError> {
+/// The byte at which a text breaks, and the bracket that it does not close.
+fn push_wrong(text: &mut String, case: Case, open: Option<Location>) -> Result<(), AllocError> {
     push_top(text, case, &case.finding.spot)?;
     if let Some(spot) = open {
-        let mark = Mark {
+        let mark = Underline {
             source: case.source,
             spot,
             sign: '-',
@@ -489,8 +492,8 @@ fn push_wrong(text: &mut String, case: Case, open: Option<Spot>) -> Result<(), A
     text.push_str(" here\n")
 }
 
-/// The place of a break or of a bracket.
-fn push_top(text: &mut String, case: Case, spot: &Spot) -> Result<(), AllocError> {
+/// Where a break or a bracket is.
+fn push_top(text: &mut String, case: Case, spot: &Location) -> Result<(), AllocError> {
     push_arrow(text, case.width, case.source, spot)?;
     push_gap(text, case.width)
 }
@@ -502,7 +505,7 @@ fn push_gap(text: &mut String, width: usize) -> Result<(), AllocError> {
     text.push_str("\n")
 }
 
-/// The byte behind the last element of a trace.
+/// The byte after the last element of a trace.
 fn read_up_to(view: View, trace: usize) -> usize {
     match view.found.traces.get(trace) {
         Some(found) => match found.spots.last() {
@@ -513,7 +516,7 @@ fn read_up_to(view: View, trace: usize) -> usize {
     }
 }
 
-/// How much of a trace is judged.
+/// How many elements of a trace are judged.
 fn push_judged(text: &mut String, view: View, case: Case) -> Result<(), AllocError> {
     let many = match view.found.traces.get(case.trace) {
         Some(found) => found.spots.len(),
@@ -527,7 +530,7 @@ fn push_judged(text: &mut String, view: View, case: Case) -> Result<(), AllocErr
     )
 }
 
-/// How many more there are of a code, behind the last one that is shown.
+/// How many more findings of a code there are, after the last one that is shown.
 fn push_left(
     text: &mut String,
     width: usize,
@@ -548,7 +551,7 @@ fn push_left(
     )
 }
 
-/// How many there are of each grade.
+/// How many findings there are of each grade.
 fn push_totals(text: &mut String, tally: &Tally) -> Result<(), AllocError> {
     push_total(text, tally, Grade::Error)?;
     text.push_str(", ")?;
@@ -558,7 +561,7 @@ fn push_totals(text: &mut String, tally: &Tally) -> Result<(), AllocError> {
     text.push_str("\n")
 }
 
-/// How many there are of a grade, and of each of its codes.
+/// How many findings there are of a grade, and of each of its codes.
 fn push_total(text: &mut String, tally: &Tally, grade: Grade) -> Result<(), AllocError> {
     let many = tally.of_grade(grade);
     write!(text, "{many} ")?;

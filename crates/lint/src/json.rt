@@ -1,17 +1,17 @@
-//! Findings as records of JSON, one a line.
+//! Findings as JSON records, one a line.
 
 use crate::finding::{Amiss, Finding, Findings, Note};
 use crate::message::push_message;
 use crate::quoted::push_quoted;
-use crate::source::Source;
+use crate::source::SourceText;
 use feeders::Code;
 use std::alloc::{AllocError, Global};
 
-/// A record for each finding, by trace and place. The fields come in the same order each time.
+/// A record for each finding, by trace and place. The fields come in a fixed order.
 pub fn push_json(
     text: &mut String,
     alloc: Global,
-    sources: &[Source],
+    sources: &[SourceText],
     found: &Findings,
 ) -> Result<(), AllocError> {
     let traces = found.traces.as_slice();
@@ -34,7 +34,7 @@ pub fn push_json(
 fn push_records(
     text: &mut String,
     alloc: Global,
-    source: &Source,
+    source: &SourceText,
     trace: usize,
     findings: &[Finding],
 ) -> Result<(), AllocError> {
@@ -47,7 +47,7 @@ fn push_records(
 fn push_record(
     text: &mut String,
     alloc: Global,
-    source: &Source,
+    source: &SourceText,
     trace: usize,
     finding: &Finding,
 ) -> Result<(), AllocError> {
@@ -80,10 +80,10 @@ fn push_spot(text: &mut String, finding: &Finding) -> Result<(), AllocError> {
     )
 }
 
-/// The name of a code, which stands behind it where the fault is printed.
+/// The name of what is amiss, which a printed fault has after its code.
 fn push_name(text: &mut String, alloc: Global, what: &Amiss) -> Result<(), AllocError> {
     let printed = match what {
-        Amiss::Refused(_, Code::Form(fault)) => format!(in alloc; "{fault}")?,
+        Amiss::Refused(_, Code::Format(fault)) => format!(in alloc; "{fault}")?,
         Amiss::Refused(_, Code::Pair(fault)) => format!(in alloc; "{fault}")?,
         Amiss::Refused(_, Code::Register(refusal)) => format!(in alloc; "{refusal}")?,
         Amiss::Broken(code) => format!(in alloc; "{code:?}")?,
@@ -106,7 +106,7 @@ fn name_in(printed: &str) -> &str {
     }
 }
 
-/// The trace and the number of the element; null where it is of none.
+/// The trace and the number of the element; null where the finding is of none.
 fn push_id(text: &mut String, trace: usize, what: &Amiss) -> Result<(), AllocError> {
     match what {
         Amiss::Refused(event, _) | Amiss::Noted(Some(event), _) => {
@@ -116,7 +116,7 @@ fn push_id(text: &mut String, trace: usize, what: &Amiss) -> Result<(), AllocErr
     }
 }
 
-fn text_of<'t>(source: &Source<'t>, finding: &Finding) -> &'t [u8] {
+fn text_of<'t>(source: &SourceText<'t>, finding: &Finding) -> &'t [u8] {
     match source.text.get(finding.spot.start..finding.spot.end) {
         Some(text) => text,
         None => b"",

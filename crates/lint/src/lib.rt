@@ -5,19 +5,20 @@
 //!     let in_file = lint_tower(alloc, tower_text, &found)?;
 //!     found.append(in_file)?;
 //!     found.status(&[])                      // 2 with an error, else 3 with a warning or a denied note, else 0
-//!     push_findings(&mut text, alloc, &sources, &found, Form::Human, 3)?;
+//!     push_findings(&mut text, alloc, &sources, &found, Format::Human, 3)?;
 //!
-//! The traces are fed in turn on one thread, so the outcome is always the same. A log says which elements are refused and
-//! why, by their numbers; one pass of the reader tells the bytes of each element, and one cursor their lines and columns.
-//! So a finding costs a look-up, however long the text.
+//! The traces are fed in turn on one thread, so no two runs differ. A log says which elements are refused and why,
+//! by their numbers; one pass of the reader gives the bytes of each element, and one cursor their lines and columns.
+//! So a finding costs a look-up, however long the text is.
 //!
-//! What is taken and may not be meant is noted (L1 to L8), and never changes the status unless it is denied: `notes.rt` looks
-//! at the elements, `suspect.rt` at what shows that registers fail, `tower.rt` at the tower file, whose fault it shows too.
+//! What is taken as it is and may not be meant is noted (L1 to L8); a note changes the status only where it is
+//! denied. `notes.rt` looks at the elements, `suspect.rt` at the operations that show that registers fail, and
+//! `tower.rt` at the tower file, whose fault it makes a finding.
 //!
 //! Begin with `find::lint`: its clause names the run (`specs/Run.antt` of `feeders`) and what is found by its logs
-//! (`specs/Found.antt`): one finding for each refusal and for each break, and no others. `specs/Place.antt` has lines and
-//! columns, `specs/Spot.antt` the spot of an element, `specs/Grade.antt` the status, `specs/Short.antt` the short form.
-//! The other forms are told by rows.
+//! (`specs/Found.antt`): one finding for each refusal and for each break, and no others. `specs/LineColumn.antt` has
+//! lines and columns, `specs/Location.antt` the spot of an element, `specs/Grade.antt` the status, and
+//! `specs/Short.antt` the form with a line for each finding. The other forms are tested by `rows`.
 #![tactic(auto)]
 
 mod bracket;
@@ -28,16 +29,16 @@ mod head;
 mod hint;
 mod human;
 mod json;
+mod line_column;
+mod location;
 mod message;
 mod nearest;
 mod notes;
-mod place;
 mod print;
 mod quoted;
 mod short;
 mod snippet;
 mod source;
-mod spot;
 mod suggest;
 mod suspect;
 mod tally;
@@ -45,8 +46,8 @@ mod tower;
 
 pub use find::lint;
 pub use finding::{Amiss, Finding, Findings, Grade, Note, TraceFindings};
-pub use place::Place;
-pub use print::{Form, push_findings};
-pub use source::Source;
-pub use spot::Spot;
+pub use line_column::LineColumn;
+pub use location::Location;
+pub use print::{Format, push_findings};
+pub use source::SourceText;
 pub use tower::{lint_fault, lint_tower};

@@ -1,7 +1,7 @@
-//! What is amiss, in a few words.
+//! The messages that say what is amiss.
 
 ghost use Rattle.std.specs.Prelude.{◌≡◌, ◌++◌, OnOk, string_bytes};
-ghost use Rattle.lint.specs.Message.{break_words as words_of_break, details_of, field_word as word_of_field, field_text, form_words as words_of_form, holder_text, id_text, message_of, note_words as words_of_note, edn_words as words_of_edn, noted_text, operations_text, pair_words as words_of_pair, refusal_words as words_of_refusal, tower_text, tower_word as word_of_tower, tower_words as words_of_tower, words_of};
+ghost use Rattle.lint.specs.Message.{break_words, details_of, field_word, field_text, form_words, value_holder_text, operation_text, message_of, note_words, edn_words, noted_text, operations_text, pair_words, refusal_words, tower_text, tower_word, tower_words, words_of};
 
 use crate::finding::{Amiss, Note};
 use edn_reader::EdnFault;
@@ -12,7 +12,7 @@ use pairing::PairFault;
 use std::alloc::AllocError;
 use tower_file::{TowerFault, TowerField};
 
-/// The words for it, and what they speak of: a field, a moment or other operations.
+/// Adds the message: the words for what is amiss, and what they end with.
 pub fn push_message(text: &mut String, what: &Amiss) -> Result<(), AllocError>
     ensures { OnOk result (string_bytes text.new ≡ string_bytes text.old ++ message_of what.now) }
 {
@@ -24,7 +24,7 @@ fn words(what: &Amiss) -> &'static str
     ensures { result.now ≡ words_of what.now }
 {
     match what {
-        Amiss::Refused(_, Code::Form(fault)) => form_words(fault),
+        Amiss::Refused(_, Code::Format(fault)) => form_words(fault),
         Amiss::Refused(_, Code::Pair(fault)) => pair_words(fault),
         Amiss::Refused(_, Code::Register(refusal)) => refusal_words(refusal),
         Amiss::Broken(code) => break_words(*code),
@@ -34,7 +34,7 @@ fn words(what: &Amiss) -> &'static str
 }
 
 fn form_words(fault: &FormFault) -> &'static str
-    ensures { result.now ≡ words_of_form fault.now }
+    ensures { result.now ≡ form_words fault.now }
 {
     match fault {
         FormFault::NotAMap => "an element that is no map",
@@ -49,7 +49,7 @@ fn form_words(fault: &FormFault) -> &'static str
 }
 
 fn pair_words(fault: &PairFault) -> &'static str
-    ensures { result.now ≡ words_of_pair fault.now }
+    ensures { result.now ≡ pair_words fault.now }
 {
     match fault {
         PairFault::ProcessBusy => "an invocation of a process whose last one has no answer yet",
@@ -60,7 +60,7 @@ fn pair_words(fault: &PairFault) -> &'static str
 }
 
 fn refusal_words(refusal: &Refusal) -> &'static str
-    ensures { result.now ≡ words_of_refusal refusal.now }
+    ensures { result.now ≡ refusal_words refusal.now }
 {
     match refusal {
         Refusal::UnknownOp => "its operation does not stand",
@@ -81,7 +81,7 @@ fn refusal_words(refusal: &Refusal) -> &'static str
 }
 
 fn break_words(code: BreakCode) -> &'static str
-    ensures { result.now ≡ words_of_break code }
+    ensures { result.now ≡ break_words code }
 {
     match code {
         BreakCode::Truncated => "the text ends inside an element",
@@ -97,7 +97,7 @@ fn break_words(code: BreakCode) -> &'static str
 }
 
 fn note_words(note: &Note) -> &'static str
-    ensures { result.now ≡ words_of_note note.now }
+    ensures { result.now ≡ note_words note.now }
 {
     match note {
         Note::Skipped => "an event is skipped: its :process is no integer",
@@ -116,12 +116,12 @@ fn note_words(note: &Note) -> &'static str
     }
 }
 
-/// What the words speak of.
+/// What the words for what is amiss end with: a field, a moment, operations, or nothing.
 fn push_details(text: &mut String, what: &Amiss) -> Result<(), AllocError>
     ensures { OnOk result (string_bytes text.new ≡ string_bytes text.old ++ details_of what.now) }
 {
     match what {
-        Amiss::Refused(_, Code::Form(fault)) => push_field(text, fault),
+        Amiss::Refused(_, Code::Format(fault)) => push_field(text, fault),
         Amiss::Refused(_, Code::Register(refusal)) => push_operations(text, refusal),
         Amiss::Tower(fault) => push_tower(text, fault),
         Amiss::Noted(_, note) => push_noted(text, note),
@@ -151,7 +151,7 @@ fn push_noted(text: &mut String, note: &Note) -> Result<(), AllocError>
 
 /// The words for a fault of a tower file.
 fn tower_words(fault: &TowerFault) -> &'static str
-    ensures { result.now ≡ words_of_tower fault.now }
+    ensures { result.now ≡ tower_words fault.now }
 {
     match fault {
         TowerFault::Edn(_) => "the text breaks: ",
@@ -167,7 +167,7 @@ fn tower_words(fault: &TowerFault) -> &'static str
     }
 }
 
-/// What the words for a fault of a tower file speak of.
+/// What the words for a fault of a tower file end with.
 fn push_tower(text: &mut String, fault: &TowerFault) -> Result<(), AllocError>
     ensures { OnOk result (string_bytes text.new ≡ string_bytes text.old ++ tower_text fault.now) }
 {
@@ -186,7 +186,7 @@ fn push_tower(text: &mut String, fault: &TowerFault) -> Result<(), AllocError>
 }
 
 fn edn_words(fault: &EdnFault) -> &'static str
-    ensures { result.now ≡ words_of_edn fault.now }
+    ensures { result.now ≡ edn_words fault.now }
 {
     match fault {
         EdnFault::Truncated(_) => "E1, it ends inside an element",
@@ -199,9 +199,9 @@ fn edn_words(fault: &EdnFault) -> &'static str
     }
 }
 
-/// A part of a tower file.
+/// A part of a tower file as it is written.
 pub fn tower_word(field: TowerField) -> &'static str
-    ensures { result.now ≡ word_of_tower field }
+    ensures { result.now ≡ tower_word field }
 {
     match field {
         TowerField::File => "the file",
@@ -232,9 +232,9 @@ fn push_field(text: &mut String, fault: &FormFault) -> Result<(), AllocError>
     }
 }
 
-/// A field of an element.
+/// A field of an element as it is written.
 pub fn field_word(field: FormField) -> &'static str
-    ensures { result.now ≡ word_of_field field }
+    ensures { result.now ≡ field_word field }
 {
     match field {
         FormField::Process => ":process",
@@ -285,7 +285,7 @@ fn push_operations(text: &mut String, refusal: &Refusal) -> Result<(), AllocErro
 }
 
 fn push_holder(text: &mut String, holder: Holder) -> Result<(), AllocError>
-    ensures { OnOk result (string_bytes text.new ≡ string_bytes text.old ++ holder_text holder) }
+    ensures { OnOk result (string_bytes text.new ≡ string_bytes text.old ++ value_holder_text holder) }
 {
     match holder {
         Holder::Op(id) => push_id(text, id),
@@ -294,7 +294,7 @@ fn push_holder(text: &mut String, holder: Holder) -> Result<(), AllocError>
 }
 
 pub fn push_id(text: &mut String, id: OpId) -> Result<(), AllocError>
-    ensures { OnOk result (string_bytes text.new ≡ string_bytes text.old ++ id_text id) }
+    ensures { OnOk result (string_bytes text.new ≡ string_bytes text.old ++ operation_text id) }
 {
     write!(text, "{}:{}", id.feeder, id.event)
 }

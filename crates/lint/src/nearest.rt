@@ -1,4 +1,4 @@
-//! Fields that are near others.
+//! Names of fields that are near others.
 
 use edn_reader::{Element, Field, MapView};
 use jepsen_form::FormField;
@@ -15,7 +15,7 @@ pub struct Absent {
 }
 
 impl Absent {
-    /// The ones that a map has not.
+    /// The fields that a map does not have.
     pub fn of(map: &MapView) -> Absent {
         let mut absent = Absent {
             process: true,
@@ -42,7 +42,7 @@ impl Absent {
     }
 }
 
-/// The field of an event that a key which is not read was meant to be: one that is absent, and one or two edits away.
+/// The absent field that a key which is not read may have been meant for: its name is one or two edits away.
 pub fn meant_by(
     alloc: Global,
     key: &Element,
@@ -87,7 +87,7 @@ fn is_read_of_edits(word: &[u8]) -> bool {
         || word == b":kind".as_slice()
 }
 
-/// Whether the map has no field of that name, and the word is one or two edits away from it.
+/// Whether the map has no field of this name, and the word is one or two edits away from it.
 pub fn is_near(alloc: Global, word: &[u8], name: &str, map: &MapView) -> Result<bool, AllocError> {
     if !is_absent(&map.field(name.as_bytes())) {
         return Ok(false);
@@ -107,7 +107,7 @@ pub fn is_absent(field: &Field) -> bool {
     }
 }
 
-/// How many letters have to be changed, put in, left out or exchanged; more than two where the lengths tell.
+/// How many letters have to be changed, added, left out or exchanged; 3 where the lengths differ by more than 2.
 pub fn distance(alloc: Global, word: &[u8], name: &[u8]) -> Result<usize, AllocError> {
     if word.len().abs_diff(name.len()) > 2 {
         return Ok(3);

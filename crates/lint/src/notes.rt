@@ -1,11 +1,11 @@
-//! What will be taken of a trace, and may not be meant. Nothing is left out for it.
+//! What is taken of a trace as it is, and may not be meant. Nothing is left out for it.
 
 ghost use Rattle.std.specs.Prelude.{◌≡◌, length};
 
 use crate::finding::{Amiss, Finding, Note};
+use crate::line_column::Cursor;
+use crate::location::{Elements, Location, spot_in, spot_of_one};
 use crate::nearest::{Absent, is_absent, meant_by};
-use crate::place::Cursor;
-use crate::spot::{Elements, Spot, spot_in, spot_of_one};
 use crate::suspect::Suspects;
 use edn_reader::{Element, Field, MapView};
 use feeders::{Line, What};
@@ -28,18 +28,18 @@ pub struct Look<'a> {
 #[derive(Drop)]
 pub struct Noted {
     pub notes: Vec<Finding>,
-    /// Of each element whether it is an invocation that has neither an `:ok` nor a `:fail`.
+    /// For each element, whether it is an invocation that has neither an `:ok` nor a `:fail`.
     pub unfinished: Vec<bool>,
-    /// The processes of its events.
+    /// The processes of the trace's events.
     pub processes: BTreeSet<i64>,
 }
 
 /// What is known of a trace after the elements so far.
 #[derive(Drop)]
 struct Watch {
-    /// The invocations that have no answer, by process.
+    /// The invocations that have no answer so far, by process.
     unanswered: BTreeMap<i64, Invoked>,
-    /// The event of each moment.
+    /// The first event of each moment.
     moments: BTreeMap<u64, u64>,
     /// The last event that has a moment.
     last: Option<Timed>,
@@ -51,16 +51,16 @@ struct Watch {
 #[derive(Clone, Copy)]
 struct Invoked {
     number: u64,
-    spot: Spot,
+    spot: Location,
 }
 
-/// An event that has a moment, the moment before it, which is 0 where there is none, and where it is.
+/// An event that has a moment: its own, the one before it (0 where there is none), and where it is.
 #[derive(Clone, Copy)]
 struct Timed {
     before: u64,
     moment: u64,
     number: u64,
-    spot: Spot,
+    spot: Location,
 }
 
 /// An element, and where it is.
@@ -69,11 +69,11 @@ struct Seen<'t> {
     feeder: usize,
     number: u64,
     element: Element<'t>,
-    spot: Spot,
+    spot: Location,
     refused: bool,
 }
 
-/// The notes of a trace, by place. The elements are its own, and the lines those of its log.
+/// The notes of a trace, by place. The elements are those of the text, and the lines those of its log.
 pub fn notes_of(
     look: Look,
     feeder: usize,
@@ -101,7 +101,7 @@ pub fn notes_of(
     watch.end(text)
 }
 
-/// The lines of the element of this number and of later ones.
+/// The lines of this element and of later ones; at most the first of the lines given is of an earlier one.
 fn lines_from<'a, 't>(lines: &'a [Line<'t>], number: u64) -> &'a [Line<'t>] {
     match lines.first() {
         Some(line) if line.event < number => &lines[1..],
@@ -132,7 +132,7 @@ impl Watch {
         }
     }
 
-    fn note(&mut self, number: Option<u64>, note: Note, spot: Spot) -> Result<(), AllocError> {
+    fn note(&mut self, number: Option<u64>, note: Note, spot: Location) -> Result<(), AllocError> {
         self.noted.notes.push(Finding {
             what: Amiss::Noted(number, note),
             spot,
@@ -162,7 +162,7 @@ impl Watch {
         Ok(())
     }
 
-    /// Notes a refused edit of what shows that a register fails.
+    /// Notes a refused edit of an operation that shows that a register fails.
     fn look_at_edit(
         &mut self,
         suspects: &Suspects,
@@ -175,7 +175,7 @@ impl Watch {
         Ok(())
     }
 
-    /// Notes a field that is not read and is near one that is absent.
+    /// Notes a field that is not read and is near an absent one.
     fn look_at_fields(
         &mut self,
         alloc: Global,
@@ -219,7 +219,7 @@ impl Watch {
         self.look_at_stage(event, seen)
     }
 
-    /// An event without a value, which may stand under another name.
+    /// Notes an event without a value, and a field that may have been meant for it.
     fn look_at_no_value(
         &mut self,
         alloc: Global,
@@ -239,7 +239,7 @@ impl Watch {
         self.look_at_fields(alloc, cursor, map, absent, seen.number)
     }
 
-    /// Pairs invocations with their answers, as far as that can be told without looking at refusals.
+    /// Pairs invocations with answers, without looking at refusals.
     fn look_at_stage(&mut self, event: &Event, seen: Seen) -> Result<(), AllocError> {
         match event.answer {
             Stage::Invoke => {
@@ -269,7 +269,12 @@ impl Watch {
         }
     }
 
-    fn look_at_moment(&mut self, moment: u64, number: u64, spot: Spot) -> Result<(), AllocError> {
+    fn look_at_moment(
+        &mut self,
+        moment: u64,
+        number: u64,
+        spot: Location,
+    ) -> Result<(), AllocError> {
         if let Some(first) = self.moments.get(&moment).copied() {
             return self.note(Some(number), Note::SameMoment(first), spot);
         }
@@ -277,8 +282,8 @@ impl Watch {
         Ok(())
     }
 
-    /// Notes the last moment where it is out of proportion to the ones next to it.
-    fn look_at_last(&mut self, moment: u64, number: u64, spot: Spot) -> Result<(), AllocError> {
+    /// Notes the last moment if it is out of proportion to the one before it and to this one.
+    fn look_at_last(&mut self, moment: u64, number: u64, spot: Location) -> Result<(), AllocError> {
         let mut before = 0;
         if let Some(last) = self.last {
             if is_out_of_proportion(last.before, last.moment, moment) {
@@ -295,7 +300,7 @@ impl Watch {
         Ok(())
     }
 
-    /// What is noted at the end of a trace.
+    /// The notes, with those of the end of a trace.
     fn end(self, text: &[u8]) -> Result<Noted, AllocError> {
         let Watch {
             unanswered,
@@ -320,13 +325,13 @@ impl Watch {
     }
 }
 
-/// Whether a moment is at least 1000 times the ones before and behind it, neither of which is 0.
+/// Whether a moment is at least 1000 times the one before it and the one after it, neither of which is 0.
 fn is_out_of_proportion(before: u64, moment: u64, behind: u64) -> bool {
     before != 0 && behind != 0 && moment / 1000 >= before.max(behind)
 }
 
-/// What shows that a register fails, and an edit is of: the operation that it changes or withdraws, or one of the
-/// register of which it claims a kind.
+/// An operation that an edit is of and that shows that its register fails: the one that the edit changes or withdraws,
+/// or one of the register whose kind it claims.
 fn edited_by(suspects: &Suspects, item: &Item, feeder: usize) -> Option<OpId> {
     match (item, u32::try_from(feeder)) {
         (Item::Amend { of, .. }, Ok(feeder)) | (Item::Withdraw { of }, Ok(feeder)) => {
@@ -337,7 +342,7 @@ fn edited_by(suspects: &Suspects, item: &Item, feeder: usize) -> Option<OpId> {
     }
 }
 
-/// The read that shows that a register fails, and returned the value of this write of it.
+/// The read of the value that this write writes to its register, if that read shows that the register fails.
 fn suspect_of(suspects: &Suspects, event: &Event) -> Option<OpId> {
     match (event.answer, event.action, event.register) {
         (Stage::Invoke, Action::Write, Some(id)) => suspects.read_of(id, event.value),
@@ -345,7 +350,7 @@ fn suspect_of(suspects: &Suspects, event: &Event) -> Option<OpId> {
     }
 }
 
-/// Whether the event says what was read or is to be written.
+/// Whether the event is one that has a value: an answer of a read, or an invocation of a write.
 fn wants_value(event: &Event) -> bool {
     match (event.answer, event.action) {
         (Stage::Ok, Action::Read) | (Stage::Invoke, Action::Write) => true,
@@ -353,7 +358,7 @@ fn wants_value(event: &Event) -> bool {
     }
 }
 
-/// Whether it reads or writes, and its process is neither an integer nor the one that injects faults.
+/// Whether the element is a read or a write whose process is neither an integer nor `:nemesis`.
 fn is_skipped_client(map: &MapView) -> bool {
     is_of_client(&map.field(b":f")) && is_no_process(&map.field(b":process"))
 }

@@ -1,4 +1,4 @@
-//! Findings in a form that is chosen.
+//! Prints findings in one of the forms.
 
 ghost use Rattle.std.specs.Prelude.{◌≡◌, ◌++◌, OnOk, length, string_bytes};
 ghost use Rattle.lint.specs.Short.{short_text};
@@ -8,38 +8,38 @@ use crate::github::push_github;
 use crate::human::push_human;
 use crate::json::push_json;
 use crate::short::push_short;
-use crate::source::Source;
+use crate::source::SourceText;
 use std::alloc::{AllocError, Global};
 
 /// How findings are printed.
 #[derive(Clone, Copy, Debug, PartialEq, Eq)]
-pub enum Form {
+pub enum Format {
     /// With the lines that they are in, for people.
     Human,
-    /// A line each, for editors.
+    /// A line for each, for editors.
     Short,
-    /// A workflow command each, which annotates a file.
+    /// A workflow command for each, which annotates a file.
     Github,
-    /// A record of JSON each.
+    /// A JSON record for each.
     Json,
 }
 
-/// Prints the findings by trace and place. In the form for people so many of each code are shown; 0 is all.
+/// Adds the findings by trace and place. The form for people has only the first `most` of each code; 0 is all.
 pub fn push_findings(
     text: &mut String,
     alloc: Global,
-    sources: &[Source],
+    sources: &[SourceText],
     found: &Findings,
-    form: Form,
+    form: Format,
     most: usize,
 ) -> Result<(), AllocError>
     requires each { length sources.now ≡ length found.now.traces.items }
-    ensures short { OnOk result (form ≡ Form.Short → string_bytes text.new ≡ string_bytes text.old ++ short_text sources.now found.now.traces.items) }
+    ensures short { OnOk result (form ≡ Format.Short → string_bytes text.new ≡ string_bytes text.old ++ short_text sources.now found.now.traces.items) }
 {
     match form {
-        Form::Human => push_human(text, alloc, sources, found, most),
-        Form::Short => push_short(text, sources, found),
-        Form::Github => push_github(text, sources, found),
-        Form::Json => push_json(text, alloc, sources, found),
+        Format::Human => push_human(text, alloc, sources, found, most),
+        Format::Short => push_short(text, sources, found),
+        Format::Github => push_github(text, sources, found),
+        Format::Json => push_json(text, alloc, sources, found),
     }
 }

@@ -1,12 +1,12 @@
-//! Bytes as a text of JSON.
+//! Bytes as a string of JSON.
 
 ghost use Rattle.std.specs.Prelude.{◌≡◌, ◌++◌, OnOk, encode_utf8_all, string_bytes};
-ghost use Rattle.lint.specs.Quoted.{escaped, quoted};
+ghost use Rattle.lint.specs.Quoted.{quoted_character, quoted};
 
 use bstr::ByteSlice;
 use std::alloc::AllocError;
 
-/// The bytes as a text of JSON, with U+FFFD for what is no character and a blank for a control character.
+/// The bytes as a string of JSON. Bytes that are no UTF-8 become U+FFFD, and control characters blanks.
 pub fn push_quoted(text: &mut String, bytes: &[u8]) -> Result<(), AllocError>
     ensures { OnOk result (string_bytes text.new ≡ string_bytes text.old ++ quoted bytes.now) }
 {
@@ -18,7 +18,7 @@ pub fn push_quoted(text: &mut String, bytes: &[u8]) -> Result<(), AllocError>
 }
 
 fn push_escaped(text: &mut String, character: char) -> Result<(), AllocError>
-    ensures { OnOk result (string_bytes text.new ≡ string_bytes text.old ++ encode_utf8_all (escaped character)) }
+    ensures { OnOk result (string_bytes text.new ≡ string_bytes text.old ++ encode_utf8_all (quoted_character character)) }
 {
     if character == '"' {
         return text.push_str("\\\"");

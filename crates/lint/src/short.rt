@@ -5,13 +5,13 @@ ghost use Rattle.lint.specs.Short.{short_line, short_lines, short_text};
 
 use crate::finding::{Finding, Findings};
 use crate::head::{push_head, push_place};
-use crate::source::Source;
+use crate::source::SourceText;
 use std::alloc::AllocError;
 
 /// A line for each finding, by trace and place: `run.edn:3:1: warning[X7]: a write that overlaps the write 0:0`.
 pub fn push_short(
     text: &mut String,
-    sources: &[Source],
+    sources: &[SourceText],
     findings: &Findings,
 ) -> Result<(), AllocError>
     requires each { length sources.now ≡ length findings.now.traces.items }
@@ -25,7 +25,11 @@ pub fn push_short(
     Ok(())
 }
 
-fn push_lines(text: &mut String, source: &Source, findings: &[Finding]) -> Result<(), AllocError>
+fn push_lines(
+    text: &mut String,
+    source: &SourceText,
+    findings: &[Finding],
+) -> Result<(), AllocError>
     ensures { OnOk result (string_bytes text.new ≡ string_bytes text.old ++ short_lines source.now.name.now findings.now) }
 {
     for finding in findings {
@@ -34,7 +38,7 @@ fn push_lines(text: &mut String, source: &Source, findings: &[Finding]) -> Resul
     Ok(())
 }
 
-fn push_line(text: &mut String, source: &Source, finding: &Finding) -> Result<(), AllocError>
+fn push_line(text: &mut String, source: &SourceText, finding: &Finding) -> Result<(), AllocError>
     ensures { OnOk result (string_bytes text.new ≡ string_bytes text.old ++ short_line source.now.name.now finding.now) }
 {
     push_place(text, source, &finding.spot)?;

@@ -1,7 +1,7 @@
-//! A line of a file, with a mark under a byte of it.
+//! A line of a file, with a mark under some of its bytes.
 
-use crate::source::Source;
-use crate::spot::Spot;
+use crate::location::Location;
+use crate::source::SourceText;
 use bstr::ByteSlice;
 use memchr::memchr;
 use std::alloc::AllocError;
@@ -10,21 +10,21 @@ use unicode_width::UnicodeWidthChar;
 /// How many bytes of a line are shown.
 const WIDTH: usize = 160;
 
-/// How many bytes before the marked one are shown of a line that is cut at its front.
+/// How many bytes before the marked one are shown of a line that is cut at its beginning.
 const BEFORE: usize = 40;
 
-/// The longest that a mark under several bytes is.
+/// The greatest length of a mark.
 const LONGEST: usize = 24;
 
 /// What is marked in a file, and with which sign.
 #[derive(Clone, Copy)]
-pub struct Mark<'t> {
-    pub source: Source<'t>,
-    pub spot: Spot,
+pub struct Underline<'t> {
+    pub source: SourceText<'t>,
+    pub spot: Location,
     pub sign: char,
 }
 
-/// The part of a line that is shown, and the byte that is marked.
+/// The line of a mark from `start` to `end`, what is shown of it from `from` to `to`, and the byte that is marked.
 #[derive(Clone, Copy)]
 struct Window {
     start: usize,
@@ -45,7 +45,7 @@ pub fn width_of(line: usize) -> usize {
     width
 }
 
-/// Blanks where a line number would stand, and the bar.
+/// Blanks in place of a line number, and the bar.
 pub fn push_margin(text: &mut String, width: usize) -> Result<(), AllocError> {
     push_blanks(text, width)?;
     text.push_str(" |")
@@ -58,8 +58,8 @@ pub fn push_blanks(text: &mut String, count: usize) -> Result<(), AllocError> {
     Ok(())
 }
 
-/// The line of a mark, and the mark under it, without the end of the line.
-pub fn push_mark(text: &mut String, width: usize, mark: Mark) -> Result<(), AllocError> {
+/// The line of a mark, and the mark under it, without a line end.
+pub fn push_mark(text: &mut String, width: usize, mark: Underline) -> Result<(), AllocError> {
     let bytes = mark.source.text;
     let window = window_of(bytes, &mark.spot);
     let line = mark.spot.place.line;
@@ -79,8 +79,8 @@ pub fn push_mark(text: &mut String, width: usize, mark: Mark) -> Result<(), Allo
     Ok(())
 }
 
-/// Which part of its line is shown: as much as there is room for, with some bytes before the marked one.
-fn window_of(text: &[u8], spot: &Spot) -> Window {
+/// What is shown of a line: as much as there is room for, with some bytes before the marked one.
+fn window_of(text: &[u8], spot: &Location) -> Window {
     let at = spot.start.min(text.len());
     let start = at - at.min(spot.place.column.saturating_sub(1));
     let end = match memchr(b'\n', &text[at..]) {
@@ -101,8 +101,8 @@ fn window_of(text: &[u8], spot: &Spot) -> Window {
     }
 }
 
-/// A whole element that is long is marked at its first column, and a short one under each.
-fn length_of(text: &[u8], window: Window, spot: &Spot) -> usize {
+/// How many columns a mark takes: those of its element, or 1 where that is longer than a mark may be or is cut.
+fn length_of(text: &[u8], window: Window, spot: &Location) -> usize {
     if spot.end > window.to {
         return 1;
     }
@@ -113,7 +113,7 @@ fn length_of(text: &[u8], window: Window, spot: &Spot) -> usize {
     if length <= LONGEST { length.max(1) } else { 1 }
 }
 
-/// How many columns a character takes where it is shown. A control character is shown as a blank.
+/// How many columns a character takes when it is shown. A control character is shown as a blank.
 fn columns_of(character: char) -> usize {
     if character.is_control() {
         return 1;
@@ -121,7 +121,7 @@ fn columns_of(character: char) -> usize {
     character.width().unwrap_or(0)
 }
 
-/// The bytes from one place to another; none where they are not there.
+/// The bytes from one place to another; none where they are not all there.
 pub fn part_of(text: &[u8], from: usize, to: usize) -> &[u8] {
     match text.get(from..to) {
         Some(part) => part,
@@ -129,7 +129,7 @@ pub fn part_of(text: &[u8], from: usize, to: usize) -> &[u8] {
     }
 }
 
-/// Bytes of a file on one line.
+/// Adds bytes of a file on one line. Control characters other than tabs become blanks.
 pub fn push_plain(text: &mut String, bytes: &[u8]) -> Result<(), AllocError> {
     for character in bytes.chars() {
         push_character(text, character)?;
@@ -148,7 +148,7 @@ fn push_shown(text: &mut String, bytes: &[u8], window: Window) -> Result<(), All
     Ok(())
 }
 
-/// A control character but a tab is a blank.
+/// A control character other than a tab becomes a blank.
 fn push_character(text: &mut String, character: char) -> Result<(), AllocError> {
     if character.is_control() && character != '\t' {
         text.push_str(" ")
@@ -157,7 +157,7 @@ fn push_character(text: &mut String, character: char) -> Result<(), AllocError> 
     }
 }
 
-/// As many columns as the bytes take: a tab is a tab, and another character as many blanks as it has columns.
+/// As many columns as the bytes take: a tab is a tab, and any other character as many blanks as it has columns.
 fn push_under(text: &mut String, bytes: &[u8]) -> Result<(), AllocError> {
     for character in bytes.chars() {
         if character == '\t' {

@@ -1,8 +1,8 @@
-//! A file that findings are printed of.
+//! A file of which findings are printed.
 
-/// A file by the name that it is printed under, and its bytes.
+/// A file: the name under which it is printed, and its bytes.
 #[derive(Clone, Copy)]
-pub struct Source<'t> {
+pub struct SourceText<'t> {
     pub name: &'t str,
     pub text: &'t [u8],
 }

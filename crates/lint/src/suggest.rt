@@ -1,9 +1,9 @@
-//! Words that may have been meant where another one stands.
+//! Words that may have been meant where another one is written.
 
+use crate::location::Location;
 use crate::message::tower_word;
 use crate::nearest::{distance, is_close};
 use crate::snippet::part_of;
-use crate::spot::Spot;
 use crate::tower::names_in;
 use edn_reader::{Element, Field, Reader};
 use feeders::Code;
@@ -22,12 +22,12 @@ pub fn meant_in_element<'t>(
         return Ok(None);
     };
     match code {
-        Code::Form(FormFault::NoRegister) => match name_in(&element) {
+        Code::Format(FormFault::NoRegister) => match name_in(&element) {
             Some(name) => nearest_name(alloc, name, &names_in(alloc, tower)?),
             None => Ok(None),
         },
-        Code::Form(FormFault::BadType) => meant_type(alloc, &element),
-        Code::Form(FormFault::UnsupportedF) => meant_under(
+        Code::Format(FormFault::BadType) => meant_type(alloc, &element),
+        Code::Format(FormFault::UnsupportedF) => meant_under(
             alloc,
             &element,
             b":f",
@@ -66,7 +66,7 @@ fn kinds<'t>() -> [&'t [u8]; 3] {
     ]
 }
 
-/// What may have been meant by what stands under a key.
+/// The word that may have been meant by the value of a key.
 fn meant_under<'t>(
     alloc: Global,
     element: &Element,
@@ -84,7 +84,7 @@ pub fn meant_in_tower<'t>(
     alloc: Global,
     text: &'t [u8],
     fault: TowerFault,
-    spot: &Spot,
+    spot: &Location,
 ) -> Result<Option<&'t [u8]>, AllocError> {
     let word = part_of(text, spot.start, spot.end);
     match fault {
@@ -101,12 +101,12 @@ pub fn meant_in_tower<'t>(
     }
 }
 
-/// The key of a map that is wrong which may have been meant to be the field that is missing, and that field.
+/// The key of a wrong map that may have been meant for the missing field, and that field.
 pub fn meant_key<'t>(
     alloc: Global,
     text: &'t [u8],
     fault: TowerFault,
-    spot: &Spot,
+    spot: &Location,
 ) -> Result<Option<(&'t [u8], &'static str)>, AllocError> {
     let TowerFault::Shape(field) = fault else {
         return Ok(None);
@@ -150,7 +150,7 @@ fn name_in<'t>(element: &Element<'t>) -> Option<&'t [u8]> {
     }
 }
 
-/// What stands under a key of a map once.
+/// The value of a key that a map has once.
 fn under<'t>(element: &Element<'t>, key: &[u8]) -> Option<Element<'t>> {
     match element.as_map()?.field(key) {
         Field::Once(value) => Some(value),
@@ -158,7 +158,7 @@ fn under<'t>(element: &Element<'t>, key: &[u8]) -> Option<Element<'t>> {
     }
 }
 
-/// The name that is this one without its quotes, or else the nearest.
+/// The name that is this one without its quotes, or else the nearest one.
 fn nearest_name<'t>(
     alloc: Global,
     name: &[u8],
@@ -174,12 +174,12 @@ fn nearest_name<'t>(
     nearest(alloc, name, names)
 }
 
-/// What stands between the quotes of a text.
+/// What is between the quotes of a string.
 fn unquoted(name: &[u8]) -> Option<&[u8]> {
     name.strip_prefix(b"\"")?.strip_suffix(b"\"")
 }
 
-/// The nearest of the words that are one or two edits away, where not all of its letters have to be changed.
+/// The nearest of the words that are one or two edits away, unless all of its letters have to be changed.
 fn nearest<'t>(
     alloc: Global,
     word: &[u8],

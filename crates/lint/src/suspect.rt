@@ -1,4 +1,4 @@
-//! The operations that show that registers fail, for what was refused of them.
+//! The operations that show that registers fail, to which refused elements are compared.
 
 use intervals::{Holder, Op, OpId, RegId, Value};
 use register_book::{Fault, RegisterBook, Witness};
@@ -10,10 +10,10 @@ use tower_file::Tower;
 /// The operations that show that their registers fail.
 #[derive(Drop)]
 pub struct Suspects {
-    /// The reads, by register and by the value that they returned.
+    /// The reads among them, by register and by the value that they returned.
     reads: BTreeMap<(u32, Value), OpId>,
     named: BTreeSet<OpId>,
-    /// One of them by its register.
+    /// One of them for each register.
     of_register: BTreeMap<u32, OpId>,
 }
 
@@ -86,12 +86,12 @@ impl Suspects {
         Ok(())
     }
 
-    /// The read that returned this value of the register, and shows that it fails.
+    /// The read that returned this value of the register and shows that the register fails.
     pub fn read_of(&self, id: RegId, value: Value) -> Option<OpId> {
         self.reads.get(&(id.0, value)).copied()
     }
 
-    /// The operation, where it shows that its register fails.
+    /// The operation, if it shows that its register fails.
     pub fn named(&self, operation: OpId) -> Option<OpId> {
         self.named.get(&operation).copied()
     }

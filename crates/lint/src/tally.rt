@@ -3,7 +3,7 @@
 use crate::finding::{Finding, Findings, Grade};
 use std::alloc::{AllocError, Global};
 
-/// The findings of one code.
+/// The findings of one code: how many there are, and how many of them were shown.
 #[derive(Clone, Copy)]
 pub struct Count {
     pub code: &'static str,
@@ -15,7 +15,7 @@ pub struct Count {
 }
 
 impl Count {
-    /// How many were not shown.
+    /// How many findings were not shown.
     pub fn left(&self) -> usize {
         self.many.saturating_sub(self.shown)
     }
@@ -65,7 +65,7 @@ impl Tally {
         Ok(())
     }
 
-    /// Counts a finding of this code as shown, where not so many of it were; 0 is all.
+    /// Counts one more finding of this code as shown, unless `most` were shown before; 0 is no limit.
     pub fn show(&mut self, code: &str, most: usize) -> Option<Count> {
         for count in self.counts.iter_mut() {
             if count.code == code {
@@ -79,7 +79,7 @@ impl Tally {
         None
     }
 
-    /// How many there are of a grade.
+    /// How many findings of this grade there are.
     pub fn of_grade(&self, grade: Grade) -> usize {
         let mut many: usize = 0;
         for count in &self.counts {

@@ -1,13 +1,13 @@
-//! What is amiss in a tower file, and what of it is not read.
+//! What is amiss in a tower file, and what of it may not be meant.
 
 ghost use Rattle.std.specs.Prelude.{◌≡◌, IfOk, IfErr};
-ghost use Rattle.lint.specs.Tower.{HasNotesAlone, IsOneFault, IsOneFile, spot_of_span as spot_at_span};
+ghost use Rattle.lint.specs.Tower.{HasNotesAlone, IsOneFault, IsOneFile, spot_of_span};
 
 use crate::finding::{Amiss, Finding, Findings, Note, TraceFindings};
+use crate::line_column::Cursor;
+use crate::location::{Location, spot_in, spot_of_one};
 use crate::message::tower_word;
 use crate::nearest::is_near;
-use crate::place::Cursor;
-use crate::spot::{Spot, spot_in, spot_of_one};
 use edn_reader::{Element, Field, MapView, Reader, VectorView};
 use feeders::RunFault;
 use std::alloc::{AllocError, Global};
@@ -33,7 +33,7 @@ struct Walk<'a, 't> {
     noted: Vec<Remark<'t>>,
 }
 
-/// What is noted of an element.
+/// An element, and what is noted of it.
 #[derive(Clone, Copy)]
 struct Remark<'t> {
     element: Element<'t>,
@@ -58,8 +58,8 @@ pub fn lint_fault(
     one_file(alloc, findings, Vec::new(alloc))
 }
 
-/// The notes of a tower file, as those of one file: the fields that are not read, and by what was found in the traces the
-/// registers that have no operation and the writers that have no event.
+/// The notes of a tower file, as those of one file: the fields that are not read; and, by what was found in the traces,
+/// the registers that have no operation and the writers that have no event.
 pub fn lint_tower(alloc: Global, text: &[u8], found: &Findings) -> Result<Findings, RunFault>
     ensures notes { IfOk result (λ found. HasNotesAlone found.traces.items) }
     ensures memory { IfErr result (λ fault. fault ≡ RunFault.Memory) }
@@ -101,12 +101,12 @@ fn one_file(
     })
 }
 
-/// The spot of a span; the first byte of the text where there is none.
-fn spot_of_span(text: &[u8], span: Option<(usize, usize)>) -> Spot
-    ensures { result ≡ spot_at_span text.now span }
+/// The spot of these bytes; that of the first byte of the text where none are given.
+fn spot_of_span(text: &[u8], span: Option<(usize, usize)>) -> Location
+    ensures { result ≡ spot_of_span text.now span }
 {
     match span {
-        Some((start, end)) => Spot {
+        Some((start, end)) => Location {
             start,
             end,
             place: Cursor::new(text).go_to(start),
@@ -121,7 +121,7 @@ impl<'t> Walk<'_, 't> {
         Ok(())
     }
 
-    /// The notes by place.
+    /// The notes, by place.
     fn end(self, text: &[u8]) -> Result<Vec<Finding>, AllocError> {
         let Walk {
             alloc,
@@ -237,7 +237,7 @@ fn push_names<'t>(names: &mut Vec<&'t [u8]>, level: &Element<'t>) -> Result<(), 
     Ok(())
 }
 
-/// The members of the vector that a map has under a key.
+/// The elements of the vector that a map has under a key; none unless the map has that key once.
 fn members_of<'t>(map: &Element<'t>, key: &[u8]) -> Option<VectorView<'t>> {
     let Some(map) = map.as_map() else {
         return None;
@@ -266,7 +266,7 @@ fn is_read_of_register(key: &Element) -> bool {
         || key.is_keyword(b":fixed")
 }
 
-/// The field that is absent and that a key which is not read is near.
+/// The absent field that a key which is not read may have been meant for.
 fn meant_in(
     alloc: Global,
     part: Part,

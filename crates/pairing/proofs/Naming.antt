@@ -18,19 +18,19 @@ use Rattle.pairing.specs.declared.fault.PairFault.{PairFault}
 use Rattle.pairing.specs.declared.invocation.Invocation.{Invocation}
 use Rattle.pairing.specs.declared.step.Step.{Step}
 use Rattle.pairing.specs.Invocation.{invocation_by, invocation_of}
-use Rattle.pairing.specs.Accepted.{Placed, is_event_of, invocation, last_of, unanswered_of, register_of, fault_of, with_item, accepted}
+use Rattle.pairing.specs.Accepted.{Placed, is_event_of, invocation, last_of, unanswered_of, register_of, fault_of, with_accepted, accepted}
 use Rattle.pairing.specs.Step.{invoke_step, ok_step, event_step, edit_step, given_by, step_of, unless}
 use Rattle.pairing.specs.Answering.{step_register}
 
--- the register that an invocation is on is one of the first so many
+-- the register that an optional invocation is on is below a number
 abbrev IsOnBelow : ℕ → Option Invocation → Type 0
 IsOnBelow count said = IfSome said (λ one. one.register.0 < count)
 
--- a step is on one of the first so many
+-- the register that an optional step is on is below a number
 abbrev StepsBelow : ℕ → Option Step → Type 0
 StepsBelow count step = IfSome step (λ step. (step_register step).0 < count)
 
--- each of these items names one of them
+-- the register that each of these items names is below a number
 abbrev AllBelow : ℕ → List Placed → Type 0
 AllBelow count = AllByRecursion (λ one. NamesBelow count one.item)
 
@@ -50,12 +50,12 @@ find_below count test (item ∷ items) all = elim (test item) as (λ t. IfSome (
 
 -- ---- accepted items
 
-with_below : (count : ℕ) (taken : List Placed) (one : Placed) → AllBelow count taken → NamesBelow count one.item → AllBelow count (with_item taken one)
+with_below : (count : ℕ) (taken : List Placed) (one : Placed) → AllBelow count taken → NamesBelow count one.item → AllBelow count (with_accepted taken one)
 with_below count taken one all below = elim (is_some (fault_of taken one.item)) as (λ t. AllBelow count (if t then taken else taken ++ one ∷ [])) [ true ↦ all | false ↦ append_below count taken one all below ]
 
-fold_below : (count : ℕ) (taken items : List Placed) → AllBelow count taken → AllBelow count items → AllBelow count (fold with_item taken items)
+fold_below : (count : ℕ) (taken items : List Placed) → AllBelow count taken → AllBelow count items → AllBelow count (fold with_accepted taken items)
 fold_below count taken [] so_far all = so_far
-fold_below count taken (one ∷ items) so_far all = fold_below count (with_item taken one) items (with_below count taken one so_far all.0) all.1
+fold_below count taken (one ∷ items) so_far all = fold_below count (with_accepted taken one) items (with_below count taken one so_far all.0) all.1
 
 accepted_below : (count : ℕ) (items : List Placed) → AllBelow count items → AllBelow count (accepted items)
 accepted_below count items all = fold_below count [] items tt all

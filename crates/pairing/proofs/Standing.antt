@@ -1,4 +1,4 @@
--- A pairing that stands after some items, and one item more.
+-- A pairing that knows the items so far knows one more item after it has taken it.
 use Rattle.std.proofs.Common.{◌≡◌, ℕ, ℤ, ◌<◌, ◌≤◌, ◌==◌, true, false, List, [], ◌∷◌, ◌++◌, find, Option, Some, None, is_some, is_err, if◌then◌else◌, All, refl, sym, ◌∙◌, ap, arith}
 use Rattle.std.specs.List.{filter_map, cons_option}
 use Rattle.std.specs.Option.{option_map, option_or, option_and_then, ForSome}
@@ -17,17 +17,17 @@ use Rattle.pairing.specs.declared.step.Step.{Step}
 use Rattle.pairing.specs.Invocation.{invocation_by, invocation_of}
 use Rattle.pairing.specs.Step.{unless, given_by, step_of}
 use Rattle.pairing.proofs.Rows.{rises_push}
-use Rattle.pairing.specs.Accepted.{Placed, is_event_of, invocation, last_of, unanswered_of, register_of, fault_of, with_item, accepted}
-use Rattle.pairing.specs.Known.{Known, IsUpTo, StandsAfter, register_at}
+use Rattle.pairing.specs.Accepted.{Placed, is_event_of, invocation, last_of, unanswered_of, register_of, fault_of, with_accepted, accepted}
+use Rattle.pairing.specs.Known.{PairingModel, IsUpTo, KnowsItems, register_at}
 use Rattle.pairing.specs.Waiting.{Waiting, waits_at}
-use Rattle.pairing.specs.Kept.{with_row, IsRising, answer_beside}
+use Rattle.pairing.specs.Registers.{with_row, IsRising, answer_beside}
 
--- the register of an invocation at that place
+-- the register of an optional invocation, where it is at this place
 abbrev pub said_at : Option Invocation → ℕ → Option RegId
 said_at None place = None
 said_at (Some said) place = if said.place == place then Some said.register else None
 
--- the register of the first of the invocations at that place
+-- the register of the first of the invocations at this place
 abbrev pub found : List Invocation → ℕ → Option RegId
 found said place = option_map (λ one. one.register) (find (λ one. one.place == place) said)
 
@@ -44,7 +44,7 @@ row_push : (rows : List (ℕ × RegId)) (said : Invocation) (place : ℕ) → re
 row_push [] said place = refl
 row_push (row ∷ rows) said place = elim (row.0 == place) as (λ t. (if t then Some row.1 else register_at (rows ++ (said.place, said.register) ∷ []) place) ≡ option_or (if t then Some row.1 else register_at rows place) (said_at (Some said) place)) [ true ↦ refl | false ↦ row_push rows said place ]
 
--- the same of the rows
+-- the register at a place of the rows, after the row of one more invocation
 rows_push : (rows : List (ℕ × RegId)) (said : Option Invocation) (place : ℕ) → register_at (with_row rows said) place ≡ option_or (register_at rows place) (said_at said place)
 rows_push rows None place = elim (register_at rows place) as (λ r. r ≡ option_or r None) [ None ↦ refl | Some r ↦ refl ]
 rows_push rows (Some said) place = row_push rows said place
@@ -54,8 +54,8 @@ unanswered_push : (taken : List Placed) (one : Placed) (process : ℤ) → unans
 unanswered_push taken one process = ap (λ back. option_and_then invocation (find (λ one. is_event_of process one.item) back)) (reverse-append taken (one ∷ [])) ∙ elim (is_event_of process one.item) as (λ t. option_and_then invocation (if t then Some one else last_of taken process) ≡ (if t then invocation one else unanswered_of taken process)) [ true ↦ refl | false ↦ refl ]
 
 -- the accepted items, with one more item
-accepted_push : (items : List Placed) (one : Placed) → accepted (items ++ one ∷ []) ≡ with_item (accepted items) one
-accepted_push items one = fold_push with_item [] items one
+accepted_push : (items : List Placed) (one : Placed) → accepted (items ++ one ∷ []) ≡ with_accepted (accepted items) one
+accepted_push items one = fold_push with_accepted [] items one
 
 refused_push : (items : List Placed) (one : Placed) → is_some (fault_of (accepted items) one.item) ≡ true → accepted (items ++ one ∷ []) ≡ accepted items
 refused_push items one is = rw (accepted_push items one, is) refl
@@ -67,14 +67,14 @@ up_later : (last : Option ℕ) (place at : ℕ) → ForSome last (λ last. last 
 up_later None place at rises up = absurd up
 up_later (Some last) place at rises up = omega (arith, rises last refl, up)
 
--- no item is behind a later place
+-- no item has a place after that of one more item
 places_later : (last : Option ℕ) (items : List Placed) (one : Placed) → ForSome last (λ last. last < one.place) → All (λ one. IsUpTo last one.place) items → All (λ other. other.place ≤ one.place) (items ++ one ∷ [])
 places_later last items one rises all =
     let lower = All-weaker (λ (other : Placed). IsUpTo last other.place) (λ (other : Placed). other.place ≤ one.place) (λ other up. omega (arith, up_later last one.place other.place rises up)) items all in
     All-push (λ other. other.place ≤ one.place) items one lower (omega arith)
 
--- what is known gives the step that looking back gives
-pub same_answer : (known : Known) (items : List Placed) (place : ℕ) (item : Item) → StandsAfter known items → answer_beside known place item ≡ step_of known.feeder (accepted items) place item
+-- what is known gives the step that a look back over the accepted items gives
+pub same_answer : (known : PairingModel) (items : List Placed) (place : ℕ) (item : Item) → KnowsItems known items → answer_beside known place item ≡ step_of known.feeder (accepted items) place item
 same_answer known items place (Event event) after = rw (after.unanswered event.process) refl
 same_answer known items place (Amend of change) after = rw (after.registers of) refl
 same_answer known items place (Withdraw of) after = rw (after.registers of) refl
@@ -86,12 +86,12 @@ err_is_fault : (fault : Option PairFault) (step : Option Step) → is_err (unles
 err_is_fault None step = refl
 err_is_fault (Some fault) step = refl
 
--- an answer that is a fault is the definition's
-faulty : (known : Known) (items : List Placed) (place : ℕ) (item : Item) → StandsAfter known items → is_err (answer_beside known place item) ≡ is_some (fault_of (accepted items) item)
+-- what is known gives a fault where a look back gives one
+faulty : (known : PairingModel) (items : List Placed) (place : ℕ) (item : Item) → KnowsItems known items → is_err (answer_beside known place item) ≡ is_some (fault_of (accepted items) item)
 faulty known items place item after = ap is_err (same_answer known items place item after) ∙ err_is_fault (fault_of (accepted items) item) (given_by known.feeder (accepted items) place item)
 
--- after a refused item a pairing knows what it knew
-pub after_refused : (known : Known) (items : List Placed) (place : ℕ) (item : Item) → ForSome known.last (λ last. last < place) → is_err (answer_beside known place item) ≡ true → StandsAfter known items → StandsAfter (record known { last = Some place }) (items ++ record { place = place; item = item } ∷ [])
+-- after a refused item a pairing knows the items, with only its last place changed
+pub after_refused : (known : PairingModel) (items : List Placed) (place : ℕ) (item : Item) → ForSome known.last (λ last. last < place) → is_err (answer_beside known place item) ≡ true → KnowsItems known items → KnowsItems (record known { last = Some place }) (items ++ record { place = place; item = item } ∷ [])
 after_refused known items place item rises err after =
     let one : Placed = record { place = place; item = item } in
     let same = refused_push items one (sym (faulty known items place item after) ∙ err) in
@@ -101,8 +101,8 @@ after_refused known items place item rises err after =
       registers = λ place. rw same (after.registers place);
     }
 
--- after an accepted item, where it keeps the invocation
-pub after_taken : (known : Known) (items : List Placed) (place : ℕ) (item : Item) → ForSome known.last (λ last. last < place) → is_err (answer_beside known place item) ≡ false → (unanswered : Waiting) (registers : List (ℕ × RegId)) → ((process : ℤ) → waits_at unanswered process ≡ (if is_event_of process item then invocation_of place item else waits_at known.unanswered process)) → registers ≡ with_row known.registers (invocation_of place item) → StandsAfter known items → StandsAfter (record { feeder = known.feeder; last = Some place; unanswered = unanswered; registers = registers }) (items ++ record { place = place; item = item } ∷ [])
+-- after an accepted item a pairing knows the items, where it has kept the item's invocation
+pub after_taken : (known : PairingModel) (items : List Placed) (place : ℕ) (item : Item) → ForSome known.last (λ last. last < place) → is_err (answer_beside known place item) ≡ false → (unanswered : Waiting) (registers : List (ℕ × RegId)) → ((process : ℤ) → waits_at unanswered process ≡ (if is_event_of process item then invocation_of place item else waits_at known.unanswered process)) → registers ≡ with_row known.registers (invocation_of place item) → KnowsItems known items → KnowsItems (record { feeder = known.feeder; last = Some place; unanswered = unanswered; registers = registers }) (items ++ record { place = place; item = item } ∷ [])
 after_taken known items place item rises ok unanswered registers waits rows after =
     let one : Placed = record { place = place; item = item } in
     let more = taken_push items one (sym (faulty known items place item after) ∙ ok) in

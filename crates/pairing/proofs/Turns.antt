@@ -18,17 +18,17 @@ use Rattle.pairing.specs.declared.invocation.Invocation.{Invocation}
 use Rattle.pairing.specs.declared.step.Step.{Step}
 use Rattle.pairing.specs.declared.step.Step.TheVariants as steps
 use Rattle.pairing.specs.Invocation.{invocation_by, invocation_of}
-use Rattle.pairing.specs.Accepted.{Placed, is_event_of, invocation, last_of, unanswered_of, fault_of, event_fault, with_item, accepted}
+use Rattle.pairing.specs.Accepted.{Placed, is_event_of, invocation, last_of, unanswered_of, fault_of, event_fault, with_accepted, accepted}
 use Rattle.pairing.specs.Step.{id_of, step_of, ok_step, amendment_of, event_step, unless}
-use Rattle.pairing.specs.Answering.{invokes, is_invocation, IsSilent, IsFirst, IsNext, step_id}
+use Rattle.pairing.specs.Answering.{invokes, is_invocation, IsSilent, IsFirstEvent, IsNext, step_id}
 use Rattle.jepsen_form.specs.Whole.{HasWhatItNeeds, IsWhole}
 use Rattle.pairing.proofs.Standing.{invocation_place}
 
--- each of these was accepted after those before it
+-- each of these items is accepted after those before it
 abbrev pub IsAccepted : List Placed → Type 0
 IsAccepted taken = (front : List Placed) (one : Placed) (rest : List Placed) → taken ≡ front ++ one ∷ rest → is_some (fault_of front one.item) ≡ false
 
--- a part of a list with one more element ends before that element, or is all before it
+-- an element of a list with one more at its end is that last one, or is in the list before it
 data Parts (taken : List Placed) (more : Placed) (front : List Placed) (one : Placed) : Type 0 where
   At_the_end : front ≡ taken → one ≡ more → Parts taken more front one
   Before_it : (rest : List Placed) → taken ≡ front ++ one ∷ rest → Parts taken more front one
@@ -57,18 +57,18 @@ one_more taken more so_far fine front one rest same = elim (parts_of taken more 
   | Before_it after is ↦ so_far front one after is
 ]
 
-with_more : (taken : List Placed) (more : Placed) → IsAccepted taken → IsAccepted (with_item taken more)
+with_more : (taken : List Placed) (more : Placed) → IsAccepted taken → IsAccepted (with_accepted taken more)
 with_more taken more so_far = by_test taken more so_far (is_some (fault_of taken more.item)) refl
   where
     by_test : (taken : List Placed) (more : Placed) → IsAccepted taken → (test : Bool) → is_some (fault_of taken more.item) ≡ test → IsAccepted (if test then taken else taken ++ more ∷ [])
     by_test taken more so_far true is = so_far
     by_test taken more so_far false is = one_more taken more so_far is
 
-after_all : (taken items : List Placed) → IsAccepted taken → IsAccepted (fold with_item taken items)
+after_all : (taken items : List Placed) → IsAccepted taken → IsAccepted (fold with_accepted taken items)
 after_all taken [] so_far = so_far
-after_all taken (one ∷ items) so_far = after_all (with_item taken one) items (with_more taken one so_far)
+after_all taken (one ∷ items) so_far = after_all (with_accepted taken one) items (with_more taken one so_far)
 
--- each accepted item meets no fault after the accepted items before it
+-- each accepted item has no fault after the accepted items before it
 accepted_each : (items : List Placed) → IsAccepted (accepted items)
 accepted_each items = after_all [] items none
   where
@@ -83,7 +83,7 @@ both_false false b none = (refl, none)
 last_push : (process : ℤ) (front : List Placed) (one : Placed) → last_of (front ++ one ∷ []) process ≡ (if is_event_of process one.item then Some one else last_of front process)
 last_push process front one = ap (find (λ other. is_event_of process other.item)) (reverse-append front (one ∷ []))
 
--- events of other processes do not change which is the last
+-- items without an event of a process leave its last event
 last_silent : (process : ℤ) (front silent : List Placed) → IsSilent process silent → last_of (front ++ silent) process ≡ last_of front process
 last_silent process front [] quiet = ap (λ items. last_of items process) (append-nil front)
 last_silent process front (one ∷ silent) quiet =
@@ -91,7 +91,7 @@ last_silent process front (one ∷ silent) quiet =
     let here : last_of (front ++ one ∷ []) process ≡ last_of front process = last_push process front one ∙ rw quiets.0 refl in
     ap (λ items. last_of items process) (sym (append_assoc front (one ∷ []) silent)) ∙ last_silent process (front ++ one ∷ []) silent quiets.1 ∙ here
 
--- an event that none of its process follows is the last
+-- an event of a process that no event of the process follows is its last
 last_here : (process : ℤ) (before : List Placed) (one : Placed) (silent : List Placed) → IsTrue (is_event_of process one.item) → IsSilent process silent → last_of (before ++ one ∷ silent) process ≡ Some one
 last_here process before one silent is quiet =
     let here : last_of (before ++ one ∷ []) process ≡ Some one = last_push process before one ∙ rw is refl in
@@ -107,7 +107,7 @@ stage_turn (Some said) event stages.Fail fine = refl
 stage_turn None event stages.Info fine = cc
 stage_turn (Some said) event stages.Info fine = refl
 
--- an accepted event is an invocation where its process has none that is unanswered
+-- an accepted event is an invocation just where its process has no unanswered one
 turn : (process : ℤ) (front : List Placed) (item : Item) → IsTrue (is_event_of process item) → is_some (fault_of front item) ≡ false → is_invocation item ≡ is_none (unanswered_of front process)
 turn process front (Event event) is fine =
     let same : process ≡ event.process = (Decides-int_eq process event.process).0 is in
@@ -125,7 +125,7 @@ said_by_stage place event stages.Ok register moment whole = refl
 said_by_stage place event stages.Fail register moment whole = refl
 said_by_stage place event stages.Info register moment whole = refl
 
--- an invocation is one by its stage
+-- a whole item is an invocation just where its stage is that of one
 said_by : (place : ℕ) (item : Item) → IsWhole item → is_none (invocation_of place item) ≡ not (is_invocation item)
 said_by place (Event event) whole = said_by_stage place event event.answer event.register event.moment whole
 said_by place (Amend of change) whole = refl
@@ -134,14 +134,14 @@ said_by place (Claim register kind) whole = refl
 said_by place (Ask register) whole = refl
 said_by place Skipped whole = refl
 
--- before its first accepted event a process has nothing unanswered
-pub first_invokes : (items : List Placed) (process : ℤ) (one : Placed) → IsFirst (accepted items) process one → IsTrue (is_invocation one.item)
+-- the first accepted event of a process is an invocation
+pub first_invokes : (items : List Placed) (process : ℤ) (one : Placed) → IsFirstEvent (accepted items) process one → IsTrue (is_invocation one.item)
 first_invokes items process one first =
     let fine = accepted_each items first.before one first.after first.parts in
     let none = last_silent process [] first.before first.silent in
     turn process first.before one.item first.is_event fine ∙ ap (λ last. is_none (option_and_then invocation last)) none
 
--- after its earlier event the process has that one unanswered, where it is an invocation
+-- between two events of a process, the earlier one is unanswered, where it is an invocation
 unanswered_next : (items : List Placed) (process : ℤ) (earlier later : Placed) (next : IsNext items process earlier later) → unanswered_of (next.before ++ earlier ∷ next.between) process ≡ invocation earlier
 unanswered_next items process earlier later next = ap (option_and_then invocation) (last_here process next.before earlier next.between next.earlier_is next.silent)
 
@@ -151,7 +151,7 @@ alternates items process earlier later next whole =
     let fine = accepted_each items (next.before ++ earlier ∷ next.between) later next.after parts in
     turn process (next.before ++ earlier ∷ next.between) later.item next.later_is fine ∙ ap is_none (unanswered_next (accepted items) process earlier later next) ∙ said_by earlier.place earlier.item whole
 
--- the last event of a process among some items, where there is one
+-- a last event of a process among some items, with those before and after it
 record LastEvent (process : ℤ) (items : List Placed) : Type 0 where
   front : List Placed
   one : Placed
@@ -219,7 +219,7 @@ id_by_stage feeder said place event stages.Ok step is = id_by_ok feeder said eve
 id_by_stage feeder said place event stages.Fail step is = let same : steps.Edit said.register (edits.Withdraw (id_of feeder said.place)) ≡ step = cc in ap step_id (sym same)
 id_by_stage feeder said place event stages.Info step is = cc
 
--- an event beside an unanswered invocation edits that operation
+-- the step of an event of a process with an unanswered invocation edits that operation
 id_beside : (feeder : ℕ) (process : ℤ) (front : List Placed) (said : Invocation) (place : ℕ) (item : Item) (step : Step) → IsTrue (is_event_of process item) → unanswered_of front process ≡ Some said → step_of feeder front place item ≡ Ok (Some step) → step_id step ≡ Some (id_of feeder said.place)
 id_beside feeder process front said place (Event event) step is unanswered gives =
     let same : process ≡ event.process = (Decides-int_eq process event.process).0 is in

@@ -17,7 +17,7 @@ pub record Placed : Type 0 where
   pub place : ℕ
   pub item : Item
 
--- the item is an event of that process
+-- the test that an item is an event of this process
 abbrev pub is_event_of : ℤ → Item → Bool
 is_event_of process (Event event) = int_eq process event.process
 is_event_of process (Amend of change) = false
@@ -26,24 +26,25 @@ is_event_of process (Claim register kind) = false
 is_event_of process (Ask register) = false
 is_event_of process Skipped = false
 
--- the item as an invocation, where it is one
+-- the invocation that an item with its place is, or none
 abbrev pub invocation : Placed → Option Invocation
 invocation one = invocation_of one.place one.item
 
--- the nearest earlier accepted event of a process
+-- the last event of this process among accepted items, or none
 abbrev pub last_of : List Placed → ℤ → Option Placed
 last_of accepted process = find (λ one. is_event_of process one.item) (reverse accepted)
 
--- the unanswered invocation of a process: its nearest earlier accepted event, where that is an invocation
+-- the unanswered invocation of a process, or none: its last accepted event, where that is an invocation
 abbrev pub unanswered_of : List Placed → ℤ → Option Invocation
 unanswered_of accepted process = option_and_then invocation (last_of accepted process)
 
--- the register of the accepted invocation at a place
+-- the register of the accepted invocation at this place, or none
 abbrev pub register_of : List Placed → ℕ → Option RegId
 register_of accepted place =
     option_map (λ one. one.register) (find (λ one. one.place == place) (filter_map invocation accepted))
 
--- why an event of that stage is refused beside the unanswered invocation of its process
+-- why an event of this stage is refused, or none, by the unanswered invocation of its process: P1, an invocation
+-- where there is one; P2, an answer where there is none; P3, an `:ok` that does not agree with it
 abbrev pub event_fault : Option Invocation → AnEvent → Stage → Option PairFault
 event_fault None event Invoke = None
 event_fault (Some unanswered) event Invoke = Some ProcessBusy
@@ -54,12 +55,12 @@ event_fault (Some unanswered) event Fail = None
 event_fault None event Info = Some NoInvocation
 event_fault (Some unanswered) event Info = None
 
--- why an edit is refused, by the register of the accepted invocation that it names
+-- why an edit is refused, or none, by the register of the accepted invocation that it names: P2 where there is none
 abbrev pub edit_fault : Option RegId → Option PairFault
 edit_fault None = Some NoInvocation
 edit_fault (Some register) = None
 
--- why an item is refused after these accepted ones
+-- why an item is refused after these accepted ones, or none
 abbrev pub fault_of : List Placed → Item → Option PairFault
 fault_of accepted (Event event) = event_fault (unanswered_of accepted event.process) event event.answer
 fault_of accepted (Amend of change) = edit_fault (register_of accepted of)
@@ -68,10 +69,10 @@ fault_of accepted (Claim register kind) = None
 fault_of accepted (Ask register) = None
 fault_of accepted Skipped = None
 
--- the accepted items after one more: a refused one counts as not there
-abbrev pub with_item : List Placed → Placed → List Placed
-with_item accepted one = if is_some (fault_of accepted one.item) then accepted else accepted ++ one ∷ []
+-- the accepted items after one more item, which is left out where it is refused
+abbrev pub with_accepted : List Placed → Placed → List Placed
+with_accepted accepted one = if is_some (fault_of accepted one.item) then accepted else accepted ++ one ∷ []
 
--- the accepted ones of these items, in their order
+-- the accepted ones of these items, in order, each judged after the accepted ones before it
 abbrev pub accepted : List Placed → List Placed
-accepted items = fold with_item [] items
+accepted items = fold with_accepted [] items

@@ -12,14 +12,14 @@ use Rattle.pairing.specs.declared.step.Step.{Step}
 use Rattle.pairing.specs.declared.step.Step.TheVariants as steps
 use Rattle.pairing.specs.Accepted.{Placed, is_event_of}
 
--- the stage is an invocation's; the others are answers
+-- the test that a stage is that of an invocation; the other stages are answers
 abbrev pub invokes : Stage → Bool
 invokes Invoke = true
 invokes Ok = false
 invokes Fail = false
 invokes Info = false
 
--- the item is an invocation
+-- the test that an item is an event whose stage is that of an invocation
 abbrev pub is_invocation : Item → Bool
 is_invocation (Event event) = invokes event.answer
 is_invocation (Amend of change) = false
@@ -33,7 +33,7 @@ abbrev pub IsSilent : ℤ → List Placed → Type 0
 IsSilent process items = list_any (λ one. is_event_of process one.item) items ≡ false
 
 -- the item is the first event of the process among these items
-pub record IsFirst (items : List Placed) (process : ℤ) (one : Placed) : Type 0 where
+pub record IsFirstEvent (items : List Placed) (process : ℤ) (one : Placed) : Type 0 where
   pub before : List Placed
   pub after : List Placed
   pub parts : items ≡ before ++ one ∷ after
@@ -50,7 +50,7 @@ pub record IsNext (items : List Placed) (process : ℤ) (earlier later : Placed)
   pub later_is : IsTrue (is_event_of process later.item)
   pub silent : IsSilent process between
 
--- the operation that a step edits, if it is no question
+-- the id of the operation that a step edits, or none: a question and a claim edit none
 abbrev pub step_id : Step → Option OpId
 step_id (steps.Edit register edit) = edit_id edit
 step_id (steps.Ask register) = None

@@ -1,10 +1,11 @@
--- The codes that users see of the pairing's refusals.
+-- The codes of the pairing's faults, as users see them.
 use Rattle.std.specs.Prelude.{ℕ, List, codes}
 use Rattle.pairing.specs.declared.fault.PairFault.{PairFault}
 use Rattle.pairing.specs.declared.fault.PairFault.TheVariants.{ProcessBusy, NoInvocation, AnswerMismatch, Memory}
 
-abbrev pub code_of : PairFault → List ℕ
-code_of ProcessBusy = codes "P1"
-code_of NoInvocation = codes "P2"
-code_of AnswerMismatch = codes "P3"
-code_of Memory = codes "P4"
+-- the code of a fault of the pairing, as it is printed: P1 to P4
+abbrev pub pair_fault_code : PairFault → List ℕ
+pair_fault_code ProcessBusy = codes "P1"
+pair_fault_code NoInvocation = codes "P2"
+pair_fault_code AnswerMismatch = codes "P3"
+pair_fault_code Memory = codes "P4"

@@ -12,7 +12,7 @@ use Rattle.jepsen_form.specs.declared.item.Stage.{Stage}
 use Rattle.jepsen_form.specs.declared.item.Stage.TheVariants.{Invoke, Ok, Fail, Info}
 use Rattle.pairing.specs.declared.invocation.Invocation.{Invocation}
 
--- an event of that stage and register as an invocation: an answer is none
+-- the invocation that an event is by its stage and its optional register, or none: `:invoke` with a register is one
 abbrev pub invocation_by : ℕ → AnEvent → Stage → Option RegId → Option Invocation
 invocation_by place event Invoke (Some register) =
     Some (record { place = place; register = register; action = event.action; value = event.value })
@@ -21,7 +21,7 @@ invocation_by place event Ok register = None
 invocation_by place event Fail register = None
 invocation_by place event Info register = None
 
--- the item at that place as an invocation, where it is one
+-- the invocation that the item at this place is, or none
 abbrev pub invocation_of : ℕ → Item → Option Invocation
 invocation_of place (Event event) = invocation_by place event event.answer event.register
 invocation_of place (Amend of change) = None
@@ -30,19 +30,20 @@ invocation_of place (Claim register kind) = None
 invocation_of place (Ask register) = None
 invocation_of place Skipped = None
 
--- the register is there, and is that one
+-- the test that an optional register is there and is this one
 abbrev pub is_on : Option RegId → RegId → Bool
 is_on None register = false
 is_on (Some said) register = said.0 == register.0
 
--- the same action, and of a write the same value
+-- the test that two actions are the same and, of two writes, the values too
 abbrev pub same_act : Action → Action → Value → Value → Bool
 same_act Read Read invoked answered = true
 same_act Read Write invoked answered = false
 same_act Write Read invoked answered = false
 same_act Write Write invoked answered = same_value invoked answered
 
--- the event is of the register and the action of the invocation, and of the value that it writes
+-- the test that an event agrees with an invocation: it has the same register and action, and for a write the same
+-- value
 abbrev pub answers : Invocation → AnEvent → Bool
 answers invocation event =
     is_on event.register invocation.register && same_act invocation.action event.action invocation.value event.value

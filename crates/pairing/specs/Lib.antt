@@ -1,8 +1,10 @@
+-- words of the public clauses
 pub mod Invocation
 pub mod Code
 pub mod Accepted
 pub mod Step
 pub mod Waiting
 pub mod Known
-pub mod Kept
 pub mod Answering
+-- words of private clauses
+pub mod Registers

@@ -22,16 +22,16 @@ use Rattle.pairing.specs.declared.step.Step.{Step}
 use Rattle.pairing.specs.declared.step.Step.TheVariants as steps
 use Rattle.pairing.specs.Accepted.{Placed, unanswered_of, register_of, fault_of}
 
--- the id of the operation that was invoked at that place
+-- the id of the operation that a feeder's trace invokes at this place
 abbrev pub id_of : ℕ → ℕ → OpId
 id_of feeder place = record { feeder = feeder; event = place }
 
--- the act of an action with its value
+-- the act of an operation: an action with its value
 abbrev pub act_of : Action → Value → Act
 act_of Read value = acts.Read value
 act_of Write value = acts.Write value
 
--- an invocation appends an open operation
+-- the edit of an invocation: it appends an unfinished operation that begins at this moment
 abbrev pub append_of : ℕ → ℕ → AnEvent → Moment → Edit
 append_of feeder place event moment = edits.Append (record {
   id = id_of feeder place;
@@ -42,12 +42,12 @@ append_of feeder place event moment = edits.Append (record {
   parts = record { invocation = event.text; answer = None; amendment = None };
 })
 
--- an answer gives a value to a read alone
+-- the value that an answer of this action gives its operation, or none: a read's value, and none of a write
 abbrev pub value_read : Action → Value → Option Value
 value_read Read value = Some value
 value_read Write value = None
 
--- an `:ok` gives the end, and the value of a read
+-- the edit of an `:ok`: it gives the operation of its invocation this moment as the end, and a read its value
 abbrev pub amendment_of : ℕ → Invocation → AnEvent → Moment → Edit
 amendment_of feeder invocation event moment = edits.Amend (id_of feeder invocation.place) (record {
   value = value_read event.action event.value;
@@ -56,19 +56,19 @@ amendment_of feeder invocation event moment = edits.Amend (id_of feeder invocati
   lent = Answer event.text;
 })
 
--- the step of an invocation of that register and moment
+-- the step of an invocation, or none where it lacks a register or a moment
 abbrev pub invoke_step : ℕ → ℕ → AnEvent → Option RegId → Option Moment → Option Step
 invoke_step feeder place event (Some register) (Some moment) = Some (steps.Edit register (append_of feeder place event moment))
 invoke_step feeder place event (Some register) None = None
 invoke_step feeder place event None moment = None
 
--- the step of an `:ok` of that moment
+-- the step of an `:ok` that answers this invocation, or none where it lacks a moment
 abbrev pub ok_step : ℕ → Invocation → AnEvent → Option Moment → Option Step
 ok_step feeder invocation event (Some moment) = Some (steps.Edit invocation.register (amendment_of feeder invocation event moment))
 ok_step feeder invocation event None = None
 
--- the step of an accepted event of that stage beside the unanswered invocation of its process: a `:fail`
--- withdraws, and an `:info` leaves the operation as it is
+-- the step of an accepted event of this stage, or none, by the unanswered invocation of its process: `:invoke`
+-- appends, `:ok` amends, `:fail` withdraws, and `:info` gives none
 abbrev pub event_step : ℕ → Option Invocation → ℕ → AnEvent → Stage → Option Step
 event_step feeder unanswered place event stages.Invoke = invoke_step feeder place event event.register event.moment
 event_step feeder None place event stages.Ok = None
@@ -77,11 +77,11 @@ event_step feeder None place event stages.Fail = None
 event_step feeder (Some unanswered) place event stages.Fail = Some (steps.Edit unanswered.register (edits.Withdraw (id_of feeder unanswered.place)))
 event_step feeder unanswered place event stages.Info = None
 
--- the edit of an operation, on the register of its invocation
+-- the step of an edit on the register of its operation's invocation, or none without a register
 abbrev pub edit_step : Option RegId → Edit → Option Step
 edit_step register edit = option_map (λ register. steps.Edit register edit) register
 
--- the step that an accepted item gives, where it gives one
+-- the step that an accepted item gives after these accepted ones, or none
 abbrev pub given_by : ℕ → List Placed → ℕ → Item → Option Step
 given_by feeder accepted place (items.Event event) = event_step feeder (unanswered_of accepted event.process) place event event.answer
 given_by feeder accepted place (items.Amend of change) = edit_step (register_of accepted of) (edits.Amend (id_of feeder of) change)
@@ -90,11 +90,11 @@ given_by feeder accepted place (items.Claim register kind) = Some (steps.Edit re
 given_by feeder accepted place (items.Ask register) = Some (steps.Ask register)
 given_by feeder accepted place items.Skipped = None
 
--- the fault, where there is one, else the step
+-- the fault, where there is one, else an optional step
 abbrev pub unless : Option PairFault → Option Step → Result (Option Step) PairFault
 unless None step = Ok step
 unless (Some fault) step = Err fault
 
--- the step of an item after these accepted ones, or why it is refused
+-- the optional step of an item after these accepted ones, or why it is refused
 abbrev pub step_of : ℕ → List Placed → ℕ → Item → Result (Option Step) PairFault
 step_of feeder accepted place item = unless (fault_of accepted item) (given_by feeder accepted place item)

@@ -1,7 +1,7 @@
-//! An invocation, and which answers are its own.
+//! Invocations, and which answers agree with them.
 
 ghost use Rattle.std.specs.Prelude.{◌≡◌};
-ghost use Rattle.pairing.specs.Invocation.{invocation_of as invocation_at, answers, is_on as is_said_of, same_act};
+ghost use Rattle.pairing.specs.Invocation.{invocation_of, answers, is_on, same_act};
 
 use intervals::{RegId, Value};
 use jepsen_form::{Action, Event, Item, Stage};
@@ -15,9 +15,9 @@ pub struct Invocation {
     pub value: Value,
 }
 
-/// The item as an invocation, where it is one.
+/// The invocation that the item at this place is, or none.
 pub fn invocation_of(place: u64, item: &Item) -> Option<Invocation>
-    ensures { result ≡ invocation_at place item.now }
+    ensures { result ≡ invocation_of place item.now }
 {
     match item {
         Item::Event(event) => invocation_by(place, event),
@@ -26,7 +26,7 @@ pub fn invocation_of(place: u64, item: &Item) -> Option<Invocation>
 }
 
 fn invocation_by(place: u64, event: &Event) -> Option<Invocation>
-    ensures { result ≡ invocation_at place (Item.Event event.now) }
+    ensures { result ≡ invocation_of place (Item.Event event.now) }
 {
     match (event.answer, event.register) {
         (Stage::Invoke, Some(register)) => Some(Invocation {
@@ -53,7 +53,7 @@ pub fn is_answer(invocation: &Invocation, event: &Event) -> bool
 }
 
 fn is_on(register: Option<RegId>, other: RegId) -> bool
-    ensures { result ≡ is_said_of register other }
+    ensures { result ≡ is_on register other }
 {
     match register {
         Some(register) => register.0 == other.0,
@@ -61,7 +61,7 @@ fn is_on(register: Option<RegId>, other: RegId) -> bool
     }
 }
 
-/// Whether the actions are one and, for writes, the values.
+/// Whether the actions are the same and, for writes, the values too.
 fn is_same_act(invoked: Action, answered: Action, written: Value, value: Value) -> bool
     ensures { result ≡ same_act invoked answered written value }
 {

@@ -1,17 +1,17 @@
-//! Laws of pairing. Each is proved, and does nothing.
+//! Laws of pairing: which answer is whose, and which registers steps are on. Each is proved, and does nothing.
 
 ghost use Rattle.std.specs.Prelude.{◌≡◌, ◌<◌, ◌∷◌, ◌++◌, ℕ, ℤ, List, All, Some, Ok, false, not, IsTrue};
 ghost use Rattle.pairing.specs.declared.step.Step.{Step};
 ghost use Rattle.pairing.specs.Accepted.{Placed, accepted, is_event_of};
 ghost use Rattle.pairing.specs.Step.{step_of, id_of};
-ghost use Rattle.pairing.specs.Answering.{IsFirst, IsNext, is_invocation, step_id, step_register};
+ghost use Rattle.pairing.specs.Answering.{IsFirstEvent, IsNext, is_invocation, step_id, step_register};
 ghost use Rattle.jepsen_form.specs.declared.item.Item.{Item};
 ghost use Rattle.jepsen_form.specs.Whole.{IsWhole, NamesBelow};
 
 /// The accepted events of a process are an invocation, its answer, an invocation, its answer and so
 /// on: the answer of an accepted invocation is the first later accepted event of its process.
 pub fn answers_come_next()
-    ensures first { (items : List Placed) (process : ℤ) (one : Placed) → IsFirst (accepted items) process one → IsTrue (is_invocation one.item) }
+    ensures first { (items : List Placed) (process : ℤ) (one : Placed) → IsFirstEvent (accepted items) process one → IsTrue (is_invocation one.item) }
     ensures alternate { (items : List Placed) (process : ℤ) (earlier later : Placed) → IsNext (accepted items) process earlier later
         → IsWhole earlier.item → is_invocation later.item ≡ not (is_invocation earlier.item) }
 {}
@@ -23,7 +23,7 @@ pub fn answers_have_an_invocation()
         → (earlier : Placed) × IsNext (accepted items) process earlier answer × IsTrue (is_invocation earlier.item) }
 {}
 
-/// The step of an answer is on the operation of the invocation that it comes next to.
+/// The step of an answer edits the operation of the invocation that is the event before it of its process.
 pub fn answers_are_of_their_invocation()
     ensures { (feeder : ℕ) (items : List Placed) (process : ℤ) (earlier later : Placed) → (next : IsNext (accepted items) process earlier later)
         → IsWhole earlier.item → IsTrue (is_invocation earlier.item) → (step : Step)

@@ -1,14 +1,14 @@
-//! The pairing of a trace.
+//! The pairing of one trace: takes its items in order, and returns the step of each.
 
 ghost use Rattle.std.specs.Prelude.{◌≡◌, ◌≢◌, ◌<◌, ◌++◌, ◌∷◌, ℤ, List, [], Some, None, Err, IsSome, IsOk, IfErr, OnOk, OnErr, if◌then◌else◌};
 ghost use Rattle.std.specs.Option.{ForSome};
 ghost use Rattle.std.specs.Ordering.{int_eq};
-ghost use Rattle.pairing.specs.Invocation.{invocation_of as invocation_at};
+ghost use Rattle.pairing.specs.Invocation.{invocation_of};
 ghost use Rattle.pairing.specs.Accepted.{Placed, accepted, is_event_of};
 ghost use Rattle.pairing.specs.Step.{step_of};
-ghost use Rattle.pairing.specs.Known.{StandsAfter};
+ghost use Rattle.pairing.specs.Known.{KnowsItems};
 ghost use Rattle.pairing.specs.Waiting.{waits_at};
-ghost use Rattle.pairing.specs.Kept.{with_row, answer_beside};
+ghost use Rattle.pairing.specs.Registers.{with_row, answer_beside};
 
 use crate::fault::PairFault;
 use crate::invocation::{Invocation, invocation_of};
@@ -20,7 +20,7 @@ use jepsen_form::{Event, Item};
 use std::alloc::Global;
 use std::marker::Model;
 
-/// The processes of one trace that wait for an answer, and the registers of its invocations.
+/// The unanswered invocations of one trace, by process, and the registers of its accepted invocations, by place.
 #[derive(Drop)]
 pub struct Pairing {
     feeder: u32,
@@ -31,10 +31,10 @@ pub struct Pairing {
 
 impl Model for Pairing {
     ghost use Rattle.std.specs.Prelude.{All};
-    ghost use Rattle.pairing.specs.Known.{Known, IsUpTo};
-    ghost use Rattle.pairing.specs.Kept.{IsRising};
+    ghost use Rattle.pairing.specs.Known.{PairingModel, IsUpTo};
+    ghost use Rattle.pairing.specs.Registers.{IsRising};
 
-    ghost Value = { Known };
+    ghost Value = { PairingModel };
 
     ghost view = { λ p. record { feeder = p.feeder; last = p.last; unanswered = p.unanswered; registers = p.registers.items } };
 
@@ -42,11 +42,11 @@ impl Model for Pairing {
 }
 
 impl Pairing {
-    /// The pairing of the trace of that feeder, before its first item.
+    /// The pairing of the trace of this feeder, before its first item.
     pub fn new(alloc: Global, feeder: u32) -> Pairing
         ensures feeder { result.feeder ≡ feeder }
         ensures last { result.last ≡ None }
-        ensures stands { StandsAfter result [] }
+        ensures stands { KnowsItems result [] }
     {
         Pairing {
             feeder,
@@ -56,25 +56,26 @@ impl Pairing {
         }
     }
 
-    /// The place of the last item that was taken or refused for another reason than memory.
+    /// The place of the last item that was accepted, or refused with another fault than P4.
     pub fn last(&self) -> Option<u64>
         ensures { result ≡ self.now.last }
     {
         self.last
     }
 
-    /// The step of the item at that place of the trace, if it gives one.
+    /// The step of the item at place `event` of the trace, or none where it gives none. A refused item counts as
+    /// not there. After P4, which an invocation alone can meet, the call can be made again.
     pub fn take<'t>(&mut self, item: Item<'t>, event: u64) -> Result<Option<Step<'t>>, PairFault>
         requires rises { ForSome self.old.last (λ last. last < event) }
-        ensures step { result ≢ Err PairFault.Memory → (items : List Placed) → StandsAfter self.old items
+        ensures step { result ≢ Err PairFault.Memory → (items : List Placed) → KnowsItems self.old items
             → result ≡ step_of self.old.feeder (accepted items) event item.entry }
-        ensures stands { result ≢ Err PairFault.Memory → (items : List Placed) → StandsAfter self.old items
-            → StandsAfter self.new (items ++ record { place = event; item = item.entry } ∷ []) }
+        ensures stands { result ≢ Err PairFault.Memory → (items : List Placed) → KnowsItems self.old items
+            → KnowsItems self.new (items ++ record { place = event; item = item.entry } ∷ []) }
         ensures last { result ≢ Err PairFault.Memory → self.new.last ≡ Some event }
         ensures feeder { self.new.feeder ≡ self.old.feeder }
         ensures memory { result ≡ Err PairFault.Memory → self.new ≡ self.old }
-        ensures invocation { result ≡ Err PairFault.Memory → (items : List Placed) → StandsAfter self.old items
-            → IsOk (step_of self.old.feeder (accepted items) event item.entry) × IsSome (invocation_at event item.entry) }
+        ensures invocation { result ≡ Err PairFault.Memory → (items : List Placed) → KnowsItems self.old items
+            → IsOk (step_of self.old.feeder (accepted items) event item.entry) × IsSome (invocation_of event item.entry) }
     {
         let answer = self.answer(&item, event);
         if answer.is_err() {
@@ -86,7 +87,7 @@ impl Pairing {
         answer
     }
 
-    /// What an item comes to.
+    /// The step of an item, or why it is refused. Nothing is noted of it.
     fn answer<'t>(&self, item: &Item<'t>, place: u64) -> Result<Option<Step<'t>>, PairFault>
         ensures { result ≡ answer_beside self.now place item.now }
     {
@@ -110,7 +111,7 @@ impl Pairing {
     }
 }
 
-/// Keeps an accepted item: an invocation stays unanswered, and any answer ends the wait.
+/// Notes an accepted item: its process has an unanswered invocation after an invocation, and none after an answer.
 fn remember(
     unanswered: &mut Unanswered,
     registers: &mut Vec<(u64, RegId)>,
@@ -118,10 +119,10 @@ fn remember(
     place: u64,
 ) -> Result<(), PairFault>
     ensures unanswered { OnOk result ((process : ℤ) → waits_at unanswered.new process
-        ≡ (if is_event_of process item.now then invocation_at place item.now else waits_at unanswered.old process)) }
-    ensures registers { OnOk result (registers.new.items ≡ with_row registers.old.items (invocation_at place item.now)) }
+        ≡ (if is_event_of process item.now then invocation_of place item.now else waits_at unanswered.old process)) }
+    ensures registers { OnOk result (registers.new.items ≡ with_row registers.old.items (invocation_of place item.now)) }
     ensures err { OnErr result ((unanswered.new ≡ unanswered.old) × (registers.new.items ≡ registers.old.items)) }
-    ensures memory { OnErr result (IsSome (invocation_at place item.now)) }
+    ensures memory { OnErr result (IsSome (invocation_of place item.now)) }
     ensures fault { IfErr result (λ fault. fault ≡ PairFault.Memory) }
 {
     let Item::Event(event) = item else {
@@ -136,7 +137,7 @@ fn remember(
     }
 }
 
-/// Makes both growths before the first change.
+/// Adds an unanswered invocation. Both growths come before the first change.
 fn open(
     unanswered: &mut Unanswered,
     registers: &mut Vec<(u64, RegId)>,

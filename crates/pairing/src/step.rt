@@ -2,21 +2,21 @@
 
 ghost use Rattle.std.specs.Prelude.{◌≡◌};
 ghost use Rattle.pairing.specs.Accepted.{event_fault, edit_fault};
-ghost use Rattle.pairing.specs.Step.{id_of, act_of, value_read, append_of, amendment_of, invoke_step, ok_step, event_step, edit_step as step_of_edit, unless};
+ghost use Rattle.pairing.specs.Step.{id_of, act_of, value_read, append_of, amendment_of, invoke_step, ok_step, event_step, edit_step, unless};
 
 use crate::fault::PairFault;
 use crate::invocation::{Invocation, is_answer};
 use intervals::{Act, Change, Edit, Lent, Moment, Op, OpId, Parts, RegId, Value};
 use jepsen_form::{Action, Event, Stage};
 
-/// What an item asks of a register.
+/// What an item asks for: an edit of a register, or the verdict on one.
 #[derive(Clone, Copy, Debug)]
 pub enum Step<'t> {
     Edit(RegId, Edit<'t>),
     Ask(RegId),
 }
 
-/// What an event comes to beside the unanswered invocation of its process.
+/// The step of an event, or why it is refused, by the unanswered invocation of its process.
 pub fn event_answer<'t>(
     feeder: u32,
     unanswered: Option<Invocation>,
@@ -43,12 +43,12 @@ pub fn event_answer<'t>(
     }
 }
 
-/// What an edit comes to on the register of the accepted invocation that it names.
+/// The step of an edit on the register of the accepted invocation that it names. P2 where there is none.
 pub fn edit_answer<'t>(
     register: Option<RegId>,
     edit: Edit<'t>,
 ) -> Result<Option<Step<'t>>, PairFault>
-    ensures { result ≡ unless (edit_fault register) (step_of_edit register edit.entry) }
+    ensures { result ≡ unless (edit_fault register) (edit_step register edit.entry) }
 {
     match register {
         Some(register) => Ok(Some(Step::Edit(register, edit))),
@@ -125,7 +125,7 @@ fn act(action: Action, value: Value) -> Act
     }
 }
 
-/// An answer gives a value to a read alone.
+/// The value that an answer gives its operation: that of a read alone.
 fn value_given(action: Action, value: Value) -> Option<Value>
     ensures { result ≡ value_read action value }
 {

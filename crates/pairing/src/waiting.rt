@@ -1,12 +1,12 @@
 //! The unanswered invocations of a trace, by process.
 //!
-//! Processes 0 to 1,023 have a slot by their number, all others an entry of a map. There are as many slots as
-//! the greatest such process that was put in asked for, as a power of two: 1,024 take 40 KB.
+//! Processes 0 to 1,023 have a slot each, by their number, all others an entry in a map. The number of slots is
+//! the least power of two that has room for the greatest of these processes so far: 1,024 slots take 40 KB.
 
 ghost use Rattle.std.specs.Prelude.{◌≡◌, ◌<◌, ◌==◌, ℕ, ℤ, length, Some, None, OnOk, OnErr, if◌then◌else◌};
 ghost use Rattle.std.specs.Ordering.{int_cmp, int_eq};
 ghost use Rattle.std.specs.BTreeMap.{get};
-ghost use Rattle.pairing.specs.Waiting.{slot_of as slot_at, in_slot as kept_in, waits_at};
+ghost use Rattle.pairing.specs.Waiting.{slot_of, in_slot, waits_at};
 
 use crate::invocation::Invocation;
 use std::alloc::{AllocError, Global};
@@ -69,9 +69,9 @@ impl Unanswered {
     }
 }
 
-/// The slot of a process that has one.
+/// The slot of a process, or none.
 fn slot_of(process: i64) -> Option<usize>
-    ensures { result ≡ slot_at process }
+    ensures { result ≡ slot_of process }
 {
     match usize::try_from(process) {
         Ok(number) if number < 1_024 => Some(number),
@@ -80,7 +80,7 @@ fn slot_of(process: i64) -> Option<usize>
 }
 
 fn in_slot(slots: &[Option<Invocation>], slot: usize) -> Option<Invocation>
-    ensures { result ≡ kept_in slots.now slot }
+    ensures { result ≡ in_slot slots.now slot }
 {
     match slots.get(slot) {
         Some(said) => *said,
@@ -94,7 +94,7 @@ fn fill(
     invocation: Invocation,
 ) -> Result<(), AllocError>
     requires { slot < 1024 }
-    ensures ok { OnOk result ((other : ℕ) → kept_in slots.new.items other ≡ (if other == slot then Some invocation else kept_in slots.old.items other)) }
+    ensures ok { OnOk result ((other : ℕ) → in_slot slots.new.items other ≡ (if other == slot then Some invocation else in_slot slots.old.items other)) }
     ensures err { OnErr result (slots.new.items ≡ slots.old.items) }
 {
     reach(slots, slot)?;
@@ -102,11 +102,11 @@ fn fill(
     Ok(())
 }
 
-/// Adds empty slots, up to that one at least.
+/// Adds empty slots until there is this one.
 fn reach(slots: &mut Vec<Option<Invocation>>, slot: usize) -> Result<(), AllocError>
     requires { slot < 1024 }
     ensures ok { OnOk result (slot < length slots.new.items) }
-    ensures kept { (other : ℕ) → kept_in slots.new.items other ≡ kept_in slots.old.items other }
+    ensures kept { (other : ℕ) → in_slot slots.new.items other ≡ in_slot slots.old.items other }
     ensures err { OnErr result (slots.new.items ≡ slots.old.items) }
 {
     if slots.len() <= slot {
@@ -116,7 +116,7 @@ fn reach(slots: &mut Vec<Option<Invocation>>, slot: usize) -> Result<(), AllocEr
 }
 
 fn empty(slots: &mut Vec<Option<Invocation>>, slot: usize)
-    ensures { (other : ℕ) → kept_in slots.new.items other ≡ (if other == slot then None else kept_in slots.old.items other) }
+    ensures { (other : ℕ) → in_slot slots.new.items other ≡ (if other == slot then None else in_slot slots.old.items other) }
 {
     if slot < slots.len() {
         slots[slot] = None;

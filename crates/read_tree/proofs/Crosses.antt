@@ -2,8 +2,8 @@
 use denote.Param.Send.{IsSend, IsSync, sendable}
 use Rattle.std.proofs.Crossing.{crosses}
 use Rattle.summary_tree.proofs.Crosses.{tree_send, tree_sync}
-use Rattle.read_tree.specs.contracts.item.Item as item
-use Rattle.read_tree.specs.contracts.summary.Summary as summary
+use Rattle.read_tree.specs.contracts.item.RowItem as item
+use Rattle.read_tree.specs.contracts.summary.ReadSummary as summary
 use Rattle.read_tree.specs.contracts.reads.ReadTree.{the_row, the_field}
 
 -- what a node holds beside its sides

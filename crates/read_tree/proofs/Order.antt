@@ -1,4 +1,4 @@
--- The order of spots: of two one stands before the other, or they are one.
+-- The order of spots is strict: of two different ones one comes before the other.
 use Rattle.std.proofs.Common.{◌≡◌, ℕ, ◌⊎◌, inl, inr, Bool, true, false, Decides, refl, sym, ap, subst, ◌∙◌}
 use Rattle.std.specs.Ordering.{is_lt, nat_cmp, ordering_then, ordering_reverse}
 use Rattle.std.specs.declared.cmp.Ordering.{Ordering}
@@ -9,11 +9,11 @@ use Rattle.std.proofs.lemmas.Bool.Decides.{Decides-and, Decides-eqb, Decides-lik
 use Rattle.intervals.specs.declared.operation.Value.{Value}
 use Rattle.intervals.specs.declared.operation.Value.TheVariants.{Nil, Int}
 use Rattle.intervals.specs.contracts.operation.ValueOrd.TheImpl as value_ord
-use Rattle.intervals.specs.declared.shelf.Spot.{Spot}
-use Rattle.intervals.specs.Shelf.{spot_cmp, spot_of, spot_total, same_spot}
+use Rattle.intervals.specs.declared.ordered_index.Spot.{Spot}
+use Rattle.intervals.specs.OrderedIndex.{spot_cmp, spot_of, spot_total, same_spot}
 use Rattle.intervals.proofs.Agreement.{Decides-same_value}
 use Rattle.read_tree.specs.Items.{StandsBefore}
-use Rattle.read_tree.specs.Order.{comes_before}
+use Rattle.read_tree.specs.Order.{spot_before}
 
 abbrev value_cmp : Value → Value → Ordering
 value_cmp = (value_ord.ghosts).cmp
@@ -78,7 +78,7 @@ apart a b h = false_unless (same_spot a b) (λ t. irreflexive b (subst (λ s. St
 pub apart_back : (a b : Spot) → StandsBefore a b → same_spot b a ≡ false
 apart_back a b h = false_unless (same_spot b a) (λ t. irreflexive b (subst (λ s. StandsBefore s b) (sym (same_true b a t)) h))
 
--- the order and its tests
+-- the order and its test
 pub before_true : (a b : Spot) → StandsBefore a b → is_lt (spot_cmp b a) ≡ true
 before_true a b h = ap is_lt h
 
@@ -93,13 +93,13 @@ true_before a b h = less_true (spot_cmp b a) h
 pub before_false : (a b : Spot) → StandsBefore a b → is_lt (spot_cmp a b) ≡ false
 before_false a b h = false_unless (is_lt (spot_cmp a b)) (λ t. asymmetric a b h (true_before b a t))
 
-pub comes_true : (a b : Spot) → comes_before a b ≡ true → StandsBefore a b
+pub comes_true : (a b : Spot) → spot_before a b ≡ true → StandsBefore a b
 comes_true a b h = true_before a b h
 
-pub comes_none : (a b : Spot) → comes_before a b ≡ false → ¬ StandsBefore a b
+pub comes_none : (a b : Spot) → spot_before a b ≡ false → ¬ StandsBefore a b
 comes_none a b h k = let t = before_true a b k in cc
 
-pub comes_neither : (a b : Spot) → comes_before a b ≡ false → comes_before b a ≡ false → a ≡ b
+pub comes_neither : (a b : Spot) → spot_before a b ≡ false → spot_before b a ≡ false → a ≡ b
 comes_neither a b h k = elim (trichotomy a b) [
   | inl same ↦ same
   | inr either ↦ elim either [ inl before ↦ absurd (comes_none a b h before) | inr behind ↦ absurd (comes_none b a k behind) ]

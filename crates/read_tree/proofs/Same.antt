@@ -4,8 +4,8 @@ use Rattle.intervals.specs.declared.operation.Value.{Value}
 use Rattle.intervals.specs.Operation.{same_value}
 use Rattle.intervals.proofs.Agreement.{Decides-same_value}
 use Rattle.read_tree.specs.declared.item.Cover.{Cover}
-use Rattle.read_tree.specs.declared.summary.Front.{Front}
-use Rattle.read_tree.specs.declared.summary.Summary.{Summary}
+use Rattle.read_tree.specs.declared.summary.Prefix.{Prefix}
+use Rattle.read_tree.specs.declared.summary.ReadSummary.{ReadSummary}
 
 pub same_itself : (a b : Value) → a ≡ b → same_value a b ≡ true
 same_itself a b e = (Decides-same_value a b).1 e
@@ -19,21 +19,21 @@ one_cover a b e f g =
     ∙ ap (λ (n : ℕ). cover b.value n a.by_value) e
     ∙ ap (λ (t : Bool). cover b.value b.reach t) f
 
-abbrev front : Value → ℕ → ℕ → Front
-front v m n = record { value = v; far = m; other = n }
+abbrev prefix : Value → ℕ → ℕ → Prefix
+prefix v m n = record { value = v; far = m; other = n }
 
-pub one_front : (a b : Front) → a.far ≡ b.far → a.other ≡ b.other → same_value a.value b.value ≡ true → a ≡ b
-one_front a b e f g =
-    ap (λ (v : Value). front v a.far a.other) ((Decides-same_value a.value b.value).0 g)
-    ∙ ap (λ (n : ℕ). front b.value n a.other) e
-    ∙ ap (λ (n : ℕ). front b.value b.far n) f
+pub one_prefix : (a b : Prefix) → a.far ≡ b.far → a.other ≡ b.other → same_value a.value b.value ≡ true → a ≡ b
+one_prefix a b e f g =
+    ap (λ (v : Value). prefix v a.far a.other) ((Decides-same_value a.value b.value).0 g)
+    ∙ ap (λ (n : ℕ). prefix b.value n a.other) e
+    ∙ ap (λ (n : ℕ). prefix b.value b.far n) f
 
-abbrev summary : Front → Option Cover → Bool → ℕ → Summary
-summary p c t n = record { front = p; last = c; short = t; least = n }
+abbrev summary : Prefix → Option Cover → Bool → ℕ → ReadSummary
+summary p c t n = record { prefix = p; last = c; uncovered = t; least = n }
 
-pub one_summary : (a b : Summary) → a.least ≡ b.least → a.short ≡ b.short → a.front ≡ b.front → a.last ≡ b.last → a ≡ b
+pub one_summary : (a b : ReadSummary) → a.least ≡ b.least → a.uncovered ≡ b.uncovered → a.prefix ≡ b.prefix → a.last ≡ b.last → a ≡ b
 one_summary a b e f g h =
-    ap (λ (p : Front). summary p a.last a.short a.least) g
-    ∙ ap (λ (c : Option Cover). summary b.front c a.short a.least) h
-    ∙ ap (λ (t : Bool). summary b.front b.last t a.least) f
-    ∙ ap (λ (n : ℕ). summary b.front b.last b.short n) e
+    ap (λ (p : Prefix). summary p a.last a.uncovered a.least) g
+    ∙ ap (λ (c : Option Cover). summary b.prefix c a.uncovered a.least) h
+    ∙ ap (λ (t : Bool). summary b.prefix b.last t a.least) f
+    ∙ ap (λ (n : ℕ). summary b.prefix b.last b.uncovered n) e

@@ -1,9 +1,9 @@
 -- The order of spots, as a test.
 use Rattle.std.specs.Prelude.{Bool}
 use Rattle.std.specs.Ordering.{is_lt}
-use Rattle.intervals.specs.declared.shelf.Spot.{Spot}
-use Rattle.intervals.specs.Shelf.{spot_cmp}
+use Rattle.intervals.specs.declared.ordered_index.Spot.{Spot}
+use Rattle.intervals.specs.OrderedIndex.{spot_cmp}
 
--- the first spot stands before the second
-abbrev pub comes_before : Spot → Spot → Bool
-comes_before a b = is_lt (spot_cmp b a)
+-- the test for `StandsBefore`: the first spot comes before the second
+abbrev pub spot_before : Spot → Spot → Bool
+spot_before a b = is_lt (spot_cmp b a)

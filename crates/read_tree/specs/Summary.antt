@@ -1,76 +1,79 @@
--- What a node keeps of its items.
+-- What each node keeps of the items below it, so that an uncovered read shows without a look at each item.
 use Rattle.std.specs.Prelude.{◌≡◌, ℕ, ◌-◌, ◌^◌, ◌≤◌, max, min, Bool, false, ◌||◌, nat_lt, nat_le, List, [], ◌∷◌, Option, Some, None, if◌then◌else◌}
 use Rattle.std.specs.Option.{option_or}
 use Rattle.intervals.specs.declared.operation.Value.TheVariants.{Nil}
 use Rattle.intervals.specs.Operation.{same_value}
-use Rattle.read_tree.specs.declared.item.Item.{Item}
+use Rattle.read_tree.specs.declared.item.RowItem.{RowItem}
 use Rattle.read_tree.specs.declared.item.Cover.{Cover}
-use Rattle.read_tree.specs.declared.summary.Front.{Front}
-use Rattle.read_tree.specs.declared.summary.Summary.{Summary}
-use Rattle.read_tree.specs.Items.{cover_of, is_some_short}
+use Rattle.read_tree.specs.declared.summary.Prefix.{Prefix}
+use Rattle.read_tree.specs.declared.summary.ReadSummary.{ReadSummary}
+use Rattle.read_tree.specs.Items.{cover_of, is_some_uncovered}
 
--- the last cover after a list, where c is the last one before it
-abbrev pub cover_after : Option Cover → List Item → Option Cover
+-- the last cover of the list, or c, the last one before it, where the list has none
+abbrev pub cover_after : Option Cover → List RowItem → Option Cover
 cover_after c [] = c
 cover_after c (x ∷ items) = cover_after (if x.covers then Some (cover_of x) else c) items
 
--- the least moment, and the greatest number of 64 bits where there is no item
-unfoldable pub least_moment : List Item → ℕ
+-- the least moment of the items; 2^64 - 1 where there are none
+unfoldable pub least_moment : List RowItem → ℕ
 least_moment [] = 2 ^ 64 - 1
 least_moment (x ∷ items) = min x.moment.0 (least_moment items)
 
--- no reads
-abbrev pub no_front : Front
-no_front = record { value = Nil; far = 0; other = 0 }
+-- the prefix that has no reads; a prefix is what is kept of the reads before the first cover
+abbrev pub no_prefix : Prefix
+no_prefix = record { value = Nil; far = 0; other = 0 }
 
--- some read of the front is short behind that cover
-unfoldable pub is_front_short : Option Cover → Front → Bool
-is_front_short None p = nat_lt 0 p.far
-is_front_short (Some c) p =
+-- some read of the prefix (the reads before the first cover) is uncovered by c, the cover before it
+unfoldable pub is_prefix_uncovered : Option Cover → Prefix → Bool
+is_prefix_uncovered None p = nat_lt 0 p.far
+is_prefix_uncovered (Some c) p =
     if same_value p.value c.value
     then (if c.by_value then nat_lt c.reach p.far || nat_lt 0 p.other else nat_lt c.reach p.other)
     else nat_lt (if c.by_value then 0 else c.reach) p.far
 
--- the front of both, where the first reaches at least as far
-abbrev pub with_others : Front → Front → Front
+-- two prefixes as one, where a reaches at least as far: a's value and reach, and the greatest reach of a read of
+-- another value
+abbrev pub with_others : Prefix → Prefix → Prefix
 with_others a b = record { value = a.value; far = a.far; other = max a.other (if same_value b.value a.value then b.other else b.far) }
 
--- the front of both
-abbrev pub merged : Front → Front → Front
+-- two prefixes as one: the greatest reach, the value of that read, and the greatest reach of a read of another value
+abbrev pub merged : Prefix → Prefix → Prefix
 merged a b = if nat_le b.far a.far then with_others a b else with_others b a
 
--- of no items
-abbrev pub no_summary : Summary
-no_summary = record { front = no_front; last = None; short = false; least = 2 ^ 64 - 1 }
+-- the summary of no items
+abbrev pub no_summary : ReadSummary
+no_summary = record { prefix = no_prefix; last = None; uncovered = false; least = 2 ^ 64 - 1 }
 
--- of one item
-unfoldable pub summary_of : Item → Summary
-summary_of x = if x.covers
-    then record { front = no_front; last = Some (cover_of x); short = false; least = least_moment (x ∷ []) }
-    else record { front = record { value = x.value; far = x.reach; other = 0 }; last = None; short = false; least = least_moment (x ∷ []) }
+-- the summary of one item
+unfoldable pub summary_of_item : RowItem → ReadSummary
+summary_of_item x = if x.covers
+    then record { prefix = no_prefix; last = Some (cover_of x); uncovered = false; least = least_moment (x ∷ []) }
+    else record { prefix = record { value = x.value; far = x.reach; other = 0 }; last = None; uncovered = false; least = least_moment (x ∷ []) }
 
--- the front of two lists, one behind the other
-abbrev pub front_of : Option Cover → Front → Front → Front
-front_of None a b = merged a b
-front_of (Some c) a b = a
+-- the prefix of two lists, one after the other: the first list's where that has a cover (its last one is given), else
+-- both as one
+abbrev pub prefix_of : Option Cover → Prefix → Prefix → Prefix
+prefix_of None a b = merged a b
+prefix_of (Some c) a b = a
 
--- the first list has a last cover, behind which a read of the second one's front is short
-abbrev pub meets_short : Option Cover → Front → Bool
-meets_short None b = false
-meets_short (Some c) b = is_front_short (Some c) b
+-- the first list has a last cover, and some read in the second list's prefix is uncovered by it
+abbrev pub meets_uncovered : Option Cover → Prefix → Bool
+meets_uncovered None b = false
+meets_uncovered (Some c) b = is_prefix_uncovered (Some c) b
 
--- of two lists, one behind the other
-unfoldable pub joined : Summary → Summary → Summary
-joined s t = record {
-  front = front_of s.last s.front t.front;
+-- the summary of two lists, one after the other, from the summaries of both
+unfoldable pub join_reads : ReadSummary → ReadSummary → ReadSummary
+join_reads s t = record {
+  prefix = prefix_of s.last s.prefix t.prefix;
   last = option_or t.last s.last;
-  short = (s.short || t.short) || meets_short s.last t.front;
+  uncovered = (s.uncovered || t.uncovered) || meets_uncovered s.last t.prefix;
   least = min s.least t.least;
 }
 
--- the summary says what the list does behind any cover
-pub record IsSummary (s : Summary) (items : List Item) : Type 0 where
-  pub covers : (c : Option Cover) → is_some_short c items ≡ (is_front_short c s.front || s.short)
+-- the summary says of the items whether some read is uncovered and which cover is last, after any cover before them,
+-- and the least moment
+pub record IsSummaryOf (s : ReadSummary) (items : List RowItem) : Type 0 where
+  pub covers : (c : Option Cover) → is_some_uncovered c items ≡ (is_prefix_uncovered c s.prefix || s.uncovered)
   pub last : (c : Option Cover) → cover_after c items ≡ option_or s.last c
-  pub valid : s.front.other ≤ s.front.far
+  pub valid : s.prefix.other ≤ s.prefix.far
   pub least : s.least ≡ least_moment items

@@ -1,30 +1,29 @@
-//! What stands in a tree: reads that have an end, and covers.
+//! The items of a tree: reads that have an end, and covers.
 
 ghost use Rattle.std.specs.Prelude.{◌≡◌};
-ghost use Rattle.intervals.specs.Shelf.{same_spot};
-ghost use Rattle.read_tree.specs.Items.{place_of, cover_of};
-ghost use Rattle.read_tree.specs.Order.{comes_before as spot_before};
+ghost use Rattle.intervals.specs.OrderedIndex.{same_spot};
+ghost use Rattle.read_tree.specs.Items.{spot_of_item, cover_of};
+ghost use Rattle.read_tree.specs.Order.{spot_before};
 
 use intervals::{Moment, OpId, Spot, Value};
 use std::cmp::Ordering;
 use summary_tree::Keyed;
 
-/// A read, or a cover. It stands in the row of its value, or, where it is not by value, in the one row
-/// that there is.
+/// A read, or a cover. It is in the row of its value where it is by value, else in the one row that there is.
 #[derive(Clone, Copy)]
-pub struct Item {
-    /// What was read; of a cover, the value of the reads that it is for.
+pub struct RowItem {
+    /// The value that was read; of a cover, the value of the reads that it is for.
     pub value: Value,
     /// When the read ended; of a cover, the moment from which it covers.
     pub moment: Moment,
-    /// How far back a read reaches: the greater, the later it began. Of a cover, how great it may be.
+    /// Of a read a number that is greater the later it began; of a cover the greatest such number that it covers.
     pub reach: u64,
     pub id: OpId,
     pub covers: bool,
     pub by_value: bool,
 }
 
-/// What a cover covers, wherever it stands.
+/// What a cover covers, without its spot.
 #[derive(Clone, Copy)]
 pub struct Cover {
     pub value: Value,
@@ -32,10 +31,10 @@ pub struct Cover {
     pub by_value: bool,
 }
 
-impl Item {
-    /// Where it stands.
+impl RowItem {
+    /// The row and the moment of the item. The one row is that of nil.
     pub fn spot(&self) -> Spot
-        ensures { result ≡ place_of self.now }
+        ensures { result ≡ spot_of_item self.now }
     {
         let value = if self.by_value {
             self.value
@@ -48,6 +47,7 @@ impl Item {
         }
     }
 
+    /// The item as a cover, without its spot and its id.
     pub fn cover(&self) -> Cover
         ensures { result ≡ cover_of self.now }
     {
@@ -59,17 +59,17 @@ impl Item {
     }
 }
 
-impl Keyed for Item {
+impl Keyed for RowItem {
     type Key = Spot;
 
-    ghost key = { place_of };
+    ghost key = { spot_of_item };
 
     ghost comes_before = { spot_before };
 
     ghost same = { same_spot };
 
     fn spare() -> Self {
-        Item {
+        RowItem {
             value: Value::Nil,
             moment: Moment(0),
             reach: 0,
@@ -87,7 +87,7 @@ impl Keyed for Item {
         self.spot()
     }
 
-    /// Spots are compared with the latest first.
+    /// A `Spot` compares with the latest first, so the two change places.
     #[inline(always)]
     fn comes_before(a: Spot, b: Spot) -> bool {
         match b.cmp(&a) {

@@ -1,46 +1,46 @@
-//! Look-ups: each goes down where it has to.
+//! Look-ups in the tree, which go down where the summaries lead them.
 
 ghost use Rattle.std.specs.Prelude.{◌≡◌, if◌then◌else◌, Some, None, true, Option};
 ghost use Rattle.read_tree.specs.declared.item.Cover.{Cover};
-ghost use Rattle.read_tree.specs.Items.{is_short, is_some_short, earlier_of, first_short};
-ghost use Rattle.read_tree.specs.Summary.{cover_after, IsSummary};
+ghost use Rattle.read_tree.specs.Items.{is_uncovered, is_some_uncovered, earlier_read, first_uncovered};
+ghost use Rattle.read_tree.specs.Summary.{cover_after, IsSummaryOf};
 
-use crate::summary::{Summary, far_limit};
-use crate::{Cover, Item};
+use crate::summary::{ReadSummary, far_limit};
+use crate::{Cover, RowItem};
 use intervals::is_same_value;
 
-/// Items by spot, with what decides on short reads.
-pub type Tree = summary_tree::Tree<Item, Summary>;
+/// A tree of items by spot, with their summaries.
+pub type Tree = summary_tree::Tree<RowItem, ReadSummary>;
 
 /// A tree, or a side of a node.
 #[derive(Clone, Copy)]
-pub struct Part<'t> {
+pub struct Subtree<'t> {
     pub tree: &'t Tree,
 }
 
-/// What the items come to.
+/// The summary of the tree's items.
 #[tactic(auto, using(crate::proofs::Joins::summary_of_none))]
-fn summary(tree: &Tree) -> Summary
-    ensures { IsSummary result tree.now.items }
+fn summary(tree: &Tree) -> ReadSummary
+    ensures { IsSummaryOf result tree.now.items }
 {
     match tree.top() {
         Some(top) => top.summary,
-        None => Summary::none(),
+        None => ReadSummary::none(),
     }
 }
 
-/// Some read is short, where that cover stands before all.
-pub fn has_short(tree: &Tree, before: Option<Cover>) -> bool
-    ensures { result ≡ is_some_short before tree.now.items }
+/// Whether some read is uncovered, where `before` is the last cover before the tree.
+pub fn has_uncovered(tree: &Tree, before: Option<Cover>) -> bool
+    ensures { result ≡ is_some_uncovered before tree.now.items }
 {
-    summary(tree).is_short(before)
+    summary(tree).is_uncovered(before)
 }
 
-/// The earlier of the one that was found and the earliest short read of a part, where that cover stands
-/// before all. It does not look where nothing is short, nor where nothing is earlier.
+/// Of `found` and the uncovered reads of the subtree the one that ended first, where `before` is the last cover
+/// before the subtree. It does not go down where no read is uncovered, nor where no item is earlier than `found`.
 #[tactic(auto, using(crate::proofs::Firsts::around_cover, crate::proofs::Firsts::around_read))]
-pub fn earliest(part: Part, before: Option<Cover>, found: Option<Item>) -> Option<Item>
-    ensures { result ≡ earlier_of found (first_short before part.entry.tree.now.items) }
+pub fn earliest(part: Subtree, before: Option<Cover>, found: Option<RowItem>) -> Option<RowItem>
+    ensures { result ≡ earlier_read found (first_uncovered before part.entry.tree.now.items) }
 {
     let tree = part.tree;
     if has_nothing_earlier(tree, before, found) {
@@ -49,27 +49,31 @@ pub fn earliest(part: Part, before: Option<Cover>, found: Option<Item>) -> Optio
     let Some(top) = tree.top() else {
         return found;
     };
-    let on_left = earliest(Part { tree: &top.left }, before, found);
+    let on_left = earliest(Subtree { tree: &top.left }, before, found);
     let behind = cover_behind(&top.left, before);
     if top.item.covers {
-        return earliest(Part { tree: &top.right }, Some(top.item.cover()), on_left);
+        return earliest(
+            Subtree { tree: &top.right },
+            Some(top.item.cover()),
+            on_left,
+        );
     }
     let with_top = earlier(on_left, short_one(behind, top.item));
-    earliest(Part { tree: &top.right }, behind, with_top)
+    earliest(Subtree { tree: &top.right }, behind, with_top)
 }
 
-/// No read of the tree is short, or all items are as late as the one that was found.
+/// Whether no read of the tree is uncovered, or no item of it is earlier than `found`.
 #[tactic(auto, using(crate::proofs::Firsts::nothing_short))]
-fn has_nothing_earlier(tree: &Tree, before: Option<Cover>, found: Option<Item>) -> bool
-    ensures { result ≡ true → earlier_of found (first_short before tree.now.items) ≡ found }
+fn has_nothing_earlier(tree: &Tree, before: Option<Cover>, found: Option<RowItem>) -> bool
+    ensures { result ≡ true → earlier_read found (first_uncovered before tree.now.items) ≡ found }
 {
-    !has_short(tree, before) || is_no_earlier(tree, found)
+    !has_uncovered(tree, before) || is_no_earlier(tree, found)
 }
 
-/// No item of the tree is earlier than the one that was found.
+/// Whether no item of the tree is earlier than `found`.
 #[tactic(auto, using(crate::proofs::Firsts::nothing_earlier))]
-fn is_no_earlier(tree: &Tree, found: Option<Item>) -> bool
-    ensures { result ≡ true → (before : Option Cover) → earlier_of found (first_short before tree.now.items) ≡ found }
+fn is_no_earlier(tree: &Tree, found: Option<RowItem>) -> bool
+    ensures { result ≡ true → (before : Option Cover) → earlier_read found (first_uncovered before tree.now.items) ≡ found }
 {
     match found {
         None => false,
@@ -77,16 +81,16 @@ fn is_no_earlier(tree: &Tree, found: Option<Item>) -> bool
     }
 }
 
-/// The last cover behind the tree, where that one stands before it.
+/// The last cover of the tree, or `before`, the last one before it, where the tree has none.
 fn cover_behind(tree: &Tree, before: Option<Cover>) -> Option<Cover>
     ensures { result ≡ cover_after before tree.now.items }
 {
     summary(tree).last.or(before)
 }
 
-/// The earlier of the two, where both are there.
-fn earlier(a: Option<Item>, b: Option<Item>) -> Option<Item>
-    ensures { result ≡ earlier_of a b }
+/// Of two optional reads the one that ended first.
+fn earlier(a: Option<RowItem>, b: Option<RowItem>) -> Option<RowItem>
+    ensures { result ≡ earlier_read a b }
 {
     let Some(first) = a else {
         return b;
@@ -101,9 +105,9 @@ fn earlier(a: Option<Item>, b: Option<Item>) -> Option<Item>
     }
 }
 
-/// The read, where it is short.
-fn short_one(before: Option<Cover>, read: Item) -> Option<Item>
-    ensures { result ≡ (if is_short before read then Some read else None) }
+/// The read, where it is uncovered.
+fn short_one(before: Option<Cover>, read: RowItem) -> Option<RowItem>
+    ensures { result ≡ (if is_uncovered before read then Some read else None) }
 {
     if is_read_short(before, &read) {
         Some(read)
@@ -112,8 +116,8 @@ fn short_one(before: Option<Cover>, read: Item) -> Option<Item>
     }
 }
 
-fn is_read_short(before: Option<Cover>, read: &Item) -> bool
-    ensures { result ≡ is_short before read.now }
+fn is_read_short(before: Option<Cover>, read: &RowItem) -> bool
+    ensures { result ≡ is_uncovered before read.now }
 {
     let Some(cover) = before else {
         return 0 < read.reach;

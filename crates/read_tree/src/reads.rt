@@ -1,9 +1,11 @@
-ghost use Rattle.std.specs.Prelude.{◌≡◌, ◌+◌, ◌<◌, ◌≤◌, [], length, is_some, if◌then◌else◌, None, OnOk, OnErr};
-ghost use Rattle.read_tree.specs.Items.{AreInOrder, place_of, with_item, item_at, without_item, renewed, is_some_short, first_short as first_short_of};
+//! The calls: a tree of reads and covers, and its reserved places.
 
-use crate::Item;
-use crate::look::{Part, earliest, has_short};
-use crate::summary::Summary;
+ghost use Rattle.std.specs.Prelude.{◌≡◌, ◌+◌, ◌<◌, ◌≤◌, [], length, is_some, if◌then◌else◌, None, OnOk, OnErr};
+ghost use Rattle.read_tree.specs.Items.{AreItemsInOrder, spot_of_item, with_read_item, item_at_spot, without_read_item, renewed, is_some_uncovered, first_uncovered};
+
+use crate::RowItem;
+use crate::look::{Subtree, earliest, has_uncovered};
+use crate::summary::ReadSummary;
 use intervals::{Memory, Spot};
 use std::alloc::Global;
 use std::marker::Model;
@@ -12,13 +14,13 @@ use summary_tree::SummaryTree;
 /// Items at different spots, and reserved places for more.
 #[derive(Drop)]
 pub struct ReadTree {
-    tree: SummaryTree<Item, Summary>,
+    tree: SummaryTree<RowItem, ReadSummary>,
 }
 
 impl Model for ReadTree {
-    ghost use Rattle.read_tree.specs.Items.{Contents};
+    ghost use Rattle.read_tree.specs.Items.{ReadContents};
 
-    ghost Value = { Contents };
+    ghost Value = { ReadContents };
 
     ghost view = { λ t. record { items = t.tree.items; free = t.tree.free } };
 }
@@ -41,7 +43,8 @@ impl ReadTree {
         self.tree.free()
     }
 
-    /// Makes room for that many more items.
+    /// Makes room for that many more items. It fails where memory is refused, or where so many places cannot be
+    /// counted.
     pub fn reserve(&mut self, places: usize) -> Result<(), Memory>
         ensures items { self.new.items ≡ self.old.items }
         ensures ok { OnOk result (places ≤ self.new.free) }
@@ -52,28 +55,28 @@ impl ReadTree {
         self.tree.reserve(places)
     }
 
-    /// Puts an item of a new spot into a reserved place.
+    /// Puts an item at a new spot into a reserved place.
     #[tactic(auto, using(crate::proofs::InOrder::none_at))]
-    pub fn insert(&mut self, item: Item)
+    pub fn insert(&mut self, item: RowItem)
         requires room { 0 < self.old.free }
-        requires new_spot { item_at (place_of item) self.old.items ≡ None }
-        ensures items { self.new.items ≡ with_item item self.old.items }
+        requires new_spot { item_at_spot (spot_of_item item) self.old.items ≡ None }
+        ensures items { self.new.items ≡ with_read_item item self.old.items }
         ensures free { self.new.free + 1 ≡ self.old.free }
     {
         self.tree.insert(item);
     }
 
     /// Takes the item at the spot out. Its place stays reserved.
-    pub fn remove(&mut self, spot: Spot) -> Option<Item>
-        ensures item { result ≡ item_at spot self.old.items }
-        ensures items { self.new.items ≡ without_item spot self.old.items }
+    pub fn remove(&mut self, spot: Spot) -> Option<RowItem>
+        ensures item { result ≡ item_at_spot spot self.old.items }
+        ensures items { self.new.items ≡ without_read_item spot self.old.items }
         ensures free { self.new.free ≡ (if is_some result then self.old.free + 1 else self.old.free) }
     {
         self.tree.remove(spot)
     }
 
-    /// Puts the item in the place of the one at its spot, where there is one.
-    pub fn renew(&mut self, item: Item)
+    /// Puts the item in the place of the one at its spot; where there is none nothing changes.
+    pub fn renew(&mut self, item: RowItem)
         ensures items { self.new.items ≡ renewed item self.old.items }
         ensures free { self.new.free ≡ self.old.free }
     {
@@ -81,29 +84,29 @@ impl ReadTree {
     }
 
     /// The item at the spot.
-    pub fn get(&self, spot: Spot) -> Option<Item>
-        ensures { result ≡ item_at spot self.now.items }
+    pub fn get(&self, spot: Spot) -> Option<RowItem>
+        ensures { result ≡ item_at_spot spot self.now.items }
     {
         self.tree.get(spot)
     }
 
-    /// Some read is not covered.
+    /// Whether some read is uncovered by the last cover before it.
     #[tactic(auto, using(crate::proofs::InOrder::from_tree))]
-    pub fn has_short(&self) -> bool
-        ensures short { result ≡ is_some_short None self.now.items }
-        ensures order { AreInOrder self.now.items }
+    pub fn has_uncovered(&self) -> bool
+        ensures uncovered { result ≡ is_some_uncovered None self.now.items }
+        ensures order { AreItemsInOrder self.now.items }
     {
-        has_short(self.tree.tree(), None)
+        has_uncovered(self.tree.tree(), None)
     }
 
-    /// Of the reads that are not covered the one that ended first.
+    /// Of the uncovered reads the one that ended first.
     #[tactic(auto, using(crate::proofs::InOrder::from_tree))]
-    pub fn first_short(&self) -> Option<Item>
-        ensures first { result ≡ first_short_of None self.now.items }
-        ensures order { AreInOrder self.now.items }
+    pub fn first_uncovered(&self) -> Option<RowItem>
+        ensures first { result ≡ first_uncovered None self.now.items }
+        ensures order { AreItemsInOrder self.now.items }
     {
         earliest(
-            Part {
+            Subtree {
                 tree: self.tree.tree(),
             },
             None,

@@ -1,47 +1,49 @@
-//! What a node keeps of its items: enough to say behind any cover whether some read of them is short.
+//! What a node keeps of the items below it: enough to say after any cover whether some read of them is uncovered.
 
 ghost use Rattle.std.specs.Prelude.{◌≡◌, ◌≤◌, ◌↔◌, ◌||◌, IsTrue, if◌then◌else◌};
 ghost use Rattle.std.specs.Option.{option_or};
-ghost use Rattle.read_tree.specs.Summary.{is_front_short, with_others, merged, front_of, meets_short, no_front, no_summary, summary_of, joined, IsSummary};
+ghost use Rattle.read_tree.specs.Summary.{is_prefix_uncovered, with_others, merged, prefix_of, meets_uncovered, no_prefix, no_summary, summary_of_item, join_reads, IsSummaryOf};
 
-use crate::{Cover, Item};
+use crate::{Cover, RowItem};
 use intervals::{Value, is_same_value};
 use summary_tree::Summarizes;
 
-/// Of the reads in front of the first cover: the farthest, and how far those of other values reach.
+/// What is kept of the reads before the first cover: the greatest reach (`far`) with its `value`, and the greatest
+/// reach of a read of another value (`other`).
 #[derive(Clone, Copy)]
-pub struct Front {
+pub struct Prefix {
     pub value: Value,
     pub far: u64,
     pub other: u64,
 }
 
+/// What a node keeps of the items below it.
 #[derive(Clone, Copy)]
-pub struct Summary {
-    pub front: Front,
+pub struct ReadSummary {
+    pub prefix: Prefix,
     /// The last cover.
     pub last: Option<Cover>,
-    /// Some read behind a cover is short.
-    pub short: bool,
-    /// The least moment of an item, and the greatest number where there is none.
+    /// Whether some read after a cover of these items is uncovered.
+    pub uncovered: bool,
+    /// The least moment of an item, and `u64::MAX` where there is none.
     pub least: u64,
 }
 
-impl Front {
-    fn none() -> Front
-        ensures { result ≡ no_front }
+impl Prefix {
+    fn none() -> Prefix
+        ensures { result ≡ no_prefix }
     {
-        Front {
+        Prefix {
             value: Value::Nil,
             far: 0,
             other: 0,
         }
     }
 
-    /// Some read is short behind that cover.
-    #[tactic(auto, unfolding(crate::specs::Summary::is_front_short))]
-    pub fn is_short(&self, before: Option<Cover>) -> bool
-        ensures { result ≡ is_front_short before self.now }
+    /// Whether some read is uncovered after that cover.
+    #[tactic(auto, unfolding(crate::specs::Summary::is_prefix_uncovered))]
+    pub fn is_uncovered(&self, before: Option<Cover>) -> bool
+        ensures { result ≡ is_prefix_uncovered before self.now }
     {
         let Some(cover) = before else {
             return 0 < self.far;
@@ -56,8 +58,8 @@ impl Front {
         }
     }
 
-    /// With another one that reaches no farther.
-    fn with_others(self, less: Front) -> Front
+    /// The prefix of both, where `less` reaches no further.
+    fn with_others(self, less: Prefix) -> Prefix
         ensures { result ≡ with_others self less }
     {
         let other = if is_same_value(less.value, self.value) {
@@ -65,21 +67,22 @@ impl Front {
         } else {
             less.far
         };
-        Front {
+        Prefix {
             value: self.value,
             far: self.far,
             other: self.other.max(other),
         }
     }
 
-    #[tactic(auto, using(crate::proofs::Same::one_front, crate::proofs::Same::same_itself))]
-    fn is_same(&self, other: &Front) -> bool
+    #[tactic(auto, using(crate::proofs::Same::one_prefix, crate::proofs::Same::same_itself))]
+    fn is_same(&self, other: &Prefix) -> bool
         ensures { IsTrue result ↔ (self.now ≡ other.now) }
     {
         self.far == other.far && self.other == other.other && is_same_value(self.value, other.value)
     }
 
-    fn merge(self, more: Front) -> Front
+    /// The prefix of both.
+    fn merge(self, more: Prefix) -> Prefix
         ensures { result ≡ merged self more }
     {
         if more.far <= self.far {
@@ -90,82 +93,82 @@ impl Front {
     }
 }
 
-impl Summary {
-    pub fn none() -> Summary
+impl ReadSummary {
+    pub fn none() -> ReadSummary
         ensures { result ≡ no_summary }
     {
-        Summary {
-            front: Front::none(),
+        ReadSummary {
+            prefix: Prefix::none(),
             last: None,
-            short: false,
+            uncovered: false,
             least: u64::MAX,
         }
     }
 
-    #[tactic(auto, unfolding(crate::specs::Summary::summary_of, crate::specs::Summary::least_moment))]
-    fn of_item(item: Item) -> Summary
-        ensures { result ≡ summary_of item }
+    #[tactic(auto, unfolding(crate::specs::Summary::summary_of_item, crate::specs::Summary::least_moment))]
+    fn of_item(item: RowItem) -> ReadSummary
+        ensures { result ≡ summary_of_item item }
     {
         if item.covers {
-            return Summary {
-                front: Front::none(),
+            return ReadSummary {
+                prefix: Prefix::none(),
                 last: Some(item.cover()),
-                short: false,
+                uncovered: false,
                 least: item.moment.0,
             };
         }
-        Summary {
-            front: Front {
+        ReadSummary {
+            prefix: Prefix {
                 value: item.value,
                 far: item.reach,
                 other: 0,
             },
             last: None,
-            short: false,
+            uncovered: false,
             least: item.moment.0,
         }
     }
 
-    /// Some read of the list is short behind that cover.
-    pub fn is_short(&self, before: Option<Cover>) -> bool
-        ensures { result ≡ (is_front_short before self.now.front || self.now.short) }
+    /// Whether some read of the items is uncovered after that cover.
+    pub fn is_uncovered(&self, before: Option<Cover>) -> bool
+        ensures { result ≡ (is_prefix_uncovered before self.now.prefix || self.now.uncovered) }
     {
-        self.front.is_short(before) | self.short
+        self.prefix.is_uncovered(before) | self.uncovered
     }
 }
 
-impl Summarizes<Item> for Summary {
-    ghost one = { summary_of };
+impl Summarizes<RowItem> for ReadSummary {
+    ghost one = { summary_of_item };
 
-    ghost join = { joined };
+    ghost join = { join_reads };
 
-    ghost IsOf = { IsSummary };
+    ghost IsOf = { IsSummaryOf };
 
-    fn of_one(item: &Item) -> Self {
-        Summary::of_item(*item)
+    fn of_one(item: &RowItem) -> Self {
+        ReadSummary::of_item(*item)
     }
 
-    #[tactic(auto, unfolding(crate::specs::Summary::joined))]
-    fn join(&self, behind: &Summary) -> Self {
-        let front = join_fronts(self.last, self.front, behind.front);
-        let meets = is_short_behind(self.last, behind.front);
-        Summary {
-            front,
+    #[tactic(auto, unfolding(crate::specs::Summary::join_reads))]
+    fn join(&self, behind: &ReadSummary) -> Self {
+        let prefix = join_prefixes(self.last, self.prefix, behind.prefix);
+        let meets = is_uncovered_after(self.last, behind.prefix);
+        ReadSummary {
+            prefix,
             last: behind.last.or(self.last),
-            short: (self.short | behind.short) | meets,
+            uncovered: (self.uncovered | behind.uncovered) | meets,
             least: self.least.min(behind.least),
         }
     }
 
-    fn with_first(&self, item: &Item) -> Self {
-        Summary::of_one(item).join(self)
+    fn with_first(&self, item: &RowItem) -> Self {
+        ReadSummary::of_one(item).join(self)
     }
 
     #[tactic(auto, using(crate::proofs::Same::one_summary))]
-    fn is_same(&self, other: &Summary) -> bool {
+    fn is_same(&self, other: &ReadSummary) -> bool {
         self.least == other.least
-            && self.short == other.short
-            && self.front.is_same(&other.front)
+            && self.uncovered == other.uncovered
+            && self.prefix.is_same(&other.prefix)
             && is_same_last(&self.last, &other.last)
     }
 
@@ -190,26 +193,28 @@ fn is_same_last(a: &Option<Cover>, b: &Option<Cover>) -> bool
     }
 }
 
-/// The reads of the second list are in front of the first cover where the first list has none.
-fn join_fronts(last: Option<Cover>, front: Front, behind: Front) -> Front
-    ensures { result ≡ front_of last front behind }
+/// The prefix of two lists: the reads of the second list are before the first cover only where the first list has
+/// none.
+fn join_prefixes(last: Option<Cover>, prefix: Prefix, behind: Prefix) -> Prefix
+    ensures { result ≡ prefix_of last prefix behind }
 {
     match last {
-        None => front.merge(behind),
-        Some(_) => front,
+        None => prefix.merge(behind),
+        Some(_) => prefix,
     }
 }
 
-fn is_short_behind(last: Option<Cover>, behind: Front) -> bool
-    ensures { result ≡ meets_short last behind }
+/// Whether some read in the second list's prefix is uncovered after the first list's last cover.
+fn is_uncovered_after(last: Option<Cover>, behind: Prefix) -> bool
+    ensures { result ≡ meets_uncovered last behind }
 {
     match last {
         None => false,
-        Some(_) => behind.is_short(last),
+        Some(_) => behind.is_uncovered(last),
     }
 }
 
-/// How far a read of another value may reach.
+/// The greatest reach of a read of another value that the cover covers.
 pub fn far_limit(cover: &Cover) -> u64
     ensures { result ≡ (if cover.now.by_value then 0 else cover.now.reach) }
 {

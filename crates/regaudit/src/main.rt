@@ -1,4 +1,4 @@
-//! Audits the registers of a tower by traces, judges a trace of one safe register, and lists the registers of a tower.
+//! The program `regaudit`: the command that its words ask for, over the machine's files, input and outputs.
 #![tactic(auto)]
 
 use commands::{HostFiles, run, words_of};

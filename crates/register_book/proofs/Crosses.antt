@@ -1,4 +1,4 @@
--- A register's book may cross threads, alone and as a field: its judges are found whole, so that a search ends.
+-- A register's book may cross threads, alone and as a field; the search ends by the proofs of its two judges.
 use denote.Ref.{NamedLft}
 use denote.Param.Send.{IsSend, IsSync, sendable}
 use Rattle.std.proofs.Crossing.{crosses}

@@ -3,16 +3,16 @@ use Rattle.std.proofs.Common.{◌≡◌, Bool, true, false, List, Option, Some, 
 use Rattle.std.specs.Prelude.{Contains}
 use Rattle.intervals.specs.declared.operation.Op.{Op}
 use Rattle.intervals.specs.declared.claim.Kind.TheVariants.{Atomic}
-use Rattle.intervals.specs.Terms.{Terms}
+use Rattle.intervals.specs.Terms.{ClaimModel}
 use Rattle.zones.specs.AtFirst.{IsSplit, first_split, initial_of, start_of, unwritten_of}
 use Rattle.zones.specs.Fault.{IsUnwritten, IsEarly, first_early, first_unwritten}
 use Rattle.zones.specs.Crossing.{IsCrossing, IsFirstCrossingFrom}
 use Rattle.register_book.specs.declared.fault.Side.TheVariants.{Op as ItsOp, Initial}
 use Rattle.register_book.specs.declared.fault.Witness.{Witness}
 use Rattle.register_book.specs.declared.fault.Witness.TheVariants.{Wrong, Unwritten, Split, Early, Crossing}
-use Rattle.register_book.specs.Fault.{IsWitness, IsExcluding, op_at}
+use Rattle.register_book.specs.Fault.{IsWitness, IsExcluding, side_op}
 
-module _ (claim : Terms) (ops : List Op) where
+module _ (claim : ClaimModel) (ops : List Op) where
   -- there is a first unwritten read only where the initial value is known
   pub unwritten_known : (r : Op) → unwritten_of claim ops ≡ Some r → (claim.known ≡ true) × (first_unwritten claim.initial ops ≡ Some r)
   unwritten_known r e = by_known claim.known refl e
@@ -21,7 +21,7 @@ module _ (claim : Terms) (ops : List Op) where
       by_known true known e = (known, e)
       by_known false known e = absurd (cc)
 
-  -- what a witness is, from what the first of each kind is
+  -- a witness excludes arrangements (`IsExcluding`), if the first fault of each kind does
   pub excluding : claim.kind ≡ Atomic
       → ((r : Op) → unwritten_of claim ops ≡ Some r → (claim.known ≡ true) × Contains ops r × IsUnwritten claim.initial ops r)
       → ((a b : Op) → first_split claim ops ≡ Some (a, b) → (claim.known ≡ false) × IsSplit claim ops a b)
@@ -32,11 +32,11 @@ module _ (claim : Terms) (ops : List Op) where
   excluding kind unwritten split early crossing (Unwritten r) h = unwritten r h.1
   excluding kind unwritten split early crossing (Split a b) h = split a b h.1
   excluding kind unwritten split early crossing (Early r w) h = early r w h.3
-  excluding kind unwritten split early crossing (Crossing a (ItsOp b) c (ItsOp d)) h = crossing (op_at a) b (op_at c) d h.4
+  excluding kind unwritten split early crossing (Crossing a (ItsOp b) c (ItsOp d)) h = crossing (side_op a) b (side_op c) d h.4
   excluding kind unwritten split early crossing (Crossing a Initial c d) h = absurd h
   excluding kind unwritten split early crossing (Crossing a (ItsOp b) c Initial) h = absurd h
 
-  -- what each kind of them excludes, all of them do
+  -- what each kind of fault excludes every witness excludes
   pub excluded : (P : Type 0) → ((r : Op) → claim.known ≡ true → Contains ops r → IsUnwritten claim.initial ops r → ¬ P)
       → ((a b : Op) → claim.known ≡ false → IsSplit claim ops a b → ¬ P)
       → ((r w : Op) → Contains ops r → Contains ops w → IsEarly r w → ¬ P)
@@ -46,6 +46,6 @@ module _ (claim : Terms) (ops : List Op) where
   excluded P unwritten split early crossing (Unwritten r) h p = unwritten r h.0 h.1 h.2 p
   excluded P unwritten split early crossing (Split a b) h p = split a b h.0 h.1 p
   excluded P unwritten split early crossing (Early r w) h p = early r w h.0 h.1 h.2 p
-  excluded P unwritten split early crossing (Crossing a (ItsOp b) c (ItsOp d)) h p = crossing (op_at a) b (op_at c) d h p
+  excluded P unwritten split early crossing (Crossing a (ItsOp b) c (ItsOp d)) h p = crossing (side_op a) b (side_op c) d h p
   excluded P unwritten split early crossing (Crossing a Initial c d) h p = h
   excluded P unwritten split early crossing (Crossing a (ItsOp b) c Initial) h p = h

@@ -1,4 +1,4 @@
--- Operations that stand are found again by their ids.
+-- Operations that stand are found again by their ids, alone and in pairs.
 use Rattle.std.proofs.Common.{◌≡◌, List, Option, Some, None, refl}
 use Rattle.std.specs.Prelude.{option_map}
 use Rattle.intervals.specs.declared.operation.Op.{Op}

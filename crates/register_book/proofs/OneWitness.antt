@@ -2,7 +2,7 @@
 use Rattle.std.proofs.Common.{◌≡◌, ◌≢◌, Bool, true, false, List, Option, Some, None, refl, sym, ap, ◌∙◌, cond}
 use Rattle.intervals.specs.declared.operation.Op.{Op}
 use Rattle.intervals.specs.declared.claim.Kind.TheVariants.{Atomic}
-use Rattle.intervals.specs.Terms.{Terms}
+use Rattle.intervals.specs.Terms.{ClaimModel}
 use Rattle.zones.specs.AtFirst.{first_split, first_writeless, initial_of, start_of, unwritten_of, with_other}
 use Rattle.zones.specs.Fault.{first_early, first_unwritten}
 use Rattle.zones.specs.Crossing.{IsFirstCrossingFrom}
@@ -10,15 +10,15 @@ use Rattle.register_book.specs.declared.fault.Side.{Side}
 use Rattle.register_book.specs.declared.fault.Side.TheVariants.{Op as ItsOp, Initial}
 use Rattle.register_book.specs.declared.fault.Witness.{Witness}
 use Rattle.register_book.specs.declared.fault.Witness.TheVariants.{Wrong, Unwritten, Split, Early, Crossing}
-use Rattle.register_book.specs.Fault.{IsWitness, op_at}
+use Rattle.register_book.specs.Fault.{IsWitness, side_op}
 
-same_side : (a b : Side) → op_at a ≡ op_at b → a ≡ b
+same_side : (a b : Side) → side_op a ≡ side_op b → a ≡ b
 same_side (ItsOp a) (ItsOp b) e = cc
 same_side (ItsOp a) Initial e = absurd (cc)
 same_side Initial (ItsOp b) e = absurd (cc)
 same_side Initial Initial e = refl
 
-module _ (claim : Terms) (ops : List Op) where
+module _ (claim : ClaimModel) (ops : List Op) where
   -- the parts of a crossing that is a witness
   pub record IsCrossed (a b c d : Side) : Type 0 where
     pub kind : claim.kind ≡ Atomic
@@ -29,28 +29,28 @@ module _ (claim : Terms) (ops : List Op) where
     pub fourth : Op
     pub b_is : b ≡ ItsOp second
     pub d_is : d ≡ ItsOp fourth
-    pub first : IsFirstCrossingFrom (initial_of claim ops) (start_of claim ops) ops (op_at a) second (op_at c) fourth
+    pub first : IsFirstCrossingFrom (initial_of claim ops) (start_of claim ops) ops (side_op a) second (side_op c) fourth
 
   crossed : (a b c d : Side) → IsWitness claim ops (Crossing a b c d) → IsCrossed a b c d
   crossed a (ItsOp b) c (ItsOp d) h = record { kind = h.0; written = h.1; whole = h.2; timely = h.3; second = b; fourth = d; b_is = refl; d_is = refl; first = h.4 }
   crossed a Initial c d h = absurd h
   crossed a (ItsOp b) c Initial h = absurd h
 
-  -- one first crossing has one of each
+  -- two first crossings are the same four operations
   abbrev pub OneCrossing : Type 0
   OneCrossing = (a : Option Op) (b : Op) (c : Option Op) (d : Op) (e : Option Op) (f : Op) (g : Option Op) (h : Op)
       → IsFirstCrossingFrom (initial_of claim ops) (start_of claim ops) ops a b c d → IsFirstCrossingFrom (initial_of claim ops) (start_of claim ops) ops e f g h → (a ≡ e) × (b ≡ f) × (c ≡ g) × (d ≡ h)
 
   same_crossing : OneCrossing → (a b c d e f g h : Side) → IsCrossed a b c d → IsCrossed e f g h → Crossing a b c d ≡ Crossing e f g h
   same_crossing one a b c d e f g h x y =
-      let s = one (op_at a) x.second (op_at c) x.fourth (op_at e) y.second (op_at g) y.fourth x.first y.first in
+      let s = one (side_op a) x.second (side_op c) x.fourth (side_op e) y.second (side_op g) y.fourth x.first y.first in
       let p : a ≡ e = same_side a e s.0 in
       let q : b ≡ f = x.b_is ∙ ap ItsOp s.1 ∙ sym y.b_is in
       let r : c ≡ g = same_side c g s.2 in
       let t : d ≡ h = x.d_is ∙ ap ItsOp s.3 ∙ sym y.d_is in
       rw (p, q, r, t) refl
 
-  -- there is no split where there is a first unwritten read
+  -- there is no split where an unwritten read is the first
   whole_where_unwritten : (r a b : Op) → unwritten_of claim ops ≡ Some r → first_split claim ops ≢ Some (a, b)
   whole_where_unwritten r a b e f = by_known claim.known refl e f
     where

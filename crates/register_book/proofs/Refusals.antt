@@ -1,4 +1,4 @@
--- What a check answered is its refusal.
+-- The error of a check is the refusal.
 use Rattle.std.proofs.Common.{◌≡◌, Option, Some, None, refl}
 use Rattle.std.specs.Result.{result_err}
 use Rattle.intervals.specs.declared.refusal.Refusal.{Refusal}

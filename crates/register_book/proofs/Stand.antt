@@ -4,7 +4,7 @@ use Rattle.std.specs.Prelude.{All, Contains}
 use Rattle.std.proofs.lemmas.List.Elements.{All-append, All-cons, All-nil, All-contains, All-contains_itself, All-filter}
 use Rattle.intervals.specs.declared.operation.Op.{Op}
 use Rattle.intervals.specs.Operation.{judged}
-use Rattle.intervals.specs.Terms.{Terms}
+use Rattle.intervals.specs.Terms.{ClaimModel}
 use Rattle.intervals.specs.Judging.{first_wrong}
 use Rattle.zones.specs.AtFirst.{first_split, initial_of, start_of, unwritten_of}
 use Rattle.zones.specs.Fault.{first_early}
@@ -13,20 +13,20 @@ use Rattle.register_book.specs.declared.fault.Side.{Side}
 use Rattle.register_book.specs.declared.fault.Side.TheVariants.{Op as ItsOp, Initial}
 use Rattle.register_book.specs.declared.fault.Witness.{Witness}
 use Rattle.register_book.specs.declared.fault.Witness.TheVariants.{Wrong, Unwritten, Split, Early, Crossing}
-use Rattle.register_book.specs.Fault.{IsWitness, op_at, ops_at, operations_of}
+use Rattle.register_book.specs.Fault.{IsWitness, side_op, ops_at, operations_of}
 
-module _ (P : Op → Type 0) (claim : Terms) (ops : List Op) (each : (op : Op) → Contains ops op → P op) where
+module _ (P : Op → Type 0) (claim : ClaimModel) (ops : List Op) (each : (op : Op) → Contains ops op → P op) where
   one : (op : Op) → Contains ops op → All P (op ∷ [])
   one op h = All-cons P op [] (each op h) (All-nil P)
 
   judged_stands : (op : Op) → Contains (judged ops) op → Contains ops op
   judged_stands op h = All-contains (Contains ops) (judged ops) op (All-filter _ (Contains ops) ops (All-contains_itself ops)) h
 
-  at_side : (side : Side) → StandsJudged ops (op_at side) → All P (ops_at side)
+  at_side : (side : Side) → StandsJudged ops (side_op side) → All P (ops_at side)
   at_side (ItsOp op) h = one op (judged_stands op h)
   at_side Initial h = All-nil P
 
-  -- what holds of each operation that stands holds of each of a witness
+  -- what holds of each operation that stands holds of each operation of a witness
   pub of_witness : ((r : Op) → first_wrong claim ops ≡ Some r → Contains ops r)
       → ((r : Op) → unwritten_of claim ops ≡ Some r → Contains ops r)
       → ((a b : Op) → first_split claim ops ≡ Some (a, b) → Contains ops a × Contains ops b)
@@ -38,7 +38,7 @@ module _ (P : Op → Type 0) (claim : Terms) (ops : List Op) (each : (op : Op) �
   of_witness wrong unwritten split early crossing (Split a b) h = let s = split a b h.1 in All-cons P a (b ∷ []) (each a s.0) (one b s.1)
   of_witness wrong unwritten split early crossing (Early r w) h = let s = early r w h.3 in All-cons P r (w ∷ []) (each r s.0) (one w s.1)
   of_witness wrong unwritten split early crossing (Crossing a (ItsOp b) c (ItsOp d)) h =
-      let x = crossing (op_at a) b (op_at c) d h.4 in
+      let x = crossing (side_op a) b (side_op c) d h.4 in
       let front = All-append P (ops_at a) (b ∷ []) (at_side a x.a_stands) (one b (judged_stands b x.b_stands)) in
       All-append P (ops_at a ++ (b ∷ []) ++ ops_at c) (d ∷ [])
       (All-append P (ops_at a ++ (b ∷ [])) (ops_at c) front (at_side c x.c_stands)) (one d (judged_stands d x.d_stands))

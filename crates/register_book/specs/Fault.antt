@@ -1,10 +1,10 @@
--- Which operations show that a register breaks its claim.
+-- The operations that show that a register breaks its claim.
 use Rattle.std.specs.Prelude.{◌≡◌, ◌≢◌, true, false, Contains, List, [], ◌∷◌, ◌++◌, Option, Some, None}
 use Rattle.intervals.specs.declared.operation.Op.{Op}
 use Rattle.intervals.specs.declared.claim.Holder.{Holder}
 use Rattle.intervals.specs.declared.claim.Holder.TheVariants as holders
 use Rattle.intervals.specs.declared.claim.Kind.TheVariants.{Atomic}
-use Rattle.intervals.specs.Terms.{Terms}
+use Rattle.intervals.specs.Terms.{ClaimModel}
 use Rattle.intervals.specs.Judging.{first_wrong}
 use Rattle.zones.specs.AtFirst.{IsSplit, first_split, initial_of, start_of, unwritten_of}
 use Rattle.zones.specs.Fault.{IsUnwritten, IsEarly, first_early}
@@ -16,39 +16,38 @@ use Rattle.register_book.specs.declared.fault.Side.TheVariants as sides
 use Rattle.register_book.specs.declared.fault.Witness.{Witness}
 use Rattle.register_book.specs.declared.fault.Witness.TheVariants.{Wrong, Unwritten, Split, Early, Crossing}
 
--- an operation is itself, and none stands for the initial write
-abbrev pub op_at : Side → Option Op
-op_at (sides.Op op) = Some op
-op_at sides.Initial = None
+-- the operation of a side of a crossing, or none for the initial write
+abbrev pub side_op : Side → Option Op
+side_op (sides.Op op) = Some op
+side_op sides.Initial = None
 
--- the operations that show it. Safe and regular: the wrong read that ended first. Atomic: the unwritten
--- read that ended first, or where nobody knows the initial value the first two reads of different values
--- that no write carries; where there is none of these the early read that ended first, with its write; where
--- there is no such either the crossing of the first conflict, whose second and fourth are operations
-abbrev pub IsWitness : Terms → List Op → Witness → Type 0
+-- the operations of the witness show that the register fails. Safe or regular: the wrong read that ended first. Atomic,
+-- the first of these that there is: the unwritten read that ended first, the first split, the early read that ended
+-- first with its write, the crossing of the first conflict, with b and d operations
+abbrev pub IsWitness : ClaimModel → List Op → Witness → Type 0
 IsWitness claim ops (Wrong read) = (claim.kind ≢ Atomic) × (first_wrong claim ops ≡ Some read)
 IsWitness claim ops (Unwritten read) = (claim.kind ≡ Atomic) × (unwritten_of claim ops ≡ Some read)
 IsWitness claim ops (Split first second) = (claim.kind ≡ Atomic) × (first_split claim ops ≡ Some (first, second))
 IsWitness claim ops (Early read write) = (claim.kind ≡ Atomic) × (unwritten_of claim ops ≡ None) × (first_split claim ops ≡ None) × (first_early ops ≡ Some (read, write))
 IsWitness claim ops (Crossing a (sides.Op b) c (sides.Op d)) =
     (claim.kind ≡ Atomic) × (unwritten_of claim ops ≡ None) × (first_split claim ops ≡ None) × (first_early ops ≡ None)
-    × IsFirstCrossingFrom (initial_of claim ops) (start_of claim ops) ops (op_at a) b (op_at c) d
+    × IsFirstCrossingFrom (initial_of claim ops) (start_of claim ops) ops (side_op a) b (side_op c) d
 IsWitness claim ops (Crossing a b c d) = ⊥
 
--- an unwritten read, two reads of different values that no write carries where nobody knows the initial value, an
--- early read with the write of its value, or four operations that cross: each excludes every arrangement
-abbrev pub IsExcluding : Terms → List Op → Witness → Type 0
+-- the witness alone excludes every arrangement: an unwritten read where the initial value is known, a split where it is
+-- not, an early read with the write of its value, or a crossing
+abbrev pub IsExcluding : ClaimModel → List Op → Witness → Type 0
 IsExcluding claim ops (Wrong read) = ⊥
 IsExcluding claim ops (Unwritten read) = (claim.known ≡ true) × Contains ops read × IsUnwritten claim.initial ops read
 IsExcluding claim ops (Split first second) = (claim.known ≡ false) × IsSplit claim ops first second
 IsExcluding claim ops (Early read write) = Contains ops read × Contains ops write × IsEarly read write
-IsExcluding claim ops (Crossing a (sides.Op b) c (sides.Op d)) = IsCrossing (start_of claim ops) ops (op_at a) b (op_at c) d
+IsExcluding claim ops (Crossing a (sides.Op b) c (sides.Op d)) = IsCrossing (start_of claim ops) ops (side_op a) b (side_op c) d
 IsExcluding claim ops (Crossing a b c d) = ⊥
 
--- an operation by its id, or the register at first
-abbrev pub holder_of : Side → Holder
-holder_of (sides.Op op) = holders.Op op.id
-holder_of sides.Initial = holders.Initial
+-- a side of a crossing by id: the id of its operation, or that it is the initial write
+abbrev pub side_holder : Side → Holder
+side_holder (sides.Op op) = holders.Op op.id
+side_holder sides.Initial = holders.Initial
 
 -- the fault of a witness: each operation replaced by its id
 abbrev pub ids_of : Witness → Fault
@@ -56,14 +55,14 @@ ids_of (Wrong read) = faults.Wrong read.id
 ids_of (Unwritten read) = faults.Unwritten read.id
 ids_of (Split first second) = faults.Split first.id second.id
 ids_of (Early read write) = faults.Early read.id write.id
-ids_of (Crossing a b c d) = faults.Crossing (holder_of a) (holder_of b) (holder_of c) (holder_of d)
+ids_of (Crossing a b c d) = faults.Crossing (side_holder a) (side_holder b) (side_holder c) (side_holder d)
 
--- the operation of a side, where it is one
+-- the operation of a side of a crossing as a list, empty for the initial write
 abbrev pub ops_at : Side → List Op
 ops_at (sides.Op op) = op ∷ []
 ops_at sides.Initial = []
 
--- the operations of a witness
+-- the operations of a witness, as a list
 abbrev pub operations_of : Witness → List Op
 operations_of (Wrong read) = read ∷ []
 operations_of (Unwritten read) = read ∷ []

@@ -1,6 +1,6 @@
--- what the public clauses speak of
+-- words of the public clauses
 pub mod Reply
 pub mod Fault
-pub mod Kept
+pub mod BookModel
 -- words of private clauses
 pub mod Judge

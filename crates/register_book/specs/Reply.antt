@@ -4,15 +4,15 @@ use Rattle.intervals.specs.declared.claim.Kind.{Kind}
 use Rattle.intervals.specs.declared.edit.Edit.{Edit}
 use Rattle.intervals.specs.declared.edit.Edit.TheVariants.{Append, Amend, Withdraw, Claim}
 use Rattle.intervals.specs.Edit.{new_op}
-use Rattle.intervals.specs.Terms.{Claimed}
+use Rattle.intervals.specs.Terms.{RegisterState}
 use Rattle.intervals.specs.Refusal.{reply_to, after_edit}
 use Rattle.intervals.specs.Kind.{Holds}
 use Rattle.register_book.specs.declared.reply.Reply.{Reply}
 use Rattle.register_book.specs.declared.reply.Reply.TheVariants.{Accepted, Refused}
 
--- the first refusal whose condition holds; where there is none, whether the register keeps its claim
--- after the edit
-abbrev pub IsReply : Claimed → Edit → Reply → Type 0
+-- the reply to the edit: the first refusal whose condition holds, or, where there is none, that the edit is accepted,
+-- and whether the register keeps its claim after it
+abbrev pub IsReply : RegisterState → Edit → Reply → Type 0
 IsReply held edit (Refused refusal) = reply_to held.claim held.ops edit ≡ Some refusal
 IsReply held edit (Accepted holds) =
     (reply_to held.claim held.ops edit ≡ None) × (IsTrue holds ↔ Holds (after_edit held edit).claim (after_edit held edit).ops)
@@ -24,6 +24,6 @@ IsTurn kind (Amend id change) = ⊥
 IsTurn kind (Withdraw id) = ⊥
 IsTurn kind (Claim other) = other ≢ kind
 
--- an edit that may want memory: it leaves an operation, or it claims another kind
-abbrev pub TakesMemory : Claimed → Edit → Type 0
+-- the edit may need memory: it appends or amends an operation, or it claims another kind
+abbrev pub TakesMemory : RegisterState → Edit → Type 0
 TakesMemory held edit = IsSome (new_op held.ops edit) ⊎ IsTurn held.claim.kind edit

@@ -1,13 +1,15 @@
+//! The book of one register: its calls, and what they promise.
+
 ghost use Rattle.std.specs.Prelude.{◌≡◌, ◌≢◌, ◌↔◌, ◌+◌, ◌≤◌, [], All, Some, None, false, length, IfOk, IfSome, OnOk, OnErr, IsNone, IsTrue, option_copied};
 ghost use Rattle.intervals.specs.Terms.{terms_of, IsKnownUnlessAtomic};
 ghost use Rattle.intervals.specs.Edit.{op_of, is_claim};
 ghost use Rattle.intervals.specs.Target.{IsTargetOf};
 ghost use Rattle.intervals.specs.Refusal.{reply_to, to_kind_refusal, carried_out, after_edit};
 ghost use Rattle.intervals.specs.Kind.{Holds};
-ghost use Rattle.intervals.specs.Table.{standing};
+ghost use Rattle.intervals.specs.Table.{ops_in_slots};
 ghost use Rattle.zones.specs.AtFirst.{with_start};
 ghost use Rattle.zones.specs.Turn.{IsOrder};
-ghost use Rattle.register_book.specs.Kept.{claimed_of, most_steps};
+ghost use Rattle.register_book.specs.BookModel.{claimed_of, most_steps};
 ghost use Rattle.register_book.specs.Reply.{IsReply, TakesMemory};
 ghost use Rattle.register_book.specs.declared.fault.Witness.{Witness as AWitness};
 ghost use Rattle.register_book.specs.Fault.{IsWitness, ids_of, operations_of};
@@ -20,7 +22,7 @@ use intervals::{Claim, Edit, Kind, Memory, Op, OpId, Target};
 use std::alloc::Global;
 use std::marker::Model;
 
-/// A register, and the operations that stand.
+/// One register: its claim, the operations that stand, and the verdict.
 #[derive(Drop)]
 pub struct RegisterBook<'t> {
     alloc: Global,
@@ -30,9 +32,9 @@ pub struct RegisterBook<'t> {
 }
 
 impl<'t> Model for RegisterBook<'t> {
-    ghost use Rattle.register_book.specs.Kept.{Kept};
+    ghost use Rattle.register_book.specs.BookModel.{BookModel};
 
-    ghost Value = { Kept };
+    ghost Value = { BookModel };
 
     ghost use Rattle.intervals.specs.Standing.{StandApart};
     ghost use Rattle.register_book.specs.Judge.{held_by, kept_by, IsOfItsKind, HasNonePrepared};
@@ -43,8 +45,8 @@ impl<'t> Model for RegisterBook<'t> {
 }
 
 impl<'t> RegisterBook<'t> {
-    /// A book of no operations. It keeps a claim of its own that says the same. Of a safe or regular register the
-    /// initial value is known.
+    /// A book of no operations, with a copy of the claim. The initial value of a safe or regular register must be
+    /// known. An error says that memory was refused, as in the other calls.
     pub fn new(alloc: Global, claim: &Claim) -> Result<Self, Memory>
         requires { IsKnownUnlessAtomic (terms_of claim.now) }
         ensures made { IfOk result (λ book. book ≡ record { claim = terms_of claim.now; ops = []; steps = 0 }) }
@@ -70,23 +72,24 @@ impl<'t> RegisterBook<'t> {
         self.judge.operations().len()
     }
 
-    /// The operations in the order of their appends; a place that a withdrawn one left is empty.
+    /// The operations in the order of their appends; the slot of a withdrawn one is empty.
     pub fn slots(&self) -> &[Option<Op<'t>>]
-        ensures { standing result.now ≡ self.now.ops }
+        ensures { ops_in_slots result.now ≡ self.now.ops }
     {
         self.judge.operations().slots()
     }
 
-    /// The operation of that id, where it stands.
+    /// The operation of that id, if it stands.
     pub fn get(&self, id: OpId) -> Option<&Op<'t>>
         ensures { option_copied result ≡ op_of self.now.ops id }
     {
         self.judge.operations().get(id)
     }
 
-    /// Carries an edit out and says whether the register holds since, or says why it is refused. To
-    /// withdraw an operation takes no memory, and neither does a claim of the kind that stands, which is a look
-    /// at it. A claim of another kind judges all operations anew, and until that is done the old judge stands.
+    /// Carries an edit out and returns whether the register holds after it, or returns why the edit is refused. A
+    /// withdrawal takes no memory, and neither does a claim of the kind that the register has already, which only
+    /// asks for the verdict. A claim of another kind judges all operations again; the old judge is kept until that
+    /// is done.
     pub fn apply(&mut self, edit: Edit<'t>) -> Result<Reply, Memory>
         ensures reply { IfOk result (λ reply. IsReply (claimed_of self.old) edit.entry reply) }
         ensures after { OnOk result (claimed_of self.new ≡ after_edit (claimed_of self.old) edit.entry) }
@@ -142,8 +145,8 @@ impl<'t> RegisterBook<'t> {
         Ok(())
     }
 
-    /// How many levels the trees of zones have gone down for edits so far, that of each atomic kind that was
-    /// claimed since the book began.
+    /// How many levels edits have gone down trees of zones since the book began, in the judge of each claim to be
+    /// atomic; at most `u64::MAX`.
     pub fn steps(&self) -> u64
         ensures { result ≡ self.now.steps }
     {
@@ -158,7 +161,7 @@ impl<'t> RegisterBook<'t> {
         self.judge.holds()
     }
 
-    /// Which operations show that the register fails, by their ids.
+    /// The operations that show that the register fails, by their ids; `None` where it holds.
     pub fn fault(&self) -> Option<Fault>
         ensures fault { IfSome result (λ fault. (witness : AWitness) × IsWitness self.now.claim self.now.ops witness × (ids_of witness ≡ fault)) }
         ensures none { IsNone result ↔ Holds self.now.claim self.now.ops }
@@ -167,8 +170,8 @@ impl<'t> RegisterBook<'t> {
         Some(witness.ids())
     }
 
-    /// Which operations show that the register fails. They are lent as long as the trace, and not by
-    /// the book.
+    /// The operations that show that the register fails; `None` where it holds. They are lent as long as the
+    /// trace, and not by the book.
     pub fn witness(&self) -> Option<Witness<'t>>
         ensures witness { IfSome result (IsWitness self.now.claim self.now.ops) }
         ensures none { IsNone result ↔ Holds self.now.claim self.now.ops }
@@ -178,8 +181,9 @@ impl<'t> RegisterBook<'t> {
         self.judge.witness()
     }
 
-    /// An order of the operations that shows that an atomic register holds, by their ids: the clusters
-    /// by the left edges of their zones, in each the write and then its reads by their beginnings.
+    /// An order of the operations that shows that an atomic register holds, by their ids: the clusters by the left
+    /// edges of their zones, in each the write and then its reads by their beginnings. `None` where the register
+    /// is not atomic or does not hold.
     pub fn order(&self, alloc: Global) -> Result<Option<Vec<OpId>>, Memory>
         ensures order { IfOk result (λ found. IfSome found (λ ids. IsOrder (with_start self.now.claim self.now.ops) self.now.ops ids.items)) }
         ensures none { IfOk result (λ found. IsNone found ↔ ¬ ((self.now.claim.kind ≡ Kind.Atomic) × Holds self.now.claim self.now.ops)) }

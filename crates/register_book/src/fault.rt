@@ -1,30 +1,32 @@
+//! What shows that a register breaks its claim: the operations, or their ids.
+
 ghost use Rattle.std.specs.Prelude.{◌≡◌};
-ghost use Rattle.register_book.specs.Fault.{ids_of, holder_of};
+ghost use Rattle.register_book.specs.Fault.{ids_of, side_holder};
 
 use intervals::{Holder, Op, OpId};
 
-/// Which operations show that a register breaks its claim.
+/// The operations that show that a register breaks its claim, by their ids.
 #[derive(Clone, Copy, Debug, PartialEq, Eq)]
 pub enum Fault {
     /// Safe or regular: the wrong read that ended first.
     Wrong(OpId),
-    /// Atomic, where the initial value is known: of the reads of other values that nothing wrote the one that
-    /// ended first.
+    /// Atomic, where the initial value is known: of the reads of a value that is not the initial one and that
+    /// nothing wrote, the one that ended first.
     Unwritten(OpId),
-    /// Atomic, where nobody knows the initial value: of the reads of values that nothing wrote the one that ended
+    /// Atomic, where nobody knows the initial value: of the reads of values that nothing wrote, the one that ended
     /// first, and of those of another such value the one that ended first.
     Split {
         first: OpId,
         second: OpId,
     },
-    /// Atomic, where there is neither: of the reads that ended before the write of their value began the one
-    /// that ended first, and that write.
+    /// Atomic, where there is neither: of the reads that ended before the write of their value began, the one that
+    /// ended first, and that write.
     Early {
         read: OpId,
         write: OpId,
     },
-    /// Atomic, where there is none of these: `a` and `d` are of one value, `b` and `c` of another; `a`
-    /// precedes `b` and `c` precedes `d`.
+    /// Atomic, where there is none of these: `a` and `d` are of one value, `b` and `c` of another, `a` precedes
+    /// `b` and `c` precedes `d`. `a` or `c` may be the initial write, which precedes all operations.
     Crossing {
         a: Holder,
         b: Holder,
@@ -33,14 +35,15 @@ pub enum Fault {
     },
 }
 
-/// An operation, or the register's value before any write.
+/// One of the four in a crossing: an operation, or the initial write.
 #[derive(Clone, Copy, Debug)]
 pub enum Side<'t> {
     Op(Op<'t>),
     Initial,
 }
 
-/// The operations that show that a register breaks its claim. It is lent as long as the trace.
+/// The operations that show that a register breaks its claim, in the cases of `Fault`. They are lent as long as
+/// the trace.
 #[derive(Clone, Copy, Debug)]
 pub enum Witness<'t> {
     Wrong(Op<'t>),
@@ -62,7 +65,7 @@ pub enum Witness<'t> {
 }
 
 impl Witness<'_> {
-    /// The fault that it shows.
+    /// The fault: each operation replaced by its id.
     pub fn ids(&self) -> Fault
         ensures { result ≡ ids_of self.now }
     {
@@ -88,7 +91,7 @@ impl Witness<'_> {
 }
 
 fn holder(side: &Side) -> Holder
-    ensures { result ≡ holder_of side.now }
+    ensures { result ≡ side_holder side.now }
 {
     match side {
         Side::Op(op) => Holder::Op(op.id),

@@ -1,4 +1,4 @@
-//! The judge of a register's kind, asked alike whichever it is.
+//! The judge of a register, for one writer or for many, with the same calls for both.
 
 ghost use Rattle.std.specs.Prelude.{◌≡◌, ◌≢◌, ◌↔◌, ◌+◌, ◌≤◌, [], None, IfOk, IfSome, OnOk, OnErr, IsNone, IsSome, IsTrue};
 ghost use Rattle.intervals.specs.Terms.{terms_of, IsKnownUnlessAtomic};
@@ -10,7 +10,7 @@ ghost use Rattle.intervals.specs.Kind.{Holds};
 ghost use Rattle.zones.specs.AtFirst.{with_start};
 ghost use Rattle.zones.specs.Turn.{IsOrder};
 ghost use Rattle.register_book.specs.Judge.{held_by, IsOfItsKind, HasNonePrepared};
-ghost use Rattle.register_book.specs.Kept.{claimed_of, most_steps};
+ghost use Rattle.register_book.specs.BookModel.{claimed_of, most_steps};
 ghost use Rattle.register_book.specs.Fault.{IsWitness};
 
 use crate::Witness;
@@ -21,7 +21,7 @@ use safe_regular::SingleWriterJudge;
 use std::alloc::Global;
 use zones::Clusters;
 
-/// The operations of a register: one writer's where it claims to be safe or regular, else many writers'.
+/// The operations of a register, with what judges them: `One` where it claims to be safe or regular, else `Many`.
 #[derive(Drop)]
 pub enum Judge<'t> {
     One(SingleWriterJudge<'t>),
@@ -43,7 +43,7 @@ impl<'t> Judge<'t> {
         }
     }
 
-    /// A judge of the same operations under a kind that nothing refuses to claim.
+    /// A judge of the same operations under another kind. They are appended to it again, in their order.
     pub fn as_kind(&self, alloc: Global, kind: Kind) -> Result<Self, Memory>
         requires apart { StandApart (held_by self.now).claim (held_by self.now).ops }
         requires accepted { to_kind_refusal kind (held_by self.now).claim (held_by self.now).ops ≡ None }
@@ -82,7 +82,7 @@ impl<'t> Judge<'t> {
         }
     }
 
-    /// The first refusal of the write that the claim decides.
+    /// The first of X6 to X9 that the write meets; a read meets none.
     pub fn check_write(&self, op: &Op) -> Result<(), Refusal>
         ensures { result ≡ ok_unless (write_refusal (held_by self.now).claim (held_by self.now).ops op.now) }
     {
@@ -92,8 +92,8 @@ impl<'t> Judge<'t> {
         }
     }
 
-    /// Carries out an edit that nothing refuses: what it needs is made room for first, and then nothing
-    /// is refused.
+    /// Carries out an edit that nothing refuses. The room that it needs is made first, so where memory is refused
+    /// nothing has changed.
     pub fn admit(&mut self, edit: &Edit<'t>, target: &Target<'t>) -> Result<(), Memory>
         requires accepted { reply_to (held_by self.old).claim (held_by self.old).ops edit.now ≡ None }
         requires target { IsTargetOf (held_by self.old).ops edit.now target.now }

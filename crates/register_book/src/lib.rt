@@ -8,26 +8,26 @@
 //!     book.apply(read)?                   // Accepted { holds: true }: within the write
 //!     book.apply(read_returns_12)?        // Accepted { holds: false }: 12 is none of the digits
 //!     book.fault()                        // Some(Fault::Wrong(..)): the read, by its id
-//!     book.witness()                      // the read as it stands, lent as long as the trace
+//!     book.witness()                      // the read itself, lent as long as the trace
 //!
-//! The second row of `tests.rt` is this history, and the rows below it show each refusal. An atomic
-//! register that holds gives an order of its operations too; one that fails names an unwritten read, an
-//! early one, or four operations that no order has room for: the rows that begin with `atomic`. A claim of
-//! another kind is an edit like the others: the operations are judged by it from there on.
+//! The second row of `books.rt` in the crate `judge_tests` is this history, and the rows below it show each
+//! refusal. An atomic register that holds gives an order of its operations too. One that fails names an unwritten
+//! read, an early one, or four operations that no order has room for: the rows that begin with `atomic`. A claim of
+//! another kind is an edit like the others: the operations are judged by it from then on.
 //!
 //! The initial value of an atomic register may be unknown: the rows that begin with `atomic unknown`. Such a
 //! register holds where there is an order for some initial value that no write carries. So all reads of values
 //! that nothing wrote must return one value, which is then the initial one, and two that differ are its fault.
 //! It cannot be claimed to be safe or regular.
 //!
-//! Begin with `specs/Reply.antt` and `specs/Fault.antt`: what an edit is answered, and which operations
-//! show that a register fails. Their words are those of `intervals` and `zones`. Then come the calls, in
-//! `book.rt`, and what the words come to, in `laws.rt`.
+//! Begin with `specs/Reply.antt` and `specs/Fault.antt`: the reply to an edit, and which operations show that
+//! a register fails. They use the words of `intervals` and `zones`. Then come the calls, in `book.rt`, and what
+//! follows from the words, in `laws.rt`.
 //!
-//! The rest is the book's own affair. `judge.rt` asks the judge of the claimed kind: `zones::Clusters`
-//! of an atomic register, `safe_regular::SingleWriterJudge` of the other two. Both keep the operations,
-//! make room for an edit first and change in place then. `refused.rt` asks them and the table why an edit is refused. `many_writers.rt` and `one_writer.rt` find
-//! the operations of a fault.
+//! The rest is private. `judge.rt` has the judge of the claimed kind: `zones::Clusters` of an atomic register,
+//! `safe_regular::SingleWriterJudge` of the other two. Both keep the operations; they make room for an edit
+//! first and change in place then. `refused.rt` asks the judge and its table why an edit is refused.
+//! `many_writers.rt` and `one_writer.rt` find the operations of a fault.
 #![tactic(auto)]
 
 mod book;
@@ -42,6 +42,3 @@ mod reply;
 pub use book::RegisterBook;
 pub use fault::{Fault, Side, Witness};
 pub use reply::Reply;
-
-#[cfg(test)]
-mod tests;

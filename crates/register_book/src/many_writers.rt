@@ -3,9 +3,9 @@
 ghost use Rattle.std.specs.Prelude.{◌≡◌, ◌↔◌, IfSome, IsNone};
 ghost use Rattle.intervals.specs.Standing.{HasDistinctIds};
 ghost use Rattle.intervals.specs.Kind.{Holds};
-ghost use Rattle.zones.specs.AtFirst.{first_split as first_split_of, unwritten_of};
-ghost use Rattle.zones.specs.Fault.{first_early as first_early_of};
-ghost use Rattle.register_book.specs.Fault.{IsWitness, op_at};
+ghost use Rattle.zones.specs.AtFirst.{first_split, unwritten_of};
+ghost use Rattle.zones.specs.Fault.{first_early};
+ghost use Rattle.register_book.specs.Fault.{IsWitness, side_op};
 ghost use Rattle.register_book.specs.Judge.{pair_by};
 
 use crate::{Side, Witness};
@@ -16,7 +16,7 @@ use zones::laws::{
     first_unwritten_ended_first,
 };
 
-/// The witness of the first fault, none where the register holds.
+/// The witness of the register's fault, or `None` where the register holds.
 pub fn witness_of<'t>(clusters: &Clusters<'t>) -> Option<Witness<'t>>
     requires kind { clusters.now.claim.kind ≡ Kind.Atomic }
     requires ids { HasDistinctIds clusters.now.ops }
@@ -47,7 +47,7 @@ pub fn witness_of<'t>(clusters: &Clusters<'t>) -> Option<Witness<'t>>
 
 /// The operation, or the initial write where none is given.
 fn side_of<'t>(op: Option<Op<'t>>) -> Side<'t>
-    ensures { op_at result ≡ op.entry }
+    ensures { side_op result ≡ op.entry }
 {
     match op {
         Some(op) => Side::Op(op),
@@ -67,7 +67,7 @@ fn first_unwritten<'t>(clusters: &Clusters<'t>) -> Option<Op<'t>>
 /// Where nobody knows the initial value, the first two reads of different values that no write carries.
 fn first_split<'t>(clusters: &Clusters<'t>) -> Option<(Op<'t>, Op<'t>)>
     requires { HasDistinctIds clusters.now.ops }
-    ensures { result ≡ first_split_of clusters.now.claim clusters.now.ops }
+    ensures { result ≡ first_split clusters.now.claim clusters.now.ops }
 {
     first_split_ended_first();
     ops_by(clusters.operations(), clusters.first_split())
@@ -76,13 +76,13 @@ fn first_split<'t>(clusters: &Clusters<'t>) -> Option<(Op<'t>, Op<'t>)>
 /// The early read that ended first, and the write of its value.
 fn first_early<'t>(clusters: &Clusters<'t>) -> Option<(Op<'t>, Op<'t>)>
     requires { HasDistinctIds clusters.now.ops }
-    ensures { result ≡ first_early_of clusters.now.ops }
+    ensures { result ≡ first_early clusters.now.ops }
 {
     first_early_ended_first();
     ops_by(clusters.operations(), clusters.first_early())
 }
 
-/// The operations of two ids, where they are given.
+/// The operations of an optional pair of ids; `None` where one is not found.
 fn ops_by<'t>(ops: &OpTable<'t>, ids: Option<(OpId, OpId)>) -> Option<(Op<'t>, Op<'t>)>
     ensures { result ≡ pair_by ops.now.ops ids }
 {

@@ -9,7 +9,7 @@ use intervals::Kind;
 use intervals::laws::{regular_without_wrong_reads, safe_without_wrong_reads};
 use safe_regular::SingleWriterJudge;
 
-/// The wrong read that ended first, none where the register holds.
+/// The wrong read that ended first, or `None` where the register holds.
 pub fn wrong_read_of<'t>(judge: &SingleWriterJudge<'t>) -> Option<Witness<'t>>
     requires { judge.now.claim.kind ≢ Kind.Atomic }
     ensures witness { IfSome result (IsWitness judge.now.claim judge.now.ops) }

@@ -1,4 +1,4 @@
-//! Which edits are refused.
+//! Why an edit is refused.
 
 ghost use Rattle.std.specs.Prelude.{◌≡◌, ◌≢◌, [], None, IfOk, OnErr, IsTrue, option_map};
 ghost use Rattle.intervals.specs.Target.{IsTargetOf};
@@ -12,8 +12,8 @@ use intervals::laws::{first_overlap_began_first, first_repeat_was_appended_first
 use intervals::{Edit, Kind, Memory, Op, OpTable, Refusal, Target};
 use std::alloc::Global;
 
-/// The first refusal that holds of the edit. A claim of a register to be atomic that was not alone may want memory,
-/// and then nothing refuses it.
+/// The first refusal that the edit meets. Memory may be refused only where a register that is not atomic is
+/// claimed to be atomic, and then the edit meets no refusal.
 pub fn refusal_of<'t>(
     alloc: Global,
     judge: &Judge<'t>,
@@ -37,7 +37,7 @@ pub fn refusal_of<'t>(
     claim_refusal_of(alloc, judge, edit)
 }
 
-/// The first refusal that the list alone decides.
+/// The first of X1 to X5, those that depend on the operations alone.
 #[tactic(auto, using(crate::proofs::Refusals::err_ok_unless))]
 fn list_refusal<'t>(ops: &OpTable<'t>, edit: &Edit<'t>, target: &Target<'t>) -> Option<Refusal>
     requires { IsTargetOf ops.now.ops edit.now target.now }
@@ -46,7 +46,7 @@ fn list_refusal<'t>(ops: &OpTable<'t>, edit: &Edit<'t>, target: &Target<'t>) -> 
     ops.check(edit, target).err()
 }
 
-/// The first refusal of the new operation of an edit, where there is one and it is a write.
+/// The first of X6 to X9 that the new operation of an edit meets, if there is one.
 fn new_write_refusal_of<'t>(judge: &Judge<'t>, new: &Option<Op<'t>>) -> Option<Refusal>
     ensures { result ≡ new_write_refusal (held_by judge.now).claim (held_by judge.now).ops new.now }
 {
@@ -63,7 +63,7 @@ fn judged_refusal(judge: &Judge, op: &Op) -> Option<Refusal>
     judge.check_write(op).err()
 }
 
-/// The first refusal that a claim meets.
+/// The first of X10, X11, X14, X12 and X13 that a claim meets; another edit meets none of them.
 fn claim_refusal_of<'t>(
     alloc: Global,
     judge: &Judge<'t>,
@@ -86,7 +86,8 @@ fn claim_refusal_of<'t>(
     }
 }
 
-/// The first refusal of a claim to be safe or regular. Of such a register no writes overlap.
+/// The first of X11, X14 and X12 that a claim to be safe or regular meets. A register that is so already has no
+/// writes that overlap, so X12 is not asked.
 fn refusal_of_one_writer(alloc: Global, judge: &Judge) -> Option<Refusal>
     requires { StandApart (held_by judge.now).claim (held_by judge.now).ops }
     ensures { result ≡ one_writer_refusal (held_by judge.now).claim (held_by judge.now).ops }
@@ -105,7 +106,7 @@ fn refusal_of_one_writer(alloc: Global, judge: &Judge) -> Option<Refusal>
     Some(Refusal::ClaimOverlap(write, other))
 }
 
-/// The refusal of a claim to be atomic. Of such a register no value is repeated.
+/// X13, where a claim to be atomic meets it. A register that is atomic already has no value that is repeated.
 fn refusal_of_atomic(alloc: Global, judge: &Judge) -> Result<Option<Refusal>, Memory>
     requires { StandApart (held_by judge.now).claim (held_by judge.now).ops }
     ensures refusal { IfOk result (λ refusal. refusal ≡ option_map repeat_claimed (first_repeat (held_by judge.now).claim [] (held_by judge.now).ops)) }

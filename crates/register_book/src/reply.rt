@@ -1,10 +1,12 @@
+//! The reply to an edit of a register: accepted or refused.
+
 use intervals::Refusal;
 
-/// What an edit is answered.
+/// The reply to an edit.
 #[derive(Clone, Copy, Debug, PartialEq, Eq)]
 pub enum Reply {
-    /// The edit was carried out: whether the register keeps its claim since.
+    /// The edit was carried out; `holds` says whether the register keeps its claim after it.
     Accepted { holds: bool },
-    /// Nothing was changed.
+    /// Nothing was changed, for this reason.
     Refused(Refusal),
 }

@@ -1,4 +1,4 @@
--- The registers that the test by findings finds are those that fail while all their parts hold.
+-- The registers that the test by findings accepts are those that fail while all their parts hold.
 use Rattle.std.proofs.Common.{◌≡◌, ◌∙◌, ◌<◌, ℕ, zero, suc, ◌+◌, Bool, true, false, List, [], ◌∷◌, ◌++◌, length, drop, Some, refl, sym, ap, subst, arith}
 use Rattle.std.proofs.lemmas.Bool.{false≢true}
 use Rattle.std.proofs.lemmas.List.{append_assoc}
@@ -8,14 +8,14 @@ use Rattle.std.specs.Prelude.{◌&&◌, All, AllPairs, Contains, if◌then◌els
 use Rattle.std.specs.Option.{option_map_or}
 use Rattle.std.specs.List.{list_all, slice_get}
 use Rattle.intervals.specs.declared.operation.RegId.{RegId}
-use Rattle.tower_file.specs.Contents.{Contents, Register}
-use Rattle.shards.specs.Closing.{Ended}
+use Rattle.tower_file.specs.Contents.{TowerModel, Register}
+use Rattle.shards.specs.Closing.{ClosedShard}
 use Rattle.report.specs.declared.finding.Finding.{Finding}
 use Rattle.report.specs.Finding.{AreFindings, IsOfTower, fails_of, fails_in, holds_in}
-use Rattle.report.specs.Culprit.{Keeps, IsCulprit, AreCulprits, is_culprit, culprits_from, culprits_of}
+use Rattle.report.specs.Culprit.{RegisterHolds, IsCulprit, AreCulprits, is_culprit, culprits_from, culprits_of}
 use Rattle.report.proofs.Found.{fails_by, holds_by, by_fails, by_holds}
 
--- the test
+-- the test `is_culprit`
 
 both : (a b : Bool) → (a && b) ≡ true → (a ≡ true) × (b ≡ true)
 both true b is = (refl, is)
@@ -25,18 +25,18 @@ of_both : (a b : Bool) → a ≡ true → b ≡ true → (a && b) ≡ true
 of_both true b first second = second
 of_both false b first second = first
 
-parts_hold : (closed : List Ended) (findings : List Finding) (parts : List RegId) → AreFindings closed 0 findings → list_all (λ part. holds_in (fails_of findings) part.0) parts ≡ true → All (λ part. Keeps closed part.0) parts
-parts_hold closed findings [] found is = All-nil (λ part. Keeps closed part.0)
+parts_hold : (closed : List ClosedShard) (findings : List Finding) (parts : List RegId) → AreFindings closed 0 findings → list_all (λ part. holds_in (fails_of findings) part.0) parts ≡ true → All (λ part. RegisterHolds closed part.0) parts
+parts_hold closed findings [] found is = All-nil (λ part. RegisterHolds closed part.0)
 parts_hold closed findings (part ∷ parts) found is =
     let here = both (holds_in (fails_of findings) part.0) (list_all (λ part. holds_in (fails_of findings) part.0) parts) is in
-    All-cons (λ part. Keeps closed part.0) part parts (holds_by closed findings part.0 found here.0) (parts_hold closed findings parts found here.1)
+    All-cons (λ part. RegisterHolds closed part.0) part parts (holds_by closed findings part.0 found here.0) (parts_hold closed findings parts found here.1)
 
-hold_parts : (tower : Contents) (closed : List Ended) (findings : List Finding) (parts : List RegId) → IsOfTower tower closed → length findings ≡ length tower.registers → AreFindings closed 0 findings → All (λ part. Keeps closed part.0) parts → list_all (λ part. holds_in (fails_of findings) part.0) parts ≡ true
+hold_parts : (tower : TowerModel) (closed : List ClosedShard) (findings : List Finding) (parts : List RegId) → IsOfTower tower closed → length findings ≡ length tower.registers → AreFindings closed 0 findings → All (λ part. RegisterHolds closed part.0) parts → list_all (λ part. holds_in (fails_of findings) part.0) parts ≡ true
 hold_parts tower closed findings [] of_tower many found all = refl
 hold_parts tower closed findings (part ∷ parts) of_tower many found all =
-    of_both (holds_in (fails_of findings) part.0) (list_all (λ part. holds_in (fails_of findings) part.0) parts) (by_holds tower closed findings part.0 of_tower many found (All-head (λ part. Keeps closed part.0) part parts all)) (hold_parts tower closed findings parts of_tower many found (All-tail (λ part. Keeps closed part.0) part parts all))
+    of_both (holds_in (fails_of findings) part.0) (list_all (λ part. holds_in (fails_of findings) part.0) parts) (by_holds tower closed findings part.0 of_tower many found (All-head (λ part. RegisterHolds closed part.0) part parts all)) (hold_parts tower closed findings parts of_tower many found (All-tail (λ part. RegisterHolds closed part.0) part parts all))
 
-culprit_by : (tower : Contents) (closed : List Ended) (findings : List Finding) (number : ℕ) (register : Register) → AreFindings closed 0 findings → slice_get tower.registers number ≡ Some register → is_culprit (fails_of findings) number register ≡ true → IsCulprit tower closed number
+culprit_by : (tower : TowerModel) (closed : List ClosedShard) (findings : List Finding) (number : ℕ) (register : Register) → AreFindings closed 0 findings → slice_get tower.registers number ≡ Some register → is_culprit (fails_of findings) number register ≡ true → IsCulprit tower closed number
 culprit_by tower closed findings number register found at is =
     let here = both (fails_in (fails_of findings) number) (list_all (λ part. holds_in (fails_of findings) part.0) register.parts) is in
     record {
@@ -46,11 +46,11 @@ culprit_by tower closed findings number register found at is =
       parts = parts_hold closed findings register.parts found here.1;
     }
 
-by_culprit : (tower : Contents) (closed : List Ended) (findings : List Finding) (number : ℕ) → IsOfTower tower closed → length findings ≡ length tower.registers → AreFindings closed 0 findings → (is : IsCulprit tower closed number) → is_culprit (fails_of findings) number is.register ≡ true
+by_culprit : (tower : TowerModel) (closed : List ClosedShard) (findings : List Finding) (number : ℕ) → IsOfTower tower closed → length findings ≡ length tower.registers → AreFindings closed 0 findings → (is : IsCulprit tower closed number) → is_culprit (fails_of findings) number is.register ≡ true
 by_culprit tower closed findings number of_tower many found is =
     of_both (fails_in (fails_of findings) number) (list_all (λ part. holds_in (fails_of findings) part.0) is.register.parts) (by_fails tower closed findings number of_tower many found is.fails) (hold_parts tower closed findings is.register.parts of_tower many found is.parts)
 
--- the list
+-- the list `culprits_from`
 
 each_of : (P : ℕ → Type 0) (test : Bool) (number : ℕ) (rest : List RegId) → (test ≡ true → P number) → All (λ (id : RegId). P id.0) rest → All (λ (id : RegId). P id.0) (if test then record { 0 = number } ∷ rest else rest)
 each_of P true number rest here each = All-cons (λ (id : RegId). P id.0) (record { 0 = number }) rest (here refl) each
@@ -92,7 +92,7 @@ all_from fails first (head ∷ registers) zero number register at there is =
 all_from fails first (head ∷ registers) (suc k) number register at there is =
     tail_in (is_culprit fails first head) (record { 0 = first }) (record { 0 = number }) (culprits_from fails (first + 1) registers) (all_from fails (first + 1) registers k number register (omega arith) there is)
 
-pub are_culprits : (tower : Contents) (closed : List Ended) (findings : List Finding) → IsOfTower tower closed → length findings ≡ length tower.registers → AreFindings closed 0 findings → AreCulprits tower closed (culprits_of tower findings)
+pub are_culprits : (tower : TowerModel) (closed : List ClosedShard) (findings : List Finding) → IsOfTower tower closed → length findings ≡ length tower.registers → AreFindings closed 0 findings → AreCulprits tower closed (culprits_of tower findings)
 are_culprits tower closed findings of_tower many found = record {
   rise = rise_from (fails_of findings) 0 tower.registers;
   each = each_from (fails_of findings) (IsCulprit tower closed) 0 tower.registers (λ k number register at there is.
@@ -101,7 +101,7 @@ are_culprits tower closed findings of_tower many found = record {
   all = λ number is. all_from (fails_of findings) 0 tower.registers number number is.register (omega arith) is.is (by_culprit tower closed findings number of_tower many found is);
 }
 
--- one more register
+-- the list with one more register
 
 from_place : (fails : List Bool) (number place : ℕ) (registers : List Register) → place < length registers → culprits_from fails number (drop place registers) ≡ (if option_map_or (is_culprit fails number) (slice_get registers place) false then record { 0 = number } ∷ culprits_from fails (number + 1) (drop (suc place) registers) else culprits_from fails (number + 1) (drop (suc place) registers))
 from_place fails number place [] within = absurd (omega arith)

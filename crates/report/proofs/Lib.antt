@@ -1,8 +1,13 @@
--- what the answers stand on
+-- the lines that list the registers of a tower
 pub mod Listings
+-- what is found of the registers, and the culprits: the test by findings finds those that fail while their parts hold
 pub mod Found
 pub mod Blamed
+-- the order of a register is that of its book
 pub mod Orders
+-- threads may read the books that an auditor leaves
 pub mod Crosses
-pub mod Pieces
+-- the batches of lines, put end to end, are the lines of all registers
+pub mod Batches
+-- the refusals by code come to all refusals
 pub mod Refusals

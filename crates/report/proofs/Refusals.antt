@@ -6,7 +6,7 @@ use Rattle.std.specs.Str.{bytes_eq}
 use Rattle.intervals.specs.declared.refusal.Refusal.TheVariants.{UnknownOp, OpTaken, EndNotAfterBegin, MomentTaken, MomentTooLarge, NotAWriter, WritesOverlap, ValueTaken, OutOfDomain, ClaimFixed, ClaimWriters, ClaimOverlap, ClaimRepeats, ClaimInitial}
 use Rattle.jepsen_form.specs.declared.fault.FormFault.TheVariants.{NotAMap, MissingField, DuplicateField, BadType, UnsupportedF, BadValue, BadMoment, NoRegister}
 use Rattle.pairing.specs.declared.fault.PairFault.TheVariants.{ProcessBusy, NoInvocation, AnswerMismatch, Memory}
-use Rattle.feeders.specs.Code.{code_of}
+use Rattle.feeders.specs.Code.{refused_code}
 use Rattle.feeders.specs.declared.log.Code.{Code}
 use Rattle.feeders.specs.declared.log.Code.TheVariants.{Form, Pair, Register}
 use Rattle.feeders.specs.declared.log.Line.{Line}
@@ -19,7 +19,7 @@ both : {X : Type 0} (f g : X → ℕ) (xs : List X) → sum_by (λ x. f x + g x)
 both f g [] = refl
 both f g (x ∷ xs) = omega (arith, sum_by-cons (λ y. f y + g y) x xs, sum_by-cons f x xs, sum_by-cons g x xs, both f g xs)
 
-one_code : (code : Code) → sum_by (λ known. cond (bytes_eq (code_of code) known) 1 0) refusal_codes ≡ 1
+one_code : (code : Code) → sum_by (λ known. cond (bytes_eq (refused_code code) known) 1 0) refusal_codes ≡ 1
 one_code (Form NotAMap) = refl
 one_code (Form (MissingField field)) = refl
 one_code (Form (DuplicateField field)) = refl

@@ -2,21 +2,21 @@
 use Rattle.std.specs.Prelude.{◌≡◌, ◌≤◌, ◌↔◌, ℕ, List, [], map, length, sum, All, Contains, IfSome, IsNone}
 use Rattle.std.specs.Option.{option_map_or}
 use Rattle.std.specs.List.{range_with_len}
-use Rattle.tower_file.specs.Contents.{Contents}
-use Rattle.shards.specs.Closing.{Ended, book_of}
+use Rattle.tower_file.specs.Contents.{TowerModel}
+use Rattle.shards.specs.Closing.{ClosedShard, book_of}
 use Rattle.report.specs.declared.counts.Counts.{Counts}
 
--- how many stand in the book of a register, unfinished ones among them; none where there is no such book
-abbrev pub standing_in : List Ended → ℕ → ℕ
+-- how many operations stand in a register, unfinished ones among them; 0 where it has no book
+abbrev pub standing_in : List ClosedShard → ℕ → ℕ
 standing_in closed number = option_map_or (λ held. length held.ops) (book_of closed number) 0
 
--- of each register of the tower, by number
-abbrev pub standing : Contents → List Ended → List ℕ
-standing tower closed = map (standing_in closed) (range_with_len 0 (length tower.registers))
+-- how many operations stand in each register of the tower, by number
+abbrev pub standing_counts : TowerModel → List ClosedShard → List ℕ
+standing_counts tower closed = map (standing_in closed) (range_with_len 0 (length tower.registers))
 
--- the sum of these numbers and the least of them, where there is one
-pub record AreCounts (standing : List ℕ) (counts : Counts) : Type 0 where
-  pub all : counts.all ≡ sum standing
-  pub none : IsNone counts.least ↔ (standing ≡ [])
-  pub one : IfSome counts.least (Contains standing)
-  pub least : IfSome counts.least (λ least. All (λ many. least ≤ many) standing)
+-- how many operations stand in all registers, the sum of these numbers, and in one, the least of them, if there are any
+pub record AreCounts (standing_counts : List ℕ) (counts : Counts) : Type 0 where
+  pub all : counts.all ≡ sum standing_counts
+  pub none : IsNone counts.least ↔ (standing_counts ≡ [])
+  pub one : IfSome counts.least (Contains standing_counts)
+  pub least : IfSome counts.least (λ least. All (λ many. least ≤ many) standing_counts)

@@ -1,10 +1,10 @@
--- what the public clauses speak of
+-- words of the public clauses
 pub mod Names
 pub mod Listing
 pub mod Finding
 pub mod Culprit
 pub mod Section
-pub mod Piece
+pub mod Batch
 pub mod Notes
 pub mod Order
 pub mod Report

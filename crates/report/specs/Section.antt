@@ -19,17 +19,17 @@ use Rattle.register_book.specs.Fault.{ids_of, ops_at}
 use Rattle.report.specs.declared.finding.Finding.{Finding}
 use Rattle.report.specs.Names.{printed, kind_word, verdict_word, id_text}
 
--- the line of a register
+-- the line of a register: its name, its kind, its verdict and how many operations it has
 abbrev pub register_line : List ℕ → Kind → Bool → ℕ → List ℕ
 register_line name kind holds operations =
     codes "register " ++ printed name ++ codes " " ++ kind_word kind ++ codes " " ++ verdict_word holds ++ codes " " ++ decimal operations ++ 10 ∷ []
 
--- an operation by its id, or the register at first
+-- what holds a value, as it is printed: the id of an operation, or `initial` for the register at first
 abbrev pub holder_text : Holder → List ℕ
 holder_text (holders.Op id) = id_text id
 holder_text holders.Initial = codes "initial"
 
--- the line of a fault
+-- the line of a fault: its word, and the ids of the operations that show it
 abbrev pub fault_line : Fault → List ℕ
 fault_line (faults.Wrong read) = codes "  wrong " ++ id_text read ++ 10 ∷ []
 fault_line (faults.Unwritten read) = codes "  unwritten " ++ id_text read ++ 10 ∷ []
@@ -38,11 +38,11 @@ fault_line (faults.Early read write) = codes "  early " ++ id_text read ++ codes
 fault_line (faults.Crossing a b c d) =
     codes "  conflict " ++ holder_text a ++ codes " " ++ holder_text b ++ codes " " ++ holder_text c ++ codes " " ++ holder_text d ++ 10 ∷ []
 
--- the line of a lent text
+-- the line of a lent text, which begins with a bar
 abbrev pub part_line : List ℕ → List ℕ
 part_line text = codes "  | " ++ printed text ++ 10 ∷ []
 
--- the same, where it is there
+-- the line of an optional lent text; empty where there is none
 abbrev pub part_line_of : Option (Bor (List ℕ)) → List ℕ
 part_line_of None = []
 part_line_of (Some text) = part_line text.now
@@ -51,13 +51,13 @@ part_line_of (Some text) = part_line text.now
 abbrev pub part_lines : Op → List ℕ
 part_lines op = part_line op.parts.invocation.now ++ part_line_of op.parts.answer ++ part_line_of op.parts.amendment
 
--- two sides are one operation
+-- two sides of a conflict are one operation
 abbrev pub is_one : Side → Side → Bool
 is_one (sides.Op a) (sides.Op b) = same_id a.id b.id
 is_one (sides.Op a) sides.Initial = false
 is_one sides.Initial b = false
 
--- the operations whose lines are printed: of a conflict's second and third, where they are one, it stands once
+-- the operations of a witness whose texts are printed; a conflict's second and third once, where they are one operation
 abbrev pub shown_of : Witness → List Op
 shown_of (Wrong read) = read ∷ []
 shown_of (Unwritten read) = read ∷ []
@@ -65,16 +65,16 @@ shown_of (Split first second) = first ∷ second ∷ []
 shown_of (Early read write) = read ∷ write ∷ []
 shown_of (Crossing a b c d) = ops_at a ++ ops_at b ++ (if is_one b c then [] else ops_at c) ++ ops_at d
 
--- the lines of a witness
+-- the lines of a witness: its fault, and the texts of its operations
 abbrev pub witness_text : Witness → List ℕ
 witness_text witness = fault_line (ids_of witness) ++ flat_map part_lines (shown_of witness)
 
--- the lines of a register
+-- the lines of a register: its verdict, and its witness where it fails
 abbrev pub section_text : Register → Finding → List ℕ
 section_text register finding =
     register_line register.name finding.kind (is_none finding.witness) finding.operations ++ option_map_or witness_text finding.witness []
 
--- the lines of registers, by number
+-- the lines of registers, by number, with what is found of each
 abbrev pub sections_text : List Register → List Finding → List ℕ
 sections_text [] findings = []
 sections_text (register ∷ registers) [] = []

@@ -6,22 +6,22 @@ use Rattle.std.specs.Fmt.{decimal}
 use Rattle.intervals.specs.declared.claim.Kind.{Kind}
 use Rattle.intervals.specs.declared.claim.Kind.TheVariants.{Safe, Regular, Atomic}
 use Rattle.intervals.specs.declared.operation.RegId.{RegId}
-use Rattle.tower_file.specs.Contents.{Contents, Register}
-use Rattle.shards.specs.Closing.{Ended}
+use Rattle.tower_file.specs.Contents.{TowerModel, Register}
+use Rattle.shards.specs.Closing.{ClosedShard}
 use Rattle.feeders.specs.declared.log.Log.{Log}
 use Rattle.report.specs.declared.finding.Finding.{Finding}
-use Rattle.report.specs.Names.{printed, name_of, kind_word}
+use Rattle.report.specs.Names.{printed, register_name, kind_word}
 use Rattle.report.specs.Finding.{AreFindings, fails_of}
 use Rattle.report.specs.Culprit.{culprits_of}
 use Rattle.report.specs.Notes.{broken_line}
 use Rattle.report.specs.Failing.{blamed_line, ids_of_tower, lines_text, more_text, other_line, others_of}
 use Rattle.report.specs.Refused.{refused, refused_text}
 
--- so many of a word
+-- a number and a word, which gets an s unless the number is 1
 abbrev pub counted : ℕ → List ℕ → List ℕ
 counted many word = decimal many ++ codes " " ++ word ++ (if nat_eq many 1 then [] else codes "s")
 
--- a register that fails
+-- the register fails, by what is found of it
 abbrev pub is_failing : Finding → Bool
 is_failing finding = is_some finding.witness
 
@@ -29,48 +29,48 @@ is_failing finding = is_some finding.witness
 abbrev pub operations : List Finding → ℕ
 operations findings = sum_by (λ finding. finding.operations) findings
 
--- the trace broke
+-- the trace of this log broke
 abbrev pub is_broken : Log → Bool
 is_broken log = is_some log.broken
 
--- how many elements were refused
+-- how many elements were refused, in the first line of a summary
 abbrev pub refusals_text : ℕ → List ℕ
 refusals_text many = if nat_eq many 0 then codes ", none refused" else codes ", " ++ decimal many ++ codes " refused"
 
--- how many traces broke, where any did
+-- how many traces broke, in the first line of a summary; empty where none did
 abbrev pub breaks_text : ℕ → List ℕ
 breaks_text many = if nat_eq many 0 then [] else codes ", " ++ counted many (codes "trace") ++ codes " broken"
 
--- how many registers fail, of so many
+-- how many registers fail, and of how many, in the first line of a summary
 abbrev pub failed_text : ℕ → ℕ → List ℕ
 failed_text failing many = decimal failing ++ codes " of " ++ decimal many ++ codes " registers fail, "
 
--- how many are to blame
-abbrev pub blamed_text : ℕ → List ℕ
-blamed_text blamed = decimal blamed ++ codes " to blame; "
+-- how many registers are to blame, in the first line of a summary
+abbrev pub culprit_count_text : ℕ → List ℕ
+culprit_count_text blamed = decimal blamed ++ codes " to blame; "
 
--- what the run was over
+-- how many operations the run judged, and in how many traces, in the first line of a summary
 abbrev pub over_text : List Finding → List Log → List ℕ
 over_text findings logs = counted (operations findings) (codes "operation") ++ codes " in " ++ counted (length logs) (codes "trace")
 
--- what was refused, and what broke
+-- how many elements were refused and how many traces broke, in the first line of a summary
 abbrev pub amiss_text : List Log → List ℕ
 amiss_text logs = refusals_text (refused logs) ++ breaks_text (count_by is_broken logs) ++ 10 ∷ []
 
--- the first line
-abbrev pub first_line : Contents → List Finding → ℕ → List Log → List ℕ
-first_line tower findings blamed logs = failed_text (count_by is_failing findings) (length tower.registers) ++ blamed_text blamed ++ over_text findings logs ++ amiss_text logs
+-- the first line of a summary, of a run with so many culprits
+abbrev pub first_line : TowerModel → List Finding → ℕ → List Log → List ℕ
+first_line tower findings blamed logs = failed_text (count_by is_failing findings) (length tower.registers) ++ culprit_count_text blamed ++ over_text findings logs ++ amiss_text logs
 
--- the lines of these culprits, and of the others of the registers that fail
-abbrev pub failing_lines : Contents → List Finding → List Bool → List RegId → List ℕ
+-- the lines of these culprits, and of the other registers that fail
+abbrev pub failing_lines : TowerModel → List Finding → List Bool → List RegId → List ℕ
 failing_lines tower findings fails culprits =
     lines_text (blamed_line tower findings) culprits ++ lines_text (other_line tower findings fails) (others_of tower fails)
 
--- the lines of the registers that fail
-abbrev pub failing_text : Contents → List Finding → List ℕ
+-- the lines of the registers that fail: the culprits, and the others
+abbrev pub failing_text : TowerModel → List Finding → List ℕ
 failing_text tower findings = failing_lines tower findings (fails_of findings) (culprits_of tower findings)
 
--- a kind is the other
+-- two kinds are equal
 abbrev pub same_kind : Kind → Kind → Bool
 same_kind Safe Safe = true
 same_kind Safe Regular = false
@@ -82,78 +82,78 @@ same_kind Atomic Safe = false
 same_kind Atomic Regular = false
 same_kind Atomic Atomic = true
 
--- a register of this kind that holds
+-- the register is of this kind and holds, by what is found of it
 abbrev pub holds_as : Kind → Finding → Bool
 holds_as kind finding = is_none finding.witness && same_kind finding.kind kind
 
--- how many of a kind hold
+-- how many registers of this kind hold, in the line of those that hold
 abbrev pub kind_text : List Finding → Kind → List ℕ
 kind_text findings kind = decimal (count_by (holds_as kind) findings) ++ codes " " ++ kind_word kind
 
--- a register without any operation
+-- the register is there and has no operation
 abbrev pub is_idle : List Finding → RegId → Bool
 is_idle findings id = option_map_or (λ finding. nat_eq finding.operations 0) (slice_get findings id.0) false
 
--- all of them, by number
-abbrev pub idle_of : Contents → List Finding → List RegId
+-- all registers without any operation, by number
+abbrev pub idle_of : TowerModel → List Finding → List RegId
 idle_of tower findings = filter (is_idle findings) (ids_of_tower tower)
 
--- a name after a space
+-- a space and the name of a register
 abbrev pub name_text : List Register → RegId → List ℕ
-name_text registers id = codes " " ++ printed (name_of registers id)
+name_text registers id = codes " " ++ printed (register_name registers id)
 
 -- the names of the first 10 of some registers, and how many more there are
-abbrev pub names_text : Contents → List RegId → List ℕ
+abbrev pub names_text : TowerModel → List RegId → List ℕ
 names_text tower ids = flat_map (name_text tower.registers) (take 10 ids) ++ more_text (codes " and ") 10 (length ids) (codes " more")
 
--- how many have no operation
+-- how many registers have no operation, in the line of those that hold
 abbrev pub idle_count_text : ℕ → List ℕ
 idle_count_text many = codes "; " ++ decimal many ++ codes " without any operation:"
 
--- how many have no operation, and which, where there are any
-abbrev pub idle_text : Contents → List RegId → List ℕ
+-- how many registers have no operation, and which; empty where there is none
+abbrev pub idle_text : TowerModel → List RegId → List ℕ
 idle_text tower idle = if nat_eq (length idle) 0 then [] else idle_count_text (length idle) ++ names_text tower idle
 
--- how many of each kind hold
+-- how many registers of each kind hold, in the line of those that hold
 abbrev pub kinds_text : List Finding → List ℕ
 kinds_text findings = kind_text findings Safe ++ codes ", " ++ kind_text findings Regular ++ codes ", " ++ kind_text findings Atomic
 
--- a register that holds
+-- the register holds, by what is found of it
 abbrev pub is_holding : Finding → Bool
 is_holding finding = is_none finding.witness
 
--- how many hold
+-- how many registers hold, in the line of those that hold
 abbrev pub held_text : List Finding → List ℕ
 held_text findings = decimal (count_by is_holding findings) ++ codes " hold: "
 
--- the line of the registers that hold
-abbrev pub holding_text : Contents → List Finding → List ℕ
+-- the line of the registers that hold: how many, of each kind, and those without any operation
+abbrev pub holding_text : TowerModel → List Finding → List ℕ
 holding_text tower findings = held_text findings ++ kinds_text findings ++ idle_text tower (idle_of tower findings) ++ 10 ∷ []
 
 -- the trace of this number broke
 abbrev pub breaks_at : List Log → ℕ → Bool
 breaks_at logs feeder = option_map_or is_broken (slice_get logs feeder) false
 
--- all that broke
+-- the numbers of all traces that broke
 abbrev pub broken_of : List Log → List ℕ
 broken_of logs = filter (breaks_at logs) (range_with_len 0 (length logs))
 
--- where it broke
+-- the line that says where the trace of this number broke; empty where it did not
 abbrev pub break_line : List Log → ℕ → List ℕ
 break_line logs feeder = option_map_or (λ log. broken_line feeder log.broken) (slice_get logs feeder) []
 
--- the lines of the first 10 traces that broke
+-- the lines of the first 10 traces that broke, and how many more there are
 abbrev pub broken_text : List Log → List ℕ
 broken_text logs =
     flat_map (break_line logs) (take 10 (broken_of logs)) ++ more_text (codes "and ") 10 (length (broken_of logs)) (codes " more" ++ 10 ∷ [])
 
--- the text: the first line, the registers that fail, those that hold, the refusals by code, and what broke
-abbrev pub summary_text : Contents → List Finding → List Log → List ℕ
+-- the text of a summary: the first line, the registers that fail, those that hold, the refusals by code, and what broke
+abbrev pub summary_text : TowerModel → List Finding → List Log → List ℕ
 summary_text tower findings logs =
     first_line tower findings (length (culprits_of tower findings)) logs ++ failing_text tower findings ++ holding_text tower findings ++ refused_text logs ++ broken_text logs
 
--- the text is that of what is found of each register, and of these logs
-pub record IsSummary (tower : Contents) (closed : List Ended) (logs : List Log) (text : List ℕ) : Type 0 where
+-- the text is the summary of what is found of each register, and of these logs
+pub record IsSummary (tower : TowerModel) (closed : List ClosedShard) (logs : List Log) (text : List ℕ) : Type 0 where
   pub findings : List Finding
   pub many : length findings ≡ length tower.registers
   pub found : AreFindings closed 0 findings

@@ -4,7 +4,7 @@ ghost use Rattle.std.specs.Prelude.{◌≡◌, ◌++◌, Err, IfOk, OnOk, List, 
 ghost use Rattle.std.specs.Io.KnownBytes.{Appends};
 ghost use Rattle.report.specs.Culprit.{culprits_of};
 ghost use Rattle.report.specs.Finding.{IsOfTower};
-ghost use Rattle.report.specs.Summary.{IsSummary, amiss_text, blamed_text, breaks_text, break_line, breaks_at, broken_of, broken_text, counted, failed_text, failing_lines, failing_text, first_line, held_text, holding_text, holds_as as holds_as_kind, idle_count_text, idle_of, idle_text, is_broken as is_broken_log, is_failing, is_idle as is_idle_register, kind_text, kinds_text, name_text, names_text, operations, over_text, refusals_text, same_kind};
+ghost use Rattle.report.specs.Summary.{IsSummary, amiss_text, culprit_count_text, breaks_text, break_line, breaks_at, broken_of, broken_text, counted, failed_text, failing_lines, failing_text, first_line, held_text, holding_text, holds_as, idle_count_text, idle_of, idle_text, is_broken, is_failing, is_idle, kind_text, kinds_text, name_text, names_text, operations, over_text, refusals_text, same_kind};
 
 use crate::culprit::culprits_in;
 use crate::failing::{at_most, others_in, push_blamed, push_more, push_others};
@@ -51,7 +51,7 @@ fn summary_text(alloc: Global, tower: &Tower, run: &Run) -> Result<String, Alloc
     Ok(text)
 }
 
-/// The first line, and what is told of the registers.
+/// The first line, and the lines of the registers that fail and that hold.
 fn push_registers(
     text: &mut String,
     alloc: Global,
@@ -99,16 +99,14 @@ fn push_first(
     push_amiss(text, logs)
 }
 
-/// How many registers fail, of so many.
 fn push_failed(text: &mut String, failing: usize, many: usize) -> Result<(), AllocError>
     ensures { OnOk result (string_bytes text.new ≡ string_bytes text.old ++ failed_text failing many) }
 {
     write!(text, "{failing} of {many} registers fail, ")
 }
 
-/// How many are to blame.
 fn push_blamed_count(text: &mut String, blamed: usize) -> Result<(), AllocError>
-    ensures { OnOk result (string_bytes text.new ≡ string_bytes text.old ++ blamed_text blamed) }
+    ensures { OnOk result (string_bytes text.new ≡ string_bytes text.old ++ culprit_count_text blamed) }
 {
     write!(text, "{blamed} to blame; ")
 }
@@ -122,7 +120,7 @@ fn count_failing(findings: &[Finding]) -> usize
         .count()
 }
 
-/// What the run was over.
+/// How many operations the run judged, and in how many traces.
 fn push_over(text: &mut String, findings: &[Finding], logs: &[Log]) -> Result<(), AllocError>
     ensures { OnOk result (string_bytes text.new ≡ string_bytes text.old ++ over_text findings.now logs.now) }
 {
@@ -131,7 +129,7 @@ fn push_over(text: &mut String, findings: &[Finding], logs: &[Log]) -> Result<()
     push_counted(text, logs.len() as u128, "trace")
 }
 
-/// What was refused, and what broke.
+/// How many elements were refused and how many traces broke.
 fn push_amiss(text: &mut String, logs: &[Log]) -> Result<(), AllocError>
     ensures { OnOk result (string_bytes text.new ≡ string_bytes text.old ++ amiss_text logs.now) }
 {
@@ -140,7 +138,7 @@ fn push_amiss(text: &mut String, logs: &[Log]) -> Result<(), AllocError>
     text.push_str("\n")
 }
 
-/// So many of a word.
+/// A number and a word, which gets an s unless the number is 1.
 fn push_counted(text: &mut String, many: u128, word: &str) -> Result<(), AllocError>
     ensures { OnOk result (string_bytes text.new ≡ string_bytes text.old ++ counted many word.now) }
 {
@@ -182,7 +180,7 @@ fn push_breaks_count(text: &mut String, many: usize) -> Result<(), AllocError>
 }
 
 fn count_broken(logs: &[Log]) -> usize
-    ensures { result ≡ count_by is_broken_log logs.now }
+    ensures { result ≡ count_by is_broken logs.now }
 {
     logs.iter().filter(|log| log.broken.is_some()).count()
 }
@@ -203,7 +201,7 @@ fn push_holding(
     text.push_str("\n")
 }
 
-/// How many hold.
+/// How many registers hold.
 fn push_held(text: &mut String, findings: &[Finding]) -> Result<(), AllocError>
     ensures { OnOk result (string_bytes text.new ≡ string_bytes text.old ++ held_text findings.now) }
 {
@@ -214,7 +212,7 @@ fn push_held(text: &mut String, findings: &[Finding]) -> Result<(), AllocError>
     write!(text, "{holding} hold: ")
 }
 
-/// How many of each kind.
+/// How many registers of each kind hold.
 fn push_kinds(text: &mut String, findings: &[Finding]) -> Result<(), AllocError>
     ensures { OnOk result (string_bytes text.new ≡ string_bytes text.old ++ kinds_text findings.now) }
 {
@@ -237,7 +235,7 @@ fn push_kind(text: &mut String, findings: &[Finding], kind: Kind) -> Result<(), 
 }
 
 fn holds_as(finding: &Finding, kind: Kind) -> bool
-    ensures { result ≡ holds_as_kind kind finding.now }
+    ensures { result ≡ holds_as kind finding.now }
 {
     finding.witness.is_none() && is_kind(finding.kind, kind)
 }
@@ -264,7 +262,7 @@ fn idle_in(alloc: Global, tower: &Tower, findings: &[Finding]) -> Result<Vec<Reg
 }
 
 fn is_idle(findings: &[Finding], id: RegId) -> bool
-    ensures { result ≡ is_idle_register findings.now id }
+    ensures { result ≡ is_idle findings.now id }
 {
     match findings.get(id.0 as usize) {
         Some(finding) => finding.operations == 0,
@@ -295,7 +293,7 @@ fn push_idle_count(text: &mut String, many: usize) -> Result<(), AllocError>
     write!(text, "; {many} without any operation:")
 }
 
-/// The names of the first registers, and how many more there are.
+/// The names of the first 10 registers, and how many more there are.
 fn push_first_names(text: &mut String, tower: &Tower, ids: &[RegId]) -> Result<(), AllocError>
     ensures { OnOk result (string_bytes text.new ≡ string_bytes text.old ++ names_text tower.now ids.now) }
 {
@@ -313,7 +311,7 @@ fn push_names(text: &mut String, tower: &Tower, ids: &[RegId]) -> Result<(), All
     Ok(())
 }
 
-/// The lines of the traces that broke.
+/// The lines of the first 10 traces that broke, and how many more there are.
 fn push_breaks(text: &mut String, alloc: Global, logs: &[Log]) -> Result<(), AllocError>
     ensures { OnOk result (string_bytes text.new ≡ string_bytes text.old ++ broken_text logs.now) }
 {

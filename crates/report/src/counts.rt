@@ -1,24 +1,24 @@
 //! How many operations stand in the registers of a tower.
 
 ghost use Rattle.std.specs.Prelude.{◌≡◌, ◌≤◌, ◌↔◌, [], All, Contains, IfOk, IfSome, IsNone, sum};
-ghost use Rattle.report.specs.Counts.{AreCounts, standing, standing_in};
+ghost use Rattle.report.specs.Counts.{AreCounts, standing_counts, standing_in};
 
 use intervals::RegId;
 use shards::Closed;
 use std::alloc::{AllocError, Global};
 use tower_file::Tower;
 
-/// How many operations stand in all registers together, unfinished ones among them, and how many in the one that
-/// has the fewest, where there is a register.
+/// How many operations stand in all registers together, and how many in the one that has the fewest, where there is a
+/// register; unfinished operations count.
 #[derive(Clone, Copy, Debug, PartialEq, Eq)]
 pub struct Counts {
     pub all: u128,
     pub least: Option<u64>,
 }
 
-/// How many operations stand in the registers of a tower.
+/// Counts the operations that stand in the registers of a tower.
 pub fn standing_counts(alloc: Global, tower: &Tower, closed: &Closed) -> Result<Counts, AllocError>
-    ensures { IfOk result (AreCounts (standing tower.now closed.now)) }
+    ensures { IfOk result (AreCounts (standing_counts tower.now closed.now)) }
 {
     let each = count_each(alloc, tower, closed)?;
     Ok(counts_of(&each))
@@ -47,9 +47,9 @@ fn least_of(each: &[u64]) -> Option<u64>
     each.iter().copied().min()
 }
 
-/// How many stand in each register, by number.
+/// How many operations stand in each register, by number.
 fn count_each(alloc: Global, tower: &Tower, closed: &Closed) -> Result<Vec<u64>, AllocError>
-    ensures { IfOk result (λ each. each.items ≡ standing tower.now closed.now) }
+    ensures { IfOk result (λ each. each.items ≡ standing_counts tower.now closed.now) }
 {
     let mut each = Vec::new(alloc);
     for number in 0..tower.len() {

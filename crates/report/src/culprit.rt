@@ -3,7 +3,7 @@
 ghost use Rattle.std.specs.Prelude.{◌≡◌, IfOk, false};
 ghost use Rattle.std.specs.List.{list_all, slice_get};
 ghost use Rattle.std.specs.Option.{option_map_or};
-ghost use Rattle.report.specs.Culprit.{AreCulprits, culprits_from, is_culprit as is_a_culprit};
+ghost use Rattle.report.specs.Culprit.{AreCulprits, culprits_from, is_culprit};
 ghost use Rattle.report.specs.Finding.{IsOfTower, holds_in};
 
 use crate::finding::{fails, find_failing, holds};
@@ -28,7 +28,7 @@ pub fn culprits(alloc: Global, tower: &Tower, closed: &Closed) -> Result<Vec<Reg
     }
 }
 
-/// The same by which registers fail.
+/// The culprits, by number, where `failing` says which registers fail.
 pub fn culprits_in(alloc: Global, tower: &Tower, failing: &[bool]) -> Result<Vec<RegId>, AllocError>
     ensures { IfOk result (λ culprits. culprits.items ≡ culprits_from failing.now 0 tower.now.registers) }
 {
@@ -42,9 +42,9 @@ pub fn culprits_in(alloc: Global, tower: &Tower, failing: &[bool]) -> Result<Vec
     Ok(culprits)
 }
 
-/// Whether the register fails while all its parts hold.
+/// Whether the register fails while all its parts hold, by `failing`.
 pub fn is_culprit(tower: &Tower, failing: &[bool], id: RegId) -> bool
-    ensures { result ≡ option_map_or (is_a_culprit failing.now id.0) (slice_get tower.now.registers id.0) false }
+    ensures { result ≡ option_map_or (is_culprit failing.now id.0) (slice_get tower.now.registers id.0) false }
 {
     match tower.parts_of(id) {
         Some(parts) => fails(failing, id.0 as usize) && all_hold(failing, parts),

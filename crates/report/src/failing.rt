@@ -1,7 +1,7 @@
 //! The lines of a summary on the registers that fail.
 
 ghost use Rattle.std.specs.Prelude.{◌≡◌, ◌++◌, ◌∷◌, [], IfOk, OnOk, codes, flat_map, string_bytes, take};
-ghost use Rattle.report.specs.Failing.{blamed_line, blamed_text, first_failing as first_part_failing, has_levels as has_more_levels, is_other as is_no_culprit, level_of as level_of_register, level_text, lines_text, more_text, other_line, other_text, others_of, over_text, part_text, parts_of as parts_of_register, reason_text, register_text};
+ghost use Rattle.report.specs.Failing.{blamed_line, culprit_text, first_failing, has_levels, is_other, level_of, level_text, lines_text, more_text, other_line, other_text, others_of, over_part_text, part_name_text, parts_of, reason_text, register_text};
 
 use crate::culprit::is_culprit;
 use crate::finding::{Finding, fails};
@@ -12,7 +12,7 @@ use intervals::RegId;
 use std::alloc::{AllocError, Global};
 use tower_file::Tower;
 
-/// How many registers have a line of their own, of those of a kind.
+/// How many culprits have a line, and how many of the other registers that fail.
 const LINES: usize = 20;
 
 /// The lines of the culprits.
@@ -53,12 +53,12 @@ pub fn others_in(alloc: Global, tower: &Tower, failing: &[bool]) -> Result<Vec<R
 }
 
 fn is_other(tower: &Tower, failing: &[bool], id: RegId) -> bool
-    ensures { result ≡ is_no_culprit tower.now failing.now id }
+    ensures { result ≡ is_other tower.now failing.now id }
 {
     fails(failing, id.0 as usize) && !is_culprit(tower, failing, id)
 }
 
-/// The first of a list.
+/// The first items, at most so many.
 pub fn at_most<T>(items: &[T], most: usize) -> &[T]
     ensures { result.now ≡ take most items.now }
 {
@@ -75,7 +75,7 @@ fn push_more_lines(text: &mut String, many: usize) -> Result<(), AllocError>
     push_more(text, "  and ", LINES, many, " more\n")
 }
 
-/// How many there are beyond the most that are named, where there are more.
+/// How many there are beyond the most that are named, with a text before and one after; nothing if there are no more.
 pub fn push_more(
     text: &mut String,
     before: &str,
@@ -127,7 +127,7 @@ fn push_blamed_text(
     id: RegId,
     finding: &Finding,
 ) -> Result<(), AllocError>
-    ensures { OnOk result (string_bytes text.new ≡ string_bytes text.old ++ blamed_text tower.now id finding.now) }
+    ensures { OnOk result (string_bytes text.new ≡ string_bytes text.old ++ culprit_text tower.now id finding.now) }
 {
     text.push_str("  culprit")?;
     push_register(text, tower, id, finding)?;
@@ -186,23 +186,23 @@ fn push_other_text(
     push_over(text, tower, first_failing(failing, parts_of(tower, id)))
 }
 
-/// Over which part it fails.
+/// Says over which part a register fails.
 fn push_over(text: &mut String, tower: &Tower, part: Option<RegId>) -> Result<(), AllocError>
-    ensures { OnOk result (string_bytes text.new ≡ string_bytes text.old ++ over_text tower.now part) }
+    ensures { OnOk result (string_bytes text.new ≡ string_bytes text.old ++ over_part_text tower.now part) }
 {
     text.push_str("  fails over ")?;
     push_part_end(text, tower, part)
 }
 
 fn push_part_end(text: &mut String, tower: &Tower, part: Option<RegId>) -> Result<(), AllocError>
-    ensures { OnOk result (string_bytes text.new ≡ string_bytes text.old ++ part_text tower.now part ++ 10 ∷ []) }
+    ensures { OnOk result (string_bytes text.new ≡ string_bytes text.old ++ part_name_text tower.now part ++ 10 ∷ []) }
 {
     push_part(text, tower, part)?;
     text.push_str("\n")
 }
 
 fn push_part(text: &mut String, tower: &Tower, part: Option<RegId>) -> Result<(), AllocError>
-    ensures { OnOk result (string_bytes text.new ≡ string_bytes text.old ++ part_text tower.now part) }
+    ensures { OnOk result (string_bytes text.new ≡ string_bytes text.old ++ part_name_text tower.now part) }
 {
     match part {
         Some(part) => push_printed(text, name_of(tower, part)),
@@ -212,7 +212,7 @@ fn push_part(text: &mut String, tower: &Tower, part: Option<RegId>) -> Result<()
 
 /// The first part that fails.
 fn first_failing(failing: &[bool], parts: &[RegId]) -> Option<RegId>
-    ensures { result ≡ first_part_failing failing.now parts.now }
+    ensures { result ≡ first_failing failing.now parts.now }
 {
     parts
         .iter()
@@ -221,7 +221,7 @@ fn first_failing(failing: &[bool], parts: &[RegId]) -> Option<RegId>
 }
 
 fn parts_of(tower: &Tower, id: RegId) -> &[RegId]
-    ensures { result.now ≡ parts_of_register tower.now.registers id }
+    ensures { result.now ≡ parts_of tower.now.registers id }
 {
     match tower.parts_of(id) {
         Some(parts) => parts,
@@ -246,7 +246,7 @@ fn push_register(
     write!(text, "  {}", finding.operations)
 }
 
-/// The name of its level, where there is more than one.
+/// The name of a register's level, where the tower has more than one.
 fn push_level(text: &mut String, tower: &Tower, id: RegId) -> Result<(), AllocError>
     ensures { OnOk result (string_bytes text.new ≡ string_bytes text.old ++ level_text tower.now id) }
 {
@@ -258,7 +258,7 @@ fn push_level(text: &mut String, tower: &Tower, id: RegId) -> Result<(), AllocEr
 }
 
 fn has_levels(tower: &Tower) -> bool
-    ensures { result ≡ has_more_levels tower.now }
+    ensures { result ≡ has_levels tower.now }
 {
     match tower.level_name(1) {
         Some(_) => true,
@@ -267,7 +267,7 @@ fn has_levels(tower: &Tower) -> bool
 }
 
 fn level_of(tower: &Tower, id: RegId) -> usize
-    ensures { result ≡ level_of_register tower.now.registers id }
+    ensures { result ≡ level_of tower.now.registers id }
 {
     match tower.level_of(id) {
         Some(level) => level,

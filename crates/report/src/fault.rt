@@ -9,7 +9,7 @@ use thiserror::Error;
 
 #[derive(Clone, Copy, Debug, PartialEq, Eq, Error)]
 pub enum ReportFault {
-    /// A growth was refused.
+    /// Out of memory. Nothing was written.
     #[error("Memory")]
     Memory,
     /// The writer failed. How much it took is not known.

@@ -1,7 +1,7 @@
 //! What is found of the registers when their auditor is closed.
 
 ghost use Rattle.std.specs.Prelude.{◌≡◌, IfOk, IsSome, length};
-ghost use Rattle.register_book.specs.Kept.{claimed_of};
+ghost use Rattle.register_book.specs.BookModel.{claimed_of};
 ghost use Rattle.shards.specs.Closing.{book_of};
 ghost use Rattle.report.specs.Finding.{AreFailing, AreFindings, IsFinding, IsFindingOf, IsOfTower, fails_in, fails_of, holds_in};
 
@@ -12,8 +12,8 @@ use std::alloc::{AllocError, Global};
 use std::unreachable;
 use tower_file::Tower;
 
-/// The kind that a register claims to be, how many of its operations stand, unfinished ones among them,
-/// and the ones that show that it fails, where it does.
+/// What is found of a register: the kind that it claims to be, how many of its operations stand, unfinished ones among
+/// them, and the operations that show that it fails, where it does.
 #[derive(Clone, Copy, Debug)]
 pub struct Finding<'t> {
     pub kind: Kind,
@@ -31,7 +31,7 @@ pub fn find_failing(alloc: Global, tower: &Tower, closed: &Closed) -> Result<Vec
     Ok(failing)
 }
 
-/// Which fail, by what is found of them.
+/// Of each register whether it fails, by what is found of it.
 pub fn failing_of(alloc: Global, findings: &[Finding]) -> Result<Vec<bool>, AllocError>
     ensures { IfOk result (λ failing. failing.items ≡ fails_of findings.now) }
 {
@@ -58,7 +58,7 @@ pub fn find_all<'t>(
     Ok(findings)
 }
 
-/// What is found of a register that is there.
+/// What is found of a register, which has to be there.
 pub fn finding_of<'t>(closed: &Closed<'t>, id: RegId) -> Finding<'t>
     requires there { IsSome (book_of closed.now id.0) }
     ensures { IsFindingOf (book_of closed.now id.0) result }
@@ -79,7 +79,7 @@ fn found_in<'t>(book: &RegisterBook<'t>) -> Finding<'t>
     }
 }
 
-/// Whether the register of that number fails.
+/// Whether the register of this number fails, by `failing`; false where there is none.
 pub fn fails(failing: &[bool], number: usize) -> bool
     ensures { result ≡ fails_in failing.now number }
 {
@@ -89,7 +89,7 @@ pub fn fails(failing: &[bool], number: usize) -> bool
     }
 }
 
-/// Whether it holds.
+/// Whether the register of this number holds, by `failing`; false where there is none.
 pub fn holds(failing: &[bool], number: usize) -> bool
     ensures { result ≡ holds_in failing.now number }
 {

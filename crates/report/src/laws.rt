@@ -1,9 +1,9 @@
-//! What the words of this crate come to.
+//! Laws of this crate's words, which its users may rely on.
 
 ghost use Rattle.std.specs.Prelude.{◌≡◌, ℕ, List, length, sum_by};
-ghost use Rattle.tower_file.specs.Contents.{Contents};
+ghost use Rattle.tower_file.specs.Contents.{TowerModel};
 ghost use Rattle.jepsen_form.specs.declared.item.MomentField.{MomentField};
-ghost use Rattle.shards.specs.Closing.{Ended};
+ghost use Rattle.shards.specs.Closing.{ClosedShard};
 ghost use Rattle.feeders.specs.declared.log.Log.{Log};
 ghost use Rattle.feeders.specs.Run.{IsRun};
 ghost use Rattle.report.specs.declared.finding.Finding.{Finding};
@@ -13,13 +13,13 @@ ghost use Rattle.report.specs.Refused.{refusal_codes, refused, refused_by};
 
 /// A run leaves a book for each register of its tower.
 pub fn a_run_is_of_its_tower()
-    ensures { (tower : Contents) (chosen : MomentField) (shards : ℕ) (traces : List (List ℕ)) (closed : List Ended) (logs : List Log)
+    ensures { (tower : TowerModel) (chosen : MomentField) (shards : ℕ) (traces : List (List ℕ)) (closed : List ClosedShard) (logs : List Log)
         → IsRun tower chosen shards traces closed logs → IsOfTower tower closed }
 {}
 
 /// The culprits that a report names are the registers that fail while all that they are built of hold.
 pub fn the_culprits_are_those()
-    ensures { (tower : Contents) (closed : List Ended) (findings : List Finding) → IsOfTower tower closed
+    ensures { (tower : TowerModel) (closed : List ClosedShard) (findings : List Finding) → IsOfTower tower closed
         → length findings ≡ length tower.registers → AreFindings closed 0 findings → AreCulprits tower closed (culprits_of tower findings) }
 {}
 

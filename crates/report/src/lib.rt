@@ -2,15 +2,17 @@
 //! to blame, the answers and refusals of each trace, and an order where one is asked for.
 //!
 //!     report(rt, alloc, &tower, &run, None, &mut out)?
-//!     summary(alloc, &tower, &run, &mut out)?        // the same in at most 56 lines
+//!     summary(alloc, &tower, &run, &mut out)?        // what the report says, in at most 56 lines
 //!     culprits(alloc, &tower, &run.closed)?          // the registers that fail while their parts hold
 //!     standing_counts(alloc, &tower, &run.closed)?   // how many operations stand in all, and the least in one
 //!     tower_text(alloc, &tower)?                     // a line for each register of a tower
 //!
 //! `specs/Report.antt` has the text of a report in terms of what is found of each register
-//! (`specs/Finding.antt`), `specs/Summary.antt` that of a summary, `specs/Culprit.antt` who is to blame; the other files of `specs` have the lines.
+//! (`specs/Finding.antt`), `specs/Summary.antt` that of a summary, `specs/Culprit.antt` who is to blame; the other
+//! files of `specs` have the lines.
 #![tactic(auto)]
 
+mod batch;
 mod brief;
 mod counts;
 mod culprit;
@@ -22,7 +24,6 @@ mod listing;
 mod names;
 mod notes;
 mod order;
-mod piece;
 mod refused;
 mod section;
 mod text;

@@ -1,9 +1,9 @@
-//! Lists the registers of a tower.
+//! The list of a tower's registers, a line for each.
 
 ghost use Rattle.std.specs.Prelude.{◌≡◌, ◌++◌, [], IfOk, OnOk, string_bytes};
 ghost use Rattle.std.specs.Option.{option_map_or};
 ghost use Rattle.std.specs.List.{slice_get};
-ghost use Rattle.report.specs.Listing.{listing_line, tower_lines, level_name as name_of_level};
+ghost use Rattle.report.specs.Listing.{listing_line, tower_lines, level_name};
 
 use crate::names::{kind_word, push_printed};
 use intervals::RegId;
@@ -43,7 +43,7 @@ fn push_register(text: &mut String, tower: &Tower, id: RegId) -> Result<(), Allo
 
 /// The name of a level, empty where there is none of that number.
 pub fn level_name(tower: &Tower, level: usize) -> &[u8]
-    ensures { result.now ≡ name_of_level tower.now.levels level }
+    ensures { result.now ≡ level_name tower.now.levels level }
 {
     match tower.level_name(level) {
         Some(name) => name,

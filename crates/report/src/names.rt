@@ -1,16 +1,16 @@
 //! Names, ids and words as they are printed.
 
 ghost use Rattle.std.specs.Prelude.{◌≡◌, ◌++◌, OnOk, string_bytes};
-ghost use Rattle.report.specs.Names.{printed as printed_as, printed_char as printed_as_char, kind_word as word_of_kind, verdict_word as word_of_verdict, id_text, name_of as name_of_register};
+ghost use Rattle.report.specs.Names.{printed, printed_char, kind_word, verdict_word, id_text, register_name};
 
 use bstr::ByteSlice;
 use intervals::{Kind, OpId, RegId};
 use std::alloc::AllocError;
 use tower_file::Tower;
 
-/// A name or a lent text as it is printed. Where memory is refused a front of it may stand in the text.
+/// A name or a lent text as it is printed. Where memory is refused, the text may have got a prefix of it.
 pub fn push_printed(text: &mut String, name: &[u8]) -> Result<(), AllocError>
-    ensures { OnOk result (string_bytes text.new ≡ string_bytes text.old ++ printed_as name.now) }
+    ensures { OnOk result (string_bytes text.new ≡ string_bytes text.old ++ printed name.now) }
 {
     for character in name.chars() {
         text.push(printed_char(character))?;
@@ -19,14 +19,14 @@ pub fn push_printed(text: &mut String, name: &[u8]) -> Result<(), AllocError>
 }
 
 fn printed_char(character: char) -> char
-    ensures { result ≡ printed_as_char character }
+    ensures { result ≡ printed_char character }
 {
     if character < ' ' { ' ' } else { character }
 }
 
-/// The word of a kind.
+/// A kind as it is printed: safe, regular or atomic.
 pub fn kind_word(kind: Kind) -> &'static str
-    ensures { result.now ≡ word_of_kind kind }
+    ensures { result.now ≡ kind_word kind }
 {
     match kind {
         Kind::Safe => "safe",
@@ -35,14 +35,14 @@ pub fn kind_word(kind: Kind) -> &'static str
     }
 }
 
-/// The word of a verdict.
+/// A verdict as it is printed: holds or fails.
 pub fn verdict_word(holds: bool) -> &'static str
-    ensures { result.now ≡ word_of_verdict holds }
+    ensures { result.now ≡ verdict_word holds }
 {
     if holds { "holds" } else { "fails" }
 }
 
-/// An id.
+/// The id of an operation: the number of its trace, a colon, and the place of its invocation.
 pub fn push_id(text: &mut String, id: OpId) -> Result<(), AllocError>
     ensures { OnOk result (string_bytes text.new ≡ string_bytes text.old ++ id_text id) }
 {
@@ -51,7 +51,7 @@ pub fn push_id(text: &mut String, id: OpId) -> Result<(), AllocError>
 
 /// The name of a register, empty where there is none of that number.
 pub fn name_of(tower: &Tower, id: RegId) -> &[u8]
-    ensures { result.now ≡ name_of_register tower.now.registers id }
+    ensures { result.now ≡ register_name tower.now.registers id }
 {
     match tower.name(id) {
         Some(name) => name,

@@ -1,4 +1,4 @@
-//! What is printed of the traces.
+//! The lines of the traces: refusals, answers, and where one broke.
 
 ghost use Rattle.std.specs.Prelude.{◌≡◌, ◌++◌, OnOk, string_bytes};
 ghost use Rattle.report.specs.Notes.{broken_line, log_text, logs_text, note_line};
@@ -46,7 +46,7 @@ fn push_line(text: &mut String, tower: &Tower, feeder: usize, line: &Line) -> Re
     }
 }
 
-/// The line of where a trace broke, where it did.
+/// The line that says where a trace broke, where it did.
 pub fn push_broken(
     text: &mut String,
     feeder: usize,

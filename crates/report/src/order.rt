@@ -1,7 +1,7 @@
-//! What is printed of the order of a register.
+//! The line of a register's order.
 
 ghost use Rattle.std.specs.Prelude.{◌≡◌, ◌++◌, IfOk, IsSome, OnOk, Some, None, string_bytes, option_map};
-ghost use Rattle.register_book.specs.Kept.{claimed_of};
+ghost use Rattle.register_book.specs.BookModel.{claimed_of};
 ghost use Rattle.shards.specs.Closing.{book_of};
 ghost use Rattle.report.specs.Order.{IsOrderOf, ids_text, order_line};
 
@@ -30,7 +30,7 @@ fn order_in(alloc: Global, book: &RegisterBook) -> Result<Option<Vec<OpId>>, Mem
     book.order(alloc)
 }
 
-/// The line of an order.
+/// The line of an order, or that there is none.
 pub fn push_order(
     text: &mut String,
     tower: &Tower,

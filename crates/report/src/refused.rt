@@ -1,7 +1,7 @@
-//! What is told of refusals in a summary.
+//! What a summary says of refusals.
 
 ghost use Rattle.std.specs.Prelude.{◌≡◌, ◌++◌, OnOk, count_by, flat_map, string_bytes};
-ghost use Rattle.report.specs.Refused.{code_text, first_in as first_in_log, first_refused as first_by, is_refused_by as is_line_by, is_refused_line, refused, refused_by, refused_text, refusal_codes};
+ghost use Rattle.report.specs.Refused.{code_text, first_in, first_refused, is_refused_by, is_refused_line, refused, refused_by, refused_text, refusal_codes};
 
 use feeders::{Line, Log, What};
 use std::alloc::AllocError;
@@ -12,7 +12,7 @@ const CODES: [&str; 26] = [
     "X5", "X6", "X7", "X8", "X9", "X10", "X11", "X12", "X13", "X14",
 ];
 
-/// The line of the refusals: how many, and by code how many and where the first stands.
+/// The line of the refusals: how many, by code, and where the first of each is.
 pub fn push_refused(text: &mut String, logs: &[Log]) -> Result<(), AllocError>
     ensures { OnOk result (string_bytes text.new ≡ string_bytes text.old ++ refused_text logs.now) }
 {
@@ -82,7 +82,7 @@ fn count_refused_by(logs: &[Log], code: &str) -> u128
 }
 
 fn count_by_in(log: &Log, code: &str) -> usize
-    ensures { result ≡ count_by (is_line_by code.now) log.now.lines.items }
+    ensures { result ≡ count_by (is_refused_by code.now) log.now.lines.items }
 {
     log.lines
         .iter()
@@ -90,9 +90,9 @@ fn count_by_in(log: &Log, code: &str) -> usize
         .count()
 }
 
-/// Where the first element stands that was refused by this code: the number of its trace and its place there.
+/// The first element that was refused by this code: the number of its trace and its place there.
 fn first_refused(logs: &[Log], code: &str) -> Option<(usize, u64)>
-    ensures { result ≡ first_by code.now 0 logs.now }
+    ensures { result ≡ first_refused code.now 0 logs.now }
 {
     for feeder in 0..logs.len() {
         if let Some(event) = first_in(&logs[feeder], code) {
@@ -103,14 +103,14 @@ fn first_refused(logs: &[Log], code: &str) -> Option<(usize, u64)>
 }
 
 fn first_in(log: &Log, code: &str) -> Option<u64>
-    ensures { result ≡ first_in_log code.now log.now }
+    ensures { result ≡ first_in code.now log.now }
 {
     let line = log.lines.iter().find(|line| is_refused_by(line, code))?;
     Some(line.event)
 }
 
 fn is_refused_by(line: &Line, code: &str) -> bool
-    ensures { result ≡ is_line_by code.now line.now }
+    ensures { result ≡ is_refused_by code.now line.now }
 {
     match &line.what {
         What::Refused(found) => found.code() == code,

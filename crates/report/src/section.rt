@@ -1,4 +1,4 @@
-//! What is printed of a register.
+//! The lines of a register: its verdict, and the operations that show why it fails.
 
 ghost use Rattle.std.specs.Prelude.{◌≡◌, ◌++◌, ◌∷◌, [], OnOk, string_bytes, is_none, flat_map, codes, if◌then◌else◌};
 ghost use Rattle.std.specs.List.{slice_get};
@@ -6,7 +6,7 @@ ghost use Rattle.std.specs.Option.{option_map_or};
 ghost use Rattle.intervals.specs.Operation.{same_id};
 ghost use Rattle.register_book.specs.Fault.{ops_at};
 ghost use Rattle.report.specs.Names.{id_text};
-ghost use Rattle.report.specs.Section.{fault_line, holder_text, is_one as is_one_operation, part_line, part_line_of, part_lines, register_line, section_text, shown_of, witness_text};
+ghost use Rattle.report.specs.Section.{fault_line, holder_text, is_one, part_line, part_line_of, part_lines, register_line, section_text, shown_of, witness_text};
 
 use crate::finding::Finding;
 use crate::names::{kind_word, push_id, push_printed, verdict_word};
@@ -40,7 +40,7 @@ pub fn push_section(
     }
 }
 
-/// The line of a register. Where memory is refused a front of it may stand in the text.
+/// The line of a register. Where memory is refused, the text may have got a prefix of it.
 pub fn push_register(
     text: &mut String,
     name: &[u8],
@@ -80,7 +80,7 @@ fn push_witness(text: &mut String, witness: &Witness) -> Result<(), AllocError>
     }
 }
 
-/// The lines of the operations of a conflict: of its second and third, where they are one, once.
+/// The lines of the operations of a conflict; of its second and third once, where they are one operation.
 fn push_crossing(
     text: &mut String,
     a: &Side,
@@ -96,9 +96,9 @@ fn push_crossing(
     push_side(text, d)
 }
 
-/// The lines of a side, where it is another operation than the one before it.
+/// The lines of a side, unless it is the operation before it.
 fn push_other(text: &mut String, before: &Side, side: &Side) -> Result<(), AllocError>
-    ensures { OnOk result (string_bytes text.new ≡ string_bytes text.old ++ flat_map part_lines (if is_one_operation before.now side.now then [] else ops_at side.now)) }
+    ensures { OnOk result (string_bytes text.new ≡ string_bytes text.old ++ flat_map part_lines (if is_one before.now side.now then [] else ops_at side.now)) }
 {
     if is_one(before, side) {
         return Ok(());
@@ -107,7 +107,7 @@ fn push_other(text: &mut String, before: &Side, side: &Side) -> Result<(), Alloc
 }
 
 fn is_one(a: &Side, b: &Side) -> bool
-    ensures { result ≡ is_one_operation a.now b.now }
+    ensures { result ≡ is_one a.now b.now }
 {
     match (a, b) {
         (Side::Op(a), Side::Op(b)) => is_same_id(a.id, b.id),
@@ -130,7 +130,7 @@ fn push_side(text: &mut String, side: &Side) -> Result<(), AllocError>
     }
 }
 
-/// The line of a fault.
+/// The line of a fault: its word, and the ids of the operations that show it.
 pub fn push_fault(text: &mut String, fault: Fault) -> Result<(), AllocError>
     ensures { OnOk result (string_bytes text.new ≡ string_bytes text.old ++ fault_line fault) }
 {

@@ -7,12 +7,12 @@ ghost use Rattle.report.specs.Finding.{IsOfTower};
 ghost use Rattle.report.specs.Order.{IsAsked, order_line};
 ghost use Rattle.report.specs.Report.{IsReport, culprit_line};
 
+use crate::batch::{Batch, sections};
 use crate::culprit::culprits_in;
 use crate::fault::ReportFault;
 use crate::names::{name_of, push_printed};
 use crate::notes::push_logs;
 use crate::order::{order_of, push_order};
-use crate::piece::{Piece, sections};
 use feeders::Run;
 use intervals::{OpId, RegId};
 use shards::Closed;
@@ -62,7 +62,7 @@ fn report_text(
     ensures report { IfOk result (λ text. IsReport tower.now run.now.closed run.now.logs.items order (string_bytes text)) }
     ensures memory { IfErr result (λ fault. fault ≡ ReportFault.Memory) }
 {
-    let Piece { mut text, failing } = sections(rt, alloc, tower, &run.closed)?;
+    let Batch { mut text, failing } = sections(rt, alloc, tower, &run.closed)?;
     let culprits = culprits_in(alloc, tower, &failing)?;
     push_culprits(&mut text, tower, &culprits)?;
     push_logs(&mut text, tower, &run.logs)?;

@@ -9,8 +9,8 @@ use std::rt::Files;
 use std::sync::Wait;
 use std::thread::Threads;
 
-/// What the manual names and a text does not, a line each: commands, and options, which stand in the text behind a
-/// prefix in place of two hyphens.
+/// What the manual names and a text does not, a line each: commands, and options, which the text has with a prefix in
+/// place of their two hyphens.
 pub fn missing<R: Files + AllocGlobal + Threads + Wait + Sync>(
     rt: &R,
     text: &[u8],
@@ -35,7 +35,7 @@ where
     Ok(missing)
 }
 
-/// The command or the option that a line of the manual is about, as the text is to name it.
+/// The command or the option that a line of the manual is about, as the text has to name it.
 fn named_in(alloc: Global, line: &str, prefix: &str) -> Result<Option<String>, AllocError> {
     let (before, behind) = match line.strip_prefix("Usage: regaudit ") {
         Some(usage) => ("", usage),

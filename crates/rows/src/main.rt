@@ -1,12 +1,12 @@
-//! Goes over rows of data: for each row the program's commands are run, and what they write is
-//! compared with what the row says. Each row that is as it says has a line `ok NAME`, and the status
-//! is 1 where one is not: standard error then has its name and what differs.
+//! Goes over rows of data: for each row the program's commands are run, and what they write is compared with what the
+//! row says. For a file whose rows are all met a line `ok FILE COUNT` is printed; for a row that is not met standard
+//! error has its name and what differs, and the status is 1.
 //!
-//! The file `subjects` names the files of rows, one a line. What stands before the first row of a
-//! file is for its readers. A row is its name and its sections:
+//! The file `subjects` names the files of rows, one a line. The text before the first row of a file is for its readers.
+//! A row is its name and its sections:
 //!
 //! ```text
-//! === a read behind a write
+//! === a read after a write
 //! = word safe
 //! = input
 //! {:process 0 :type :invoke :f :write :value 1 :index 0}
@@ -18,32 +18,31 @@
 //! = status 0
 //! ```
 //!
-//! `= word WORD` is a word, the program's name left out; `= file NAME` a file, which stands before
-//! those of the folder, and `= times N` makes the last one N times as long; `= example CODE` the files
-//! `tower` and `example` that `regaudit explain CODE` shows; `= input` standard input, and `= inputs`
-//! several, one a line, with a run for each; `= out` and `= err` what the two outputs are to get;
-//! `= room N` an output that takes N bytes alone. What is left out is empty. `= status N` is the
-//! last section, since a line behind it is none of a text. `%` and two hexadecimal digits are a byte,
-//! and a `%` at the end of a text takes its last line end away.
+//! `= word WORD` is a word after the program's name; `= file NAME` a file, which is taken before one of the folder, and
+//! `= times N` makes the last file N times as long; `= example CODE` the files `tower` and `example` that
+//! `regaudit explain CODE` shows; `= input` standard input, and `= inputs` several, one a line, with a run for each;
+//! `= out` and `= err` what the two outputs have to get; `= room N` an output that takes only N bytes, which is 65536
+//! otherwise. What is left out is empty. `= status N` is the last section, since no line after it is of a text. `%` and
+//! two hexadecimal digits are a byte, and a `%` at the end of a text takes its last line end away.
 //!
 //! Each run is made with texts that come whole and with texts that come byte by byte, and, where the row has a line
-//! `= cut`, with texts that are cut in two, at each place in turn: what is written is to be the same. Where it has a
-//! line `= filled`, there is a run for each output that takes fewer bytes than the text, from none on: it is to take
-//! what it can, and the run says that it cannot write.
+//! `= cut`, with texts that are cut in two, at each place in turn: what is written has to be equal. Where the row has a
+//! line `= filled`, there is a run for each output that takes fewer bytes than the text, from none on: it has to take
+//! what it can, and the run has to report that it cannot write.
 //!
 //! Where a row has a line `= names PREFIX`, what it prints has to name each command and each option of the manual, the
-//! options behind PREFIX in place of their two hyphens; `= page NAME` is a file of the folder in place of what is
-//! printed. Its `= out` is what is missing, a line each.
+//! options with PREFIX in place of their two hyphens; with `= page NAME`, a file of the folder has to, in place of what
+//! is printed. The row's `= out` is what is missing, a line each.
 //!
-//! Where a row ends with a line `= front`, or with `= byte BYTES`, its `= out` is a picture of the last file, cut short at
-//! each place or with each byte replaced by each of these: a letter for each place (`spoilt.rt`).
+//! Where a row ends with a line `= front`, or with `= byte BYTES`, its `= out` is a picture of the last file, cut off
+//! at each place or with each byte replaced by each of these: a letter for each place (`spoilt.rt`).
 #![tactic(auto)]
 
 mod complete;
 mod outcome;
 mod pieces;
 mod row;
-mod shelf;
+mod row_files;
 mod spoilt;
 
 use crate::complete::missing;
@@ -70,7 +69,7 @@ fn main(rt: HostRuntime) -> ExitCode {
     }
 }
 
-/// Prints the words that were handed over, and goes over the rows of each subject.
+/// Prints the words that were handed over and goes over the rows of each subject. Returns whether all rows are met.
 fn is_all_as_said<R: Env + Files + Print + AllocGlobal + Threads + Wait + Sync, E: Write>(
     rt: &R,
     err: &mut E,
@@ -88,7 +87,7 @@ where
     Ok(same)
 }
 
-/// What stands before the first row of a file is for its readers.
+/// Goes over the rows of a file. The text before the first one is for readers.
 fn is_subject_as_said<R: Files + Print + AllocGlobal + Threads + Wait + Sync, E: Write>(
     rt: &R,
     subject: &str,
@@ -99,34 +98,37 @@ where
 {
     let text = fs::read_to_string(rt, subject)?;
     let mut same = true;
+    let mut count: u64 = 0;
     for text in text.split("\n=== ").skip(1) {
-        match row_of(rt.alloc(), text) {
-            Ok(mut row) => same = is_row_as_said(rt, &mut row, err)? && same,
-            Err(error) => {
-                write!(err, "{subject}: {error} in the row {text}\n")?;
-                same = false;
-            }
-        }
+        same = is_text_as_said(rt, subject, text, err)? && same;
+        count = count.saturating_add(1);
+    }
+    if same {
+        println!(rt; "ok {subject} {count}")?;
     }
     Ok(same)
 }
 
-fn is_row_as_said<R: Files + Print + AllocGlobal + Threads + Wait + Sync, E: Write>(
+/// Whether the row of this text, in that file, is met.
+fn is_text_as_said<R: Files + AllocGlobal + Threads + Wait + Sync, E: Write>(
     rt: &R,
-    row: &mut Row,
+    subject: &str,
+    text: &str,
     err: &mut E,
 ) -> io::Result<bool>
 where
     R::File: Send,
 {
-    if !is_each_run_as_said(rt, row, err)? {
-        return Ok(false);
+    match row_of(rt.alloc(), text) {
+        Ok(mut row) => is_row_as_said(rt, &mut row, err),
+        Err(error) => {
+            write!(err, "{subject}: {error} in the row {text}\n")?;
+            Ok(false)
+        }
     }
-    println!(rt; "ok {}", row.name)?;
-    Ok(true)
 }
 
-fn is_each_run_as_said<R: Files + AllocGlobal + Threads + Wait + Sync, E: Write>(
+fn is_row_as_said<R: Files + AllocGlobal + Threads + Wait + Sync, E: Write>(
     rt: &R,
     row: &mut Row,
     err: &mut E,
@@ -150,7 +152,7 @@ where
     Ok(true)
 }
 
-/// What is to name each command and option: a file of the folder, or what the run prints.
+/// The text that has to name each command and option: a file of the folder, or what the run prints.
 fn text_of<R: Files + AllocGlobal + Threads + Wait + Sync>(rt: &R, row: &Row) -> io::Result<Vec<u8>>
 where
     R::File: Send,
@@ -161,8 +163,8 @@ where
     }
 }
 
-/// A run of texts that come whole, one of texts that come byte by byte, for a row that is cut one for each place, and
-/// for one that is filled one for each number of bytes that its output takes.
+/// Makes a run of texts that come whole and one of texts that come byte by byte; for a row that is cut, one for each
+/// place; and for a row that is filled, one for each number of bytes that its output may take.
 fn is_input_as_said<R: Files + AllocGlobal + Threads + Wait + Sync, E: Write>(
     rt: &R,
     row: &Row,
@@ -204,7 +206,7 @@ where
     Ok(out_is && err_is && status_is)
 }
 
-/// An output that is too small takes what it can, and the run says so.
+/// An output that is too small has to take what it can, and the run has to report that.
 fn is_filling_as_said<R: Files + AllocGlobal + Threads + Wait + Sync, E: Write>(
     rt: &R,
     row: &Row,

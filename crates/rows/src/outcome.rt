@@ -2,14 +2,14 @@
 
 use crate::pieces::{Cut, Pieces};
 use crate::row::Row;
-use crate::shelf::Shelf;
+use crate::row_files::RowFiles;
 use commands::run;
 use std::io;
 use std::rt::Files;
 use std::sync::Wait;
 use std::thread::Threads;
 
-/// What a run writes to its outputs, and its status in digits.
+/// What a run writes to its outputs, and the digits of its status.
 #[derive(Drop)]
 pub struct Written {
     pub out: Vec<u8>,
@@ -17,7 +17,7 @@ pub struct Written {
     pub status: Vec<u8>,
 }
 
-/// A run of a row on an input, with texts that are cut so and an output that takes so many bytes.
+/// Runs a row on an input, with texts that come cut by `cut` and an output that takes `room` bytes.
 pub fn carried_out<R: Files + AllocGlobal + Threads + Wait + Sync>(
     rt: &R,
     row: &Row,
@@ -34,7 +34,7 @@ where
     let status = run(
         rt,
         row.handed_over(rt.alloc()),
-        &mut Shelf::new(rt, row, cut),
+        &mut RowFiles::new(rt, row, cut),
         &mut Pieces::new(input, cut),
         &mut out,
         &mut err,

@@ -2,7 +2,7 @@
 
 use std::io::{self, Read};
 
-/// How long the first piece of a text is at most, and each later one. None is empty.
+/// The greatest length of the first piece of a text, and of each later one. Neither is 0.
 #[derive(Clone, Copy)]
 pub struct Cut {
     pub first: usize,
@@ -17,7 +17,7 @@ impl Cut {
 
     pub const BYTES: Cut = Cut { first: 1, later: 1 };
 
-    /// In two at a place, which is not the beginning.
+    /// Two pieces, cut at a place that is not the beginning.
     pub fn at(place: usize) -> Cut {
         Cut {
             first: place,

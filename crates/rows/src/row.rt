@@ -1,4 +1,4 @@
-//! What a run is given, and what is to come of it.
+//! A row: what a run is given, and what it has to write.
 
 use percent_encoding::percent_decode;
 use std::alloc::{AllocError, Global};
@@ -18,19 +18,19 @@ pub struct Row {
     pub status: Vec<u8>,
     /// How many bytes the output takes.
     pub room: usize,
-    /// Whether its texts are cut in two at each place too.
+    /// Whether its texts are also cut in two, at each place in turn.
     pub is_cut: bool,
-    /// Whether its output takes each number of bytes, and no more, too.
+    /// Whether its output is also too small, by each number of bytes in turn.
     pub is_filled: bool,
-    /// What options stand behind in what is printed, which then has to name each command and option.
+    /// What options begin with in what is printed, which has to name each command and option of the manual.
     pub prefix: Option<String>,
-    /// The file of the folder that stands for what is printed.
+    /// The file of the folder that is looked at in place of what is printed.
     pub page: Option<String>,
-    /// What its last file is spoilt by.
+    /// How its last file is spoilt.
     pub spoils: Vec<Spoil>,
 }
 
-/// A file is cut short at each place, or each of its bytes is replaced by this one.
+/// A file is cut off at each place, or each of its bytes is replaced by this one.
 #[derive(Clone, Copy, Debug, PartialEq, Eq)]
 pub enum Spoil {
     Front,
@@ -43,7 +43,7 @@ pub struct Named {
     pub bytes: Vec<u8>,
 }
 
-/// The row of its text: the name, and then the sections.
+/// The row of a text: the name, and then the sections.
 pub fn row_of(alloc: Global, text: &str) -> io::Result<Row> {
     let mut sections = text.split("\n= ");
     let mut row = Row {
@@ -102,7 +102,7 @@ fn take_section(alloc: Global, row: &mut Row, section: &str) -> io::Result<()> {
     Ok(())
 }
 
-/// The two files of what `regaudit explain` shows of a code: `tower` and `example`.
+/// The two files that `regaudit explain` shows of a code: `tower` and `example`.
 fn take_example(alloc: Global, files: &mut Vec<Named>, code: &str) -> io::Result<()> {
     let Some(topic) = Topic::named(code) else {
         return Err(Error::from(ErrorKind::InvalidData));
@@ -120,7 +120,7 @@ fn example_file(alloc: Global, name: &str, text: &str) -> Result<Named, AllocErr
     })
 }
 
-/// The last file so many times.
+/// Makes the last file so many times as long.
 fn lengthen(alloc: Global, files: &mut Vec<Named>, times: u32) -> Result<(), AllocError> {
     let mut text = Vec::new(alloc);
     if let Some(file) = files.last_mut() {
@@ -132,7 +132,7 @@ fn lengthen(alloc: Global, files: &mut Vec<Named>, times: u32) -> Result<(), All
     Ok(())
 }
 
-/// Each line is an input.
+/// Takes each line as an input.
 fn take_inputs(alloc: Global, row: &mut Row, body: &str) -> io::Result<()> {
     for line in body.lines() {
         row.inputs.push(decoded(alloc, line)?)?;
@@ -140,7 +140,7 @@ fn take_inputs(alloc: Global, row: &mut Row, body: &str) -> io::Result<()> {
     Ok(())
 }
 
-/// The lines of a section, the last of which has no line end where a `%` stands at its end.
+/// The lines of a section; the last one has no line end where there is a `%` at its end.
 fn text_of(alloc: Global, body: &str) -> io::Result<Vec<u8>> {
     if let Some(open) = body.strip_suffix("%") {
         return Ok(decoded(alloc, open)?);
@@ -150,7 +150,7 @@ fn text_of(alloc: Global, body: &str) -> io::Result<Vec<u8>> {
     Ok(text)
 }
 
-/// `%` and two hexadecimal digits stand for a byte.
+/// The bytes of a text, where `%` and two hexadecimal digits are a byte.
 fn decoded(alloc: Global, text: &str) -> Result<Vec<u8>, AllocError> {
     let mut bytes = Vec::new(alloc);
     percent_decode(text.as_bytes()).append_to(&mut bytes)?;
@@ -158,7 +158,7 @@ fn decoded(alloc: Global, text: &str) -> Result<Vec<u8>, AllocError> {
 }
 
 impl Row {
-    /// How long the longest of its files and an input is.
+    /// The length of the longest of its files and an input.
     pub fn longest(&self, input: &[u8]) -> usize {
         let mut longest = input.len();
         for file in &self.files {
@@ -167,7 +167,7 @@ impl Row {
         longest
     }
 
-    /// The words as the system hands them over.
+    /// The words, as the system hands them over.
     pub fn handed_over(&self, alloc: Global) -> io::Result<Vec<String>> {
         let mut words = Vec::new(alloc);
         for word in &self.words {

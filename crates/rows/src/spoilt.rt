@@ -1,4 +1,4 @@
-//! A picture of a file that is cut short or spoilt at each of its places.
+//! A picture of what the program says of a file that is cut off or spoilt at each of its places.
 
 use crate::outcome::carried_out;
 use crate::pieces::Cut;
@@ -10,8 +10,8 @@ use std::rt::Files;
 use std::sync::Wait;
 use std::thread::Threads;
 
-/// For each way in which the last file is spoilt a line that names it, and a letter for each place of the file, with the
-/// file's line ends.
+/// For each way to spoil the last file, a line that names it, and a letter for each place of the file, with the line
+/// ends of the file.
 pub fn picture<R: Files + AllocGlobal + Threads + Wait + Sync>(
     rt: &R,
     row: &mut Row,
@@ -77,7 +77,7 @@ fn spoilt(alloc: Global, text: &[u8], place: usize, spoil: Spoil) -> Result<Vec<
     Ok(bytes)
 }
 
-/// The two outputs and the status of a run with a file more.
+/// The two outputs and the status of a run with one more file.
 fn told_of<R: Files + AllocGlobal + Threads + Wait + Sync>(
     rt: &R,
     row: &mut Row,
@@ -99,8 +99,8 @@ where
     }
 }
 
-/// A point where the run is as that of the whole file; where the text has a fault the number of its code, at the place
-/// itself, or a letter, `a` for the first code, where it lies elsewhere; `r` where an element is refused, and `o` otherwise.
+/// A point where the run writes what it writes of the whole file; where the text has a fault, the number of its code if
+/// it is at the place itself, else a letter, `a` for the first code; `r` where an element is refused; else `o`.
 fn letter(whole: &str, found: &str, place: usize) -> &'static str {
     if found == whole {
         return ".";

@@ -1,4 +1,4 @@
--- The writes of one writer stand one after the other.
+-- The writes of one writer follow one another.
 use Rattle.std.proofs.Common.{◌≡◌, ◌<◌, ◌≤◌, ◌⊎◌, inl, inr, Bool, true, false, List, Option, Some, None, Decides, sym, subst, arith}
 use Rattle.std.specs.Prelude.{Contains, IfSome}
 use Rattle.std.proofs.lemmas.Bool.{cases_Bool, cases_order}
@@ -6,9 +6,9 @@ use Rattle.std.proofs.lemmas.Bool.Decides.{not_from_Decides}
 use Rattle.intervals.specs.declared.operation.Op.{Op}
 use Rattle.intervals.specs.declared.operation.Moment.{Moment}
 use Rattle.intervals.specs.Operation.{EndsBefore, Precedes, IsWrite}
-use Rattle.safe_regular.specs.Apart.{EndsAfterBeginning, AreApart}
+use Rattle.safe_regular.specs.Apart.{EndsAfterBeginning, AreSequential}
 
--- what a test decides is so or not
+-- what a test decides holds or does not
 pub either_way : {P : Type 0} (b : Bool) → Decides b P → P ⊎ (¬ P)
 either_way {P} b d = by_cases (cases_Bool b)
   where
@@ -24,7 +24,7 @@ ends_after : (begin : Moment) (end : Option Moment) (m : Moment) → IfSome end 
 ends_after begin None m proper h = absurd h
 ends_after begin (Some end) m proper h = omega arith
 
--- what precedes an operation precedes each that begins no earlier
+-- what precedes an operation precedes each operation that begins no earlier
 pub precedes_later : (a b c : Op) → b.begin.0 ≤ c.begin.0 → Precedes a b → Precedes a c
 precedes_later a b c le h = ends_before_later a.end b.begin c.begin le h
 
@@ -32,7 +32,7 @@ precedes_later a b c le h = ends_before_later a.end b.begin c.begin le h
 pub begins_before : (a b : Op) → EndsAfterBeginning a → Precedes a b → a.begin.0 < b.begin.0
 begins_before a b proper h = ends_after a.begin a.end b.begin proper h
 
-module _ (ops : List Op) (apart : AreApart ops) where
+module _ (ops : List Op) (apart : AreSequential ops) where
   -- of two writes the one that begins no later is the other or precedes it
   pub same_or_precedes : (v w : Op) → Contains ops v → Contains ops w → IsWrite v → IsWrite w → v.begin.0 ≤ w.begin.0 → (v ≡ w) ⊎ ((v.begin.0 < w.begin.0) × Precedes v w)
   same_or_precedes v w sv sw wv ww le = by_cases (cases_order v.begin.0 w.begin.0)

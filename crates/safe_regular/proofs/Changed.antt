@@ -13,7 +13,7 @@ use Rattle.intervals.specs.Edit.{op_of, found_by, has_id, amended, changed, edit
 use Rattle.intervals.specs.Refusal.{first_refusal, moments_refusal}
 use Rattle.intervals.specs.Standing.{HasDistinctIds}
 use Rattle.intervals.proofs.Ids.{same_id-refl, found_alike, found_by_id, not_taken, none_of, found_stands, found_again}
-use Rattle.safe_regular.specs.Apart.{AreApart}
+use Rattle.safe_regular.specs.Apart.{AreSequential}
 use Rattle.safe_regular.specs.Change.{IsAmong}
 use Rattle.safe_regular.specs.Writes.{IsAddedOf}
 use Rattle.safe_regular.proofs.Lists.{kept, kept_stands}
@@ -46,7 +46,7 @@ other_apart ops id x h = not-true (has_id id x) (kept_passes (is_other id) ops x
 pub in_others : (ops : List Op) (id : Option OpId) (x : Op) → Contains ops x → has_id id x ≡ false → Contains (others_of ops id) x
 in_others ops id x h apart = kept (is_other id) ops x h (not_from_false (has_id id x) apart)
 
--- before the edit
+-- before the edit: each operation is one of the others, or the old one
 pub before_cases : (ops : List Op) (id : Option OpId) → HasDistinctIds ops → (x : Op) → Contains ops x → IsAmong (others_of ops id) (found_by ops id) x
 before_cases ops id distinct x h = by_cases (cases_Bool (has_id id x))
   where
@@ -75,7 +75,7 @@ from_changed : (change : Change) (o : Option Op) (x : Op) → option_map (λ op.
 from_changed change None x e = absurd (cc)
 from_changed change (Some a) x e = (a, refl, (cc))
 
--- after the edit
+-- after the edit: the others are still there
 pub other_after : (ops : List Op) (edit : Edit) (x : Op) → Contains (others_of ops (edit_id edit)) x → Contains (edited ops edit) x
 other_after ops (Append op) x h = Contains-append_left ops (op ∷ []) x (other_stands ops (Some op.id) x h)
 other_after ops (Amend id change) x h =
@@ -109,9 +109,9 @@ after_cases ops (Amend id change) distinct accepted x h = let a = from_image (am
 after_cases ops (Withdraw id) distinct accepted x h = inl h
 after_cases ops (Claim kind) distinct accepted x h = inl (in_others ops None x h refl)
 
--- the writes of a list that has one more than the others
+-- the writes of a list that has one operation more than the others
 module _ (others : List Op) (id : Option OpId) (others_apart : (x : Op) → Contains others x → has_id id x ≡ false) where
-  pub added_of : (one : Option Op) (ops : List Op) → AreApart ops → ((x : Op) → Contains others x → Contains ops x) → ((x : Op) → one ≡ Some x → Contains ops x × (has_id id x ≡ true))
+  pub added_of : (one : Option Op) (ops : List Op) → AreSequential ops → ((x : Op) → Contains others x → Contains ops x) → ((x : Op) → one ≡ Some x → Contains ops x × (has_id id x ≡ true))
       → ((x : Op) → Contains ops x → IsAmong others one x) → IsAddedOf others one ops
   added_of None ops apart stay stands cases = record { kept = λ v write h. stay v h; only = λ v write h. by_cases v (cases v h) }
     where
@@ -129,10 +129,10 @@ module _ (others : List Op) (id : Option OpId) (others_apart : (x : Op) → Cont
       by_cases v (inl h) = inl h
       by_cases v (inr e) = inr (cc)
 
--- the one that goes, and the one that comes
-pub goes : (ops : List Op) (id : Option OpId) → HasDistinctIds ops → AreApart ops → IsAddedOf (others_of ops id) (found_by ops id) ops
+-- the writes before the edit are those of the others and the one that goes, those after it and the one that comes
+pub goes : (ops : List Op) (id : Option OpId) → HasDistinctIds ops → AreSequential ops → IsAddedOf (others_of ops id) (found_by ops id) ops
 goes ops id distinct apart = added_of (others_of ops id) id (other_apart ops id) (found_by ops id) ops apart (other_stands ops id) (found_stands ops id) (before_cases ops id distinct)
 
-pub comes : (ops : List Op) (edit : Edit) → HasDistinctIds ops → first_refusal ops edit ≡ None → AreApart (edited ops edit) → IsAddedOf (others_of ops (edit_id edit)) (new_op ops edit) (edited ops edit)
+pub comes : (ops : List Op) (edit : Edit) → HasDistinctIds ops → first_refusal ops edit ≡ None → AreSequential (edited ops edit) → IsAddedOf (others_of ops (edit_id edit)) (new_op ops edit) (edited ops edit)
 comes ops edit distinct accepted apart =
     added_of (others_of ops (edit_id edit)) (edit_id edit) (other_apart ops (edit_id edit)) (new_op ops edit) (edited ops edit) apart (other_after ops edit) (new_stands ops edit) (after_cases ops edit distinct accepted)

@@ -1,4 +1,4 @@
--- In the tree the last cover before a read tells whether the read is right.
+-- In the tree the last cover before a read decides whether the read is right.
 use Rattle.std.proofs.Common.{◌≡◌, ◌≢◌, ◌<◌, ◌≤◌, ◌⊎◌, inl, inr, Bool, true, false, not, ◌&&◌, List, Option, Some, None, Decides, refl, sym, ap, subst, ◌∙◌, arith}
 use Rattle.std.specs.Prelude.{All, Contains, IfSome, nat_lt, option_map, if◌then◌else◌}
 use Rattle.std.proofs.lemmas.Bool.{cases_Bool, cases_lt}
@@ -11,14 +11,14 @@ use Rattle.intervals.specs.declared.operation.Value.{Value}
 use Rattle.intervals.specs.Judging.{end_number, is_allowed, is_regular_read, is_safe_read, is_wrong_read}
 use Rattle.intervals.specs.Kind.{IsAllowed, IsInValueSet, IsRegularRead, IsSafeRead, OverlapsWrite, ReturnsLast}
 use Rattle.intervals.specs.Operation.{EndsBefore, IsJudgedRead, IsWrite, Precedes, ends_before, precedes, same_value, value_of}
-use Rattle.intervals.specs.Terms.{Terms}
+use Rattle.intervals.specs.Terms.{ClaimModel}
 use Rattle.intervals.proofs.Agreement.{Decides-ends_before, Decides-is_allowed, Decides-is_regular_read, Decides-is_safe_read, Decides-precedes, Decides-same_value}
-use Rattle.read_tree.specs.declared.item.Item.{Item}
-use Rattle.read_tree.specs.Items.{IsCoverAt, cover_of, is_short, place_of, row_of}
-use Rattle.safe_regular.specs.Apart.{AreApart}
-use Rattle.safe_regular.specs.Held.{IsLow, AreOneWriters}
-use Rattle.safe_regular.specs.Line.{AreItems, counted, cover_item, end_of, initial_item, reach_by, read_item}
-use Rattle.safe_regular.specs.LookUp.{BeginsAfter, BeginsFrom, IsFirstOf, IsLast, NoneFits}
+use Rattle.read_tree.specs.declared.item.RowItem.{RowItem}
+use Rattle.read_tree.specs.Items.{IsCoverAt, cover_of, is_uncovered, spot_of_item, row_of}
+use Rattle.safe_regular.specs.Apart.{AreSequential}
+use Rattle.safe_regular.specs.Held.{IsWithinMoments, AreOneWriters}
+use Rattle.safe_regular.specs.RowItems.{AreItemsOf, counted_from_1, cover_item, optional_end, initial_item, reach_by, read_item}
+use Rattle.safe_regular.specs.LookUp.{BeginsAfter, BeginsFrom, IsFirstWriteOf, IsLastWrite, NoneFits}
 use Rattle.intervals.proofs.Members.{all_from}
 use Rattle.safe_regular.proofs.Apart.{begins_before, either_way, precedes_with}
 use Rattle.safe_regular.proofs.LookUp.{first_found}
@@ -26,7 +26,7 @@ use Rattle.safe_regular.proofs.Members.{are_apart}
 use Rattle.safe_regular.proofs.Nearest.{ByNone, IsNear, IsNearest, IsReadAmong, counted_some, nearest, reach_below, reach_test, read_among}
 use Rattle.safe_regular.proofs.Edited.{all_low, write_allowed}
 
--- a test that decides what is so exactly where another thing is not
+-- tests for two things of which exactly one holds have opposite results
 pub decides_not : (P Q : Type 0) (b q : Bool) → Decides b P → Decides q Q → (P → ¬ Q) → ((¬ P) → Q) → b ≡ not q
 decides_not P Q b q decides_b decides_q one other = same_from_decides b (not q) decides_b (Decides-like (not q) back one (Decides-not q decides_q))
   where
@@ -37,8 +37,8 @@ decides_not P Q b q decides_b decides_q one other = same_from_decides b (not q) 
     back : ¬ Q → P
     back = by_cases (either_way b decides_b)
 
-module _ (claim : Terms) (ops : List Op) (apart : AreApart ops) (r : Op) (among : IsReadAmong ops r) where
-  -- what precedes r begins before r ends
+module _ (claim : ClaimModel) (ops : List Op) (apart : AreSequential ops) (r : Op) (among : IsReadAmong ops r) where
+  -- a write that precedes r begins before r ends
   pub before_reached : (w : Op) → Contains ops w → IsWrite w → Precedes w r → w.begin.0 < end_number r
   before_reached w sw ww before = let lt = begins_before w r (apart.proper w sw ww) before in let long = among.long in omega arith
 
@@ -46,36 +46,36 @@ module _ (claim : Terms) (ops : List Op) (apart : AreApart ops) (r : Op) (among 
   overlaps_here : (w : Op) → Contains ops w → IsWrite w → w.begin.0 < end_number r → ¬ Precedes w r → OverlapsWrite ops r
   overlaps_here w sw ww reached not = (sw.0, w, sw.1, sw.2, (ww, (not, among.not_over w reached)))
 
-  -- where the first write of a property does not precede r, none does
-  none_past : (P : Op → Type 0) (next : Option Op) → IsFirstOf P ops next → ¬ EndsBefore (end_of next) r.begin → (w : Op) → Contains ops w → IsWrite w → P w → ¬ Precedes w r
+  -- where the first write with a property does not precede r, no write with it does
+  none_past : (P : Op → Type 0) (next : Option Op) → IsFirstWriteOf P ops next → ¬ EndsBefore (optional_end next) r.begin → (w : Op) → Contains ops w → IsWrite w → P w → ¬ Precedes w r
   none_past P next is not w sw ww fits before =
       let n = first_found P ops next is w sw ww fits in
-      not (subst (λ (o : Option Op). EndsBefore (end_of o) r.begin) (sym n.1) (precedes_with ops apart n.0 w r n.2.stands sw n.2.write ww n.3 before))
+      not (subst (λ (o : Option Op). EndsBefore (optional_end o) r.begin) (sym n.1) (precedes_with ops apart n.0 w r n.2.stands sw n.2.write ww n.3 before))
 
-  -- a regular register: no write of r's value begins before r ends
+  -- a regular register, and no write of r's value begins before r ends
   module _ (none : NoneFits (IsNear Regular r) ops) where
-    -- only the initial value can be right then
+    -- then r is right only with the initial value, and no write precedes it
     alone : IsRegularRead claim ops r → All (λ w. IsWrite w → ¬ Precedes w r) ops × (value_of r.act ≡ claim.initial)
     alone (inl any) = absurd (none any.1 (any.0, any.2, any.3) any.4.0 (sym any.4.2, among.reached any.1 (any.0, any.2, any.3) any.4.0 any.4.1.1))
     alone (inr (inl l)) = absurd (none l.0 l.1.stands l.1.write (sym l.2, before_reached l.0 l.1.stands l.1.write l.1.before))
     alone (inr (inr h)) = h
 
-    past_initial : (next : Option Op) → IsFirstOf (BeginsFrom 0) ops next → EndsBefore (end_of next) r.begin → ¬ IsRegularRead claim ops r
+    past_initial : (next : Option Op) → IsFirstWriteOf (BeginsFrom 0) ops next → EndsBefore (optional_end next) r.begin → ¬ IsRegularRead claim ops r
     past_initial None is past right = past
     past_initial (Some n) is past right = All-contains (λ w. IsWrite w → ¬ Precedes w r) ops n (alone right).0 is.stands is.write past
 
-  -- the initial value is right where the first write of all does not precede r
-  right_initial : (next : Option Op) → value_of r.act ≡ claim.initial → IsFirstOf (BeginsFrom 0) ops next → ¬ EndsBefore (end_of next) r.begin → IsRegularRead claim ops r
+  -- the initial value is right where the first of all writes does not precede r
+  right_initial : (next : Option Op) → value_of r.act ≡ claim.initial → IsFirstWriteOf (BeginsFrom 0) ops next → ¬ EndsBefore (optional_end next) r.begin → IsRegularRead claim ops r
   right_initial next e is not =
       inr (inr (all_from (λ w. IsWrite w → ¬ Precedes w r) ops (λ w sw ww. none_past (BeginsFrom 0) next is not w sw ww (omega arith)), e))
 
-  -- w is the last write of r's value to begin before r ends, and next the write behind w
-  module _ (w : Op) (last : IsLast (IsNear Regular r) ops w) (next : Option Op) (is : IsFirstOf (BeginsAfter w.begin.0) ops next) where
-    -- wrong where the write behind w precedes r
-    past_write : EndsBefore (end_of next) r.begin → ¬ IsRegularRead claim ops r
+  -- w is the last write of r's value to begin before r ends, and `next` the write after w
+  module _ (w : Op) (last : IsLastWrite (IsNear Regular r) ops w) (next : Option Op) (is : IsFirstWriteOf (BeginsAfter w.begin.0) ops next) where
+    -- r is wrong where the write after w precedes r
+    past_write : EndsBefore (optional_end next) r.begin → ¬ IsRegularRead claim ops r
     past_write = by_cases next is
       where
-        by_cases : (next : Option Op) → IsFirstOf (BeginsAfter w.begin.0) ops next → EndsBefore (end_of next) r.begin → ¬ IsRegularRead claim ops r
+        by_cases : (next : Option Op) → IsFirstWriteOf (BeginsAfter w.begin.0) ops next → EndsBefore (optional_end next) r.begin → ¬ IsRegularRead claim ops r
         by_cases None first past right = past
         by_cases (Some n) first past (inl any) =
             let sv : Contains ops any.1 = (any.0, any.2, any.3) in
@@ -89,15 +89,15 @@ module _ (claim : Terms) (ops : List Op) (apart : AreApart ops) (r : Op) (among 
             omega arith
         by_cases (Some n) first past (inr (inr h)) = All-contains (λ v. IsWrite v → ¬ Precedes v r) ops n h.0 first.stands first.write past
 
-    no_later : ¬ EndsBefore (end_of next) r.begin → (v : Op) → Contains ops v → IsWrite v → Precedes v r → v.begin.0 ≤ w.begin.0
+    no_later : ¬ EndsBefore (optional_end next) r.begin → (v : Op) → Contains ops v → IsWrite v → Precedes v r → v.begin.0 ≤ w.begin.0
     no_later not v sv wv before = by_cases (cases_lt w.begin.0 v.begin.0)
       where
         by_cases : (w.begin.0 < v.begin.0) ⊎ (v.begin.0 ≤ w.begin.0) → v.begin.0 ≤ w.begin.0
         by_cases (inl lt) = absurd (none_past (BeginsAfter w.begin.0) next is not v sv wv lt before)
         by_cases (inr le) = le
 
-    -- and right where it does not: w overlaps r, or is the last before it
-    right_write : ¬ EndsBefore (end_of next) r.begin → IsRegularRead claim ops r
+    -- r is right where the write after w does not precede it: w overlaps r, or is the last write before it
+    right_write : ¬ EndsBefore (optional_end next) r.begin → IsRegularRead claim ops r
     right_write not = by_cases (either_way (precedes w r) (Decides-precedes w r))
       where
         by_cases : Precedes w r ⊎ (¬ Precedes w r) → IsRegularRead claim ops r
@@ -108,7 +108,7 @@ module _ (claim : Terms) (ops : List Op) (apart : AreApart ops) (r : Op) (among 
         ))
         by_cases (inr over) = inl (last.stands.0, w, last.stands.1, last.stands.2, (last.write, (over, among.not_over w last.fits.1), sym last.fits.0))
 
-  -- a safe register: no write begins before r ends
+  -- a safe register, and no write begins before r ends
   module _ (none : NoneFits (IsNear Safe r) ops) where
     pub safe_initial : value_of r.act ≡ claim.initial → IsInValueSet claim (value_of r.act) → IsSafeRead claim ops r
     safe_initial e allowed = (
@@ -123,9 +123,9 @@ module _ (claim : Terms) (ops : List Op) (apart : AreApart ops) (r : Op) (among 
         by_cases (inl l) = none l.0 l.1.stands l.1.write (refl, before_reached l.0 l.1.stands l.1.write l.1.before)
         by_cases (inr h) = other h.1
 
-  -- w is the last write to begin before r ends
-  module _ (w : Op) (last : IsLast (IsNear Safe r) ops w) where
-    -- an allowed value is right where it is that of w, or w overlaps r
+  -- a safe register, and w is the last write to begin before r ends
+  module _ (w : Op) (last : IsLastWrite (IsNear Safe r) ops w) where
+    -- r with an allowed value is right where that is the value of w, or where w does not precede r
     pub safe_write : ¬ ((value_of r.act ≢ value_of w.act) × Precedes w r) → IsInValueSet claim (value_of r.act) → IsSafeRead claim ops r
     safe_write not allowed =
         (by_cases (either_way (precedes w r) (Decides-precedes w r)) (either_way (same_value (value_of r.act) (value_of w.act)) (Decides-same_value (value_of r.act) (value_of w.act))), (λ _. allowed))
@@ -150,7 +150,7 @@ module _ (claim : Terms) (ops : List Op) (apart : AreApart ops) (r : Op) (among 
         let le = last.last any.1 sv any.4.0 (refl, among.reached any.1 sv any.4.0 any.4.1.1) in
         any.4.1.0 (precedes_with ops apart any.1 w r sv last.stands any.4.0 last.write le before)
 
-    -- and another is wrong where w precedes r
+    -- r with another value than w is wrong where w precedes it
     pub wrong_write : (value_of r.act ≢ value_of w.act) × Precedes w r → ¬ IsSafeRead claim ops r
     wrong_write (other, before) right = by_cases (right.0 (none_over before))
       where
@@ -161,7 +161,7 @@ module _ (claim : Terms) (ops : List Op) (apart : AreApart ops) (r : Op) (among 
             other (l.2 ∙ ap (λ (o : Op). value_of o.act) (apart.one l.0 w l.1.stands last.stands l.1.write last.write (omega arith)))
         by_cases (inr h) = All-contains (λ v. IsWrite v → ¬ Precedes v r) ops w h.0 last.stands last.write before
 
-  -- a value that is not allowed is wrong
+  -- a read of a value that is not allowed is wrong
   pub wrong_value : ((w : Op) → Contains ops w → IsWrite w → IsInValueSet claim (value_of w.act)) → IsInValueSet claim claim.initial → ¬ IsInValueSet claim (value_of r.act) → ¬ IsSafeRead claim ops r
   wrong_value of_writes of_initial none right = by_cases (right.0 (λ over. none (right.1 over)))
     where
@@ -179,41 +179,41 @@ differ a b other = by_cases (cases_Bool (same_value a b))
     by_cases (inl t) = absurd (other ((Decides-same_value a b).0 t))
     by_cases (inr f) = f
 
-module _ (base : Terms) (ops : List Op) (apart : AreApart ops) (r : Op) (among : IsReadAmong ops r) (low : r.begin.0 ≤ 4611686018427387903) where
-  abbrev regular : Terms
+module _ (base : ClaimModel) (ops : List Op) (apart : AreSequential ops) (r : Op) (among : IsReadAmong ops r) (low : r.begin.0 ≤ 4611686018427387903) where
+  abbrev regular : ClaimModel
   regular = record base { kind = Regular }
 
-  abbrev IsShortHere : Option Item → Type 0
-  IsShortHere c = is_short (option_map cover_of c) (read_item regular r) ≡ not (is_regular_read regular ops r)
+  abbrev IsShortHere : Option RowItem → Type 0
+  IsShortHere c = is_uncovered (option_map cover_of c) (read_item regular r) ≡ not (is_regular_read regular ops r)
 
   decides_regular : Decides (is_regular_read regular ops r) (IsRegularRead regular ops r)
   decides_regular = Decides-is_regular_read regular ops r
 
-  regular_none : (c : Option Item) → ByNone regular ops r c → IsShortHere c
+  regular_none : (c : Option RowItem) → ByNone regular ops r c → IsShortHere c
   regular_none c k = by_cases c k.other
     where
       wrong : true ≡ not (is_regular_read regular ops r)
       wrong = true_not (IsRegularRead regular ops r) (is_regular_read regular ops r) decides_regular (λ right. k.row (sym (alone regular ops apart r among k.none right).1))
 
-      some : nat_lt 0 (counted r.begin.0) ≡ true
-      some = (Decides-ltb 0 (counted r.begin.0)).1 (counted_some r.begin.0)
+      some : nat_lt 0 (counted_from_1 r.begin.0) ≡ true
+      some = (Decides-ltb 0 (counted_from_1 r.begin.0)).1 (counted_some r.begin.0)
 
-      by_cases : (c : Option Item) → IfSome c (λ d. (d.by_value ≡ true) × (row_of d ≢ value_of r.act)) → IsShortHere c
+      by_cases : (c : Option RowItem) → IfSome c (λ d. (d.by_value ≡ true) × (row_of d ≢ value_of r.act)) → IsShortHere c
       by_cases None other = some ∙ wrong
       by_cases (Some d) other =
           let apart_from : d.value ≢ value_of r.act = rw other.0 at other.1 in
           rw (differ (value_of r.act) d.value (λ e. apart_from (sym e)), other.0, some) wrong
 
-  -- a cover in r's row reaches r where the write behind it does not precede r
-  regular_by : (next : Option Op) → (EndsBefore (end_of next) r.begin → ¬ IsRegularRead regular ops r) → (¬ EndsBefore (end_of next) r.begin → IsRegularRead regular ops r)
-      → nat_lt (reach_by (end_of next)) (counted r.begin.0) ≡ not (is_regular_read regular ops r)
+  -- a cover in r's row reaches r exactly where the write after it does not precede r
+  regular_by : (next : Option Op) → (EndsBefore (optional_end next) r.begin → ¬ IsRegularRead regular ops r) → (¬ EndsBefore (optional_end next) r.begin → IsRegularRead regular ops r)
+      → nat_lt (reach_by (optional_end next)) (counted_from_1 r.begin.0) ≡ not (is_regular_read regular ops r)
   regular_by next past right =
-      reach_test (end_of next) r.begin low
-      ∙ decides_not (EndsBefore (end_of next) r.begin) (IsRegularRead regular ops r) (ends_before (end_of next) r.begin) (is_regular_read regular ops r)
-      (Decides-ends_before (end_of next) r.begin) decides_regular past right
+      reach_test (optional_end next) r.begin low
+      ∙ decides_not (EndsBefore (optional_end next) r.begin) (IsRegularRead regular ops r) (ends_before (optional_end next) r.begin) (is_regular_read regular ops r)
+      (Decides-ends_before (optional_end next) r.begin) decides_regular past right
 
-  -- a regular register's read is short exactly where it is wrong
-  regular_short : (c : Option Item) → IsNearest regular ops r c → IsShortHere c
+  -- a regular register's read is uncovered exactly where it is wrong
+  regular_short : (c : Option RowItem) → IsNearest regular ops r c → IsShortHere c
   regular_short c (inl k) =
       subst IsShortHere (sym k.is)
       (rw ((Decides-same_value (value_of r.act) (value_of k.write.act)).1 (sym k.last.fits.0))
@@ -224,29 +224,29 @@ module _ (base : Terms) (ops : List Op) (apart : AreApart ops) (r : Op) (among :
       (regular_by k.next (past_initial regular ops apart r among k.none k.next k.next_is) (right_initial regular ops apart r among k.next (sym k.row) k.next_is)))
   regular_short c (inr (inr k)) = regular_none c k
 
-module _ (base : Terms) (ops : List Op) (apart : AreApart ops) (r : Op) (among : IsReadAmong ops r) (low : All IsLow ops) (stands : Contains ops r)
+module _ (base : ClaimModel) (ops : List Op) (apart : AreSequential ops) (r : Op) (among : IsReadAmong ops r) (low : All IsWithinMoments ops) (stands : Contains ops r)
     (of_writes : (w : Op) → Contains ops w → IsWrite w → IsInValueSet base (value_of w.act)) (of_initial : IsInValueSet base base.initial) where
-  abbrev safe : Terms
+  abbrev safe : ClaimModel
   safe = record base { kind = Safe }
 
-  abbrev is_short_by : Option Item → Bool
-  is_short_by c = is_short (option_map cover_of c) (read_item safe r)
+  abbrev is_short_by : Option RowItem → Bool
+  is_short_by c = is_uncovered (option_map cover_of c) (read_item safe r)
 
-  abbrev IsShortAs : Option Item → Type 0
+  abbrev IsShortAs : Option RowItem → Type 0
   IsShortAs c = is_short_by c ≡ not (is_safe_read safe ops r)
 
   decides_safe : Decides (is_safe_read safe ops r) (IsSafeRead safe ops r)
   decides_safe = Decides-is_safe_read safe ops r
 
-  low_of : (op : Op) → Contains ops op → IsLow op
-  low_of op = All-contains IsLow ops op low
+  low_of : (op : Op) → Contains ops op → IsWithinMoments op
+  low_of op = All-contains IsWithinMoments ops op low
 
-  -- a value that is allowed
+  -- the case of a value that is allowed
   module _ (allowed : is_allowed base.domain base.initial (value_of r.act) ≡ true) where
     in_set : IsInValueSet base (value_of r.act)
     in_set = (Decides-is_allowed base.domain base.initial (value_of r.act)).0 allowed
 
-    allowed_write : (w : Op) (next : Option Op) → IsLast (IsNear Safe r) ops w → IsShortAs (Some (cover_item safe w next))
+    allowed_write : (w : Op) (next : Option Op) → IsLastWrite (IsNear Safe r) ops w → IsShortAs (Some (cover_item safe w next))
     allowed_write w next last =
         short
         ∙ decides_not ((value_of r.act ≢ value_of w.act) × Precedes w r) (IsSafeRead safe ops r) (not (same_value (value_of r.act) (value_of w.act)) && precedes w r) (is_safe_read safe ops r)
@@ -272,7 +272,7 @@ module _ (base : Terms) (ops : List Op) (apart : AreApart ops) (r : Op) (among :
         chosen false = refl
 
         short : is_short_by (Some (initial_item safe next)) ≡ not (same_value (value_of r.act) base.initial)
-        short = rw (allowed, (Decides-ltb 0 (counted r.begin.0)).1 (counted_some r.begin.0)) (chosen (same_value (value_of r.act) base.initial))
+        short = rw (allowed, (Decides-ltb 0 (counted_from_1 r.begin.0)).1 (counted_some r.begin.0)) (chosen (same_value (value_of r.act) base.initial))
 
         right : ¬ (value_of r.act ≢ base.initial) → IsSafeRead safe ops r
         right n = by_cases (either_way (same_value (value_of r.act) base.initial) (Decides-same_value (value_of r.act) base.initial))
@@ -301,8 +301,8 @@ module _ (base : Terms) (ops : List Op) (apart : AreApart ops) (r : Op) (among :
         short : is_short_by (Some (initial_item safe next)) ≡ true
         short = rw (differ (value_of r.act) base.initial (λ e. not_in_set (subst (IsInValueSet base) (sym e) of_initial)), refused) refl
 
-  -- a safe register's read is short exactly where it is wrong
-  safe_short : (c : Option Item) → IsNearest safe ops r c → IsShortAs c
+  -- a safe register's read is uncovered exactly where it is wrong
+  safe_short : (c : Option RowItem) → IsNearest safe ops r c → IsShortAs c
   safe_short c near = by_cases near (cases_Bool allows)
     where
       allows : Bool
@@ -320,30 +320,30 @@ pub initial_in_set : (domain : Option (List Value)) (initial : Value) → IsAllo
 initial_in_set None initial = tt
 initial_in_set (Some values) initial = inr refl
 
--- and so is that of each write
-pub in_value_set : (claim : Terms) (ops : List Op) → AreOneWriters claim ops → (w : Op) → Contains ops w → IsWrite w → IsInValueSet claim (value_of w.act)
+-- the value of each write is in the value set
+pub in_value_set : (claim : ClaimModel) (ops : List Op) → AreOneWriters claim ops → (w : Op) → Contains ops w → IsWrite w → IsInValueSet claim (value_of w.act)
 in_value_set claim ops apart w sw ww =
     (Decides-is_allowed claim.domain claim.initial (value_of w.act)).0 (write_allowed claim ops apart w sw ww)
 
-module _ (ops : List Op) (items : List Item) (r : Op) (stands : Contains ops r) (judged : IsJudgedRead r) (c : Option Item) (base : Terms) where
-  by_kind : (kind : Kind) → let claim : Terms = record base { kind = kind } in AreOneWriters claim ops → AreItems claim ops items → IsCoverAt items (place_of (read_item claim r)) c
-      → is_short (option_map cover_of c) (read_item claim r) ≡ is_wrong_read claim ops r
+module _ (ops : List Op) (items : List RowItem) (r : Op) (stands : Contains ops r) (judged : IsJudgedRead r) (c : Option RowItem) (base : ClaimModel) where
+  by_kind : (kind : Kind) → let claim : ClaimModel = record base { kind = kind } in AreOneWriters claim ops → AreItemsOf claim ops items → IsCoverAt items (spot_of_item (read_item claim r)) c
+      → is_uncovered (option_map cover_of c) (read_item claim r) ≡ is_wrong_read claim ops r
   by_kind Safe apart are is =
-      let claim : Terms = record base { kind = Safe } in
-      let low = All-contains IsLow ops r (all_low claim ops apart) stands in
+      let claim : ClaimModel = record base { kind = Safe } in
+      let low = All-contains IsWithinMoments ops r (all_low claim ops apart) stands in
       rw judged
       (safe_short base ops (are_apart ops apart.kept.moments apart.kept.ends (apart.kept.writes apart.one_writer)) r (read_among claim ops apart r stands judged) (all_low claim ops apart) stands
       (in_value_set claim ops apart) (initial_in_set base.domain base.initial) c (nearest claim ops items are r low.end c is))
   by_kind Regular apart are is =
-      let claim : Terms = record base { kind = Regular } in
-      let low = All-contains IsLow ops r (all_low claim ops apart) stands in
+      let claim : ClaimModel = record base { kind = Regular } in
+      let low = All-contains IsWithinMoments ops r (all_low claim ops apart) stands in
       rw judged
       (regular_short base ops (are_apart ops apart.kept.moments apart.kept.ends (apart.kept.writes apart.one_writer)) r (read_among claim ops apart r stands judged) low.begin c
       (nearest claim ops items are r low.end c is))
   by_kind Atomic apart are is = absurd (apart.one_writer refl)
 
-module _ (claim : Terms) (ops : List Op) (apart : AreOneWriters claim ops) (items : List Item) (are : AreItems claim ops items) where
-  -- the last cover before a judged read leaves it short exactly where it breaks its register's sentence
-  pub covered : (r : Op) → Contains ops r → IsJudgedRead r → (c : Option Item) → IsCoverAt items (place_of (read_item claim r)) c
-      → is_short (option_map cover_of c) (read_item claim r) ≡ is_wrong_read claim ops r
+module _ (claim : ClaimModel) (ops : List Op) (apart : AreOneWriters claim ops) (items : List RowItem) (are : AreItemsOf claim ops items) where
+  -- the last cover before a judged read leaves it uncovered exactly where it breaks its register's sentence
+  pub covered : (r : Op) → Contains ops r → IsJudgedRead r → (c : Option RowItem) → IsCoverAt items (spot_of_item (read_item claim r)) c
+      → is_uncovered (option_map cover_of c) (read_item claim r) ≡ is_wrong_read claim ops r
   covered r stands judged c is = by_kind ops items r stands judged c claim claim.kind apart are is

@@ -1,4 +1,4 @@
--- A single writer's judge may cross threads, alone and as a field: its tree is found whole, so that a search ends.
+-- A single writer's judge may cross threads, alone and as a field; the search ends by the proof of its tree.
 use denote.Ref.{NamedLft}
 use denote.Param.Send.{IsSend, IsSync, sendable}
 use Rattle.std.proofs.Crossing.{crosses}

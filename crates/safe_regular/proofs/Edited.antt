@@ -9,7 +9,7 @@ use Rattle.intervals.specs.declared.operation.Value.{Value}
 use Rattle.intervals.specs.declared.operation.Op.{Op}
 use Rattle.intervals.specs.declared.operation.OpId.{OpId}
 use Rattle.intervals.specs.declared.edit.Edit.{Edit}
-use Rattle.intervals.specs.Terms.{Terms}
+use Rattle.intervals.specs.Terms.{ClaimModel}
 use Rattle.intervals.specs.Operation.{IsWrite, same_id, value_of}
 use Rattle.intervals.specs.Edit.{op_of, edited}
 use Rattle.intervals.specs.Judging.{is_allowed}
@@ -17,14 +17,14 @@ use Rattle.intervals.specs.Refusal.{has_large_moment, is_in_domain, is_past_end,
 use Rattle.intervals.specs.Standing.{HasDistinctIds, IsPermitted}
 use Rattle.intervals.proofs.Ids.{found_alike, found_by_id}
 use Rattle.intervals.proofs.Standing.{edited_apart}
-use Rattle.safe_regular.specs.Held.{IsLow, AreOneWriters}
+use Rattle.safe_regular.specs.Held.{IsWithinMoments, AreOneWriters}
 
--- what stands by an id is the operation of that id
+-- an operation of the list is the one found by its id
 pub one_at : (ops : List Op) → HasDistinctIds ops → (id : OpId) (x : Op) → Contains ops x → same_id x.id id ≡ true → op_of ops id ≡ Some x
 one_at ops d id x h t = sym (found_alike ops x.id id t) ∙ found_by_id ops x d h
 
--- an operation with no moment past the greatest begins and ends by it
-is_low : (op : Op) → has_large_moment op ≡ false → IsLow op
+-- an operation with no moment past the greatest begins and ends at it or before
+is_low : (op : Op) → has_large_moment op ≡ false → IsWithinMoments op
 is_low op low =
     let parts = or_parts (nat_lt 4611686018427387903 op.begin.0) (is_past_end op.end) low in
     record { begin = ltb-false 4611686018427387903 op.begin.0 parts.0; end = end_low op.end parts.1 }
@@ -33,17 +33,17 @@ is_low op low =
     end_low None f = omega arith
     end_low (Some end) f = ltb-false 4611686018427387903 end.0 f
 
-pub all_low : (claim : Terms) (ops : List Op) → AreOneWriters claim ops → All IsLow ops
-all_low claim ops apart = All-weaker (λ op. has_large_moment op ≡ false) IsLow is_low ops apart.kept.low
+pub all_low : (claim : ClaimModel) (ops : List Op) → AreOneWriters claim ops → All IsWithinMoments ops
+all_low claim ops apart = All-weaker (λ op. has_large_moment op ≡ false) IsWithinMoments is_low ops apart.kept.low
 
 in_domain : (domain : Option (List Value)) (initial value : Value) → is_in_domain domain value ≡ true → is_allowed domain initial value ≡ true
 in_domain None initial value t = refl
 in_domain (Some values) initial value t = rw t refl
 
--- a write that stands has a value of the value set
-pub write_allowed : (claim : Terms) (ops : List Op) → AreOneWriters claim ops → (w : Op) → Contains ops w → IsWrite w → is_allowed claim.domain claim.initial (value_of w.act) ≡ true
+-- a write of the list has a value of the value set
+pub write_allowed : (claim : ClaimModel) (ops : List Op) → AreOneWriters claim ops → (w : Op) → Contains ops w → IsWrite w → is_allowed claim.domain claim.initial (value_of w.act) ≡ true
 write_allowed claim ops apart w stands write =
     in_domain claim.domain claim.initial (value_of w.act) (All-contains (λ v. IsWrite v → IsPermitted claim v) ops w apart.kept.allowed stands write).value
 
-pub apart_kept : (claim : Terms) (ops : List Op) (edit : Edit) → AreOneWriters claim ops → reply_to claim ops edit ≡ None → AreOneWriters claim (edited ops edit)
+pub apart_kept : (claim : ClaimModel) (ops : List Op) (edit : Edit) → AreOneWriters claim ops → reply_to claim ops edit ≡ None → AreOneWriters claim (edited ops edit)
 apart_kept claim ops edit apart accepted = record { one_writer = apart.one_writer; kept = edited_apart claim ops edit apart.kept accepted }

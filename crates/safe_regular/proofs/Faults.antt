@@ -1,4 +1,4 @@
--- A fault is named exactly where there is a wrong read.
+-- A fault is reported exactly where some read is wrong.
 use Rattle.std.proofs.Common.{◌≡◌, ◌↔◌, Option, Some, None, refl, ap}
 use Rattle.std.specs.Prelude.{IsNone, option_map, is_some}
 use Rattle.intervals.specs.declared.operation.Op.{Op}

@@ -1,9 +1,9 @@
--- The wrong read that ended first.
+-- `first_wrong` is the wrong read that ended first.
 use Rattle.std.proofs.Common.{◌≡◌, ◌≤◌, List, Option, Some, None}
 use Rattle.std.specs.Prelude.{IsTrue}
 use Rattle.std.proofs.lemmas.Bool.{and_parts}
 use Rattle.intervals.specs.declared.operation.Op.{Op}
-use Rattle.intervals.specs.Terms.{Terms}
+use Rattle.intervals.specs.Terms.{ClaimModel}
 use Rattle.intervals.specs.Operation.{IsJudgedRead, is_judged_read}
 use Rattle.intervals.specs.Judging.{is_wrong_read, end_number, first_wrong}
 use Rattle.intervals.proofs.LeastOf.{AreTold, none_least, least_is}
@@ -11,8 +11,8 @@ use Rattle.intervals.proofs.Members.{all_from}
 use Rattle.safe_regular.specs.Apart.{HasDistinctEnds}
 use Rattle.safe_regular.specs.First.{IsFirstWrong}
 
--- where ends tell the judged reads apart, the wrong read that ended first is the one that is named
-pub first_wrong_is : (claim : Terms) (ops : List Op) → HasDistinctEnds ops → (found : Option Op) → IsFirstWrong claim ops found → first_wrong claim ops ≡ found
+-- where no two judged reads end at one moment, `first_wrong` finds the wrong read that ended first
+pub first_wrong_is : (claim : ClaimModel) (ops : List Op) → HasDistinctEnds ops → (found : Option Op) → IsFirstWrong claim ops found → first_wrong claim ops ≡ found
 first_wrong_is claim ops distinct None none = none_least end_number (is_wrong_read claim ops) ops none
 first_wrong_is claim ops distinct (Some r) is = least_is end_number (is_wrong_read claim ops) ops r told (record {
   stands = is.stands;

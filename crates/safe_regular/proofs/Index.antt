@@ -1,4 +1,4 @@
--- A look-up among moments finds the last or the first of the writes.
+-- A look-up among moments finds the last or the first of the writes with a property.
 use Rattle.std.proofs.Common.{◌≡◌, ◌≢◌, ℕ, ◌+◌, ◌<◌, ◌≤◌, ◌⊎◌, inl, inr, List, Option, Some, None, sym, ap, subst, ◌∙◌, arith}
 use Rattle.std.specs.Prelude.{Contains}
 use Rattle.std.proofs.lemmas.Bool.{cases_lt, cases_eq}
@@ -6,15 +6,15 @@ use Rattle.intervals.specs.declared.operation.Op.{Op}
 use Rattle.intervals.specs.declared.operation.OpId.{OpId}
 use Rattle.intervals.specs.declared.operation.Moment.{Moment}
 use Rattle.intervals.specs.Operation.{IsWrite}
-use Rattle.safe_regular.specs.LookUp.{BeginsFrom, BeginsAfter, NoneFits, IsLast, IsFirst, IsFirstOf}
+use Rattle.safe_regular.specs.LookUp.{BeginsFrom, BeginsAfter, NoneFits, IsLastWrite, IsFirstWrite, IsFirstWriteOf}
 use Rattle.safe_regular.specs.Writes.{IsAdded}
 use Rattle.safe_regular.specs.Index.{IsIndex, IsLastAt, IsFirstAt}
 use Rattle.intervals.proofs.Members.{same_moment}
 
--- a property of writes that is one of their beginnings
+-- a property of writes, `Fits`, that is one of their beginnings, `Q`
 module _ (Fits : Op → Type 0) (Q : Moment → Type 0) (says : (w : Op) → Fits w → Q w.begin) (met : (w : Op) → Q w.begin → Fits w)
     (ops : List Op) (at : Moment → Option OpId) (index : IsIndex ops at) where
-  -- no id at those moments
+  -- where no moment with Q has an id, no write has the property
   pub none_indexed : ((m : Moment) → Q m → at m ≡ None) → NoneFits Fits ops
   none_indexed none w stands write fits =
       let e = none w.begin (says w fits) in
@@ -25,13 +25,13 @@ module _ (Fits : Op → Type 0) (Q : Moment → Type 0) (says : (w : Op) → Fit
     abbrev pub IsThat : Type 0
     IsThat = IsWrite found × (found.begin ≡ m)
 
-    -- the operation of an id that was found
+    -- the operation of the id found is a write that begins at that moment
     is_that : at m ≡ Some id → IsThat
     is_that e =
         let w = index.back m id e in
         subst (λ (o : Op). IsWrite o × (o.begin ≡ m)) (one w.0 found w.1 stands (w.4 ∙ sym own)) (w.2, w.3)
 
-    pub last_indexed : IsLastAt Q at m id → IsLast Fits ops found
+    pub last_indexed : IsLastAt Q at m id → IsLastWrite Fits ops found
     last_indexed is =
         let it : IsThat = is_that is.stands in
         record {
@@ -47,7 +47,7 @@ module _ (Fits : Op → Type 0) (Q : Moment → Type 0) (says : (w : Op) → Fit
             let none = is.last w.begin (says w fits) (let b = ap (λ (n : Moment). n.0) e in omega arith) in
             let some = index.there w sw ww in cc)
 
-    pub first_indexed : IsFirstAt Q at m id → IsFirst Fits ops found
+    pub first_indexed : IsFirstAt Q at m id → IsFirstWrite Fits ops found
     first_indexed is =
         let it : IsThat = is_that is.stands in
         record {
@@ -63,9 +63,9 @@ module _ (Fits : Op → Type 0) (Q : Moment → Type 0) (says : (w : Op) → Fit
             let none = is.first w.begin (says w fits) (let b = ap (λ (n : Moment). n.0) e in omega arith) in
             let some = index.there w sw ww in cc)
 
--- an index of the others, and w: each of the others begins at another moment
+-- an index of the others, and a write w beside them: each of the others begins at another moment
 module _ (others : List Op) (w : Op) (ops : List Op) (is : IsAdded others w ops) (write : IsWrite w) where
-  -- with w at its beginning it is one of the list
+  -- with the id of w at its beginning it is an index of the list
   pub index_with : (at new : Moment → Option OpId) → IsIndex others at → new w.begin ≡ Some w.id → ((m : Moment) → m.0 ≢ w.begin.0 → new m ≡ at m) → IsIndex ops new
   index_with at new index here kept = record {
     there = λ v sv wv. by_cases v wv (is.only v wv sv);
@@ -84,7 +84,7 @@ module _ (others : List Op) (w : Op) (ops : List Op) (is : IsAdded others w ops)
           let v = index.back m id (sym (kept m other) ∙ e) in
           (v.0, is.kept v.0 v.2 v.1, v.2, v.3, v.4)
 
-  -- without what stands at the beginning of w an index of the list is one of the others
+  -- without the id at the beginning of w an index of the list is one of the others
   pub index_without : (at new : Moment → Option OpId) → IsIndex ops at → new w.begin ≡ None → ((m : Moment) → m.0 ≢ w.begin.0 → new m ≡ at m) → IsIndex others new
   index_without at new index gone kept = record {
     there = λ v sv wv. kept v.begin (is.apart write v sv wv) ∙ index.there v (is.kept v wv sv) wv;
@@ -100,8 +100,8 @@ module _ (others : List Op) (w : Op) (ops : List Op) (is : IsAdded others w ops)
           by_cases v wv b i (inl stands) = (v, stands, wv, b, i)
           by_cases v wv b i (inr same) = absurd (other (ap (λ (n : Moment). n.0) (sym b) ∙ ap (λ (o : Op). o.begin.0) same))
 
--- the first from the next moment on is the first after a moment
-pub first_after : (ops : List Op) (moment : ℕ) (found : Option Op) → IsFirstOf (BeginsFrom (moment + 1)) ops found → IsFirstOf (BeginsAfter moment) ops found
+-- the first write from moment + 1 on is the first after the moment
+pub first_after : (ops : List Op) (moment : ℕ) (found : Option Op) → IsFirstWriteOf (BeginsFrom (moment + 1)) ops found → IsFirstWriteOf (BeginsAfter moment) ops found
 first_after ops moment None none = λ w stands write fits. none w stands write (omega arith)
 first_after ops moment (Some v) is = record {
   stands = is.stands;

@@ -1,5 +1,4 @@
--- The items afterwards are those of the operations afterwards: one goes, one comes, and the covers in front
--- of both are made anew.
+-- The items after an edit are those of the operations: one goes, one comes, the covers before both are rebuilt.
 use Rattle.std.proofs.Common.{◌≡◌, ℕ, suc, ◌<◌, ◌≤◌, ◌⊎◌, inl, inr, Bool, true, false, ◌||◌, List, Option, Some, None, refl, sym, ap, ◌∙◌, cond, subst, arith}
 use Rattle.std.specs.Prelude.{Contains}
 use Rattle.std.proofs.lemmas.Bool.{both_ways, cases_Bool}
@@ -7,48 +6,48 @@ use Rattle.intervals.specs.declared.operation.Op.{Op}
 use Rattle.intervals.specs.declared.operation.Moment.{Moment}
 use Rattle.intervals.specs.declared.claim.Kind.{Kind}
 use Rattle.intervals.specs.declared.claim.Kind.TheVariants.{Safe, Regular, Atomic}
-use Rattle.intervals.specs.declared.shelf.Spot.{Spot}
+use Rattle.intervals.specs.declared.ordered_index.Spot.{Spot}
 use Rattle.intervals.specs.Operation.{IsWrite, is_write, is_judged_read}
-use Rattle.intervals.specs.Shelf.{same_spot}
-use Rattle.intervals.specs.Terms.{Terms}
-use Rattle.read_tree.specs.declared.item.Item.{Item}
-use Rattle.read_tree.specs.Items.{AreInOrder, place_of}
+use Rattle.intervals.specs.OrderedIndex.{same_spot}
+use Rattle.intervals.specs.Terms.{ClaimModel}
+use Rattle.read_tree.specs.declared.item.RowItem.{RowItem}
+use Rattle.read_tree.specs.Items.{AreItemsInOrder, spot_of_item}
 use Rattle.safe_regular.specs.Held.{AreOneWriters}
-use Rattle.safe_regular.specs.LookUp.{BeginsFrom, IsFirstOf}
-use Rattle.safe_regular.specs.Line.{AreItems, HasWriteAt, IsAway, IsCoverBefore, IsExchanged, IsFreeFor, IsInFront, IsItem, IsItemOf, IsLaid, IsRenewed, IsTaken, cover_item, cover_reach, has_rows, initial_item, initial_reach, initial_place, place_in, place_of_some, read_item, spot_in}
+use Rattle.safe_regular.specs.LookUp.{BeginsFrom, IsFirstWriteOf}
+use Rattle.safe_regular.specs.RowItems.{AreItemsOf, HasWriteAt, IsAway, IsCoverBefore, IsExchanged, IsFreeFor, IsInFront, IsOperationItem, IsItemOf, IsLaid, IsRenewed, HasItemAt, cover_item, cover_reach, has_rows, initial_item, initial_reach, initial_place, place_in, place_of_some, read_item, optional_item_spot}
 use Rattle.safe_regular.specs.Change.{IsAmong}
 use Rattle.safe_regular.proofs.Next.{some_first, IsApartFrom, next_after, next_before}
 use Rattle.safe_regular.proofs.Told.{same_is, same_itself, op_away, initial_away, of_which, items_told, place_of_cover, place_of_read, writes_apart}
 
--- an item stands at the spot that there may be, or away from it
-pub at_or_away : (o : Option Item) (x : Item) → ((y : Item) × (o ≡ Some y) × (same_spot (place_of x) (place_of y) ≡ true)) ⊎ IsAway (place_of_some o) x
+-- an item is at the spot of an optional one, or it is away from there
+pub at_or_away : (o : Option RowItem) (x : RowItem) → ((y : RowItem) × (o ≡ Some y) × (same_spot (spot_of_item x) (spot_of_item y) ≡ true)) ⊎ IsAway (place_of_some o) x
 at_or_away None x = inr tt
-at_or_away (Some y) x = elim (cases_Bool (same_spot (place_of x) (place_of y))) [ inl t ↦ inl (y, refl, t) | inr f ↦ inr f ]
+at_or_away (Some y) x = elim (cases_Bool (same_spot (spot_of_item x) (spot_of_item y))) [ inl t ↦ inl (y, refl, t) | inr f ↦ inr f ]
 
--- what is at the place of the item is not away from it
-not_away : (o : Option Item) (x y : Item) → o ≡ Some y → place_of x ≡ place_of y → ¬ IsAway (place_of_some o) x
+-- an item at the spot of an optional one is not away from there
+not_away : (o : Option RowItem) (x y : RowItem) → o ≡ Some y → spot_of_item x ≡ spot_of_item y → ¬ IsAway (place_of_some o) x
 not_away None x y e same away = absurd (cc)
 not_away (Some z) x y e same away =
     let is : z ≡ y = cc in
-    both_ways (same_spot (place_of x) (place_of z)) away (subst (λ (s : Spot). same_spot (place_of x) s ≡ true) (same ∙ ap place_of (sym is)) (same_itself (place_of x)))
+    both_ways (same_spot (spot_of_item x) (spot_of_item z)) away (subst (λ (s : Spot). same_spot (spot_of_item x) s ≡ true) (same ∙ ap spot_of_item (sym is)) (same_itself (spot_of_item x)))
 
 neither : (a b : Bool) → a ≡ false → b ≡ false → (a || b) ≡ false
 neither a b f g = rw (f, g) refl
 
--- an operation that has an item
-pub laid : (claim : Terms) (o : Op) → (t : Bool) → (is_write o || is_judged_read o) ≡ t → IsLaid o → spot_in claim (Some o) ≡ Some (place_in claim o)
+-- the spot of an operation that has an item
+pub laid : (claim : ClaimModel) (o : Op) → (t : Bool) → (is_write o || is_judged_read o) ≡ t → IsLaid o → optional_item_spot claim (Some o) ≡ Some (place_in claim o)
 laid claim o t e (inl write) = rw write refl
 laid claim o t e (inr judged) = elim (is_write o) as (λ b. cond (b || is_judged_read o) (Some (place_in claim o)) None ≡ Some (place_in claim o)) [ true ↦ refl | false ↦ rw judged refl ]
 
--- where the operation stood is not away from there
-old_not_away : (claim : Terms) (old : Option Op) (x : Item) (y : Op) → old ≡ Some y → IsLaid y → place_of x ≡ place_in claim y → ¬ IsAway (spot_in claim old) x
+-- an item at the spot of the old operation is not away from there
+old_not_away : (claim : ClaimModel) (old : Option Op) (x : RowItem) (y : Op) → old ≡ Some y → IsLaid y → spot_of_item x ≡ place_in claim y → ¬ IsAway (optional_item_spot claim old) x
 old_not_away claim old x y is y_laid e away =
-    let spot : spot_in claim old ≡ Some (place_in claim y) = ap (spot_in claim) is ∙ laid claim y (is_write y || is_judged_read y) refl y_laid in
-    let at : same_spot (place_of x) (place_in claim y) ≡ false = subst (λ (s : Option Spot). IsAway s x) spot away in
-    both_ways (same_spot (place_of x) (place_in claim y)) at (subst (λ (s : Spot). same_spot (place_of x) s ≡ true) e (same_itself (place_of x)))
+    let spot : optional_item_spot claim old ≡ Some (place_in claim y) = ap (optional_item_spot claim) is ∙ laid claim y (is_write y || is_judged_read y) refl y_laid in
+    let at : same_spot (spot_of_item x) (place_in claim y) ≡ false = subst (λ (s : Option Spot). IsAway s x) spot away in
+    both_ways (same_spot (spot_of_item x) (place_in claim y)) at (subst (λ (s : Spot). same_spot (spot_of_item x) s ≡ true) e (same_itself (spot_of_item x)))
 
--- where the operation stands that goes its item stands
-pub place_is_taken : (claim : Terms) (ops : List Op) (old : Option Op) (apart : AreOneWriters claim ops) → ((o : Op) → old ≡ Some o → Contains ops o) → (items : List Item) → AreItems claim ops items → IsTaken (spot_in claim old) items
+-- an item is at the spot of the operation that goes, if that has one
+pub place_is_taken : (claim : ClaimModel) (ops : List Op) (old : Option Op) (apart : AreOneWriters claim ops) → ((o : Op) → old ≡ Some o → Contains ops o) → (items : List RowItem) → AreItemsOf claim ops items → HasItemAt (optional_item_spot claim old) items
 place_is_taken claim ops None apart stands items are = tt
 place_is_taken claim ops (Some o) apart stands items are = elim (cases_Bool (is_write o)) [
   | inl write ↦
@@ -63,43 +62,43 @@ place_is_taken claim ops (Some o) apart stands items are = elim (cases_Bool (is_
   ]
 ]
   where
-    at : (y : Item) → Contains items y → place_of y ≡ place_in claim o → IsTaken (spot_in claim (Some o)) items
+    at : (y : RowItem) → Contains items y → spot_of_item y ≡ place_in claim o → HasItemAt (optional_item_spot claim (Some o)) items
     at y h e = by_laid (is_write o || is_judged_read o)
       where
-        by_laid : (t : Bool) → IsTaken (cond t (Some (place_in claim o)) None) items
-        by_laid true = (y, h, subst (λ (s : Spot). same_spot (place_of y) s ≡ true) e (same_itself (place_of y)))
+        by_laid : (t : Bool) → HasItemAt (cond t (Some (place_in claim o)) None) items
+        by_laid true = (y, h, subst (λ (s : Spot). same_spot (spot_of_item y) s ≡ true) e (same_itself (spot_of_item y)))
         by_laid false = tt
 
--- where the old operation is gone nothing stands at the place of the new one
-pub place_is_free : (claim : Terms) (ops others after : List Op) (old new : Option Op) (before_apart : AreOneWriters claim ops) (after_apart : AreOneWriters claim after)
+-- once the old operation's item is gone, no item is at the spot of the new one's
+pub place_is_free : (claim : ClaimModel) (ops others after : List Op) (old new : Option Op) (before_apart : AreOneWriters claim ops) (after_apart : AreOneWriters claim after)
     (before_cases : (x : Op) → Contains ops x → IsAmong others old x) (in_after : (x : Op) → IsAmong others new x → Contains after x)
     (new_other : (x y : Op) → Contains others x → new ≡ Some y → ¬ (x ≡ y))
-    (item : Option Item) (item_is : IsItemOf claim after new item) (items : List Item) (are : AreItems claim ops items)
-    → IsFreeFor (spot_in claim old) item items
+    (item : Option RowItem) (item_is : IsItemOf claim after new item) (items : List RowItem) (are : AreItemsOf claim ops items)
+    → IsFreeFor (optional_item_spot claim old) item items
 place_is_free claim ops others after old new before_apart after_apart before_cases in_after new_other None item_is items are = tt
 place_is_free claim ops others after old new before_apart after_apart before_cases in_after new_other (Some x) item_is items are = λ y stands away.
     let (x_is, of_op) = item_is.is x refl in
     let (o, is, o_laid, at) = of_op in
     let o_stands = in_after o (inr is) in
     elim (of_which claim ops before_apart y (are.only y stands)) [
-      | inl initial ↦ subst (λ (s : Spot). same_spot s (place_of x) ≡ false) (sym initial) (subst (λ (s : Spot). same_spot (initial_place claim) s ≡ false) (sym at) (initial_away claim after after_apart o o_stands))
+      | inl initial ↦ subst (λ (s : Spot). same_spot s (spot_of_item x) ≡ false) (sym initial) (subst (λ (s : Spot). same_spot (initial_place claim) s ≡ false) (sym at) (initial_away claim after after_apart o o_stands))
       | inr of_other ↦
           let (a, a_stands, a_laid, a_at) = of_other in
           elim (before_cases a a_stands) [
-            | inl among ↦ subst (λ (s : Spot). same_spot s (place_of x) ≡ false) (sym a_at) (subst (λ (s : Spot). same_spot (place_in claim a) s ≡ false) (sym at)
+            | inl among ↦ subst (λ (s : Spot). same_spot s (spot_of_item x) ≡ false) (sym a_at) (subst (λ (s : Spot). same_spot (place_in claim a) s ≡ false) (sym at)
                 (op_away claim after after_apart a o (in_after a (inl among)) o_stands a_laid o_laid (new_other a o among is)))
             | inr gone ↦ absurd (old_not_away claim old y a gone a_laid a_at away)
           ]
     ]
 
-module _ (claim : Terms) (ops others after : List Op) (old new : Option Op) (before_apart : AreOneWriters claim ops) (after_apart : AreOneWriters claim after)
+module _ (claim : ClaimModel) (ops others after : List Op) (old new : Option Op) (before_apart : AreOneWriters claim ops) (after_apart : AreOneWriters claim after)
     (before_cases : (x : Op) → Contains ops x → IsAmong others old x) (in_before : (x : Op) → IsAmong others old x → Contains ops x)
     (after_cases : (x : Op) → Contains after x → IsAmong others new x) (in_after : (x : Op) → IsAmong others new x → Contains after x)
     (old_other : (x y : Op) → Contains others x → old ≡ Some y → ¬ (x ≡ y))
-    (item left come : Option Item) (item_is : IsItemOf claim after new item) (left_is : IsCoverBefore claim after None old left) (come_is : IsCoverBefore claim after old new come)
-    (first second third last : List Item) (are : AreItems claim ops first) (one : IsExchanged (spot_in claim old) item first second) (two : IsRenewed left second third) (three : IsRenewed come third last) where
-  -- the item of one of the others stands away from where the old one stood
-  away_from_old : (x : Item) (o : Op) → Contains others o → IsLaid o → place_of x ≡ place_in claim o → IsAway (spot_in claim old) x
+    (item left come : Option RowItem) (item_is : IsItemOf claim after new item) (left_is : IsCoverBefore claim after None old left) (come_is : IsCoverBefore claim after old new come)
+    (first second third last : List RowItem) (are : AreItemsOf claim ops first) (one : IsExchanged (optional_item_spot claim old) item first second) (two : IsRenewed left second third) (three : IsRenewed come third last) where
+  -- the item of one of the others is at another spot than that of the old operation
+  away_from_old : (x : RowItem) (o : Op) → Contains others o → IsLaid o → spot_of_item x ≡ place_in claim o → IsAway (optional_item_spot claim old) x
   away_from_old x o among o_laid e = by_old old refl
     where
       by_laid : (y : Op) (t : Bool) → (is_write y || is_judged_read y) ≡ t → old ≡ Some y → (IsLaid y) ⊎ (t ≡ false) → IsAway (cond t (Some (place_in claim y)) None) x
@@ -115,30 +114,30 @@ module _ (claim : Terms) (ops others after : List Op) (old new : Option Op) (bef
         | inr f ↦ elim (cases_Bool (is_judged_read y)) [ inl t ↦ inl (inr t) | inr g ↦ inr (neither (is_write y) (is_judged_read y) f g) ]
       ]
 
-      by_old : (z : Option Op) → old ≡ z → IsAway (spot_in claim z) x
+      by_old : (z : Option Op) → old ≡ z → IsAway (optional_item_spot claim z) x
       by_old None is = tt
       by_old (Some y) is = by_laid y (is_write y || is_judged_read y) refl is (which y)
 
-  initial_from_old : (x : Item) → place_of x ≡ initial_place claim → IsAway (spot_in claim old) x
+  initial_from_old : (x : RowItem) → spot_of_item x ≡ initial_place claim → IsAway (optional_item_spot claim old) x
   initial_from_old x e = by_old old refl
     where
       by_laid : (y : Op) (t : Bool) → old ≡ Some y → IsAway (cond t (Some (place_in claim y)) None) x
       by_laid y true is = subst (λ (s : Spot). same_spot s (place_in claim y) ≡ false) (sym e) (initial_away claim ops before_apart y (in_before y (inr is)))
       by_laid y false is = tt
 
-      by_old : (z : Option Op) → old ≡ z → IsAway (spot_in claim z) x
+      by_old : (z : Option Op) → old ≡ z → IsAway (optional_item_spot claim z) x
       by_old None is = tt
       by_old (Some y) is = by_laid y (is_write y || is_judged_read y) is
 
-  -- behind a cover that stands away from that in front of an operation some write begins between
-  between : (op : Option Op) (c : Option Item) (n : ℕ) (x : Item) → IsAway (place_of_some c) x → (o : Op) → n ≤ o.begin.0
-      → ((y : Item) → IsInFront claim after o.begin.0 y → ((u : Op) → Contains after u → IsWrite u → u.begin.0 < o.begin.0 → u.begin.0 < n) → place_of x ≡ place_of y)
-      → ((y : Item) × (c ≡ Some y) × IsInFront claim after o.begin.0 y) → ¬ ((u : Op) → Contains after u → IsWrite u → u.begin.0 < o.begin.0 → u.begin.0 < n)
+  -- after a cover that is not the one before an operation, some write begins before that operation does
+  between : (op : Option Op) (c : Option RowItem) (n : ℕ) (x : RowItem) → IsAway (place_of_some c) x → (o : Op) → n ≤ o.begin.0
+      → ((y : RowItem) → IsInFront claim after o.begin.0 y → ((u : Op) → Contains after u → IsWrite u → u.begin.0 < o.begin.0 → u.begin.0 < n) → spot_of_item x ≡ spot_of_item y)
+      → ((y : RowItem) × (c ≡ Some y) × IsInFront claim after o.begin.0 y) → ¬ ((u : Op) → Contains after u → IsWrite u → u.begin.0 < o.begin.0 → u.begin.0 < n)
   between op c n x away o above same (y, c_at, front) below = not_away c x y c_at (same y front below) away
 
-  -- in front of an operation behind a write, with no write between, stands the cover of that write
-  front_is : (w : Op) → Contains others w → IsWrite w → (x : Item) → place_of x ≡ place_in claim w → (o : Op) → suc w.begin.0 ≤ o.begin.0 → (y : Item) → IsInFront claim after o.begin.0 y
-      → ((u : Op) → Contains after u → IsWrite u → u.begin.0 < o.begin.0 → u.begin.0 < suc w.begin.0) → place_of x ≡ place_of y
+  -- the cover before an operation is that of a write w, where the operation is after w and no write is between
+  front_is : (w : Op) → Contains others w → IsWrite w → (x : RowItem) → spot_of_item x ≡ place_in claim w → (o : Op) → suc w.begin.0 ≤ o.begin.0 → (y : RowItem) → IsInFront claim after o.begin.0 y
+      → ((u : Op) → Contains after u → IsWrite u → u.begin.0 < o.begin.0 → u.begin.0 < suc w.begin.0) → spot_of_item x ≡ spot_of_item y
   front_is w among write x e o above y front below = elim front [
     | inl last ↦
         let (v, v_is, v_at) = last in
@@ -150,9 +149,9 @@ module _ (claim : Terms) (ops others after : List Op) (old new : Option Op) (bef
     | inr none ↦ absurd (none.0 w (in_after w (inl among)) write above)
   ]
 
-  -- in front of an operation with no write before it stands the initial cover
-  initial_front_is : (x : Item) → place_of x ≡ initial_place claim → (o : Op) → (y : Item) → IsInFront claim after o.begin.0 y
-      → ((u : Op) → Contains after u → IsWrite u → u.begin.0 < o.begin.0 → u.begin.0 < 0) → place_of x ≡ place_of y
+  -- the cover before an operation is the initial one, where no write is before it
+  initial_front_is : (x : RowItem) → spot_of_item x ≡ initial_place claim → (o : Op) → (y : RowItem) → IsInFront claim after o.begin.0 y
+      → ((u : Op) → Contains after u → IsWrite u → u.begin.0 < o.begin.0 → u.begin.0 < 0) → spot_of_item x ≡ spot_of_item y
   initial_front_is x e o y front below = elim front [
     | inl last ↦ let (v, v_is, v_at) = last in let lt : v.begin.0 < 0 = below v v_is.stands v_is.write v_is.fits in absurd (omega (arith, lt))
     | inr none ↦ e ∙ sym none.1
@@ -161,8 +160,8 @@ module _ (claim : Terms) (ops others after : List Op) (old new : Option Op) (bef
   abbrev Below : ℕ → ℕ → Type 0
   Below n m = (u : Op) → Contains after u → IsWrite u → u.begin.0 < m → u.begin.0 < n
 
-  module _ (rows : has_rows claim.kind ≡ true) (n : ℕ) (x : Item)
-      (same : (o : Op) → n ≤ o.begin.0 → (y : Item) → IsInFront claim after o.begin.0 y → Below n o.begin.0 → place_of x ≡ place_of y) where
+  module _ (rows : has_rows claim.kind ≡ true) (n : ℕ) (x : RowItem)
+      (same : (o : Op) → n ≤ o.begin.0 → (y : RowItem) → IsInFront claim after o.begin.0 y → Below n o.begin.0 → spot_of_item x ≡ spot_of_item y) where
     old_apart : IsAway (place_of_some left) x → IsApartFrom ops others after old new before_cases in_before after_cases in_after old n
     old_apart away o is writes above below = elim (left_is.there o is writes rows) [
       | inl there ↦ between old left n x away o above (same o above) there below
@@ -179,7 +178,7 @@ module _ (claim : Terms) (ops others after : List Op) (old new : Option Op) (bef
         by_old None old_is at = at
         by_old (Some p) old_is at = old_apart from_left p old_is at.0 (subst (λ k. n ≤ k) (sym at.1) above) (λ u stands write lt. below u stands write (subst (λ k. u.begin.0 < k) at.1 lt))
 
-  -- where values have no rows a cover does not depend on the write behind it
+  -- where values have no rows the reach of a cover does not depend on the next write
   any_reach : (kind : Kind) → has_rows kind ≡ false → (end : Option Moment) (m n : Option Op) → cover_reach kind end m ≡ cover_reach kind end n
   any_reach Safe e end m n = refl
   any_reach Regular e end m n = absurd (cc)
@@ -191,16 +190,16 @@ module _ (claim : Terms) (ops others after : List Op) (old new : Option Op) (bef
   any_initial Atomic e m n = absurd (cc)
 
   same_cover : has_rows claim.kind ≡ false → (w : Op) (m n : Option Op) → cover_item claim w m ≡ cover_item claim w n
-  same_cover e w m n = ap (λ (reach : ℕ). let x : Item = record (cover_item claim w m) { reach = reach } in x) (any_reach claim.kind e w.end m n)
+  same_cover e w m n = ap (λ (reach : ℕ). let x : RowItem = record (cover_item claim w m) { reach = reach } in x) (any_reach claim.kind e w.end m n)
 
   same_initial : has_rows claim.kind ≡ false → (m n : Option Op) → initial_item claim m ≡ initial_item claim n
-  same_initial e m n = ap (λ (reach : ℕ). let x : Item = record (initial_item claim m) { reach = reach } in x) (any_initial claim.kind e m n)
+  same_initial e m n = ap (λ (reach : ℕ). let x : RowItem = record (initial_item claim m) { reach = reach } in x) (any_initial claim.kind e m n)
 
-  -- the next write behind one of the others, or behind the initial value, afterwards and before
-  module _ (x : Item) (from_left : IsAway (place_of_some left) x) (from_come : IsAway (place_of_some come) x) where
-    next_then : (n : ℕ) (make : Option Op → Item) → (has_rows claim.kind ≡ false → (p q : Option Op) → make p ≡ make q)
-        → ((o : Op) → n ≤ o.begin.0 → (y : Item) → IsInFront claim after o.begin.0 y → Below n o.begin.0 → place_of x ≡ place_of y)
-        → (next : Option Op) → IsFirstOf (BeginsFrom n) ops next → (then : Option Op) × IsFirstOf (BeginsFrom n) after then × (make next ≡ make then)
+  -- an item away from both covers that are rebuilt is made with the same next write before and after the edit
+  module _ (x : RowItem) (from_left : IsAway (place_of_some left) x) (from_come : IsAway (place_of_some come) x) where
+    next_then : (n : ℕ) (make : Option Op → RowItem) → (has_rows claim.kind ≡ false → (p q : Option Op) → make p ≡ make q)
+        → ((o : Op) → n ≤ o.begin.0 → (y : RowItem) → IsInFront claim after o.begin.0 y → Below n o.begin.0 → spot_of_item x ≡ spot_of_item y)
+        → (next : Option Op) → IsFirstWriteOf (BeginsFrom n) ops next → (then : Option Op) × IsFirstWriteOf (BeginsFrom n) after then × (make next ≡ make then)
     next_then n make alike same next next_is = elim (cases_Bool (has_rows claim.kind)) [
       | inl rows ↦ (
         next,
@@ -210,9 +209,9 @@ module _ (claim : Terms) (ops others after : List Op) (old new : Option Op) (bef
       | inr none ↦ let (then, then_is) = some_first n after in (then, then_is, alike none next then)
     ]
 
-    next_was : (n : ℕ) (make : Option Op → Item) → (has_rows claim.kind ≡ false → (p q : Option Op) → make p ≡ make q)
-        → ((o : Op) → n ≤ o.begin.0 → (y : Item) → IsInFront claim after o.begin.0 y → Below n o.begin.0 → place_of x ≡ place_of y)
-        → (next : Option Op) → IsFirstOf (BeginsFrom n) after next → (was : Option Op) × IsFirstOf (BeginsFrom n) ops was × (make next ≡ make was)
+    next_was : (n : ℕ) (make : Option Op → RowItem) → (has_rows claim.kind ≡ false → (p q : Option Op) → make p ≡ make q)
+        → ((o : Op) → n ≤ o.begin.0 → (y : RowItem) → IsInFront claim after o.begin.0 y → Below n o.begin.0 → spot_of_item x ≡ spot_of_item y)
+        → (next : Option Op) → IsFirstWriteOf (BeginsFrom n) after next → (was : Option Op) × IsFirstWriteOf (BeginsFrom n) ops was × (make next ≡ make was)
     next_was n make alike same next next_is = elim (cases_Bool (has_rows claim.kind)) [
       | inl rows ↦ (
         next,
@@ -222,15 +221,15 @@ module _ (claim : Terms) (ops others after : List Op) (old new : Option Op) (bef
       | inr none ↦ let (was, was_is) = some_first n ops in (was, was_is, alike none next was)
     ]
 
-  -- an item of before that was not made anew is one of afterwards
-  stays_item : (x : Item) → IsItem claim ops x → IsAway (spot_in claim old) x → IsAway (place_of_some left) x → IsAway (place_of_some come) x → IsItem claim after x
+  -- an item of before the edit that was not rebuilt is an item after it
+  stays_item : (x : RowItem) → IsOperationItem claim ops x → IsAway (optional_item_spot claim old) x → IsAway (place_of_some left) x → IsAway (place_of_some come) x → IsOperationItem claim after x
   stays_item x (inl is) from_old _ _ = elim (before_cases is.read is.stands) [
     | inl among ↦ inl (record { read = is.read; stands = in_after is.read (inl among); judged = is.judged; is = is.is })
-    | inr gone ↦ absurd (old_not_away claim old x is.read gone (inr is.judged) (ap place_of is.is ∙ place_of_read claim ops before_apart is.read is.judged) from_old)
+    | inr gone ↦ absurd (old_not_away claim old x is.read gone (inr is.judged) (ap spot_of_item is.is ∙ place_of_read claim ops before_apart is.read is.judged) from_old)
   ]
   stays_item x (inr (inl is)) from_old from_left from_come =
       let w = is.write in
-      let e : place_of x ≡ place_in claim w = ap place_of is.is ∙ place_of_cover claim ops before_apart w is.next is.writes in
+      let e : spot_of_item x ≡ place_in claim w = ap spot_of_item is.is ∙ place_of_cover claim ops before_apart w is.next is.writes in
       elim (before_cases w is.stands) [
         | inl among ↦
             let (then, then_is, same) = next_then x from_left from_come (suc w.begin.0) (cover_item claim w) (λ none p q. same_cover none w p q) (front_is w among is.writes x e) is.next is.next_is in
@@ -238,10 +237,10 @@ module _ (claim : Terms) (ops others after : List Op) (old new : Option Op) (bef
         | inr gone ↦ absurd (old_not_away claim old x w gone (inl is.writes) e from_old)
       ]
   stays_item x (inr (inr is)) from_old from_left from_come =
-      let (then, then_is, same) = next_then x from_left from_come 0 (initial_item claim) same_initial (λ o above. initial_front_is x (ap place_of is.is) o) is.next is.next_is in
+      let (then, then_is, same) = next_then x from_left from_come 0 (initial_item claim) same_initial (λ o above. initial_front_is x (ap spot_of_item is.is) o) is.next is.next_is in
       inr (inr (record { next = then; next_is = then_is; is = is.is ∙ same }))
 
-  pub only_items : (x : Item) → Contains last x → IsItem claim after x
+  pub only_items : (x : RowItem) → Contains last x → IsOperationItem claim after x
   only_items x h = elim (three.only x h) [
     | inr came ↦ come_is.is x came
     | inl stayed ↦ elim (two.only x stayed.0) [
@@ -253,8 +252,8 @@ module _ (claim : Terms) (ops others after : List Op) (old new : Option Op) (bef
     ]
   ]
 
-  -- the item of the new operation has come
-  new_put : (x : Item) (o : Op) → IsItem claim after x → new ≡ Some o → IsLaid o → place_of x ≡ place_in claim o → Contains second x
+  -- the item of the new operation is among the items after the exchange
+  new_put : (x : RowItem) (o : Op) → IsOperationItem claim after x → new ≡ Some o → IsLaid o → spot_of_item x ≡ place_in claim o → Contains second x
   new_put x o x_is is o_laid e =
       let (y, y_at) = item_is.there o is o_laid in
       let (y_is, of_op) = item_is.is y y_at in
@@ -263,17 +262,17 @@ module _ (claim : Terms) (ops others after : List Op) (old new : Option Op) (bef
       let equal : x ≡ y = items_told claim after after_apart x y x_is y_is (e ∙ ap (place_in claim) same ∙ sym p_at) in
       subst (Contains second) (sym equal) (one.put y y_at)
 
-  -- an item of afterwards that was not made anew is there
-  stays_put : (x : Item) → IsItem claim after x → IsAway (place_of_some left) x → IsAway (place_of_some come) x → Contains second x
+  -- an item for after the edit that was not rebuilt is there after the exchange
+  stays_put : (x : RowItem) → IsOperationItem claim after x → IsAway (place_of_some left) x → IsAway (place_of_some come) x → Contains second x
   stays_put x (inl is) _ _ =
-      let e : place_of x ≡ place_in claim is.read = ap place_of is.is ∙ place_of_read claim after after_apart is.read is.judged in
+      let e : spot_of_item x ≡ place_in claim is.read = ap spot_of_item is.is ∙ place_of_read claim after after_apart is.read is.judged in
       elim (after_cases is.read is.stands) [
         | inl among ↦ one.kept x (are.each x (inl (record { read = is.read; stands = in_before is.read (inl among); judged = is.judged; is = is.is }))) (away_from_old x is.read among (inr is.judged) e)
         | inr came ↦ new_put x is.read (inl is) came (inr is.judged) e
       ]
   stays_put x (inr (inl is)) from_left from_come =
       let w = is.write in
-      let e : place_of x ≡ place_in claim w = ap place_of is.is ∙ place_of_cover claim after after_apart w is.next is.writes in
+      let e : spot_of_item x ≡ place_in claim w = ap spot_of_item is.is ∙ place_of_cover claim after after_apart w is.next is.writes in
       elim (after_cases w is.stands) [
         | inl among ↦
             let (was, was_is, same) = next_was x from_left from_come (suc w.begin.0) (cover_item claim w) (λ none p q. same_cover none w p q) (front_is w among is.writes x e) is.next is.next_is in
@@ -282,12 +281,12 @@ module _ (claim : Terms) (ops others after : List Op) (old new : Option Op) (bef
         | inr came ↦ new_put x w (inr (inl is)) came (inl is.writes) e
       ]
   stays_put x (inr (inr is)) from_left from_come =
-      let e : place_of x ≡ initial_place claim = ap place_of is.is in
+      let e : spot_of_item x ≡ initial_place claim = ap spot_of_item is.is in
       let (was, was_is, same) = next_was x from_left from_come 0 (initial_item claim) same_initial (λ o above. initial_front_is x e o) is.next is.next_is in
       one.kept x (are.each x (inr (inr (record { next = was; next_is = was_is; is = is.is ∙ same })))) (initial_from_old x e)
 
-  -- where an item is to stand afterwards, one stands after the exchange
-  stood : (x : Item) → IsItem claim after x → (y : Item) × Contains second y × (place_of y ≡ place_of x)
+  -- where an item belongs after the edit, an item is there after the exchange
+  stood : (x : RowItem) → IsOperationItem claim after x → (y : RowItem) × Contains second y × (spot_of_item y ≡ spot_of_item x)
   stood x x_is = elim (of_which claim after after_apart x x_is) [
     | inl initial ↦
         let (next, next_is) = some_first 0 ops in
@@ -299,43 +298,43 @@ module _ (claim : Terms) (ops others after : List Op) (old new : Option Op) (bef
         | inl write ↦
             let (next, next_is) = some_first (suc o.begin.0) ops in
             let y = cover_item claim o next in
-            let at : place_of y ≡ place_in claim o = place_of_cover claim ops before_apart o next write in
+            let at : spot_of_item y ≡ place_in claim o = place_of_cover claim ops before_apart o next write in
             (y, one.kept y (are.each y (inr (inl (record { write = o; stands = in_before o (inl among); writes = write; next = next; next_is = next_is; is = refl })))) (away_from_old y o among (inl write) at), at ∙ sym e)
         | inr judged ↦
             let y = read_item claim o in
-            let at : place_of y ≡ place_in claim o = place_of_read claim ops before_apart o judged in
+            let at : spot_of_item y ≡ place_in claim o = place_of_read claim ops before_apart o judged in
             (y, one.kept y (are.each y (inl (record { read = o; stands = in_before o (inl among); judged = judged; is = refl }))) (away_from_old y o among (inr judged) at), at ∙ sym e)
       ]
     ]
   ]
 
-  stands_then : (x : Item) → IsItem claim after x → (y : Item) × Contains third y × (place_of y ≡ place_of x)
+  stands_then : (x : RowItem) → IsOperationItem claim after x → (y : RowItem) × Contains third y × (spot_of_item y ≡ spot_of_item x)
   stands_then x x_is =
       let (y, y_stands, e) = stood x x_is in
       elim (at_or_away left y) [
         | inr away ↦ (y, two.kept y y_stands away, e)
-        | inl at ↦ let (z, z_at, t) = at in (z, two.put z y z_at y_stands t, sym (same_is (place_of y) (place_of z) t) ∙ e)
+        | inl at ↦ let (z, z_at, t) = at in (z, two.put z y z_at y_stands t, sym (same_is (spot_of_item y) (spot_of_item z) t) ∙ e)
       ]
 
-  pub each_item : (x : Item) → IsItem claim after x → Contains last x
+  pub each_item : (x : RowItem) → IsOperationItem claim after x → Contains last x
   each_item x x_is = elim (at_or_away come x) [
     | inl at ↦
         let (y, y_at, t) = at in
-        let e : place_of x ≡ place_of y = same_is (place_of x) (place_of y) t in
+        let e : spot_of_item x ≡ spot_of_item y = same_is (spot_of_item x) (spot_of_item y) t in
         let equal : x ≡ y = items_told claim after after_apart x y x_is (come_is.is y y_at) e in
         let (z, z_stands, z_at) = stands_then x x_is in
-        subst (Contains last) (sym equal) (three.put y z y_at z_stands (subst (λ (s : Spot). same_spot (place_of z) s ≡ true) (z_at ∙ e) (same_itself (place_of z))))
+        subst (Contains last) (sym equal) (three.put y z y_at z_stands (subst (λ (s : Spot). same_spot (spot_of_item z) s ≡ true) (z_at ∙ e) (same_itself (spot_of_item z))))
     | inr from_come ↦ elim (at_or_away left x) [
       | inl at ↦
           let (y, y_at, t) = at in
-          let e : place_of x ≡ place_of y = same_is (place_of x) (place_of y) t in
+          let e : spot_of_item x ≡ spot_of_item y = same_is (spot_of_item x) (spot_of_item y) t in
           let equal : x ≡ y = items_told claim after after_apart x y x_is (left_is.is y y_at) e in
           let (z, z_stands, z_at) = stood x x_is in
-          let third_has = two.put y z y_at z_stands (subst (λ (s : Spot). same_spot (place_of z) s ≡ true) (z_at ∙ e) (same_itself (place_of z))) in
+          let third_has = two.put y z y_at z_stands (subst (λ (s : Spot). same_spot (spot_of_item z) s ≡ true) (z_at ∙ e) (same_itself (spot_of_item z))) in
           three.kept x (subst (Contains third) (sym equal) third_has) from_come
       | inr from_left ↦ three.kept x (two.kept x (stays_put x x_is from_left from_come) from_left) from_come
     ]
   ]
 
-  pub items_after : AreInOrder last → AreItems claim after last
+  pub items_after : AreItemsInOrder last → AreItemsOf claim after last
   items_after order = record { order = order; each = each_item; only = only_items }

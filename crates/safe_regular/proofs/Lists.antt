@@ -1,4 +1,4 @@
--- Which operations stand in a list without some.
+-- Which operations a filtered list contains.
 use Rattle.std.proofs.Common.{◌≡◌, zero, suc, Bool, true, false, List, [], ◌∷◌, filter, refl, ap, arith, cond}
 use Rattle.std.specs.Prelude.{Contains}
 use Rattle.std.proofs.lemmas.List.Elements.{All-contains, All-contains_itself, All-filter}

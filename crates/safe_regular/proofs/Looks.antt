@@ -1,4 +1,4 @@
--- The writes looked at from a read's end back tell whether the read is wrong.
+-- The writes looked at from a read's end back decide whether the read is wrong.
 use Rattle.std.proofs.Common.{◌≡◌, ◌≢◌, ℕ, ◌<◌, ◌≤◌, inl, inr, Bool, true, false, not, ◌&&◌, List, Option, Some, None, Decides, refl, sym, ap, subst, ◌∙◌, arith}
 use Rattle.std.specs.Prelude.{Contains}
 use Rattle.std.proofs.lemmas.Bool.{cases_Bool, cases_lt}
@@ -10,12 +10,12 @@ use Rattle.intervals.specs.declared.operation.Value.{Value}
 use Rattle.intervals.specs.Judging.{end_number, is_allowed, is_regular_read, is_safe_read, is_wrong_read}
 use Rattle.intervals.specs.Kind.{IsInValueSet, IsRegularRead, IsSafeRead}
 use Rattle.intervals.specs.Operation.{IsJudgedRead, IsWrite, Precedes, precedes, same_value, value_of}
-use Rattle.intervals.specs.Terms.{Terms}
+use Rattle.intervals.specs.Terms.{ClaimModel}
 use Rattle.intervals.proofs.Agreement.{Decides-is_allowed, Decides-is_regular_read, Decides-is_safe_read, Decides-precedes, Decides-same_value}
 use Rattle.intervals.proofs.Members.{all_from}
-use Rattle.safe_regular.specs.Apart.{AreApart}
+use Rattle.safe_regular.specs.Apart.{AreSequential}
 use Rattle.safe_regular.specs.Held.{AreOneWriters}
-use Rattle.safe_regular.specs.LookUp.{BeginsBefore, IsLast, IsLastOf, NoneFits}
+use Rattle.safe_regular.specs.LookUp.{BeginsBefore, IsLastWrite, IsLastOf, NoneFits}
 use Rattle.safe_regular.specs.Looks.{ArePassed, IsLookedUp, is_wrong_by}
 use Rattle.safe_regular.proofs.Apart.{either_way, precedes_with}
 use Rattle.safe_regular.proofs.Covered.{before_reached, decides_not, in_value_set, initial_in_set, safe_initial, safe_write, true_not, wrong_initial, wrong_value, wrong_write}
@@ -23,11 +23,11 @@ use Rattle.safe_regular.proofs.Nearest.{IsNear, IsReadAmong, read_among}
 use Rattle.safe_regular.proofs.Told.{writes_apart}
 
 -- a regular register
-module _ (claim : Terms) (ops : List Op) (apart : AreApart ops) (r : Op) (among : IsReadAmong ops r) (m : ℕ) (le : m ≤ end_number r) (passed : ArePassed ops r m) where
+module _ (claim : ClaimModel) (ops : List Op) (apart : AreSequential ops) (r : Op) (among : IsReadAmong ops r) (m : ℕ) (le : m ≤ end_number r) (passed : ArePassed ops r m) where
   reached_by : (v : Op) → Contains ops v → IsWrite v → Precedes v r → v.begin.0 < end_number r
   reached_by = before_reached claim ops apart r among
 
-  module _ (w : Op) (is : IsLast (BeginsBefore m) ops w) where
+  module _ (w : Op) (is : IsLastWrite (BeginsBefore m) ops w) where
     -- no write that precedes r begins later
     none_later : (v : Op) → Contains ops v → IsWrite v → Precedes v r → v.begin.0 ≤ w.begin.0
     none_later v sv wv before = elim (cases_lt v.begin.0 m) [
@@ -48,7 +48,7 @@ module _ (claim : Terms) (ops : List Op) (apart : AreApart ops) (r : Op) (among 
           inl (is.stands.0, w, is.stands.1, is.stands.2, (is.write, (over, among.not_over w (omega (arith, lt, le))), same))
     ]
 
-    -- and wrong where it has another and w precedes it
+    -- r is wrong where it has another value and w precedes it
     wrong_here : value_of r.act ≢ value_of w.act → Precedes w r → ¬ IsRegularRead claim ops r
     wrong_here other before (inl any) =
         let sv : Contains ops any.1 = (any.0, any.2, any.3) in
@@ -63,7 +63,7 @@ module _ (claim : Terms) (ops : List Op) (apart : AreApart ops) (r : Op) (among 
         other (l.2 ∙ ap (λ (o : Op). value_of o.act) (apart.one l.0 w l.1.stands is.stands l.1.write is.write (omega (arith, up, down))))
     wrong_here other before (inr (inr h)) = All-contains (λ v. IsWrite v → ¬ Precedes v r) ops w h.0 is.stands is.write before
 
-    -- where it has another and w does not precede it, w is passed
+    -- w is passed where r has another value and w does not precede r
     passed_here : value_of r.act ≢ value_of w.act → ¬ Precedes w r → ArePassed ops r w.begin.0
     passed_here other not v sv wv ge reached = elim (cases_lt v.begin.0 m) [
       | inl lt ↦
@@ -97,7 +97,7 @@ module _ (claim : Terms) (ops : List Op) (apart : AreApart ops) (r : Op) (among 
     wrong_first other (inr (inr h)) = other h.1
 
 -- a safe register: the last write that begins before the read ends decides, or the initial value
-module _ (claim : Terms) (ops : List Op) (apart : AreApart ops) (r : Op) (among : IsReadAmong ops r)
+module _ (claim : ClaimModel) (ops : List Op) (apart : AreSequential ops) (r : Op) (among : IsReadAmong ops r)
     (of_writes : (w : Op) → Contains ops w → IsWrite w → IsInValueSet claim (value_of w.act)) (of_initial : IsInValueSet claim claim.initial) where
   abbrev is_allowed_here : Bool
   is_allowed_here = is_allowed claim.domain claim.initial (value_of r.act)
@@ -124,7 +124,7 @@ module _ (claim : Terms) (ops : List Op) (apart : AreApart ops) (r : Op) (among 
         (wrong_value claim ops apart r among of_writes of_initial (not_from_Decides is_allowed_here (Decides-is_allowed claim.domain claim.initial (value_of r.act)) f))
   ]
     where
-      near : IsLast (IsNear Safe r) ops w
+      near : IsLastWrite (IsNear Safe r) ops w
       near = record { stands = is.stands; write = is.write; fits = (refl, is.fits); last = λ v sv wv fits. is.last v sv wv fits.1 }
 
       chosen : is_allowed_here ≡ true → is_wrong_by claim r (Some w) ≡ not (same_value (value_of r.act) (value_of w.act)) && precedes w r
@@ -133,8 +133,8 @@ module _ (claim : Terms) (ops : List Op) (apart : AreApart ops) (r : Op) (among 
       refused : is_allowed_here ≡ false → is_wrong_by claim r (Some w) ≡ true
       refused f = rw f refl
 
--- in the words of a judge
-module _ (claim : Terms) (ops : List Op) (apart : AreOneWriters claim ops) (r : Op) (stands : Contains ops r) (judged : IsJudgedRead r) where
+-- the verdict by the writes that were looked at is `is_wrong_read`
+module _ (claim : ClaimModel) (ops : List Op) (apart : AreOneWriters claim ops) (r : Op) (stands : Contains ops r) (judged : IsJudgedRead r) where
   among_them : IsReadAmong ops r
   among_them = read_among claim ops apart r stands judged
 

@@ -1,4 +1,4 @@
--- Where the operations of a list do not meet, its writes are apart and its reads end one by one.
+-- Distinct moments and no overlapping writes: the writes follow one another, and no two reads end at one moment.
 use Rattle.std.proofs.Common.{◌≡◌, ℕ, ◌<◌, ◌⊎◌, inl, inr, true, List, Option, Some, None, refl, sym, ap, ◌∙◌, arith}
 use Rattle.std.specs.Prelude.{Contains, is_some}
 use Rattle.std.specs.Option.{option_map_or}
@@ -11,10 +11,10 @@ use Rattle.intervals.specs.Judging.{end_number}
 use Rattle.intervals.specs.Standing.{ShareNoMoment, HasDistinctMoments, HasEndsAfterBeginnings, HasNoOverlappingWrites}
 use Rattle.intervals.proofs.Agreement.{Decides-precedes}
 use Rattle.intervals.proofs.Members.{one_or_so, begin_apart, share_none}
-use Rattle.safe_regular.specs.Apart.{EndsAfterBeginning, AreApart, HasDistinctEnds}
+use Rattle.safe_regular.specs.Apart.{EndsAfterBeginning, AreSequential, HasDistinctEnds}
 use Rattle.safe_regular.proofs.Apart.{either_way, begins_before}
 
--- an end that is there is the one of its number
+-- an end that is there is the moment of its number
 pub end_is : (end : Option Moment) → is_some end ≡ true → end ≡ Some (record { 0 = option_map_or (λ (e : Moment). e.0) end 0 })
 end_is None e = absurd (cc)
 end_is (Some end) e = refl
@@ -34,8 +34,8 @@ module _ (ops : List Op) (moments : HasDistinctMoments ops) where
 abbrev NoOverlap : Op → Op → Type 0
 NoOverlap v w = IsWrite v → IsWrite w → ¬ Overlaps v w
 
--- the writes of a list with distinct moments, ends after beginnings and no overlapping writes are apart
-pub are_apart : (ops : List Op) → HasDistinctMoments ops → HasEndsAfterBeginnings ops → HasNoOverlappingWrites ops → AreApart ops
+-- the writes follow one another, in a list with distinct moments, ends after beginnings and no overlapping writes
+pub are_apart : (ops : List Op) → HasDistinctMoments ops → HasEndsAfterBeginnings ops → HasNoOverlappingWrites ops → AreSequential ops
 are_apart ops moments ends over = record {
   proper = λ w stands write. proper w stands;
   apart = apart;

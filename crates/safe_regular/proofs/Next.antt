@@ -1,15 +1,15 @@
--- Behind which writes an edit leaves the next write as it was.
+-- After which moments an edit leaves the next write as it was.
 use Rattle.std.proofs.Common.{◌≡◌, ℕ, zero, suc, ◌<◌, ◌≤◌, ◌⊎◌, inl, inr, Bool, true, false, ap, List, [], ◌∷◌, Option, Some, None, refl, sym, subst, arith}
 use Rattle.std.specs.Prelude.{Contains}
 use Rattle.std.proofs.lemmas.Bool.{cases_lt}
 use Rattle.intervals.specs.declared.operation.Op.{Op}
 use Rattle.intervals.specs.Operation.{IsWrite, is_write}
-use Rattle.safe_regular.specs.LookUp.{BeginsFrom, IsFirst, IsFirstOf}
+use Rattle.safe_regular.specs.LookUp.{BeginsFrom, IsFirstWrite, IsFirstWriteOf}
 use Rattle.safe_regular.specs.Change.{IsAmong}
 
--- from each moment on there is a first write, or there is none
+-- from each moment on there is a first write or none
 module _ (n : ℕ) where
-  first_with : (a : Op) (ops : List Op) (found : Option Op) → IsFirstOf (BeginsFrom n) ops found → (next : Option Op) × IsFirstOf (BeginsFrom n) (a ∷ ops) next
+  first_with : (a : Op) (ops : List Op) (found : Option Op) → IsFirstWriteOf (BeginsFrom n) ops found → (next : Option Op) × IsFirstWriteOf (BeginsFrom n) (a ∷ ops) next
   first_with a ops found is = by_write (is_write a) refl
     where
       behind : (x : Op) → Contains ops x → Contains (a ∷ ops) x
@@ -19,7 +19,7 @@ module _ (n : ℕ) where
       cases x (zero, lt, e) = inl e
       cases x (suc k, lt, e) = inr (k, omega (arith, lt), e)
 
-      kept : (found : Option Op) → IsFirstOf (BeginsFrom n) ops found → (IsWrite a → n ≤ a.begin.0 → (f : Op) × (found ≡ Some f) × (f.begin.0 ≤ a.begin.0)) → IsFirstOf (BeginsFrom n) (a ∷ ops) found
+      kept : (found : Option Op) → IsFirstWriteOf (BeginsFrom n) ops found → (IsWrite a → n ≤ a.begin.0 → (f : Op) × (found ≡ Some f) × (f.begin.0 ≤ a.begin.0)) → IsFirstWriteOf (BeginsFrom n) (a ∷ ops) found
       kept None none first = λ w stands write from. elim (cases w stands) [
         | inl same ↦ let f = first (subst IsWrite (sym same) write) (subst (λ (o : Op). n ≤ o.begin.0) (sym same) from) in absurd (cc)
         | inr later ↦ none w later write from
@@ -35,7 +35,7 @@ module _ (n : ℕ) where
         ];
       }
 
-      itself : IsWrite a → n ≤ a.begin.0 → ((w : Op) → Contains ops w → IsWrite w → n ≤ w.begin.0 → a.begin.0 ≤ w.begin.0) → IsFirstOf (BeginsFrom n) (a ∷ ops) (Some a)
+      itself : IsWrite a → n ≤ a.begin.0 → ((w : Op) → Contains ops w → IsWrite w → n ≤ w.begin.0 → a.begin.0 ≤ w.begin.0) → IsFirstWriteOf (BeginsFrom n) (a ∷ ops) (Some a)
       itself write from least = record {
         stands = (0, omega arith, refl);
         write = write;
@@ -46,21 +46,21 @@ module _ (n : ℕ) where
         ];
       }
 
-      by_found : IsWrite a → n ≤ a.begin.0 → (found : Option Op) → IsFirstOf (BeginsFrom n) ops found → (next : Option Op) × IsFirstOf (BeginsFrom n) (a ∷ ops) next
+      by_found : IsWrite a → n ≤ a.begin.0 → (found : Option Op) → IsFirstWriteOf (BeginsFrom n) ops found → (next : Option Op) × IsFirstWriteOf (BeginsFrom n) (a ∷ ops) next
       by_found write from None none = (Some a, itself write from (λ w stands w_writes w_from. absurd (none w stands w_writes w_from)))
       by_found write from (Some f) is = elim (cases_lt a.begin.0 f.begin.0) [
         | inl lt ↦ (Some a, itself write from (λ w stands w_writes w_from. let le : f.begin.0 ≤ w.begin.0 = is.first w stands w_writes w_from in omega (arith, lt, le)))
         | inr le ↦ (Some f, kept (Some f) is (λ w_writes w_from. (f, refl, le)))
       ]
 
-      by_write : (t : Bool) → is_write a ≡ t → (next : Option Op) × IsFirstOf (BeginsFrom n) (a ∷ ops) next
+      by_write : (t : Bool) → is_write a ≡ t → (next : Option Op) × IsFirstWriteOf (BeginsFrom n) (a ∷ ops) next
       by_write false f = (found, kept found is (λ write from. absurd (cc)))
       by_write true t = elim (cases_lt a.begin.0 n) [
         | inl lt ↦ (found, kept found is (λ write from. absurd (omega (arith, lt, from))))
         | inr from ↦ by_found t from found is
       ]
 
-  pub some_first : (ops : List Op) → (next : Option Op) × IsFirstOf (BeginsFrom n) ops next
+  pub some_first : (ops : List Op) → (next : Option Op) × IsFirstWriteOf (BeginsFrom n) ops next
   some_first [] = (None, λ w stands write from. absurd (omega (arith, stands.1)))
   some_first (a ∷ ops) = let (found, is) = some_first ops in first_with a ops found is
 
@@ -68,16 +68,16 @@ module _ (n : ℕ) where
 module _ (ops others after : List Op) (old new : Option Op)
     (before_cases : (x : Op) → Contains ops x → IsAmong others old x) (in_before : (x : Op) → IsAmong others old x → Contains ops x)
     (after_cases : (x : Op) → Contains after x → IsAmong others new x) (in_after : (x : Op) → IsAmong others new x → Contains after x) where
-  -- the writes that begin before m afterwards begin before n
+  -- after the edit, the writes that begin before m begin before n
   abbrev pub AllBelow : ℕ → ℕ → Type 0
   AllBelow n m = (u : Op) → Contains after u → IsWrite u → u.begin.0 < m → u.begin.0 < n
 
-  -- some write begins between n and the beginning of the write that there may be
+  -- where the optional write begins at n or later, some write begins between n and it
   abbrev pub IsApartFrom : Option Op → ℕ → Type 0
   IsApartFrom one n = (o : Op) → one ≡ Some o → IsWrite o → n ≤ o.begin.0 → ¬ AllBelow n o.begin.0
 
   module _ (n : ℕ) (old_apart : IsApartFrom old n) (new_apart : IsApartFrom new n) where
-    pub next_after : (next : Option Op) → IsFirstOf (BeginsFrom n) ops next → IsFirstOf (BeginsFrom n) after next
+    pub next_after : (next : Option Op) → IsFirstWriteOf (BeginsFrom n) ops next → IsFirstWriteOf (BeginsFrom n) after next
     next_after None none = λ v stands write from. elim (after_cases v stands) [
       | inl among ↦ none v (in_before v (inl among)) write from
       | inr is ↦ new_apart v is write from (λ u u_stands u_writes lt. elim (after_cases u u_stands) [
@@ -87,14 +87,14 @@ module _ (ops others after : List Op) (old new : Option Op)
     ]
     next_after (Some f) is = by_first (before_cases f is.stands)
       where
-        -- of the others none begins between n and f
+        -- none of the others begins between n and f
         none_between : (u : Op) → Contains others u → IsWrite u → u.begin.0 < f.begin.0 → u.begin.0 < n
         none_between u among write lt = elim (cases_lt u.begin.0 n) [
           | inl below ↦ below
           | inr above ↦ absurd (let le : f.begin.0 ≤ u.begin.0 = is.first u (in_before u (inl among)) write above in omega (arith, lt, le))
         ]
 
-        -- nor does the new one
+        -- the new one does not begin there either
         new_between : (v : Op) → new ≡ Some v → IsWrite v → n ≤ v.begin.0 → f.begin.0 ≤ v.begin.0
         new_between v new_is write from = elim (cases_lt v.begin.0 f.begin.0) [
           | inl before ↦ absurd (new_apart v new_is write from (λ u u_stands u_writes lt. elim (after_cases u u_stands) [
@@ -104,7 +104,7 @@ module _ (ops others after : List Op) (old new : Option Op)
           | inr behind ↦ behind
         ]
 
-        by_first : IsAmong others old f → IsFirst (BeginsFrom n) after f
+        by_first : IsAmong others old f → IsFirstWrite (BeginsFrom n) after f
         by_first (inl among) = record {
           stands = in_after f (inl among);
           write = is.write;
@@ -119,7 +119,7 @@ module _ (ops others after : List Op) (old new : Option Op)
           | inr new_is ↦ elim (cases_lt u.begin.0 n) [ inl below ↦ below | inr above ↦ absurd (let le : f.begin.0 ≤ u.begin.0 = new_between u new_is write above in omega (arith, lt, le)) ]
         ]))
 
-    pub next_before : (next : Option Op) → IsFirstOf (BeginsFrom n) after next → IsFirstOf (BeginsFrom n) ops next
+    pub next_before : (next : Option Op) → IsFirstWriteOf (BeginsFrom n) after next → IsFirstWriteOf (BeginsFrom n) ops next
     next_before None none = λ v stands write from. elim (before_cases v stands) [
       | inl among ↦ none v (in_after v (inl among)) write from
       | inr old_is ↦ old_apart v old_is write from (λ u u_stands u_writes lt. elim (cases_lt u.begin.0 n) [ inl below ↦ below | inr above ↦ absurd (none u u_stands u_writes above) ])
@@ -132,7 +132,7 @@ module _ (ops others after : List Op) (old new : Option Op)
           | inr above ↦ absurd (let le : f.begin.0 ≤ u.begin.0 = is.first u stands write above in omega (arith, lt, le))
         ]
 
-        by_first : IsAmong others new f → IsFirst (BeginsFrom n) ops f
+        by_first : IsAmong others new f → IsFirstWrite (BeginsFrom n) ops f
         by_first (inr new_is) = absurd (new_apart f new_is is.write is.fits none_between)
         by_first (inl among) = record {
           stands = in_before f (inl among);

@@ -1,4 +1,4 @@
--- A few look-ups among the writes find the first that a new one overlaps.
+-- Three look-ups among the writes find the first write that a new one overlaps.
 use Rattle.std.proofs.Common.{◌≡◌, ◌≢◌, ℕ, ◌<◌, ◌≤◌, ◌⊎◌, inl, inr, true, false, not, ◌&&◌, List, [], Option, Some, None, Decides, refl, sym, ap, subst, ◌∙◌, arith}
 use Rattle.std.specs.Prelude.{Contains, IsTrue}
 use Rattle.std.specs.List.{cons_option}
@@ -7,14 +7,14 @@ use Rattle.std.proofs.lemmas.Bool.Decides.{Decides-and, Decides-like, Decides-no
 use Rattle.intervals.specs.declared.operation.Op.{Op}
 use Rattle.intervals.specs.declared.claim.Kind.{Kind}
 use Rattle.intervals.specs.declared.claim.Kind.TheVariants.{Safe, Regular, Atomic}
-use Rattle.intervals.specs.Terms.{Terms}
+use Rattle.intervals.specs.Terms.{ClaimModel}
 use Rattle.intervals.specs.Operation.{Precedes, Overlaps, IsWrite, is_write, overlaps, same_id}
 use Rattle.intervals.specs.Least.{least_by}
 use Rattle.intervals.specs.Refusal.{is_overlapped, kind_refusal, write_refusal}
 use Rattle.intervals.proofs.Agreement.{Decides-IsTrue, Decides-overlaps}
 use Rattle.intervals.proofs.Ids.{Decides-same_id_is}
-use Rattle.safe_regular.specs.Apart.{AreApart}
-use Rattle.safe_regular.specs.LookUp.{BeginsBefore, BeginsFrom, BeginsAfter, IsLast, IsFirst, IsLastOf, IsFirstOf, IsBeyondOf, AreBeside, beside_of}
+use Rattle.safe_regular.specs.Apart.{AreSequential}
+use Rattle.safe_regular.specs.LookUp.{BeginsBefore, BeginsFrom, BeginsAfter, IsLastWrite, IsFirstWrite, IsLastOf, IsFirstWriteOf, IsBeyondOf, AreBeside, beside_of}
 use Rattle.safe_regular.proofs.Apart.{either_way, precedes_later, begins_before, same_or_precedes}
 use Rattle.intervals.proofs.LeastOf.{least_among}
 use Rattle.safe_regular.proofs.LookUp.{last_found, first_found, last_stands, first_stands, in_front, in_rest, each_of}
@@ -30,16 +30,17 @@ Decides-is_overlapped op w =
     (Decides-and (not (same_id w.id op.id)) (is_write w) (Decides-not (same_id w.id op.id) (Decides-same_id_is w.id op.id)) (Decides-IsTrue (is_write w)))
     (Decides-overlaps w op))
 
--- the number that an operation begins at
+-- the number of the moment at which an operation begins
 abbrev pub begin_number : Op → ℕ
 begin_number op = op.begin.0
 
-module _ (ops : List Op) (op : Op) (apart : AreApart ops) where
-  -- an overlapped one of those, for one that begins no earlier
+module _ (ops : List Op) (op : Op) (apart : AreSequential ops) where
+  -- some operation of `few` is overlapped, and begins no later than w
   abbrev HasBefore : List Op → Op → Type 0
   HasBefore few w = (best : Op) × Contains few best × IsTrue (is_overlapped op best) × (begin_number best ≤ begin_number w)
 
-  -- some writes that stand find the first overlapped one where each overlapped one has one of them
+  -- a few writes of the list have the first overlapped one among them, if each overlapped write has such a one
+  -- (`HasBefore`)
   pub overlapped_by_few : (few : List Op) → ((w : Op) → Contains few w → Contains ops w) → ((w : Op) → Contains ops w → IsOverlapped op w → HasBefore few w)
       → least_by begin_number (is_overlapped op) ops ≡ least_by begin_number (is_overlapped op) few
   overlapped_by_few few stand best =
@@ -47,16 +48,16 @@ module _ (ops : List Op) (op : Op) (apart : AreApart ops) where
       (λ a b sa sb oa ob. apart.one a b sa sb ((Decides-is_overlapped op a).0 oa).1 ((Decides-is_overlapped op b).0 ob).1)
       stand (λ w stands over. best w stands ((Decides-is_overlapped op w).0 over))
 
-  -- an overlapped write that begins before op does is the last of those
+  -- an overlapped write that has P, and so begins before op does, is the last write with P
   below_is : (P : Op → Type 0) (below : Option Op) → ((w : Op) → P w → w.begin.0 < op.begin.0) → IsLastOf P ops below → (w : Op) → Contains ops w → IsOverlapped op w → P w → below ≡ Some w
   below_is P below fits is w sw over p =
       let l = last_found P ops below is w sw over.1 p in by_cases l.0 l.1 l.2 (same_or_precedes ops apart w l.0 sw l.2.stands over.1 l.2.write l.3)
     where
-      by_cases : (l : Op) → below ≡ Some l → IsLast P ops l → (w ≡ l) ⊎ ((w.begin.0 < l.begin.0) × Precedes w l) → below ≡ Some w
+      by_cases : (l : Op) → below ≡ Some l → IsLastWrite P ops l → (w ≡ l) ⊎ ((w.begin.0 < l.begin.0) × Precedes w l) → below ≡ Some w
       by_cases l e is (inl same) = e ∙ ap Some (sym same)
       by_cases l e is (inr p) = let lt = fits l is.fits in absurd (over.2.0 (precedes_later w l op (omega arith) p.1))
 
-  -- another write that begins no earlier than op, and no later than one that op overlaps
+  -- op overlaps another write that begins no earlier than op and no later than one that op overlaps
   above_over : (a w : Op) → Contains ops a → IsWrite a → a.id ≢ op.id → op.begin.0 ≤ a.begin.0 → a.begin.0 ≤ w.begin.0 → IsOverlapped op w → IsTrue (is_overlapped op a)
   above_over a w sa wa other from upto over = (Decides-is_overlapped op a).1 (
     other,
@@ -67,7 +68,7 @@ module _ (ops : List Op) (op : Op) (apart : AreApart ops) where
     ),
   )
 
-  -- the look-ups of a check judge a write as the whole list does
+  -- the writes that a check looks up find the first overlapped one, as the whole list does
   module _ (one : (v w : Op) → Contains ops v → Contains ops w → IsWrite v → IsWrite w → v.id ≡ w.id → v ≡ w)
       (below above beyond : Option Op) (beside : AreBeside ops op below above beyond) where
     abbrev few : List Op
@@ -82,11 +83,11 @@ module _ (ops : List Op) (op : Op) (apart : AreApart ops) where
     has_beyond : (w : Op) → beyond ≡ Some w → Contains few w
     has_beyond w e = in_rest below (cons_option above (cons_option beyond [])) w (in_rest above (cons_option beyond []) w (in_front beyond [] w e))
 
-    -- where the one above is op itself
-    by_beyond : (a w : Op) → above ≡ Some a → IsFirst (BeginsFrom op.begin.0) ops a → a.id ≡ op.id → Contains ops w → IsOverlapped op w → a.begin.0 ≤ w.begin.0 → HasBefore few w
+    -- the case that `above` has the id of op
+    by_beyond : (a w : Op) → above ≡ Some a → IsFirstWrite (BeginsFrom op.begin.0) ops a → a.id ≡ op.id → Contains ops w → IsOverlapped op w → a.begin.0 ≤ w.begin.0 → HasBefore few w
     by_beyond a w e is own sw over le = by_cases (same_or_precedes ops apart a w is.stands sw is.write over.1 le)
       where
-        next : IsFirstOf (BeginsAfter a.begin.0) ops beyond
+        next : IsFirstWriteOf (BeginsAfter a.begin.0) ops beyond
         next = MatchBool-at_true _ (beyond ≡ None) ((Decides-same_id_is a.id op.id).1 own) (subst (λ (o : Option Op). IsBeyondOf ops op o beyond) e beside.beyond_is)
 
         by_cases : (a ≡ w) ⊎ ((a.begin.0 < w.begin.0) × Precedes a w) → HasBefore few w
@@ -101,7 +102,7 @@ module _ (ops : List Op) (op : Op) (apart : AreApart ops) where
     has_before : (w : Op) → Contains ops w → IsOverlapped op w → HasBefore few w
     has_before w sw over = by_cases (cases_lt w.begin.0 op.begin.0)
       where
-        by_above : (a : Op) → above ≡ Some a → IsFirst (BeginsFrom op.begin.0) ops a → a.begin.0 ≤ w.begin.0 → (a.id ≡ op.id) ⊎ (a.id ≢ op.id) → HasBefore few w
+        by_above : (a : Op) → above ≡ Some a → IsFirstWrite (BeginsFrom op.begin.0) ops a → a.begin.0 ≤ w.begin.0 → (a.id ≡ op.id) ⊎ (a.id ≢ op.id) → HasBefore few w
         by_above a e is le (inl own) = by_beyond a w e is own sw over le
         by_above a e is le (inr other) = (a, has_above a e, above_over a w is.stands is.write other is.fits le over, le)
 
@@ -119,7 +120,7 @@ module _ (ops : List Op) (op : Op) (apart : AreApart ops) where
       where
         by_cases : (same_id a.id op.id ≡ true) ⊎ (same_id a.id op.id ≡ false) → Contains ops w
         by_cases (inl t) = first_stands (BeginsAfter a.begin.0) ops beyond (MatchBool-at_true _ (beyond ≡ None) t is) w e
-        by_cases (inr f) = absurd (let none : beyond ≡ None = MatchBool-at_false (IsFirstOf (BeginsAfter a.begin.0) ops beyond) (beyond ≡ None) f is in cc)
+        by_cases (inr f) = absurd (let none : beyond ≡ None = MatchBool-at_false (IsFirstWriteOf (BeginsAfter a.begin.0) ops beyond) (beyond ≡ None) f is in cc)
 
     stand : (w : Op) → Contains few w → Contains ops w
     stand =
@@ -131,8 +132,8 @@ module _ (ops : List Op) (op : Op) (apart : AreApart ops) where
     pub overlapped_beside : least_by begin_number (is_overlapped op) ops ≡ least_by begin_number (is_overlapped op) (beside_of below above beyond)
     overlapped_beside = overlapped_by_few few stand has_before
 
-    -- those three refuse a write of one writer's register as the whole list does
-    pub refused_beside : (claim : Terms) → claim.kind ≢ Atomic → write_refusal claim ops op ≡ write_refusal claim (beside_of below above beyond) op
+    -- those three writes refuse a write of one writer's register as the whole list does
+    pub refused_beside : (claim : ClaimModel) → claim.kind ≢ Atomic → write_refusal claim ops op ≡ write_refusal claim (beside_of below above beyond) op
     refused_beside claim one_writer = rw (by_kind claim.kind one_writer) refl
       where
         by_kind : (kind : Kind) → kind ≢ Atomic → kind_refusal kind claim ops op ≡ kind_refusal kind claim few op

@@ -8,10 +8,10 @@ use Rattle.std.proofs.lemmas.List.{get_or-set_same, get_or-set_other, get_or_def
 use Rattle.std.proofs.lemmas.List.Edits.{length-insert, get_or-insert_below, get_or-insert_at, get_or-insert_above}
 use Rattle.std.specs.List.Sorted.{IsNonDecreasingBy}
 use Rattle.intervals.specs.declared.operation.Op.{Op}
-use Rattle.intervals.specs.Terms.{Terms}
+use Rattle.intervals.specs.Terms.{ClaimModel}
 use Rattle.safe_regular.specs.declared.judged.JudgedRead.{JudgedRead}
 use Rattle.safe_regular.specs.declared.judged.JudgedReads.{JudgedReads}
-use Rattle.safe_regular.specs.Rows.{AreJudgedAgain, AreKept, AreRising, EndFrom, IsNoneWrong, IsPlaceOf, IsPut, IsRight}
+use Rattle.safe_regular.specs.Rows.{AreJudgedAgain, AreKept, AreRising, EndFrom, IsNoneWrong, IsPlaceOf, IsPut, IsJudgedBy}
 
 abbrev pub end_in : List JudgedRead → ℕ → JudgedRead → ℕ
 end_in rows k d = (get_or rows k d).end.0
@@ -22,18 +22,18 @@ end_is x y e = ap (λ (r : JudgedRead). r.end.0) e
 wrong_is : (x y : JudgedRead) → x ≡ y → x.wrong ≡ y.wrong
 wrong_is x y e = ap (λ (r : JudgedRead). r.wrong) e
 
--- rows that rise do not fall
+-- rows that rise do not fall (the order that a binary search asks for)
 pub non_decreasing : (rows : List JudgedRead) → AreRising rows → IsNonDecreasingBy (λ (r : JudgedRead). r.end.0) rows
 non_decreasing rows up i j d le lt = elim (cases_eq i j) [
   | inl e ↦ let same = ap (λ (n : ℕ). end_in rows n d) e in omega (arith, same)
   | inr ne ↦ let more = up i j d (omega (arith, le, ne)) lt in omega (arith, more)
 ]
 
--- where a row stands says how it ends
+-- the end at the place of a row is that of the row
 pub end_at : (rows : List JudgedRead) (x : JudgedRead) (h : Contains rows x) (d : JudgedRead) → end_in rows h.0 d ≡ x.end.0
 end_at rows x h d = end_is (get_or rows h.0 d) x (get_or_default rows h.0 d x h.1 ∙ h.2)
 
--- another row in a place
+-- another row in the place of one
 module _ (rows : List JudgedRead) (place : ℕ) (row : JudgedRead) (lt : place < length rows) where
   pub set_ends : ((d : JudgedRead) → end_in rows place d ≡ row.end.0) → (k : ℕ) (d : JudgedRead) → end_in (set rows place row) k d ≡ end_in rows k d
   set_ends same k d = elim (cases_eq k place) [
@@ -75,8 +75,8 @@ module _ (rows : List JudgedRead) (place : ℕ) (row : JudgedRead) (lt : place <
     only = λ x h. elim (set_cases x h) [ inl e ↦ inl e | inr at ↦ inr (at.0, at.1, at.2) ];
   }
 
-  -- a row that was judged, in the place of one of its end and id
-  pub set_judged : (claim : Terms) (ops : List Op) (number : ℕ) → AreRising rows → ((d : JudgedRead) → end_in rows place d ≡ number) → row.end.0 ≡ number → ((d : JudgedRead) → row.id ≡ (get_or rows place d).id) → IsRight claim ops row
+  -- a row with its verdict, in the place of one of its end and id
+  pub set_judged : (claim : ClaimModel) (ops : List Op) (number : ℕ) → AreRising rows → ((d : JudgedRead) → end_in rows place d ≡ number) → row.end.0 ≡ number → ((d : JudgedRead) → row.id ≡ (get_or rows place d).id) → IsJudgedBy claim ops row
       → AreJudgedAgain claim ops (λ n. n ≡ number) rows (set rows place row)
   set_judged claim ops number up there end_same id_same right = record {
     kept = λ x h. elim (cases_eq h.0 place) [
@@ -89,7 +89,7 @@ module _ (rows : List JudgedRead) (place : ℕ) (row : JudgedRead) (lt : place <
       | inr ne ↦ (x, set_kept x h ne, refl, refl)
     ];
     each = λ y h. elim (set_cases y h) [
-      | inl e ↦ inl (subst (IsRight claim ops) (sym e) right)
+      | inl e ↦ inl (subst (IsJudgedBy claim ops) (sym e) right)
       | inr at ↦ inr (
         (at.0, at.1, at.2),
         λ same. elim (cases_order at.0 place) [
@@ -137,7 +137,7 @@ module _ (rows : List JudgedRead) (place : ℕ) (row : JudgedRead) (le : place �
         ]
       ]
 
-  -- of those in front of the first wrong one there may be one more
+  -- where a row that is not wrong is put in, none before the first wrong one is wrong; there may be one more of them
   pub insert_none_wrong : row.wrong ≡ false → (first first' : ℕ) → ((place ≤ first) × (first' ≤ first + 1)) ⊎ ((first < place) × (first' ≡ first)) → IsNoneWrong first rows → IsNoneWrong first' more
   insert_none_wrong right first first' where_is none i d low within =
       let long = length-insert rows place row le in
@@ -167,7 +167,7 @@ module _ (rows : List JudgedRead) (place : ℕ) (row : JudgedRead) (le : place �
     ];
   }
 
--- places
+-- a place is that of a moment, by the ends of the rows beside it
 pub place_here : (number : ℕ) (rows : List JudgedRead) (at : ℕ) → at ≤ length rows → AreRising rows → EndFrom number rows at → ((d : JudgedRead) → 0 < at → end_in rows (at - 1) d < number) → IsPlaceOf number rows at
 place_here number rows at le up from below = record {
   within = le;
@@ -184,7 +184,7 @@ from_one_before number rows at some here from k d ge lt = elim (cases_eq k (at -
   | inr ne ↦ from k d (omega (arith, ge, ne)) lt
 ]
 
--- rows behind the place of an end, none of which has that end, end later
+-- where the row at the place of an end has another end, the rows from there on end later
 pub behind_place : (number : ℕ) (rows : List JudgedRead) (place : ℕ) → AreRising rows → IsPlaceOf number rows place → ((d : JudgedRead) → place < length rows → end_in rows place d ≢ number) → (k : ℕ) (d : JudgedRead) → place ≤ k → k < length rows → number < end_in rows k d
 behind_place number rows place up is none k d ge lt =
     let first = is.behind place d (omega arith) (omega (arith, ge, lt)) in
@@ -195,8 +195,8 @@ behind_place number rows place up is none k d ge lt =
     ]
 
 -- judging again
-module _ (claim : Terms) (ops : List Op) where
-  -- where none of those that P holds of is there, nothing is judged
+module _ (claim : ClaimModel) (ops : List Op) where
+  -- where no row has an end with P, nothing is to be judged
   pub judged_none : (P : ℕ → Type 0) (rows : List JudgedRead) → ((y : JudgedRead) → Contains rows y → ¬ P y.end.0) → AreJudgedAgain claim ops P rows rows
   judged_none P rows none = record { kept = λ x h. (x, h, refl, refl); each = λ y h. inr (h, none y h) }
 
@@ -218,7 +218,7 @@ module _ (claim : Terms) (ops : List Op) where
     each = λ y h. elim (is.each y h) [ inl right ↦ inl right | inr old ↦ inr (old.0, λ q. old.1 (weaker y old.0 q)) ];
   }
 
--- what is kept of rows that were judged again
+-- `AreKept` holds of no change, and of one change after another
 pub kept_itself : (a : JudgedReads) → AreKept a a
 kept_itself a = record { len = refl; ends = λ k d. refl; front = λ h. h; latest = refl; room = λ h. h }
 
@@ -236,7 +236,7 @@ kept_rising a b kept up i j d lt within =
     let ei = kept.ends i d in let ej = kept.ends j d in let long = kept.len in
     let less = up i j d lt (omega (arith, within, long)) in omega (arith, ei, ej, less)
 
--- from one row on: the row itself, and those behind it
+-- the rows from one on: that row, and those after it
 module _ (a b : JudgedReads) (kept : AreKept a b) (up : AreRising a.rows.items) (number at : ℕ) (lt : at < length a.rows.items) (is : IsPlaceOf number a.rows.items at) (d : JudgedRead) where
   abbrev here : ℕ
   here = end_in a.rows.items at d
@@ -268,8 +268,8 @@ module _ (a b : JudgedReads) (kept : AreKept a b) (up : AreRising a.rows.items) 
     | inr (inr behind) ↦ let less = up at h.0 y behind h.1 in let own = end_at rows y h y in let it = here_is y in inr (omega (arith, less, own, it))
   ]
 
--- the rows from one on are judged where it is, and then those behind it
-pub judged_from : (claim : Terms) (ops : List Op) (a b c : JudgedReads) → AreKept a b → AreRising a.rows.items → (number at : ℕ) → at < length a.rows.items → IsPlaceOf number a.rows.items at → (d : JudgedRead)
+-- the rows from one on are judged where that row is, and then those after it
+pub judged_from : (claim : ClaimModel) (ops : List Op) (a b c : JudgedReads) → AreKept a b → AreRising a.rows.items → (number at : ℕ) → at < length a.rows.items → IsPlaceOf number a.rows.items at → (d : JudgedRead)
     → AreJudgedAgain claim ops (λ n. n ≡ end_in a.rows.items at d) a.rows.items b.rows.items → AreJudgedAgain claim ops (λ n. end_in a.rows.items at d + 1 ≤ n) b.rows.items c.rows.items
     → AreJudgedAgain claim ops (λ n. number ≤ n) a.rows.items c.rows.items
 judged_from claim ops a b c kept up number at lt is d one rest =
@@ -277,11 +277,11 @@ judged_from claim ops a b c kept up number at lt is d one rest =
     (judged_both claim ops (λ n. n ≡ end_in a.rows.items at d) (λ n. end_in a.rows.items at d + 1 ≤ n) a.rows.items b.rows.items c.rows.items one rest)
     (λ y h ge. one_or_behind a b kept up number at lt is d y h ge)
 
--- at a place the default does not matter
+-- for a place within the rows the default does not matter
 pub at_default : (rows : List JudgedRead) (k : ℕ) (d e : JudgedRead) → k < length rows → end_in rows k d ≡ end_in rows k e
 at_default rows k d e lt = end_is _ _ (get_or_default rows k d e lt)
 
--- none has the end of a place where none ends with it
+-- where the row at the place of an end has another end, no row has that end
 pub none_there : (number : ℕ) (rows : List JudgedRead) (place : ℕ) → AreRising rows → IsPlaceOf number rows place → ((d : JudgedRead) → place < length rows → end_in rows place d ≢ number) → (y : JudgedRead) → Contains rows y → y.end.0 ≢ number
 none_there number rows place up is none y h e = elim (cases_lt h.0 place) [
   | inl before ↦ let less = is.before h.0 y before in let own = end_at rows y h y in omega (arith, less, own, e)

@@ -1,4 +1,4 @@
--- Rows of operations after an edit, and what they tell.
+-- The rows after an edit, and the verdict that they give.
 use Rattle.std.proofs.Common.{◌≡◌, ◌↔◌, ℕ, ◌<◌, ◌≤◌, ◌⊎◌, inl, inr, true, false, ◌&&◌, ◌==◌, List, length, Option, Some, None, refl, sym, ap, subst, ◌∙◌, get_or, eqb-true, eq-eqb, arith}
 use Rattle.std.specs.Prelude.{Contains, IsTrue, Vec}
 use Rattle.std.specs.declared.alloc.Global.{Global}
@@ -13,28 +13,28 @@ use Rattle.intervals.specs.declared.operation.Moment.{Moment}
 use Rattle.intervals.specs.Edit.{found_by, op_of}
 use Rattle.intervals.specs.Judging.{end_number, first_wrong, is_wrong_read}
 use Rattle.intervals.specs.Operation.{IsJudgedRead, is_judged_read, same_id}
-use Rattle.intervals.specs.Terms.{Terms}
+use Rattle.intervals.specs.Terms.{ClaimModel}
 use Rattle.intervals.proofs.Ids.{Decides-same_id_is, found_again, found_stands, same_id-refl}
 use Rattle.safe_regular.specs.declared.judged.JudgedRead.{JudgedRead}
 use Rattle.safe_regular.specs.declared.judged.JudgedReads.{JudgedReads}
 use Rattle.safe_regular.specs.Change.{IsChangeOf}
 use Rattle.safe_regular.specs.First.{IsFirstEnded}
 use Rattle.safe_regular.specs.Held.{AreOneWriters}
-use Rattle.safe_regular.specs.Rows.{AreJudged, AreJudgedAgain, AreKept, AreRising, HasRow, IsEndOf, IsNoneWrong, IsPutFor, IsRight, IsWrongAt, is_wrong_row}
+use Rattle.safe_regular.specs.Rows.{AreJudged, AreJudgedAgain, AreKept, AreRising, HasRow, IsEndOf, IsNoneWrong, IsPutFor, IsJudgedBy, IsWrongAt, is_wrong_row}
 use Rattle.safe_regular.specs.Seen.{LeavesAlone}
 use Rattle.safe_regular.proofs.First.{first_wrong_is}
 use Rattle.safe_regular.proofs.Members.{distinct_ends}
 use Rattle.safe_regular.proofs.Rows.{end_at, kept_rising}
 use Rattle.safe_regular.proofs.Seen.{left_alone}
 
--- an operation found by an id has it
+-- the operation found by an id has that id
 pub id_is : (a b : OpId) → same_id a b ≡ true → b ≡ a
 id_is a b t = sym ((Decides-same_id_is a b).0 t)
 
-judged_where_wrong : (claim : Terms) (ops : List Op) (r : Op) → is_wrong_read claim ops r ≡ true → IsJudgedRead r
+judged_where_wrong : (claim : ClaimModel) (ops : List Op) (r : Op) → is_wrong_read claim ops r ≡ true → IsJudgedRead r
 judged_where_wrong claim ops r wrong = (and_parts (is_judged_read r) _ wrong).0
 
-module _ (claim : Terms) (ops : List Op) where
+module _ (claim : ClaimModel) (ops : List Op) where
   -- the read that makes a row wrong
   pub read_of : (row : JudgedRead) → is_wrong_row claim ops row ≡ true → (r : Op) × (op_of ops row.id ≡ Some r) × (end_number r ≡ row.end.0) × (is_wrong_read claim ops r ≡ true)
   read_of row wrong = by_found (op_of ops row.id) refl wrong
@@ -43,14 +43,14 @@ module _ (claim : Terms) (ops : List Op) where
       by_found None e wrong = absurd (cc)
       by_found (Some r) e wrong = let parts = and_parts (end_number r == row.end.0) (is_wrong_read claim ops r) wrong in (r, e, eqb-true (end_number r) row.end.0 parts.0, parts.1)
 
-  -- the row of a read that stands
+  -- the row of a judged read of the list
   module _ (apart : AreOneWriters claim ops) where
     pub row_as : (row : JudgedRead) (r : Op) → Contains ops r → row.id ≡ r.id → row.end.0 ≡ end_number r → is_wrong_row claim ops row ≡ is_wrong_read claim ops r
     row_as row r stands id end =
         let found : op_of ops row.id ≡ Some r = found_again ops (Some row.id) r apart.kept.ids stands (subst (λ (i : OpId). same_id r.id i ≡ true) (sym id) (same_id-refl r.id)) in
         rw (found, eq-eqb (end_number r) row.end.0 (sym end)) refl
 
-    -- what the rows tell
+    -- what the rows say: which read is the first wrong one, or that none is wrong
     module _ (reads : JudgedReads) (are : AreJudged claim ops reads) where
       abbrev rows : List JudgedRead
       rows = reads.rows.items
@@ -108,9 +108,9 @@ module _ (claim : Terms) (ops : List Op) where
                 absurd (cc (none, told, found))
           ]
 
--- an edit
-module _ (claim : Terms) (ops after : List Op) (old new : Option Op) (change : IsChangeOf claim ops after old new) where
-  -- a row that is of neither operation, where its read is left alone
+-- the rows after an edit
+module _ (claim : ClaimModel) (ops after : List Op) (old new : Option Op) (change : IsChangeOf claim ops after old new) where
+  -- a row of neither operation, whose read the edit leaves alone, has its verdict still
   module _ (row : JudgedRead) (not_old : ¬ IsEndOf old row.end.0) (not_new : ¬ IsEndOf new row.end.0)
       (alone : (r : Op) → Contains change.others r → IsJudgedRead r → end_number r ≡ row.end.0 → LeavesAlone r old new) where
     wrong_after : is_wrong_row claim ops row ≡ true → is_wrong_row claim after row ≡ true
@@ -144,13 +144,13 @@ module _ (claim : Terms) (ops after : List Op) (old new : Option Op) (change : I
       (alone : (r : Op) → r.begin.0 ≤ reads.latest.0 → end_number r < number → LeavesAlone r old new)
       (put ended judged : List JudgedRead) (is_put : IsPutFor new reads.rows.items put)
       (ends : AreJudgedAgain claim after (λ n. IsEndOf old n ⊎ IsEndOf new n) put ended) (rest : AreJudgedAgain claim after (λ n. number ≤ n) ended judged) where
-    as_before : (row : JudgedRead) → Contains reads.rows.items row → ¬ (number ≤ row.end.0) → ¬ (IsEndOf old row.end.0 ⊎ IsEndOf new row.end.0) → IsRight claim after row
+    as_before : (row : JudgedRead) → Contains reads.rows.items row → ¬ (number ≤ row.end.0) → ¬ (IsEndOf old row.end.0 ⊎ IsEndOf new row.end.0) → IsJudgedBy claim after row
     as_before row stands low not =
         are.right row stands
         ∙ row_alike row (λ e. not (inl e)) (λ e. not (inr e))
         (λ r among judges end. alone r (are.latest r (change.in_before r (inl among)) judges) (elim (cases_lt row.end.0 number) [ inl lt ↦ omega (arith, lt, end) | inr ge ↦ absurd (low ge) ]))
 
-    pub right_after : (row : JudgedRead) → Contains judged row → IsRight claim after row
+    pub right_after : (row : JudgedRead) → Contains judged row → IsJudgedBy claim after row
     right_after row stands = elim (rest.each row stands) [
       | inl right ↦ right
       | inr late ↦ elim (ends.each row late.0) [
@@ -199,8 +199,8 @@ module _ (claim : Terms) (ops after : List Op) (old new : Option Op) (change : I
       | inr is ↦ of_new r is judges
     ]
 
--- the four steps of a change
-pub judged_after : (claim : Terms) (ops after : List Op) (old new : Option Op) (change : IsChangeOf claim ops after old new) (reads put ended judged last : JudgedReads) → AreJudged claim ops reads
+-- the rows are right after the four steps of a change
+pub judged_after : (claim : ClaimModel) (ops after : List Op) (old new : Option Op) (change : IsChangeOf claim ops after old new) (reads put ended judged last : JudgedReads) → AreJudged claim ops reads
     → (number : ℕ) → ((r : Op) → r.begin.0 ≤ reads.latest.0 → end_number r < number → LeavesAlone r old new)
     → AreRising put.rows.items → IsPutFor new reads.rows.items put.rows.items → IsNoneWrong put.first put.rows.items → reads.latest.0 ≤ put.latest.0 → ((o : Op) → new ≡ Some o → IsJudgedRead o → o.begin.0 ≤ put.latest.0)
     → AreKept put ended → (AreOneWriters claim after → AreRising put.rows.items → AreJudgedAgain claim after (λ n. IsEndOf old n ⊎ IsEndOf new n) put.rows.items ended.rows.items)

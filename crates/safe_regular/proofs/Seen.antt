@@ -10,12 +10,12 @@ use Rattle.intervals.specs.declared.operation.Value.{Value}
 use Rattle.intervals.specs.Judging.{end_number, is_right_read, is_regular_read, is_safe_read, is_wrong_read}
 use Rattle.intervals.specs.Kind.{IsRegularRead, IsSafeRead, OverlapsWrite, ReturnsLast}
 use Rattle.intervals.specs.Operation.{IsJudgedRead, IsWrite, Overlaps, Precedes, is_judged_read, value_of}
-use Rattle.intervals.specs.Terms.{Terms}
+use Rattle.intervals.specs.Terms.{ClaimModel}
 use Rattle.intervals.proofs.Agreement.{Decides-is_regular_read, Decides-is_safe_read}
 use Rattle.intervals.proofs.Members.{all_from}
-use Rattle.safe_regular.specs.Apart.{AreApart}
+use Rattle.safe_regular.specs.Apart.{AreSequential}
 use Rattle.safe_regular.specs.Change.{IsChangeOf}
-use Rattle.safe_regular.specs.Seen.{AreSeenIn, IsBehind, IsSeenIn, LeavesAlone}
+use Rattle.safe_regular.specs.Seen.{AreSeenIn, BeginsAfterRead, IsSeenIn, LeavesAlone}
 use Rattle.safe_regular.proofs.Apart.{begins_before}
 use Rattle.safe_regular.proofs.Nearest.{IsReadAmong, read_among}
 use Rattle.safe_regular.proofs.Told.{writes_apart}
@@ -44,20 +44,20 @@ module _ (r : Op) (ops others : List Op) (there : AreSeenIn r ops others) (back 
     none.1,
   )
 
-  pub regular_in : (claim : Terms) → IsRegularRead claim ops r → IsRegularRead claim others r
+  pub regular_in : (claim : ClaimModel) → IsRegularRead claim ops r → IsRegularRead claim others r
   regular_in claim (inl any) =
       let (v, stands, write, over, same) = (there any.1 (any.0, any.2, any.3) any.4.0).over any.4.1 in
       inl (stands.0, v, stands.1, stands.2, (write, over, any.4.2 ∙ sym same))
   regular_in claim (inr last) = inr (returns_in claim.initial last)
 
 module _ (r : Op) (ops others : List Op) (there : AreSeenIn r ops others) (back : AreSeenIn r others ops) where
-  safe_in : (claim : Terms) → IsSafeRead claim ops r → IsSafeRead claim others r
+  safe_in : (claim : ClaimModel) → IsSafeRead claim ops r → IsSafeRead claim others r
   safe_in claim right = (
     λ none. returns_in r ops others there back claim.initial (right.0 (λ over. none (overlaps_in r ops others there back over))),
     λ over. right.1 (overlaps_in r others ops back there over),
   )
 
-  right_alike : (claim : Terms) (kind : Kind) → is_right_read kind claim ops r ≡ is_right_read kind claim others r
+  right_alike : (claim : ClaimModel) (kind : Kind) → is_right_read kind claim ops r ≡ is_right_read kind claim others r
   right_alike claim Safe =
       same_from_decides (is_safe_read claim ops r) (is_safe_read claim others r) (Decides-is_safe_read claim ops r)
       (Decides-like (is_safe_read claim others r) back_to (safe_in claim) (Decides-is_safe_read claim others r))
@@ -72,14 +72,14 @@ module _ (r : Op) (ops others : List Op) (there : AreSeenIn r ops others) (back 
       (Decides-like (is_regular_read claim others r) (regular_in r others ops back there claim) (regular_in r ops others there back claim) (Decides-is_regular_read claim others r))
   right_alike claim Atomic = refl
 
-  -- is wrong in both or in neither
-  pub judged_alike : (claim : Terms) → is_wrong_read claim ops r ≡ is_wrong_read claim others r
+  -- the read is wrong in both lists or in neither
+  pub judged_alike : (claim : ClaimModel) → is_wrong_read claim ops r ≡ is_wrong_read claim others r
   judged_alike claim = ap (λ (b : Bool). is_judged_read r && not b) (right_alike claim claim.kind)
 
 -- an edit that leaves a read alone
-module _ (claim : Terms) (ops after : List Op) (old new : Option Op) (change : IsChangeOf claim ops after old new) (r : Op) (stands : Contains change.others r) (judged : IsJudgedRead r) (alone : LeavesAlone r old new) where
-  -- a write that begins no earlier than the read ends is not seen
-  not_seen : (list few : List Op) → AreApart list → IsReadAmong list r → (w : Op) → Contains list w → IsWrite w → end_number r ≤ w.begin.0 → IsSeenIn r few w
+module _ (claim : ClaimModel) (ops after : List Op) (old new : Option Op) (change : IsChangeOf claim ops after old new) (r : Op) (stands : Contains change.others r) (judged : IsJudgedRead r) (alone : LeavesAlone r old new) where
+  -- the read does not see a write that begins when it ends or later
+  not_seen : (list few : List Op) → AreSequential list → IsReadAmong list r → (w : Op) → Contains list w → IsWrite w → end_number r ≤ w.begin.0 → IsSeenIn r few w
   not_seen list few apart among w sw ww late = record {
     before = λ ahead. absurd (let lt = begins_before w r (apart.proper w sw ww) ahead in let long = among.long in omega (arith, lt, long, late));
     over = λ over. absurd (let lt = among.reached w sw ww over.1 in omega (arith, lt, late));
@@ -97,7 +97,7 @@ module _ (claim : Terms) (ops after : List Op) (old new : Option Op) (change : I
   among_after : IsReadAmong after r
   among_after = read_among claim after change.apart_after r (change.in_after r (inl stands)) judged
 
-  -- of two writes as one the other overlaps the read where the one does
+  -- where a write begins before the read ends, another of its beginning that does not precede the read overlaps it
   other_over : (o n : Op) → o.begin.0 ≡ n.begin.0 → ¬ Precedes n r → ((w : Op) → w.begin.0 < end_number r → ¬ Precedes r w) → o.begin.0 < end_number r → Overlaps n r
   other_over o n same not not_over lt = (not, not_over n (omega (arith, same, lt)))
 
@@ -105,7 +105,7 @@ module _ (claim : Terms) (ops after : List Op) (old new : Option Op) (change : I
   seen_after w sw ww = elim (change.was w sw) [
     | inl among ↦ itself after w (change.in_after w (inl among)) ww
     | inr is ↦ elim alone [
-      | inl behind ↦ not_seen ops after (writes_apart claim ops change.apart_before) among_before w sw ww (subst (IsBehind r) is behind.0 ww)
+      | inl behind ↦ not_seen ops after (writes_apart claim ops change.apart_before) among_before w sw ww (subst (BeginsAfterRead r) is behind.0 ww)
       | inr one ↦
           let same : one.o ≡ w = (let e = one.old_is in cc) in
           record {
@@ -126,7 +126,7 @@ module _ (claim : Terms) (ops after : List Op) (old new : Option Op) (change : I
   seen_before w sw ww = elim (change.is w sw) [
     | inl among ↦ itself ops w (change.in_before w (inl among)) ww
     | inr is ↦ elim alone [
-      | inl behind ↦ not_seen after ops (writes_apart claim after change.apart_after) among_after w sw ww (subst (IsBehind r) is behind.1 ww)
+      | inl behind ↦ not_seen after ops (writes_apart claim after change.apart_after) among_after w sw ww (subst (BeginsAfterRead r) is behind.1 ww)
       | inr one ↦
           let same : one.n ≡ w = (let e = one.new_is in cc) in
           record {

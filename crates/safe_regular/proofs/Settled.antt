@@ -1,4 +1,4 @@
--- What the parts of a judge are to each other after an edit.
+-- The parts of a judge agree after an edit.
 use Rattle.std.proofs.Common.{◌≡◌, ℕ, ◌+◌, ◌≤◌, inl, inr, Bool, true, false, not, List, [], ◌∷◌, length, Option, Some, None, refl, sym, ◌∙◌, cond, filter, subst, length-append, arith}
 use Rattle.std.specs.Prelude.{◌<◌, Contains, IfSome, IsSome}
 use Rattle.std.proofs.lemmas.Bool.{both_ways}
@@ -10,15 +10,15 @@ use Rattle.intervals.specs.Edit.{amended, edited, new_op, edit_id, found_by, has
 use Rattle.intervals.specs.Operation.{same_id}
 use Rattle.intervals.specs.Refusal.{reply_to}
 use Rattle.intervals.specs.Table.{prepared_after}
-use Rattle.intervals.specs.Terms.{Terms}
+use Rattle.intervals.specs.Terms.{ClaimModel}
 use Rattle.intervals.proofs.Accepted.{edit_accepted}
-use Rattle.read_tree.specs.declared.item.Item.{Item}
-use Rattle.read_tree.specs.Items.{AreInOrder, Contents}
+use Rattle.read_tree.specs.declared.item.RowItem.{RowItem}
+use Rattle.read_tree.specs.Items.{AreItemsInOrder, ReadContents}
 use Rattle.safe_regular.specs.declared.reads.Reads.{Reads}
 use Rattle.safe_regular.specs.declared.writes.Writes.{Writes}
-use Rattle.safe_regular.specs.Held.{AreOneWriters, CanJudge, HasReadRoom, HasRoomFor}
-use Rattle.safe_regular.specs.Line.{AreItems, IsChanged, IsCoverBefore, IsCoverBeforeNew, IsRenewed, MayBeChanged}
-use Rattle.safe_regular.specs.Writes.{AreWrites, HasPlaceIn, HoldsOnlyFor, IsAddedOf}
+use Rattle.safe_regular.specs.Held.{AreOneWriters, CanJudge, HasReadRoom, HasRoomForOperation}
+use Rattle.safe_regular.specs.RowItems.{AreItemsOf, IsChanged, IsCoverBefore, IsCoverBeforeNew, IsRenewed, MayBeChanged}
+use Rattle.safe_regular.specs.Writes.{AreWrites, HasPlaceIn, ReservesOnlyForWrite, IsAddedOf}
 use Rattle.safe_regular.specs.Change.{IsAmong, IsChangeOf, more_by}
 use Rattle.safe_regular.proofs.Changed.{others_of, other_stands, other_apart, before_cases, other_after, new_stands, after_cases, goes, comes}
 use Rattle.intervals.proofs.Ids.{found_stands}
@@ -27,18 +27,18 @@ use Rattle.safe_regular.proofs.Kept.{front_stays, own_cover_stands}
 use Rattle.safe_regular.proofs.Laid.{items_after, place_is_free, place_is_taken}
 use Rattle.safe_regular.proofs.Told.{writes_apart}
 
--- the room for the prepared operation is used by the new one, or stays
-pub room_after : (writes writes' : Writes) (ops listed : List Op) (reads reads' : Reads) (prepared new after : Option Op) → IfSome prepared (HasRoomFor writes ops reads) → HasPlaceIn prepared writes'
-    → (new ≡ None → HasReadRoom ops reads → HasReadRoom listed reads') → after ≡ prepared_after new prepared → IfSome after (HasRoomFor writes' listed reads')
+-- the new operation uses the room of the prepared one; without a new one the room stays
+pub room_after : (writes writes' : Writes) (ops listed : List Op) (reads reads' : Reads) (prepared new after : Option Op) → IfSome prepared (HasRoomForOperation writes ops reads) → HasPlaceIn prepared writes'
+    → (new ≡ None → HasReadRoom ops reads → HasReadRoom listed reads') → after ≡ prepared_after new prepared → IfSome after (HasRoomForOperation writes' listed reads')
 room_after writes writes' ops listed reads reads' prepared (Some op) after room place free e = rw e tt
 room_after writes writes' ops listed reads reads' None None after room place free e = rw e tt
 room_after writes writes' ops listed reads reads' (Some op) None after room place free e = rw e (record { place = place; free = free refl room.free })
 
 -- there is room for the new operation
-pub room_for_new : (writes : Writes) (ops : List Op) (reads : Reads) (prepared new : Option Op) → IfSome prepared (HasRoomFor writes ops reads) → IfSome new (λ op. prepared ≡ Some op) → IsSome new → HasReadRoom ops reads
+pub room_for_new : (writes : Writes) (ops : List Op) (reads : Reads) (prepared new : Option Op) → IfSome prepared (HasRoomForOperation writes ops reads) → IfSome new (λ op. prepared ≡ Some op) → IsSome new → HasReadRoom ops reads
 room_for_new writes ops reads prepared None room is some = absurd (cc)
 room_for_new writes ops reads prepared (Some o) room is some =
-    let there : HasRoomFor writes ops reads o = subst (λ (p : Option Op). IfSome p (HasRoomFor writes ops reads)) is room in
+    let there : HasRoomForOperation writes ops reads o = subst (λ (p : Option Op). IfSome p (HasRoomForOperation writes ops reads)) is room in
     there.free
 
 -- an edit adds one operation at most
@@ -60,7 +60,7 @@ count_edited ops (Amend id change) = rw (length-map ops (amended id change)) (mo
 count_edited ops (Withdraw id) = let le = filter_shorter (λ op. not (same_id op.id id)) ops in omega (arith, le)
 count_edited ops (Claim kind) = omega arith
 
-module _ (claim : Terms) (ops : List Op) (edit : Edit) (apart : AreOneWriters claim ops) (accepted : reply_to claim ops edit ≡ None)
+module _ (claim : ClaimModel) (ops : List Op) (edit : Edit) (apart : AreOneWriters claim ops) (accepted : reply_to claim ops edit ≡ None)
     (old new : Option Op) (old_is : old ≡ found_by ops (edit_id edit)) (new_is : new ≡ new_op ops edit) (listed : List Op) (listed_is : listed ≡ edited ops edit) where
   later : AreOneWriters claim (edited ops edit)
   later = apart_kept claim ops edit apart accepted
@@ -68,7 +68,7 @@ module _ (claim : Terms) (ops : List Op) (edit : Edit) (apart : AreOneWriters cl
   pub later_listed : AreOneWriters claim listed
   later_listed = subst (AreOneWriters claim) (sym listed_is) later
 
-  -- the shelf is that of the operations afterwards
+  -- after the edit the index is that of the operations
   pub can_judge : (writes writes' : Writes) → AreWrites ops writes
       → ((before others after : List Op) → AreWrites before writes → IsAddedOf others old before → IsAddedOf others new after → AreWrites after writes') → CanJudge listed writes'
   can_judge writes writes' are change =
@@ -77,9 +77,9 @@ module _ (claim : Terms) (ops : List Op) (edit : Edit) (apart : AreOneWriters cl
       let both : CanJudge (edited ops edit) writes' = record { shelved = change ops (others_of ops (edit_id edit)) (edited ops edit) are among now; ids = later.kept.ids } in
       subst (λ (l : List Op). CanJudge l writes') (sym listed_is) both
 
-  -- the shelf holds no place but for what is prepared afterwards
-  pub only_for : (writes writes' : Writes) → AreWrites ops writes → (prepared : Option Op) → HoldsOnlyFor prepared writes
-      → ((before others : List Op) → AreWrites before writes → IsAddedOf others old before → HoldsOnlyFor prepared writes → HoldsOnlyFor (prepared_after new prepared) writes') → HoldsOnlyFor (prepared_after new prepared) writes'
+  -- after the edit the index has no empty place but for what is still prepared
+  pub only_for : (writes writes' : Writes) → AreWrites ops writes → (prepared : Option Op) → ReservesOnlyForWrite prepared writes
+      → ((before others : List Op) → AreWrites before writes → IsAddedOf others old before → ReservesOnlyForWrite prepared writes → ReservesOnlyForWrite (prepared_after new prepared) writes') → ReservesOnlyForWrite (prepared_after new prepared) writes'
   only_for writes writes' are prepared only change =
       let among : IsAddedOf (others_of ops (edit_id edit)) old ops = rw old_is (goes ops (edit_id edit) apart.kept.ids (writes_apart claim ops apart)) in
       change ops (others_of ops (edit_id edit)) are among only
@@ -126,8 +126,8 @@ module _ (claim : Terms) (ops : List Op) (edit : Edit) (apart : AreOneWriters cl
   }
 
 -- what a change does to the items
-module _ (claim : Terms) (ops listed : List Op) (old new : Option Op) (change : IsChangeOf claim ops listed old new) where
-  -- the new operation stands
+module _ (claim : ClaimModel) (ops listed : List Op) (old new : Option Op) (change : IsChangeOf claim ops listed old new) where
+  -- the new operation is in the list after the edit
   pub new_listed : IfSome new (Contains listed)
   new_listed = by_cases new refl
     where
@@ -135,12 +135,12 @@ module _ (claim : Terms) (ops listed : List Op) (old new : Option Op) (change : 
       by_cases None e = tt
       by_cases (Some op) e = change.in_after op (inr e)
 
-  -- where none comes there are no more
+  -- without a new operation the list is no longer than before
   pub no_more_listed : new ≡ None → length listed ≤ length ops
   no_more_listed none = let le = subst (λ (o : Option Op). length listed ≤ length ops + more_by o) none change.count in omega (arith, le)
 
-  module _ (line : Contents) (are : AreItems claim ops line.items) where
-    -- the item of the old operation may go, and that of the new one come
+  module _ (line : ReadContents) (are : AreItemsOf claim ops line.items) where
+    -- the tree is ready for the exchange of the old item for the new one
     pub may_be_changed : (IsSome new → 0 < line.free) → MayBeChanged claim listed old new line
     may_be_changed room = record {
       order = are.order;
@@ -150,19 +150,19 @@ module _ (claim : Terms) (ops listed : List Op) (old new : Option Op) (change : 
       kept = own_cover_stands claim ops change.others listed old new change.apart_before change.apart_after change.was change.in_before change.is change.in_after line.items are;
     }
 
-    pub laid_after : (left come : Option Item) → IsCoverBefore claim listed None old left → IsCoverBeforeNew claim listed old new come
-        → (second third last : List Item) → IsChanged claim listed old new line.items second → IsRenewed left second third → AreInOrder third → IsRenewed come third last → AreInOrder last
-        → AreItems claim listed last
+    pub laid_after : (left come : Option RowItem) → IsCoverBefore claim listed None old left → IsCoverBeforeNew claim listed old new come
+        → (second third last : List RowItem) → IsChanged claim listed old new line.items second → IsRenewed left second third → AreItemsInOrder third → IsRenewed come third last → AreItemsInOrder last
+        → AreItemsOf claim listed last
     laid_after left come left_is come_is second third last one two third_order three order = elim come_is [
       | inl is ↦ made come is three
       | inr stays ↦
           let (x, x_is, x_three) =
           front_stays claim ops change.others listed old new change.apart_before change.apart_after change.was change.in_before change.is change.in_after change.not_new line.items are stays.1 one.item left left_is second third last
-          one.exchanged two third_order (subst (λ (c : Option Item). IsRenewed c third last) stays.0 three) in
+          one.exchanged two third_order (subst (λ (c : Option RowItem). IsRenewed c third last) stays.0 three) in
           made x x_is x_three
     ]
       where
-        made : (c : Option Item) → IsCoverBefore claim listed old new c → IsRenewed c third last → AreItems claim listed last
+        made : (c : Option RowItem) → IsCoverBefore claim listed old new c → IsRenewed c third last → AreItemsOf claim listed last
         made c is c_three =
             items_after claim ops change.others listed old new change.apart_before change.apart_after change.was change.in_before change.is change.in_after change.not_old one.item left c one.is left_is is
             line.items second third last are one.exchanged two c_three order

@@ -1,21 +1,21 @@
--- What an accepted edit does to the operations of one writer's register. Words of the proofs; no public
--- clause speaks of them.
+-- What an accepted edit does to the operations of one writer's register; no public clause uses these words.
 use Rattle.std.specs.Prelude.{◌≡◌, ℕ, ◌≤◌, ◌+◌, ◌⊎◌, List, length, Contains, Option, Some, None}
 use Rattle.intervals.specs.declared.operation.Op.{Op}
-use Rattle.intervals.specs.Terms.{Terms}
+use Rattle.intervals.specs.Terms.{ClaimModel}
 use Rattle.safe_regular.specs.Held.{AreOneWriters}
 
--- it is among the others, or it is the one
+-- the operation is in the list, or it is the optional one beside the list
 abbrev pub IsAmong : List Op → Option Op → Op → Type 0
 IsAmong others one x = Contains others x ⊎ (one ≡ Some x)
 
--- how many operations more there may be
+-- the number of optional operations that are there: 1 or 0
 abbrev pub more_by : Option Op → ℕ
 more_by None = 0
 more_by (Some op) = 1
 
--- the others stay, the old one goes and the new one comes, and what the reply rule keeps is kept
-pub record IsChangeOf (claim : Terms) (ops after : List Op) (old new : Option Op) : Type 0 where
+-- the operations before and after an edit: an optional old one goes, an optional new one comes, the others stay; before
+-- and after they are those of one writer's register (`AreOneWriters`)
+pub record IsChangeOf (claim : ClaimModel) (ops after : List Op) (old new : Option Op) : Type 0 where
   pub others : List Op
   pub apart_before : AreOneWriters claim ops
   pub apart_after : AreOneWriters claim after

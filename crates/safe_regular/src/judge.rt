@@ -1,14 +1,14 @@
-//! The calls of the judge of one writer's register.
+//! The judge of one writer's register: its calls, and what they promise.
 
 ghost use Rattle.std.specs.Prelude.{◌≡◌, ◌≢◌, ◌↔◌, ◌++◌, ◌∷◌, [], None, Some, IfOk, IfSome, OnOk, OnErr, IsNone, IsSome, IsSomeAnd, IsOk, IsTrue, not, option_map};
-ghost use Rattle.intervals.specs.Edit.{edited, op_of as op_in};
-ghost use Rattle.intervals.specs.Operation.{IsWrite, IsJudgedRead, is_write as writes};
+ghost use Rattle.intervals.specs.Edit.{edited, op_of};
+ghost use Rattle.intervals.specs.Operation.{IsWrite, IsJudgedRead, is_write};
 ghost use Rattle.intervals.specs.Table.{prepared_after};
 ghost use Rattle.intervals.specs.Target.{IsTargetOf};
 ghost use Rattle.intervals.specs.Terms.{terms_of};
 ghost use Rattle.intervals.specs.Kind.{IsSafe, IsRegular, Holds};
 ghost use Rattle.intervals.specs.Refusal.{write_refusal, reply_to, ok_unless};
-ghost use Rattle.intervals.specs.Judging.{first_wrong as first_wrong_of};
+ghost use Rattle.intervals.specs.Judging.{first_wrong};
 ghost use Rattle.safe_regular.specs.Judge.{without_write, without_read};
 
 use crate::reads::Reads;
@@ -18,7 +18,7 @@ use intervals::{Claim, Edit, Kind, Memory, Op, OpId, OpTable, Refusal, Target};
 use std::alloc::Global;
 use std::marker::Model;
 
-/// The operations of one register that claims to be safe or regular.
+/// The operations of one register that claims to be safe or regular, with the verdict on its reads.
 #[derive(Drop)]
 pub struct SingleWriterJudge<'t> {
     claim: Claim,
@@ -29,17 +29,17 @@ pub struct SingleWriterJudge<'t> {
 
 impl<'t> Model for SingleWriterJudge<'t> {
     ghost use Rattle.intervals.specs.Terms.{terms_of};
-    ghost use Rattle.safe_regular.specs.Held.{Judged, HoldTogether};
+    ghost use Rattle.safe_regular.specs.Held.{JudgeModel, AreOfOneJudge};
 
-    ghost Value = { Judged };
+    ghost Value = { JudgeModel };
 
     ghost view = { λ j. record { claim = terms_of j.claim; ops = j.table.ops; prepared = j.table.prepared } };
 
-    ghost invariant = { λ j. HoldTogether (terms_of j.claim) j.table j.writes j.reads };
+    ghost invariant = { λ j. AreOfOneJudge (terms_of j.claim) j.table j.writes j.reads };
 }
 
 impl<'t> SingleWriterJudge<'t> {
-    /// A judge of no operations.
+    /// A judge of no operations. The error says that memory was refused.
     pub fn new(alloc: Global, claim: &Claim) -> Result<Self, Memory>
         requires kind { claim.now.kind ≢ Kind.Atomic }
         requires known { IsTrue (terms_of claim.now).known }
@@ -53,7 +53,7 @@ impl<'t> SingleWriterJudge<'t> {
         })
     }
 
-    /// The claim that the judge keeps.
+    /// The claim that the register is judged by.
     pub fn claim(&self) -> &Claim
         ensures { terms_of result.now ≡ self.now.claim }
     {
@@ -67,22 +67,22 @@ impl<'t> SingleWriterJudge<'t> {
         &self.table
     }
 
-    /// The first of `NotAWriter`, `WritesOverlap` and `OutOfDomain` that holds of the write. An
-    /// operation of its own id is no other write.
+    /// The first of `NotAWriter`, `WritesOverlap` and `OutOfDomain` that holds of the write; none holds of a read.
+    /// An operation of its own id is no other write, so an amended write does not overlap what it was.
     pub fn check_write(&self, op: &Op) -> Result<(), Refusal>
         ensures { result ≡ ok_unless (write_refusal self.now.claim self.now.ops op.now) }
     {
         check_write(&self.claim, &self.writes, &self.table, op)
     }
 
-    /// The operation that there is room for.
+    /// The operation that room was made for, if there is one.
     pub fn prepared(&self) -> Option<Op<'t>>
         ensures { result ≡ self.now.prepared }
     {
         self.table.prepared()
     }
 
-    /// Makes room for an operation: to drop any operations and then to admit this one takes no memory.
+    /// Makes room for an operation. After that, to drop any operations and then to admit this one takes no memory.
     pub fn prepare(&mut self, op: &Op<'t>) -> Result<(), Memory>
         requires { self.old.prepared ≡ None }
         ensures ok { OnOk result (self.new ≡ record self.old { prepared = Some op.now }) }
@@ -97,7 +97,7 @@ impl<'t> SingleWriterJudge<'t> {
         Ok(())
     }
 
-    /// Lets the room for the prepared operation go.
+    /// Gives up the room for the prepared operation.
     pub fn release(&mut self, op: &Op<'t>)
         requires { self.old.prepared ≡ Some op.now }
         ensures { self.new ≡ record self.old { prepared = None } }
@@ -106,8 +106,8 @@ impl<'t> SingleWriterJudge<'t> {
         self.table.release();
     }
 
-    /// Carries out an edit that nothing refuses. It takes no memory where the new operation is prepared or there
-    /// is none.
+    /// Carries out an edit that nothing refuses. It takes no memory where the new operation is prepared or where
+    /// there is none.
     pub fn admit(&mut self, edit: &Edit<'t>, target: &Target<'t>) -> Result<(), Memory>
         requires accepted { reply_to self.old.claim self.old.ops edit.now ≡ None }
         requires target { IsTargetOf self.old.ops edit.now target.now }
@@ -125,7 +125,7 @@ impl<'t> SingleWriterJudge<'t> {
         Ok(())
     }
 
-    /// Carries out an edit whose new operation is prepared.
+    /// Carries out an edit whose new operation, if it has one, is prepared.
     fn settle(&mut self, edit: &Edit<'t>, target: &Target<'t>)
         requires accepted { reply_to self.old.claim self.old.ops edit.now ≡ None }
         requires target { IsTargetOf self.old.ops edit.now target.now }
@@ -140,7 +140,7 @@ impl<'t> SingleWriterJudge<'t> {
             .change(&self.claim, &self.writes, &self.table, old, new);
     }
 
-    /// Admits a write that passed its check.
+    /// Appends a write that nothing refuses.
     pub fn admit_write(&mut self, write: &Op<'t>) -> Result<(), Memory>
         requires write { IsWrite write.now }
         requires accepted { reply_to self.old.claim self.old.ops (Edit.Append write.now) ≡ None }
@@ -154,7 +154,7 @@ impl<'t> SingleWriterJudge<'t> {
         self.admit(&edit, &target)
     }
 
-    /// Admits a read that has an end.
+    /// Appends a read that has an end and that nothing refuses.
     pub fn admit_read(&mut self, read: &Op<'t>) -> Result<(), Memory>
         requires read { IsJudgedRead read.now }
         requires accepted { reply_to self.old.claim self.old.ops (Edit.Append read.now) ≡ None }
@@ -168,7 +168,7 @@ impl<'t> SingleWriterJudge<'t> {
         self.admit(&edit, &target)
     }
 
-    /// Without the write of that id. What is not there, or no write, is left alone.
+    /// Withdraws the write of that id. Where the id is that of a read, or of nothing, all is left alone.
     pub fn drop_write(&mut self, id: OpId)
         ensures { self.new ≡ record self.old { ops = without_write self.old.ops id } }
     {
@@ -177,7 +177,7 @@ impl<'t> SingleWriterJudge<'t> {
         }
     }
 
-    /// Without the read of that id. What is not there, or no read, is left alone.
+    /// Withdraws the read of that id. Where the id is that of a write, or of nothing, all is left alone.
     pub fn drop_read(&mut self, id: OpId)
         ensures { self.new ≡ record self.old { ops = without_read self.old.ops id } }
     {
@@ -187,7 +187,7 @@ impl<'t> SingleWriterJudge<'t> {
     }
 
     fn withdraw(&mut self, id: OpId)
-        requires { IsSome (op_in self.old.ops id) }
+        requires { IsSome (op_of self.old.ops id) }
         ensures { self.new ≡ record self.old { ops = edited self.old.ops (Edit.Withdraw id) } }
     {
         let edit = Edit::Withdraw(id);
@@ -195,9 +195,10 @@ impl<'t> SingleWriterJudge<'t> {
         self.settle(&edit, &target);
     }
 
-    /// Of the reads that break the sentence of the claimed kind the one that ended first.
+    /// The id of the first fault: of the reads that break the sentence of the claimed kind, the one that ended
+    /// first.
     pub fn first_fault(&self) -> Option<OpId>
-        ensures fault { result ≡ option_map (λ op. op.id) (first_wrong_of self.now.claim self.now.ops) }
+        ensures fault { result ≡ option_map (λ op. op.id) (first_wrong self.now.claim self.now.ops) }
         ensures safe { self.now.claim.kind ≡ Kind.Safe → (IsNone result ↔ IsSafe self.now.claim self.now.ops) }
         ensures regular { self.now.claim.kind ≡ Kind.Regular → (IsNone result ↔ IsRegular self.now.claim self.now.ops) }
     {
@@ -206,9 +207,9 @@ impl<'t> SingleWriterJudge<'t> {
         self.first_wrong().map(|op| op.id)
     }
 
-    /// The same read as it stands.
+    /// The read of the first fault, as an operation.
     pub fn first_wrong(&self) -> Option<Op<'t>>
-        ensures { result ≡ first_wrong_of self.now.claim self.now.ops }
+        ensures { result ≡ first_wrong self.now.claim self.now.ops }
     {
         self.reads.first_wrong(&self.table)
     }
@@ -224,7 +225,7 @@ impl<'t> SingleWriterJudge<'t> {
 }
 
 fn is_write_in(table: &OpTable, id: OpId) -> bool
-    ensures { IsTrue result ↔ IsSomeAnd (op_in table.now.ops id) IsWrite }
+    ensures { IsTrue result ↔ IsSomeAnd (op_of table.now.ops id) IsWrite }
 {
     match table.get(id) {
         Some(op) => op.is_write(),
@@ -233,7 +234,7 @@ fn is_write_in(table: &OpTable, id: OpId) -> bool
 }
 
 fn is_read_in(table: &OpTable, id: OpId) -> bool
-    ensures { IsTrue result ↔ IsSomeAnd (op_in table.now.ops id) (λ op. IsTrue (not (writes op))) }
+    ensures { IsTrue result ↔ IsSomeAnd (op_of table.now.ops id) (λ op. IsTrue (not (is_write op))) }
 {
     match table.get(id) {
         Some(op) => !op.is_write(),

@@ -1,14 +1,14 @@
-//! Reads that are judged one by one, in the order of their ends.
+//! Rows of reads that are judged one by one, in the order of their ends.
 
 ghost use Rattle.std.specs.Prelude.{◌≡◌, ◌⊎◌, ◌↔◌, ◌<◌, ◌≤◌, ℕ, [], List, length, IfSome, IsSome, IsTrue, None, Some, true, false, OnOk, vec_len, vec_capacity, slice_index_or};
 ghost use Rattle.intervals.specs.declared.operation.Op.{Op as AnOp};
-ghost use Rattle.intervals.specs.Judging.{end_number, first_wrong as first_wrong_of};
+ghost use Rattle.intervals.specs.Judging.{end_number, first_wrong};
 ghost use Rattle.intervals.specs.Operation.{IsJudgedRead, IsWrite, Precedes, value_of};
-ghost use Rattle.intervals.specs.Terms.{Terms, terms_of};
+ghost use Rattle.intervals.specs.Terms.{ClaimModel, terms_of};
 ghost use Rattle.safe_regular.specs.Change.{IsChangeOf};
 ghost use Rattle.safe_regular.specs.Held.{AreOneWriters};
-ghost use Rattle.safe_regular.specs.Rows.{AreJudged, AreJudgedAgain, AreKept, AreRising, EndFrom, HasRowRoom, IsEndOf, IsNoneWrong, IsPlaceOf, IsPut, IsPutFor, IsWrongAt, is_wrong_row as wrong_row};
-ghost use Rattle.safe_regular.specs.Seen.{AreOneTo, IsBehind, LeavesAlone};
+ghost use Rattle.safe_regular.specs.Rows.{AreJudged, AreJudgedAgain, AreKept, AreRising, EndFrom, HasRowRoom, IsEndOf, IsNoneWrong, IsPlaceOf, IsPut, IsPutFor, IsWrongAt, is_wrong_row};
+ghost use Rattle.safe_regular.specs.Seen.{AreOneTo, BeginsAfterRead, LeavesAlone};
 ghost use Rattle.safe_regular.specs.Writes.{AreWrites};
 ghost use Rattle.safe_regular.specs.declared.judged.JudgedRead.{JudgedRead as ARow};
 
@@ -17,7 +17,7 @@ use crate::writes::Writes;
 use intervals::{Claim, Memory, Moment, Op, OpId, OpTable, is_same_value};
 use std::alloc::Global;
 
-/// What a read was judged. Where the read of that id and end is gone, it is not wrong.
+/// The verdict on the read of that id and end. Where that read is gone its row stays, and is not wrong.
 #[derive(Clone, Copy)]
 pub struct JudgedRead {
     end: Moment,
@@ -29,9 +29,9 @@ pub struct JudgedRead {
 #[derive(Drop)]
 pub struct JudgedReads {
     rows: Vec<JudgedRead>,
-    /// How many rows stand in front of the first wrong one.
+    /// How many rows are before the first wrong one; where none is wrong, how many there are.
     first: usize,
-    /// No read began later.
+    /// No judged read begins later: it is the latest beginning of those that were ever put in.
     latest: Moment,
 }
 
@@ -59,7 +59,7 @@ impl JudgedReads {
 
     /// The wrong read that ended first.
     pub fn first_wrong<'t>(&self, table: &OpTable<'t>) -> Option<Op<'t>>
-        ensures { (claim : Terms) → AreOneWriters claim table.now.ops → AreJudged claim table.now.ops self.now → result ≡ first_wrong_of claim table.now.ops }
+        ensures { (claim : ClaimModel) → AreOneWriters claim table.now.ops → AreJudged claim table.now.ops self.now → result ≡ first_wrong claim table.now.ops }
     {
         let row = row_at(self.rows.as_slice(), self.first)?;
         table.find(Some(row.id))
@@ -67,13 +67,13 @@ impl JudgedReads {
 
     /// Whether no read is wrong.
     pub fn holds(&self) -> bool
-        ensures { (claim : Terms) (ops : List AnOp) → AreOneWriters claim ops → AreJudged claim ops self.now → IsTrue result ↔ (first_wrong_of claim ops ≡ None) }
+        ensures { (claim : ClaimModel) (ops : List AnOp) → AreOneWriters claim ops → AreJudged claim ops self.now → IsTrue result ↔ (first_wrong claim ops ≡ None) }
     {
         self.rows.len() <= self.first
     }
 
-    /// Judges again the reads that an edit can change, which took the old operation out and put the new one in. It
-    /// says whether there were few enough; where there were not, the rows are of no use any more.
+    /// After an edit that took `old` out and put `new` in, judges again the reads that it can change. It returns
+    /// `false` where they are too many or need too many looks; then the rows are of no use any more.
     pub fn change(
         &mut self,
         claim: &Claim,
@@ -100,7 +100,7 @@ impl JudgedReads {
         self.find_first()
     }
 
-    /// Puts a row in for a read that has an end.
+    /// Puts in a row for a read that has an end. It returns `false` where that row belongs too far back.
     fn put(&mut self, op: &Option<Op>) -> bool
         requires room { IsSome op.now → HasRowRoom self.old }
         ensures rows { result ≡ true → AreRising self.old.rows.items → IsPutFor op.now self.old.rows.items self.new.rows.items }
@@ -142,7 +142,8 @@ impl JudgedReads {
         true
     }
 
-    /// Judges the reads of both operations again, where they are reads that have an end.
+    /// Judges `old` and `new` again, where they are reads that have an end. It returns `false` where that needs
+    /// too many looks, as do the calls that judge below.
     fn judge_ends(
         &mut self,
         claim: &Claim,
@@ -182,7 +183,7 @@ impl JudgedReads {
         }
     }
 
-    /// Judges the read that ends at the moment.
+    /// Judges the row that ends at the moment, if there is one.
     fn judge_at(&mut self, claim: &Claim, writes: &Writes, table: &OpTable, number: u64) -> bool
         ensures kept { AreKept self.old self.new }
         ensures judged { result ≡ true → AreWrites table.now.ops writes.now → AreOneWriters (terms_of claim.now) table.now.ops → AreRising self.old.rows.items
@@ -196,7 +197,7 @@ impl JudgedReads {
         }
     }
 
-    /// Judges the reads that end at the moment or later.
+    /// Judges the rows that end at the moment or later.
     fn judge_from(&mut self, claim: &Claim, writes: &Writes, table: &OpTable, number: u64) -> bool
         ensures kept { AreKept self.old self.new }
         ensures judged { result ≡ true → AreWrites table.now.ops writes.now → AreOneWriters (terms_of claim.now) table.now.ops → AreRising self.old.rows.items
@@ -241,7 +242,8 @@ impl JudgedReads {
         true
     }
 
-    /// Finds the first wrong row from the one on in front of which none is.
+    /// Moves `first` on to the first wrong row, or to the end of the rows. It returns `false` where that is too
+    /// far on.
     fn find_first(&mut self) -> bool
         ensures rows { self.new.rows ≡ self.old.rows }
         ensures latest { self.new.latest ≡ self.old.latest }
@@ -256,7 +258,7 @@ impl JudgedReads {
     }
 }
 
-/// Puts a row at the place for its end: in the place of one that ends with it, or in front of those that end later.
+/// Puts a row at the place for its end: in the place of one that ends with it, or before those that end later.
 fn put_row(rows: &mut Vec<JudgedRead>, first: &mut usize, place: usize, row: JudgedRead)
     requires room { vec_len rows.old < vec_capacity rows.old }
     requires within { place ≤ vec_len rows.old }
@@ -294,7 +296,8 @@ fn is_end_at(rows: &[JudgedRead], place: usize, number: u64) -> bool
     }
 }
 
-/// The first row, from the place on, that is wrong, or the end of the rows.
+/// The place of the first wrong row from `at` on, or the end of the rows. `None` where that is more than `looks`
+/// steps on.
 fn first_wrong_from(rows: &[JudgedRead], at: usize, looks: usize) -> Option<usize>
     ensures front { IsNoneWrong at rows.now → IfSome result (λ first. IsNoneWrong first rows.now) }
     ensures wrong { IfSome result (λ first. IsWrongAt first rows.now) }
@@ -311,7 +314,8 @@ fn first_wrong_from(rows: &[JudgedRead], at: usize, looks: usize) -> Option<usiz
     first_wrong_from(rows, at + 1, looks - 1)
 }
 
-/// The place of the first row that ends at the moment or later, where it is among the last.
+/// The place of the first row that ends at the moment or later. `None` where that is more than `LOOKS` steps back
+/// from the end of the rows.
 fn place_back(rows: &[JudgedRead], number: u64) -> Option<usize>
     ensures within { IfSome result (λ place. place ≤ length rows.now) }
     ensures place { AreRising rows.now → IfSome result (IsPlaceOf number rows.now) }
@@ -352,10 +356,11 @@ fn place_among(rows: &[JudgedRead], number: u64) -> usize
     rows.partition_point(|row| row.end.0 < number)
 }
 
-/// Whether the read of the row's id and end is wrong.
+/// Whether the read of the row's id and end is wrong; one that is gone is not. `None` where that needs too many
+/// looks.
 fn is_wrong_row(claim: &Claim, writes: &Writes, table: &OpTable, row: &JudgedRead) -> Option<bool>
     ensures { AreWrites table.now.ops writes.now → AreOneWriters (terms_of claim.now) table.now.ops
-        → IfSome result (λ wrong. wrong ≡ wrong_row (terms_of claim.now) table.now.ops row.now) }
+        → IfSome result (λ wrong. wrong ≡ is_wrong_row (terms_of claim.now) table.now.ops row.now) }
 {
     let Some(op) = table.find(Some(row.id)) else {
         return Some(false);
@@ -367,9 +372,9 @@ fn is_wrong_row(claim: &Claim, writes: &Writes, table: &OpTable, row: &JudgedRea
     }
 }
 
-/// The moment from which on reads that end are to be judged again: the first beginning of the two writes. A read that
-/// ended before it sees the same writes. There is no such moment where a write keeps its beginning and value, and neither
-/// end is before the moment after which no read began.
+/// The reads that end at this moment or later are to be judged again: it is the first beginning of the writes
+/// among `old` and `new`, since a read that ended before it sees the same writes. It is `u64::MAX` where a write
+/// keeps its beginning and value, and neither end is before `latest`, after which no read began.
 fn first_changed(old: &Option<Op>, new: &Option<Op>, latest: Moment) -> u64
     ensures { (r : AnOp) → r.begin.0 ≤ latest.0 → end_number r < result → LeavesAlone r old.now new.now }
 {
@@ -380,9 +385,9 @@ fn first_changed(old: &Option<Op>, new: &Option<Op>, latest: Moment) -> u64
     }
 }
 
-/// Where the write begins; no moment where there is none.
+/// Where the write begins; `u64::MAX` where there is none.
 fn begin_of(op: &Option<Op>) -> u64
-    ensures { (r : AnOp) → end_number r < result → IsBehind r op.now }
+    ensures { (r : AnOp) → end_number r < result → BeginsAfterRead r op.now }
 {
     let Some(op) = op else {
         return u64::MAX;

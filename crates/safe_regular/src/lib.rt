@@ -12,25 +12,22 @@
 //! ```
 //!
 //! `intervals::laws::worked_faults` and `worked_writes` are such histories, computed from the
-//! definitions; the rows of `tests.rt` run these calls.
+//! definitions; the rows of `one_writer.rt` in the crate `judge_tests` run these calls.
 //!
 //! Begin with `judge.rt`: its clauses are the whole promise, in the words of `intervals`. Which writes
-//! are allowed is in `writes.rt`, what the reads are judged in `reads.rt`. A read is judged once, when it
-//! gets its end: by a few writes, looked at from there back (`sentence.rt`). Its row keeps what it was
-//! judged, and an edit of a write judges again the reads that it can change (`judged.rt`). Once that would
-//! take more than 64 looks, all operations are laid into one tree as reads and covers, which is in
-//! `line.rt`, and the tree serves from then on: a write covers the reads that it makes right, so an edit
+//! are allowed is in `writes.rt`, the verdicts on the reads in `reads.rt`. A read is judged once, when it
+//! gets its end, by a few writes: those looked at from that end back (`sentence.rt`). Its row keeps the
+//! verdict, and an edit of a write judges again the reads that it can change (`judged.rt`). Once that would
+//! take more than 64 looks, the items of all operations go into one tree of reads and covers
+//! (`row_items.rt`), which serves from then on: a write covers the reads that it makes right, so an edit
 //! changes a few items, however many reads it makes right or wrong.
 #![tactic(auto)]
 
 mod judge;
 mod judged;
-mod line;
 mod reads;
+mod row_items;
 mod sentence;
 mod writes;
 
 pub use judge::SingleWriterJudge;
-
-#[cfg(test)]
-mod tests;

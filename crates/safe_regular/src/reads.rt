@@ -1,22 +1,22 @@
-//! The reads of a register and what they are judged.
+//! The reads of a register and their verdicts: judged one by one at first, later by one tree.
 
 ghost use Rattle.std.specs.Prelude.{◌≡◌, ◌↔◌, ◌+◌, ◌≤◌, [], List, length, None, Some, IfOk, IfSome, IsSome, IsTrue, OnOk, option_map};
-ghost use Rattle.intervals.specs.Judging.{first_wrong as first_wrong_of};
-ghost use Rattle.intervals.specs.Terms.{Terms, terms_of};
+ghost use Rattle.intervals.specs.Judging.{first_wrong};
+ghost use Rattle.intervals.specs.Terms.{ClaimModel, terms_of};
 ghost use Rattle.intervals.specs.declared.operation.Op.{Op as AnOp};
 ghost use Rattle.safe_regular.specs.Change.{IsChangeOf};
 ghost use Rattle.safe_regular.specs.Held.{AreOneWriters, AreReads, CanJudge, HasReadRoom};
 ghost use Rattle.safe_regular.specs.Rows.{AreJudged, HasRowRoom};
 
 use crate::judged::JudgedReads;
-use crate::line::{change, first_wrong, holds, lay};
+use crate::row_items::{change, first_wrong, holds, lay};
 use crate::writes::Writes;
 use intervals::{Claim, Memory, Op, OpTable};
 use read_tree::ReadTree;
 use std::alloc::Global;
 
-/// Reads that are judged one by one, and a tree that has room for all items. Once an edit would take too many looks
-/// the tree is laid, and serves from then on.
+/// Rows of reads that are judged one by one, and a tree that has room for all items. Once an edit would take too
+/// many looks the rows are dropped, all items are put into the tree, and it serves from then on.
 #[derive(Drop)]
 pub struct Reads {
     judged: Option<JudgedReads>,
@@ -25,7 +25,7 @@ pub struct Reads {
 
 impl Reads {
     pub fn new(alloc: Global) -> Result<Self, Memory>
-        ensures { IfOk result (λ reads. (claim : Terms) → AreReads claim [] reads) }
+        ensures { IfOk result (λ reads. (claim : ClaimModel) → AreReads claim [] reads) }
     {
         let mut line = ReadTree::new(alloc);
         line.reserve(1)?;
@@ -35,9 +35,9 @@ impl Reads {
         })
     }
 
-    /// Makes room for one operation more.
+    /// Makes room for one operation more, in the rows and in the tree.
     pub fn prepare(&mut self, table: &OpTable) -> Result<(), Memory>
-        ensures reads { (claim : Terms) (ops : List AnOp) → AreReads claim ops self.old → AreReads claim ops self.new }
+        ensures reads { (claim : ClaimModel) (ops : List AnOp) → AreReads claim ops self.old → AreReads claim ops self.new }
         ensures ok { OnOk result (HasReadRoom table.now.ops self.new) }
     {
         match &mut self.judged {
@@ -49,7 +49,8 @@ impl Reads {
         }
     }
 
-    /// Judges again what an edit can change, which took the old operation out and put the new one in.
+    /// After an edit that took `old` out and put `new` in, judges again the reads that it can change, by `writes`
+    /// and `table` as they are now.
     pub fn change(
         &mut self,
         claim: &Claim,
@@ -75,7 +76,7 @@ impl Reads {
 
     /// The wrong read that ended first.
     pub fn first_wrong<'t>(&self, table: &OpTable<'t>) -> Option<Op<'t>>
-        ensures { (claim : Terms) → AreOneWriters claim table.now.ops → AreReads claim table.now.ops self.now → result ≡ first_wrong_of claim table.now.ops }
+        ensures { (claim : ClaimModel) → AreOneWriters claim table.now.ops → AreReads claim table.now.ops self.now → result ≡ first_wrong claim table.now.ops }
     {
         match &self.judged {
             Some(judged) => judged.first_wrong(table),
@@ -85,7 +86,7 @@ impl Reads {
 
     /// Whether no read is wrong.
     pub fn holds(&self) -> bool
-        ensures { (claim : Terms) (ops : List AnOp) → AreOneWriters claim ops → AreReads claim ops self.now → IsTrue result ↔ (first_wrong_of claim ops ≡ None) }
+        ensures { (claim : ClaimModel) (ops : List AnOp) → AreOneWriters claim ops → AreReads claim ops self.now → IsTrue result ↔ (first_wrong claim ops ≡ None) }
     {
         match &self.judged {
             Some(judged) => judged.holds(),
@@ -94,7 +95,7 @@ impl Reads {
     }
 }
 
-/// Judges the reads again that an edit can change; where that takes too many looks, their rows go.
+/// Judges again the reads that an edit can change. Where that takes too many looks their rows are dropped.
 fn judge_again(
     judged: &mut Option<JudgedReads>,
     claim: &Claim,
@@ -117,7 +118,7 @@ fn judge_again(
     *judged = None;
 }
 
-/// Places for the items of all operations, for that of one more and for the initial cover.
+/// Places for the items of all operations, for that of one more and for the cover of the initial value.
 fn places_for(table: &OpTable) -> usize
     ensures { length table.now.ops + 2 ≤ result }
 {

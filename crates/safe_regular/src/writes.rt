@@ -1,66 +1,66 @@
-//! The writes by their beginnings, and which writes a claim allows beside them.
+//! The writes by their beginnings, and the check of one more write beside them.
 
 ghost use Rattle.std.specs.Prelude.{◌≡◌, ◌≢◌, [], List, IfSome, OnOk, OnErr, None, Some, false, true, if◌then◌else◌};
 ghost use Rattle.std.specs.List.{cons_option};
 ghost use Rattle.intervals.specs.declared.operation.Op.{Op as AnOp};
-ghost use Rattle.intervals.specs.declared.shelf.Spot.{Spot as ASpot};
+ghost use Rattle.intervals.specs.declared.ordered_index.Spot.{Spot as ASpot};
 ghost use Rattle.intervals.specs.Terms.{terms_of};
 ghost use Rattle.intervals.specs.Least.{least_by, least_from, less_of};
-ghost use Rattle.intervals.specs.Refusal.{write_refusal, ok_unless, is_overlapped as overlapped};
-ghost use Rattle.intervals.specs.Shelf.{id_at, is_spot, place_at, same_spot};
+ghost use Rattle.intervals.specs.Refusal.{write_refusal, ok_unless, is_overlapped};
+ghost use Rattle.intervals.specs.OrderedIndex.{id_at, is_spot, place_at, same_spot};
 ghost use Rattle.intervals.specs.Standing.{HasDistinctIds};
 ghost use Rattle.intervals.specs.Table.{prepared_after};
-ghost use Rattle.safe_regular.specs.Apart.{AreApart};
-ghost use Rattle.safe_regular.specs.LookUp.{BeginsBefore, BeginsFrom, BeginsAfter, IsLastOf, IsFirstOf, IsBeyondOf};
-ghost use Rattle.safe_regular.specs.Writes.{AreWrites, HasPlace, HasPlaceFor, HasPlaceIn, IsAdded, IsAddedOf, spot_by_begin as begin_spot, StandAlike, StandAlikeIn, HoldsOnlyFor, op_at as op_of_found};
+ghost use Rattle.safe_regular.specs.Apart.{AreSequential};
+ghost use Rattle.safe_regular.specs.LookUp.{BeginsBefore, BeginsFrom, BeginsAfter, IsLastOf, IsFirstWriteOf, IsBeyondOf};
+ghost use Rattle.safe_regular.specs.Writes.{AreWrites, HasPlace, HasPlaceFor, HasPlaceIn, IsAdded, IsAddedOf, spot_by_begin, StandAlike, StandAlikeIn, ReservesOnlyForWrite, op_of_found};
 
 use intervals::{
-    Claim, Kind, Memory, Moment, Op, OpId, OpTable, Refusal, Shelf, Spot, Value, overlaps,
+    Claim, Kind, Memory, Moment, Op, OpId, OpTable, OrderedIndex, Refusal, Spot, Value, overlaps,
 };
 use std::alloc::Global;
 
 /// The ids of the writes by beginning.
 #[derive(Drop)]
 pub struct Writes {
-    begins: Shelf,
+    begins: OrderedIndex,
 }
 
 impl Writes {
     pub fn new(alloc: Global) -> Self
         ensures writes { AreWrites [] result }
-        ensures only { HoldsOnlyFor None result }
+        ensures only { ReservesOnlyForWrite None result }
     {
         Writes {
-            begins: Shelf::new(alloc),
+            begins: OrderedIndex::new(alloc),
         }
     }
 
-    /// Holds the place at which the operation is to stand.
+    /// Holds a place in the index for the operation, if that is a write.
     pub fn hold(&mut self, op: &Op) -> Result<(), Memory>
         ensures place { OnOk result (HasPlaceFor op.now self.new) }
-        ensures only { HoldsOnlyFor None self.old → HoldsOnlyFor (Some op.now) self.new }
+        ensures only { ReservesOnlyForWrite None self.old → ReservesOnlyForWrite (Some op.now) self.new }
         ensures err { OnErr result ((spot : ASpot) → place_at self.new.begins spot ≡ place_at self.old.begins spot) }
         ensures writes { (ops : List AnOp) → AreWrites ops self.old → AreWrites ops self.new }
     {
         hold(&mut self.begins, spot_of_write(op))
     }
 
-    /// Lets the place go that was held for the operation and is empty.
+    /// Frees the place that was held for the operation, unless a write is in it.
     pub fn release(&mut self, op: &Op)
-        ensures only { HoldsOnlyFor (Some op.now) self.old → HoldsOnlyFor None self.new }
+        ensures only { ReservesOnlyForWrite (Some op.now) self.old → ReservesOnlyForWrite None self.new }
         ensures writes { (ops : List AnOp) → AreWrites ops self.old → AreWrites ops self.new }
     {
         release(&mut self.begins, spot_of_write(op));
     }
 
-    /// Takes an operation out, and puts in one that is prepared. The place of the prepared one stays. A
-    /// write that keeps its spot is not touched.
+    /// Takes out `old`, and puts in `new`, which is prepared. The place of the prepared operation stays. A write
+    /// that keeps its id and beginning is not touched.
     pub fn change(&mut self, old: &Option<Op>, new: &Option<Op>, prepared: &Option<Op>)
         requires new { IfSome new.now (λ op. prepared.now ≡ Some op) }
         requires place { HasPlaceIn prepared.now self.old }
         ensures writes { (before others after : List AnOp) → AreWrites before self.old → IsAddedOf others old.now before → IsAddedOf others new.now after → AreWrites after self.new }
         ensures place { HasPlaceIn prepared.now self.new }
-        ensures only { (before others : List AnOp) → AreWrites before self.old → IsAddedOf others old.now before → HoldsOnlyFor prepared.now self.old → HoldsOnlyFor (prepared_after new.now prepared.now) self.new }
+        ensures only { (before others : List AnOp) → AreWrites before self.old → IsAddedOf others old.now before → ReservesOnlyForWrite prepared.now self.old → ReservesOnlyForWrite (prepared_after new.now prepared.now) self.new }
     {
         if !keeps_its_spot(old, new) {
             self.exchange(old, new, prepared);
@@ -72,7 +72,7 @@ impl Writes {
         requires place { HasPlaceIn prepared.now self.old }
         ensures writes { (before others after : List AnOp) → AreWrites before self.old → IsAddedOf others old.now before → IsAddedOf others new.now after → AreWrites after self.new }
         ensures place { HasPlaceIn prepared.now self.new }
-        ensures only { HoldsOnlyFor prepared.now self.old → HoldsOnlyFor (prepared_after new.now prepared.now) self.new }
+        ensures only { ReservesOnlyForWrite prepared.now self.old → ReservesOnlyForWrite (prepared_after new.now prepared.now) self.new }
     {
         if let Some(op) = old {
             self.take_out(op, prepared);
@@ -86,7 +86,7 @@ impl Writes {
         requires { HasPlaceIn prepared.now self.old }
         ensures writes { (others ops : List AnOp) → AreWrites ops self.old → IsAdded others op.now ops → AreWrites others self.new }
         ensures place { HasPlaceIn prepared.now self.new }
-        ensures only { HoldsOnlyFor prepared.now self.old → HoldsOnlyFor prepared.now self.new }
+        ensures only { ReservesOnlyForWrite prepared.now self.old → ReservesOnlyForWrite prepared.now self.new }
     {
         take_out(&mut self.begins, spot_of_write(op), held_by(prepared));
     }
@@ -95,13 +95,13 @@ impl Writes {
         requires { HasPlaceFor op.now self.old }
         ensures writes { (others ops : List AnOp) → AreWrites others self.old → IsAdded others op.now ops → AreWrites ops self.new }
         ensures place { HasPlaceFor op.now self.new }
-        ensures only { HoldsOnlyFor (Some op.now) self.old → HoldsOnlyFor None self.new }
+        ensures only { ReservesOnlyForWrite (Some op.now) self.old → ReservesOnlyForWrite None self.new }
     {
         put_in(&mut self.begins, spot_of_write(op), op.id);
     }
 }
 
-/// Whether the new operation is a write that stands where the old one does.
+/// Whether both are there, and are writes of one id and beginning.
 fn keeps_its_spot(old: &Option<Op>, new: &Option<Op>) -> bool
     ensures { result ≡ true → StandAlikeIn old.now new.now }
 {
@@ -118,11 +118,11 @@ pub fn stand_alike(old: &Op, new: &Op) -> bool
     old.is_write() && new.is_write() && old.has_id(new.id) && old.begin.0 == new.begin.0
 }
 
-/// The first of `NotAWriter`, `WritesOverlap` and `OutOfDomain` that holds of the write. An operation of
-/// its own id is no other write.
+/// The first of `NotAWriter`, `WritesOverlap` and `OutOfDomain` that holds of the write; none holds of a read. An
+/// operation of its own id is no other write.
 pub fn check_write(claim: &Claim, writes: &Writes, table: &OpTable, op: &Op) -> Result<(), Refusal>
     requires { claim.now.kind ≢ Kind.Atomic }
-    ensures { AreWrites table.now.ops writes.now → AreApart table.now.ops → HasDistinctIds table.now.ops
+    ensures { AreWrites table.now.ops writes.now → AreSequential table.now.ops → HasDistinctIds table.now.ops
         → result ≡ ok_unless (write_refusal (terms_of claim.now) table.now.ops op.now) }
 {
     if !op.is_write() {
@@ -140,10 +140,11 @@ pub fn check_write(claim: &Claim, writes: &Writes, table: &OpTable, op: &Op) -> 
     Ok(())
 }
 
-/// Of the other writes that overlap this one the one that began first.
+/// Of the other writes that overlap this one, the one that began first. Three at most are looked at, since the
+/// writes in the index do not overlap each other.
 fn first_overlapped<'t>(writes: &Writes, table: &OpTable<'t>, op: &Op) -> Option<Op<'t>>
-    ensures { AreWrites table.now.ops writes.now → AreApart table.now.ops → HasDistinctIds table.now.ops
-        → result ≡ least_by (λ other. other.begin.0) (overlapped op.now) table.now.ops }
+    ensures { AreWrites table.now.ops writes.now → AreSequential table.now.ops → HasDistinctIds table.now.ops
+        → result ≡ least_by (λ other. other.begin.0) (is_overlapped op.now) table.now.ops }
 {
     let below = last_before(writes, table, op.begin);
     let above = first_from(writes, table, op.begin);
@@ -157,7 +158,7 @@ fn first_of_three<'t>(
     above: Option<Op<'t>>,
     beyond: Option<Op<'t>>,
 ) -> Option<Op<'t>>
-    ensures { result ≡ least_by (λ other. other.begin.0) (overlapped op.now) (cons_option below.entry (cons_option above.entry (cons_option beyond.entry []))) }
+    ensures { result ≡ least_by (λ other. other.begin.0) (is_overlapped op.now) (cons_option below.entry (cons_option above.entry (cons_option beyond.entry []))) }
 {
     first_with(
         op,
@@ -167,7 +168,7 @@ fn first_of_three<'t>(
 }
 
 fn first_with<'t>(op: &Op, found: Option<Op<'t>>, other: Option<Op<'t>>) -> Option<Op<'t>>
-    ensures { result ≡ least_from (λ other. other.begin.0) (overlapped op.now) found.entry (cons_option other.entry []) }
+    ensures { result ≡ least_from (λ other. other.begin.0) (is_overlapped op.now) found.entry (cons_option other.entry []) }
 {
     match other {
         Some(other) => first_of(op, found, &other),
@@ -176,7 +177,7 @@ fn first_with<'t>(op: &Op, found: Option<Op<'t>>, other: Option<Op<'t>>) -> Opti
 }
 
 fn first_of<'t>(op: &Op, found: Option<Op<'t>>, other: &Op<'t>) -> Option<Op<'t>>
-    ensures { result ≡ less_of (λ other. other.begin.0) (overlapped op.now) found.entry other.now }
+    ensures { result ≡ less_of (λ other. other.begin.0) (is_overlapped op.now) found.entry other.now }
 {
     let is_first = match found {
         Some(earlier) => other.begin.0 < earlier.begin.0,
@@ -190,12 +191,12 @@ fn first_of<'t>(op: &Op, found: Option<Op<'t>>, other: &Op<'t>) -> Option<Op<'t>
 }
 
 fn is_overlapped(op: &Op, other: &Op) -> bool
-    ensures { result ≡ overlapped op.now other.now }
+    ensures { result ≡ is_overlapped op.now other.now }
 {
     !other.has_id(op.id) && other.is_write() && overlaps(other, op)
 }
 
-/// The next write after the one above, where that one has the id of the operation.
+/// The next write after the one above, where that one has the id of the operation, and else `None`.
 fn first_beyond<'t>(
     writes: &Writes,
     table: &OpTable<'t>,
@@ -221,14 +222,14 @@ pub fn last_before<'t>(writes: &Writes, table: &OpTable<'t>, limit: Moment) -> O
 
 /// The first write to begin at the moment or later.
 pub fn first_from<'t>(writes: &Writes, table: &OpTable<'t>, from: Moment) -> Option<Op<'t>>
-    ensures { AreWrites table.now.ops writes.now → HasDistinctIds table.now.ops → IsFirstOf (BeginsFrom from.0) table.now.ops result }
+    ensures { AreWrites table.now.ops writes.now → HasDistinctIds table.now.ops → IsFirstWriteOf (BeginsFrom from.0) table.now.ops result }
 {
     op_at(table, writes.begins.first_from(Value::Nil, from))
 }
 
 /// The first write to begin after the moment.
 pub fn first_after<'t>(writes: &Writes, table: &OpTable<'t>, after: Moment) -> Option<Op<'t>>
-    ensures { AreWrites table.now.ops writes.now → HasDistinctIds table.now.ops → IsFirstOf (BeginsAfter after.0) table.now.ops result }
+    ensures { AreWrites table.now.ops writes.now → HasDistinctIds table.now.ops → IsFirstWriteOf (BeginsAfter after.0) table.now.ops result }
 {
     op_at(table, writes.begins.first_after(Value::Nil, after))
 }
@@ -241,7 +242,7 @@ fn op_at<'t>(table: &OpTable<'t>, found: Option<(Moment, OpId)>) -> Option<Op<'t
 }
 
 fn spot_of_write(op: &Op) -> Option<Spot>
-    ensures { result ≡ begin_spot op.now }
+    ensures { result ≡ spot_by_begin op.now }
 {
     if op.is_write() {
         Some(Spot {
@@ -255,7 +256,7 @@ fn spot_of_write(op: &Op) -> Option<Spot>
 
 fn held_by(op: &Option<Op>) -> Option<Spot>
     ensures none { op.now ≡ None → result ≡ None }
-    ensures some { IfSome op.now (λ o. result ≡ begin_spot o) }
+    ensures some { IfSome op.now (λ o. result ≡ spot_by_begin o) }
 {
     match op {
         Some(op) => spot_of_write(op),
@@ -263,7 +264,7 @@ fn held_by(op: &Option<Op>) -> Option<Spot>
     }
 }
 
-fn hold(shelf: &mut Shelf, spot: Option<Spot>) -> Result<(), Memory>
+fn hold(shelf: &mut OrderedIndex, spot: Option<Spot>) -> Result<(), Memory>
     ensures place { OnOk result (HasPlace shelf.new spot) }
     ensures ids { (other : ASpot) → id_at shelf.new other ≡ id_at shelf.old other }
     ensures others { (other : ASpot) → is_spot spot other ≡ false → place_at shelf.new other ≡ place_at shelf.old other }
@@ -275,7 +276,7 @@ fn hold(shelf: &mut Shelf, spot: Option<Spot>) -> Result<(), Memory>
     Ok(())
 }
 
-fn release(shelf: &mut Shelf, spot: Option<Spot>)
+fn release(shelf: &mut OrderedIndex, spot: Option<Spot>)
     ensures gone { IfSome spot (λ s. id_at shelf.old s ≡ None → place_at shelf.new s ≡ None) }
     ensures others { (other : ASpot) → is_spot spot other ≡ false → place_at shelf.new other ≡ place_at shelf.old other }
     ensures ids { (other : ASpot) → id_at shelf.new other ≡ id_at shelf.old other }
@@ -285,8 +286,8 @@ fn release(shelf: &mut Shelf, spot: Option<Spot>)
     }
 }
 
-/// Takes what stands at the spot out. The place goes too, unless it is the one that is held.
-fn take_out(shelf: &mut Shelf, spot: Option<Spot>, held: Option<Spot>)
+/// Takes out the id at the spot. Its place goes too, unless it is the one that is held.
+fn take_out(shelf: &mut OrderedIndex, spot: Option<Spot>, held: Option<Spot>)
     requires { HasPlace shelf.old held }
     ensures gone { IfSome spot (λ s. id_at shelf.new s ≡ None) }
     ensures ids { (other : ASpot) → IfSome spot (λ s. same_spot s other ≡ false) → id_at shelf.new other ≡ id_at shelf.old other }
@@ -301,7 +302,7 @@ fn take_out(shelf: &mut Shelf, spot: Option<Spot>, held: Option<Spot>)
 }
 
 /// Puts an id at the spot, whose place is held.
-fn put_in(shelf: &mut Shelf, spot: Option<Spot>, id: OpId)
+fn put_in(shelf: &mut OrderedIndex, spot: Option<Spot>, id: OpId)
     requires { HasPlace shelf.old spot }
     ensures there { IfSome spot (λ s. id_at shelf.new s ≡ Some id) }
     ensures ids { (other : ASpot) → IfSome spot (λ s. same_spot s other ≡ false) → id_at shelf.new other ≡ id_at shelf.old other }

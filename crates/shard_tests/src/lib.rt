@@ -1,4 +1,4 @@
-//! The tests of `shards`, apart from it, so that the gate proves that library once.
+//! The tests of `shards`, in a crate of their own, so that the gate proves that library once.
 #![tactic(auto)]
 
 #[cfg(test)]

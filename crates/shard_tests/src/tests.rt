@@ -1,4 +1,4 @@
-//! Rows of calls of auditors, in one thread and in several, each row a line of text.
+//! Rows of calls of auditors, in one thread and in several: each row is a line of text, with what the calls return.
 
 mod gates;
 mod threads;
@@ -40,7 +40,7 @@ fn register(word: &str) -> RegId {
     RegId(short(word.strip_prefix('x').unwrap_or("")))
 }
 
-/// A moment, nothing for an operation that has not ended.
+/// A moment; none for an operation that has not ended, which is an empty word.
 fn end(word: &str) -> Option<Moment> {
     match word {
         "" => None,
@@ -57,7 +57,7 @@ fn id(word: &str) -> OpId {
     }
 }
 
-/// An operation of the process of a feeder's number. Its event is its beginning.
+/// The append of an operation by the process of a feeder's number. Its id has its beginning as the event.
 fn append(feeder: u32, act: Act, moments: &str, text: &'static str) -> Edit<'static> {
     let (from, to) = moments.split_once('-').unwrap_or((moments, ""));
     Edit::Append(Op {
@@ -95,7 +95,7 @@ fn amend(
     )
 }
 
-/// What a call says behind the number of the pass: a verb, the register and two words. An edit lends that text.
+/// What a call says after the number of the pass: a verb, the register and two words. An edit lends the text of all.
 #[derive(Clone, Copy)]
 struct Words {
     verb: &'static str,
@@ -170,7 +170,7 @@ fn tell_reply(told: &mut String, reply: Reply) -> Result<(), AllocError> {
     }
 }
 
-/// The shard and the number, as `0/4`, and the reply.
+/// Adds the shard and the number, as `0/4`, and the reply.
 fn tell_receipt(
     told: &mut String,
     answered: Result<Receipt, ShardFault>,
@@ -184,7 +184,7 @@ fn tell_receipt(
     }
 }
 
-/// The verdict, how many operations stand, the fault, and how many entries the journal has.
+/// Adds the verdict, how many operations stand, the fault, and how many entries the journal has.
 fn tell_answer(told: &mut String, answered: Result<Answer, ShardFault>) -> Result<(), AllocError> {
     let answer = match answered {
         Ok(answer) => answer,
@@ -201,8 +201,8 @@ fn tell_answer(told: &mut String, answered: Result<Answer, ShardFault>) -> Resul
     write!(told, " of {}", answer.number)
 }
 
-/// The feeder, the register, the id behind `+` of an append, `~` of an amendment or `-` of a withdrawal, and
-/// the reply.
+/// Adds the feeder, the register, a sign and the id, and the reply. The sign is `+` of an append, `~` of an
+/// amendment, `-` of a withdrawal and `=` of a claim.
 fn tell_entry(told: &mut String, entry: &Entry) -> Result<(), AllocError> {
     let sign = match entry.edit {
         Edit::Append(_) => "+",
@@ -241,7 +241,8 @@ struct Many {
     registers: u32,
 }
 
-/// The journal of each shard and of one that is not there, and the book of each register likewise.
+/// Adds the journal of each shard and of one that is not there, then the book of each register and of one that is
+/// not there.
 fn tell_closed(told: &mut String, many: Many, closed: &Closed) -> Result<(), AllocError> {
     for shard in 0..many.shards {
         tell_journal(told, closed, shard)?;
@@ -253,7 +254,7 @@ fn tell_closed(told: &mut String, many: Many, closed: &Closed) -> Result<(), All
     tell_book(told, closed.book(RegId(many.registers)))
 }
 
-/// How many entries the journals have together.
+/// Adds how many entries the journals have together.
 fn tell_sizes(told: &mut String, many: Many, closed: &Closed) -> Result<(), AllocError> {
     let mut entries = 0u64;
     for shard in 0..many.shards {
@@ -262,7 +263,7 @@ fn tell_sizes(told: &mut String, many: Many, closed: &Closed) -> Result<(), Allo
     write!(told, " {entries} entries")
 }
 
-/// How many entries a pass submitted, and how far it sees, over all shards.
+/// How many entries a pass submitted, and how many it knows to be in the journals, over all shards.
 fn known(pass: &Pass<'static>) -> (u64, u64) {
     let (mut submitted, mut seen) = (0u64, 0u64);
     for shard in 0..64 {
@@ -274,7 +275,7 @@ fn known(pass: &Pass<'static>) -> (u64, u64) {
     (submitted, seen)
 }
 
-/// Where memory is refused nothing has changed, and the same call is made again.
+/// Submits an edit. Where memory is refused nothing has changed, and the call is made again.
 fn submitted<O: Opening, R: Wait + Abort, G: Gate>(
     rt: &R,
     auditor: &Auditor<'static, O>,
@@ -293,7 +294,7 @@ fn submitted<O: Opening, R: Wait + Abort, G: Gate>(
     }
 }
 
-/// An edit or a question of a pass, and what is answered.
+/// Carries out an edit or a question of a pass, and adds what is returned.
 fn tell_use<O: Opening, R: Wait + Abort, G: Gate>(
     rt: &R,
     told: &mut String,
@@ -350,7 +351,7 @@ fn tell_learnt(
     Ok(())
 }
 
-/// The passes at places, taken out.
+/// Takes out the passes at places.
 fn taken(
     alloc: Global,
     passes: &mut Passes,
@@ -377,8 +378,8 @@ fn put_back(passes: &mut Passes, places: &str, given: Vec<Pass<'static>>) {
     }
 }
 
-/// Closes an auditor with the passes at places, all or some, and tells all of what is left, or to `close` no more
-/// than how many entries there are. Where that is refused it goes on.
+/// Closes an auditor with the given passes, and adds all that is left, or for `close` only how many entries there
+/// are. Where that is refused, the auditor and the passes are returned.
 fn tell_finish<O: Opening>(
     told: &mut String,
     many: Many,
@@ -479,7 +480,7 @@ fn tell_one<O: Opening, R: Wait + Abort>(
     Ok(())
 }
 
-/// Carries a call out with an auditor, and gives the auditor back that goes on.
+/// Carries a call out with an auditor, and returns the auditor unless the call closed it.
 fn tell_with<O: Opening + Send + Sync, R: Threads + Wait + AllocGlobal + Abort + Sync>(
     rt: &R,
     told: &mut String,
@@ -515,7 +516,7 @@ fn tell_with<O: Opening + Send + Sync, R: Threads + Wait + AllocGlobal + Abort +
     }
 }
 
-/// Carries a call out with the first auditor, or with the second behind `other`.
+/// Carries a call out with the first auditor, or with the second where the call begins with `other`.
 fn tell_call<O: Opening + Send + Sync, R: Threads + Wait + AllocGlobal + Abort + Sync>(
     rt: &R,
     told: &mut String,
@@ -541,7 +542,7 @@ fn tell_call<O: Opening + Send + Sync, R: Threads + Wait + AllocGlobal + Abort +
     Ok(())
 }
 
-/// Opens an auditor, once more where memory is refused.
+/// Opens an auditor, and tries again once where memory is refused.
 fn opened<O: Opening>(
     alloc: Global,
     name: u64,
@@ -566,7 +567,7 @@ struct Script {
     others: Vec<Pass<'static>>,
 }
 
-/// A script with the passes of an auditor that is let go.
+/// A script with the passes of an auditor that is dropped.
 fn with_others<O: Opening>(
     alloc: Global,
     name: u64,
@@ -586,7 +587,7 @@ fn with_others<O: Opening>(
     })
 }
 
-/// Opens two auditors alike, and tells what each call is answered.
+/// Opens two auditors alike, and adds what each call returns.
 fn tell_calls<O: Opening + Send + Sync, R: Threads + Wait + AllocGlobal + Abort + Sync>(
     rt: &R,
     told: &mut String,
@@ -621,7 +622,7 @@ fn tell_calls<O: Opening + Send + Sync, R: Threads + Wait + AllocGlobal + Abort 
     Ok(())
 }
 
-/// The name, the number of shards and that of feeders of an opening.
+/// The name, the number of shards and the number of feeders of an opening.
 #[derive(Clone, Copy)]
 struct Size {
     name: u64,
@@ -667,8 +668,7 @@ fn tower_of(alloc: Global, name: &str) -> Result<Tower, ShardFault> {
     }
 }
 
-/// What the calls of a row are answered. A row begins with the tower and the opening, and may name another
-/// opening.
+/// What the calls of a row return. A row begins with the tower and the opening, and may name another opening.
 fn told<R: Threads + Wait + AllocGlobal + Abort + Sync>(
     rt: &R,
     row: &'static str,
@@ -693,7 +693,7 @@ fn told<R: Threads + Wait + AllocGlobal + Abort + Sync>(
     Ok(told)
 }
 
-/// Where memory is refused outside the calls the row is told once more.
+/// What the calls of a row return. Where memory is refused outside the calls the row is run again.
 fn told_again<R: Threads + Wait + AllocGlobal + Abort + Sync>(
     rt: &R,
     row: &'static str,
@@ -711,8 +711,8 @@ const FIVE: &str = "{:levels [{:name top :registers [
   {:name c :kind :atomic :writers :any} {:name d :kind :regular :writers [0] :initial 0}
   {:name e :kind :atomic :writers :any}]}]}";
 
-/// What passes submit, learn and ask: one register, what another submitted and one has not seen, several registers
-/// a shard, more shards than registers, refused edits.
+/// What passes submit, learn and ask: of one register; after edits of another pass that they have not seen; with
+/// several registers in a shard; with more shards than registers; and edits that are refused.
 const CALLS: &str =
     "one 7 1 2 | 0 writes x0 5 0-1; 1 learns 0; 1 asks x0; 1 reads x0 4 2-3; finish with 1; 1 asks x0; finish with 1 0 => 0/0 holds; learnt; holds 1 of 1; 0/1 fails; S4 PassMissing of feeder 0; fails 2 unwritten 1:2 of 2; closed 0: 0 x0 + 0:0 holds, 1 x0 + 1:2 fails, 1: fails 2, none
 one 7 1 2 | 0 writes x0 1 0-1; 0 writes x0 2 2-3; 0 reads x0 1 4-5; 1 asks x0 => 0/0 holds; 0/1 holds; 0/2 fails; fails 3 crossing of 3
@@ -729,8 +729,8 @@ five 7 2 2 and 7 3 2 | 4 writes x0 1 0-1; 4 asks x9; 0 learns 4; 4 learns 0; gat
 five 7 2 2 and 7 2 3 | other 2 writes x0 1 0-1; 6 learns 2; 6 writes x0 1 0-1; 6 asks x0; 6 asks x9; 6 counts 0; finish with 6; finish with 0 1 6; 0 asks x0; finish with 0 1 => 0/0 holds; learnt; S6 ForeignPass; S6 ForeignPass; S6 ForeignPass; 0; S6 ForeignPass; S6 ForeignPass; holds 0 of 0; closed 0: 1: 2: holds 0, holds 0, holds 0, holds 0, holds 0, none
 five 7 2 2 | 0 writes x0 1 0-1; other 2 writes x0 9 0-1; finish with 0 2; finish with 2 1 0; finish with 1 0 2; 0 asks x0; finish with 1 0 => 0/0 holds; 0/0 holds; S6 ForeignPass; S6 ForeignPass; S6 ForeignPass; holds 1 of 1; closed 0: 0 x0 + 0:0 holds, 1: 2: holds 1, holds 0, holds 0, holds 0, holds 0, none";
 
-/// Passes of an auditor with the journals of another that was opened alike: by the farthest entry, by the own last
-/// one, by their number alone, and where the journals agree.
+/// Passes of an auditor beside the journals of another that was opened alike: they differ by the farthest entry, by
+/// the pass's own last one, or by their number alone; or the journals agree.
 const BEHIND: &str =
     "five 7 2 2 | other 2 writes x0 1 0-1; 2 asks x5; 2 writes x5 2 4-5; 2 asks x0; gate; 2 writes x0 2 4-5; 2 asks x1; 2 counts 0; 0 asks x0; other 2 asks x0; gate => 0/0 holds; S1 UnknownRegister; S1 UnknownRegister; S3 JournalBehind in shard 0 at 0 of 0; 2 inside, 2 outside, 0 in 0, 0 out; S3 JournalBehind in shard 0 at 0 of 0; holds 0 of 0; 1; holds 0 of 0; holds 1 of 1; 6 inside, 6 outside, 0 in 0, 0 out
 five 7 2 2 | other 2 writes x0 1 0-1; 3 learns 2; 3 asks x0; 0 writes x0 7 0-1; 3 asks x0; 3 writes x0 8 2-3; 0 asks x0; other 3 asks x0; finish with 0 1 => 0/0 holds; learnt; S3 JournalBehind in shard 0 at 0 of 0; 0/0 holds; S3 JournalBehind in shard 0 at 0 of 1; S3 JournalBehind in shard 0 at 0 of 1; holds 1 of 1; holds 1 of 1; closed 0: 0 x0 + 0:0 holds, 1: 2: holds 1, holds 0, holds 0, holds 0, holds 0, none
@@ -768,7 +768,7 @@ five 7 2 2 | hold with 0 1; close with 0 1 => 0 failures; closed 1000 entries
 one 7 1 2 | alone with 0 1; close with 1 0 => 0 failures; closed 100 entries
 one 7 1 2 | leave with 0 1; finish with 1 0 => 0 failures; closed 0: 0 x0 + 0:0 holds, 1 x0 + 1:0 holds, 1: holds 2, none";
 
-/// To be run with each allocation refused in turn, too.
+/// Runs each row. To be run with each allocation refused in turn, too.
 fn each_is_told<R: Threads + Wait + AllocGlobal + Abort + Sync>(
     rt: &R,
     rows: &'static str,

@@ -1,4 +1,4 @@
--- A shard may cross threads, alone and as a field, and so may what holds its lock: its books and its entries are found whole, so that a search ends. A closure may where all that it captures may.
+-- What may cross threads: shards, their states, the auditor, and closures where all that they capture may.
 use mathlib.Core.List.{List, [], ◌∷◌}
 use mir.Syntax.{Sym, Ty}
 use denote.Exit.{no}
@@ -47,6 +47,6 @@ module _ (ν : Sym) (Ts : List RattleType) where
   pub tuple_send : AllSend Ts → IsSend (TupleAt ν Ts)
   tuple_send s = recorded_send (field_at ν Ts).row _ _ (type_at ν Ts).to_one (struct_send (shape (type_at ν Ts)) (fields_send Ts s))
 
-  -- What a closure captures is a tuple of the closure's name.
+  -- what a closure captures is a tuple of the closure's name
   pub closure_send : (δ : Ty) → AllSend Ts → IsSend (param 1 (arg δ no (TupleAt ν Ts)))
   closure_send δ s = param_send 1 (arg δ no (TupleAt ν Ts)) (arg_send δ no (TupleAt ν Ts) (tuple_send s))

@@ -1,4 +1,4 @@
--- A journal one entry longer.
+-- A journal one entry longer: what it leaves of each register, and its entries by each feeder.
 use Rattle.std.proofs.Common.{◌≡◌, ◌≢◌, ℕ, ◌+◌, ◌≤◌, ◌&&◌, Bool, true, false, List, [], ◌∷◌, ◌++◌, map, length, Option, refl, sym, ap, subst, ◌∙◌, arith}
 use Rattle.std.specs.Prelude.{filter, is_some, if◌then◌else◌}
 use Rattle.std.proofs.lemmas.List.{append-nil, append_assoc, map-append, length-append}
@@ -7,7 +7,7 @@ use Rattle.std.proofs.lemmas.Bool.{eq-eqb, ne_eqb}
 use Rattle.intervals.specs.declared.operation.Op.{Op}
 use Rattle.intervals.specs.declared.edit.Edit.{Edit}
 use Rattle.intervals.specs.declared.refusal.Refusal.{Refusal}
-use Rattle.intervals.specs.Terms.{Terms, Claimed, unedited}
+use Rattle.intervals.specs.Terms.{ClaimModel, RegisterState, unedited}
 use Rattle.intervals.specs.Edit.{edited, claim_after}
 use Rattle.intervals.specs.Refusal.{carried_out, after_edit}
 use Rattle.register_book.specs.declared.reply.Reply.{Reply}
@@ -24,7 +24,7 @@ stand_append : (ops : List Op) (edits more : List Edit) → stand ops (edits ++ 
 stand_append ops [] more = refl
 stand_append ops (edit ∷ edits) more = stand_append (edited ops edit) edits more
 
-claim_append : (claim : Terms) (edits more : List Edit) → claim_by claim (edits ++ more) ≡ claim_by (claim_by claim edits) more
+claim_append : (claim : ClaimModel) (edits more : List Edit) → claim_by claim (edits ++ more) ≡ claim_by (claim_by claim edits) more
 claim_append claim [] more = refl
 claim_append claim (edit ∷ edits) more = claim_append (claim_after claim edit) edits more
 
@@ -37,32 +37,32 @@ accepted_push register journal entry =
 accepted_of_other : (register : ℕ) (entry : Entry) → entry.register.0 ≢ register → accepted_edits register (entry ∷ []) ≡ []
 accepted_of_other register entry other = ap (λ (same : Bool). map (λ (e : Entry). e.edit) (if same && is_accepted entry.reply then entry ∷ [] else [])) (ne_eqb entry.register.0 register other)
 
--- what is held after accepted edits
-abbrev pub left_after : Claimed → List Edit → Claimed
+-- a register after accepted edits
+abbrev pub left_after : RegisterState → List Edit → RegisterState
 left_after held edits = record { claim = claim_by held.claim edits; ops = stand held.ops edits }
 
-pub left_after_append : (held : Claimed) (edits more : List Edit) → left_after held (edits ++ more) ≡ left_after (left_after held edits) more
+pub left_after_append : (held : RegisterState) (edits more : List Edit) → left_after held (edits ++ more) ≡ left_after (left_after held edits) more
 left_after_append held edits more = λ i. record { claim = claim_append held.claim edits more i; ops = stand_append held.ops edits more i }
 
-by_reply : (held : Claimed) (entry : Entry) (reply : Reply) → IsReply held entry.edit reply → left_after held (map (λ (e : Entry). e.edit) (if is_accepted reply then entry ∷ [] else [])) ≡ after_edit held entry.edit
+by_reply : (held : RegisterState) (entry : Entry) (reply : Reply) → IsReply held entry.edit reply → left_after held (map (λ (e : Entry). e.edit) (if is_accepted reply then entry ∷ [] else [])) ≡ after_edit held entry.edit
 by_reply held entry (Accepted holds) is = sym (ap (λ (refusal : Option Refusal). if is_some refusal then held else carried_out held entry.edit) is.0)
 by_reply held entry (Refused refusal) is = sym (ap (λ (refusal : Option Refusal). if is_some refusal then held else carried_out held entry.edit) is)
 
--- of its own one it comes to its edit, accepted or refused
-pub left_after_own : (held : Claimed) (register : ℕ) (entry : Entry) → entry.register.0 ≡ register → IsReply held entry.edit entry.reply → left_after held (accepted_edits register (entry ∷ [])) ≡ after_edit held entry.edit
+-- an entry of this register leaves it as its edit does, accepted or refused
+pub left_after_own : (held : RegisterState) (register : ℕ) (entry : Entry) → entry.register.0 ≡ register → IsReply held entry.edit entry.reply → left_after held (accepted_edits register (entry ∷ [])) ≡ after_edit held entry.edit
 left_after_own held register entry own is =
     ap (λ (same : Bool). left_after held (map (λ (e : Entry). e.edit) (if same && is_accepted entry.reply then entry ∷ [] else []))) (eq-eqb entry.register.0 register own)
     ∙ by_reply held entry entry.reply is
 
-pub left_push : (register : ℕ) (claim : Terms) (journal : List Entry) (entry : Entry) → left_by (journal ++ entry ∷ []) register claim ≡ left_after (left_by journal register claim) (accepted_edits register (entry ∷ []))
+pub left_push : (register : ℕ) (claim : ClaimModel) (journal : List Entry) (entry : Entry) → left_by (journal ++ entry ∷ []) register claim ≡ left_after (left_by journal register claim) (accepted_edits register (entry ∷ []))
 left_push register claim journal entry =
     ap (left_after (unedited claim)) (accepted_push register journal entry)
     ∙ left_after_append (unedited claim) (accepted_edits register journal) (accepted_edits register (entry ∷ []))
 
-pub left_push_other : (register : ℕ) (claim : Terms) (journal : List Entry) (entry : Entry) → entry.register.0 ≢ register → left_by (journal ++ entry ∷ []) register claim ≡ left_by journal register claim
+pub left_push_other : (register : ℕ) (claim : ClaimModel) (journal : List Entry) (entry : Entry) → entry.register.0 ≢ register → left_by (journal ++ entry ∷ []) register claim ≡ left_by journal register claim
 left_push_other register claim journal entry other = left_push register claim journal entry ∙ ap (left_after (left_by journal register claim)) (accepted_of_other register entry other)
 
-pub left_push_own : (claim : Terms) (journal : List Entry) (entry : Entry) → IsReply (left_by journal entry.register.0 claim) entry.edit entry.reply
+pub left_push_own : (claim : ClaimModel) (journal : List Entry) (entry : Entry) → IsReply (left_by journal entry.register.0 claim) entry.edit entry.reply
     → left_by (journal ++ entry ∷ []) entry.register.0 claim ≡ after_edit (left_by journal entry.register.0 claim) entry.edit
 left_push_own claim journal entry is = left_push entry.register.0 claim journal entry ∙ left_after_own (left_by journal entry.register.0 claim) entry.register.0 entry refl is
 

@@ -1,4 +1,4 @@
--- A shard one entry later.
+-- A shard one entry later is still one of the plan, and its replies and answers are those of its journal.
 use Rattle.std.proofs.Common.{◌≡◌, ℕ, zero, suc, ◌+◌, ◌*◌, ◌/◌, ◌%◌, ◌<◌, List, [], ◌∷◌, ◌++◌, set, length, get_or, Option, Some, None, refl, sym, ap, subst, ◌∙◌, inl, inr, arith}
 use Rattle.std.specs.Prelude.{map, ◌↔◌, option_map, IfSome, IsNone, IsTrue}
 use Rattle.std.specs.List.{slice_get}
@@ -6,10 +6,10 @@ use Rattle.std.proofs.lemmas.Bool.{cases_eq}
 use Rattle.std.proofs.lemmas.Option.{slice_get_within, get_or_from_slice_get}
 use Rattle.std.proofs.lemmas.List.{length-set, length-map, get_or-map}
 use Rattle.std.proofs.lemmas.List.Elements.{All-push}
-use Rattle.intervals.specs.Terms.{Terms, Claimed}
+use Rattle.intervals.specs.Terms.{ClaimModel, RegisterState}
 use Rattle.intervals.specs.Refusal.{after_edit}
 use Rattle.intervals.specs.Kind.{Holds}
-use Rattle.register_book.specs.Kept.{Kept, claimed_of}
+use Rattle.register_book.specs.BookModel.{BookModel, claimed_of}
 use Rattle.register_book.specs.Reply.{IsReply}
 use Rattle.register_book.specs.Fault.{IsWitness, ids_of}
 use Rattle.shards.specs.declared.entry.Answer.{Answer}
@@ -18,39 +18,39 @@ use Rattle.shards.specs.declared.shard.Shard.{Shard}
 use Rattle.shards.specs.Plan.{Plan}
 use Rattle.shards.specs.Journal.{IsAnswered, IsJournalOf, left_by, count_by}
 use Rattle.shards.specs.Steps.{IsStanding}
-use Rattle.shards.specs.Shard.{AreBooks, AreCounts, IsKept}
+use Rattle.shards.specs.Shard.{AreBooks, AreEntryCounts, IsShardOf}
 use Rattle.shards.proofs.Slots.{register_of, slot_of, some_within, get_set_same, get_set_other}
 use Rattle.shards.proofs.Journals.{each_after_push, left_push_own, left_push_other, count_push_own, count_push_other}
 
--- the book of a register that the shard has
-book_is : (plan : Plan) (at : ℕ) (journal : List Entry) (books : List Claimed) (register : ℕ) (claim : Terms) → AreBooks plan at journal books → register % plan.shards ≡ at → slice_get plan.claims register ≡ Some claim
+-- the book of a register of the shard is what the journal leaves
+book_is : (plan : Plan) (at : ℕ) (journal : List Entry) (books : List RegisterState) (register : ℕ) (claim : ClaimModel) → AreBooks plan at journal books → register % plan.shards ≡ at → slice_get plan.claims register ≡ Some claim
     → slice_get books (register / plan.shards) ≡ Some (left_by journal register claim)
 book_is plan at journal books register claim are here known =
     are (register / plan.shards)
     ∙ ap (λ (n : ℕ). option_map (left_by journal n) (slice_get plan.claims n)) (register_of register plan.shards at here)
     ∙ ap (option_map (left_by journal register)) known
 
--- a register's claim, and its book
+-- a register of the shard has a claim and a book
 pub record HasBook (plan : Plan) (shard : Shard) (register : ℕ) : Type 0 where
-  pub claim : Terms
+  pub claim : ClaimModel
   pub known : slice_get plan.claims register ≡ Some claim
   pub book : slice_get (map claimed_of shard.books.items) (register / shard.shards) ≡ Some (left_by shard.journal.items register claim)
 
-has_book : (plan : Plan) (shard : Shard) (register : ℕ) → IsKept plan shard → register % plan.shards ≡ shard.at → register < length plan.claims → HasBook plan shard register
+has_book : (plan : Plan) (shard : Shard) (register : ℕ) → IsShardOf plan shard → register % plan.shards ≡ shard.at → register < length plan.claims → HasBook plan shard register
 has_book plan shard register kept here known =
-    let found : (claim : Terms) × (slice_get plan.claims register ≡ Some claim) = some_within plan.claims register known in
+    let found : (claim : ClaimModel) × (slice_get plan.claims register ≡ Some claim) = some_within plan.claims register known in
     record {
       claim = found.0;
       known = found.1;
       book = ap (λ (many : ℕ). slice_get (map claimed_of shard.books.items) (register / many)) kept.shards ∙ book_is plan shard.at shard.journal.items (map claimed_of shard.books.items) register found.0 kept.books here found.1;
     }
 
-pub slot_within : (plan : Plan) (shard : Shard) (register : ℕ) → IsKept plan shard → register % plan.shards ≡ shard.at → register < length plan.claims → register / shard.shards < length shard.books.items
+pub slot_within : (plan : Plan) (shard : Shard) (register : ℕ) → IsShardOf plan shard → register % plan.shards ≡ shard.at → register < length plan.claims → register / shard.shards < length shard.books.items
 slot_within plan shard register kept here known =
     let has : HasBook plan shard register = has_book plan shard register kept here known in
     omega (arith, length-map shard.books.items claimed_of, slice_get_within (map claimed_of shard.books.items) (register / shard.shards) (left_by shard.journal.items register has.claim) has.book)
 
-same_book : (plan : Plan) (shard : Shard) (register : ℕ) (book : Kept) (has : HasBook plan shard register) → book ≡ get_or shard.books.items (register / shard.shards) book → claimed_of book ≡ left_by shard.journal.items register has.claim
+same_book : (plan : Plan) (shard : Shard) (register : ℕ) (book : BookModel) (has : HasBook plan shard register) → book ≡ get_or shard.books.items (register / shard.shards) book → claimed_of book ≡ left_by shard.journal.items register has.claim
 same_book plan shard register book has is =
     ap claimed_of is
     ∙ sym (get_or-map claimed_of shard.books.items (register / shard.shards) book (claimed_of book) (omega (arith, length-map shard.books.items claimed_of, slice_get_within (map claimed_of shard.books.items) (register / shard.shards) (left_by shard.journal.items register has.claim) has.book)))
@@ -61,11 +61,11 @@ mapped_set f [] i x = refl
 mapped_set f (y ∷ ys) zero x = refl
 mapped_set f (y ∷ ys) (suc i) x = ap (λ zs. f y ∷ zs) (mapped_set f ys i x)
 
-left_same : (journal longer : List Entry) (register : ℕ) (claim : Option Terms) → ((c : Terms) → left_by longer register c ≡ left_by journal register c) → option_map (left_by journal register) claim ≡ option_map (left_by longer register) claim
+left_same : (journal longer : List Entry) (register : ℕ) (claim : Option ClaimModel) → ((c : ClaimModel) → left_by longer register c ≡ left_by journal register c) → option_map (left_by journal register) claim ≡ option_map (left_by longer register) claim
 left_same journal longer register None same = refl
 left_same journal longer register (Some claim) same = ap Some (sym (same claim))
 
-books_push : (plan : Plan) (at : ℕ) (journal : List Entry) (books : List Claimed) (entry : Entry) (claim : Terms) (book : Claimed)
+books_push : (plan : Plan) (at : ℕ) (journal : List Entry) (books : List RegisterState) (entry : Entry) (claim : ClaimModel) (book : RegisterState)
     → AreBooks plan at journal books → at < plan.shards → entry.register.0 % plan.shards ≡ at → slice_get plan.claims entry.register.0 ≡ Some claim
     → IsReply (left_by journal entry.register.0 claim) entry.edit entry.reply
     → book ≡ after_edit (left_by journal entry.register.0 claim) entry.edit
@@ -88,8 +88,8 @@ books_push plan at journal books entry claim book are below here known reply is 
     ]
 
 counts_push : (plan : Plan) (journal : List Entry) (counts : List ℕ) (entry : Entry) (count : ℕ)
-    → AreCounts plan journal counts → entry.feeder < plan.feeders → count ≡ count_by entry.feeder journal + 1
-    → AreCounts plan (journal ++ entry ∷ []) (set counts entry.feeder count)
+    → AreEntryCounts plan journal counts → entry.feeder < plan.feeders → count ≡ count_by entry.feeder journal + 1
+    → AreEntryCounts plan (journal ++ entry ∷ []) (set counts entry.feeder count)
 counts_push plan journal counts entry count are feeder is = (
   length-set counts entry.feeder count ∙ are.0,
   λ other below. elim (cases_eq other entry.feeder) [
@@ -110,8 +110,8 @@ journal_push plan at journal entry of_shard answered feeder = record {
   feeders = All-push (λ (e : Entry). e.feeder < plan.feeders) journal entry of_shard.feeders feeder;
 }
 
--- the reply of a book is that of what stands after the journal
-pub answered_by : (plan : Plan) (shard : Shard) (entry : Entry) (book : Kept) → IsKept plan shard → entry.register.0 % plan.shards ≡ shard.at → entry.register.0 < length plan.claims
+-- the reply of a book is that of the register as the journal leaves it
+pub answered_by : (plan : Plan) (shard : Shard) (entry : Entry) (book : BookModel) → IsShardOf plan shard → entry.register.0 % plan.shards ≡ shard.at → entry.register.0 < length plan.claims
     → book ≡ get_or shard.books.items (entry.register.0 / shard.shards) book → IsReply (claimed_of book) entry.edit entry.reply
     → IsAnswered plan shard.at shard.journal.items entry
 answered_by plan shard entry book kept here known is reply =
@@ -120,25 +120,25 @@ answered_by plan shard entry book kept here known is reply =
       here = here;
       claim = has.claim;
       known = has.known;
-      reply = subst (λ (held : Claimed). IsReply held entry.edit entry.reply) (same_book plan shard entry.register.0 book has is) reply;
+      reply = subst (λ (held : RegisterState). IsReply held entry.edit entry.reply) (same_book plan shard entry.register.0 book has is) reply;
     }
 
-pub count_of_feeder : (plan : Plan) (shard : Shard) (feeder count : ℕ) → IsKept plan shard → feeder < plan.feeders → count ≡ get_or shard.counts.items feeder count → count ≡ count_by feeder shard.journal.items
+pub count_of_feeder : (plan : Plan) (shard : Shard) (feeder count : ℕ) → IsShardOf plan shard → feeder < plan.feeders → count ≡ get_or shard.counts.items feeder count → count ≡ count_by feeder shard.journal.items
 count_of_feeder plan shard feeder count kept below is = is ∙ get_or_from_slice_get shard.counts.items feeder (count_by feeder shard.journal.items) count (kept.counts.1 feeder below)
 
--- the shard with the entry
-pub kept_push : (plan : Plan) (old new : Shard) (entry : Entry) (book edited : Kept) (count : ℕ) → IsKept plan old → entry.register.0 % plan.shards ≡ old.at → entry.register.0 < length plan.claims → entry.feeder < plan.feeders
+-- the shard with one more entry is one of the plan
+pub kept_push : (plan : Plan) (old new : Shard) (entry : Entry) (book edited : BookModel) (count : ℕ) → IsShardOf plan old → entry.register.0 % plan.shards ≡ old.at → entry.register.0 < length plan.claims → entry.feeder < plan.feeders
     → book ≡ get_or old.books.items (entry.register.0 / old.shards) book → IsReply (claimed_of book) entry.edit entry.reply → count ≡ get_or old.counts.items entry.feeder count
     → new.at ≡ old.at → new.shards ≡ old.shards → new.journal.items ≡ old.journal.items ++ entry ∷ []
     → claimed_of edited ≡ after_edit (claimed_of book) entry.edit → new.books.items ≡ set old.books.items (entry.register.0 / old.shards) edited
     → new.counts.items ≡ set old.counts.items entry.feeder (count + 1)
-    → IsKept plan new
+    → IsShardOf plan new
 kept_push plan old new entry book edited count kept here known feeder is reply count_is at_is shards_is journal_is edited_to books_are counts_are =
     let has : HasBook plan old entry.register.0 = has_book plan old entry.register.0 kept here known in
     let held : claimed_of book ≡ left_by old.journal.items entry.register.0 has.claim = same_book plan old entry.register.0 book has is in
     let answered : IsAnswered plan old.at old.journal.items entry = answered_by plan old entry book kept here known is reply in
     let edited_is : claimed_of edited ≡ after_edit (left_by old.journal.items entry.register.0 has.claim) entry.edit =
-    edited_to ∙ ap (λ (b : Claimed). after_edit b entry.edit) held in
+    edited_to ∙ ap (λ (b : RegisterState). after_edit b entry.edit) held in
     let books_set : map claimed_of new.books.items ≡ set (map claimed_of old.books.items) (entry.register.0 / plan.shards) (claimed_of edited) =
     ap (map claimed_of) (books_are ∙ ap (λ (many : ℕ). set old.books.items (entry.register.0 / many) edited) kept.shards) ∙ mapped_set claimed_of old.books.items (entry.register.0 / plan.shards) edited in
     let longer : List Entry = old.journal.items ++ entry ∷ [] in
@@ -150,13 +150,13 @@ kept_push plan old new entry book edited count kept here known feeder is reply c
           (subst (λ (journal : List Entry). AreBooks plan old.at journal (map claimed_of new.books.items)) (sym journal_is)
           (subst (AreBooks plan old.at longer) (sym books_set)
           (books_push plan old.at old.journal.items (map claimed_of old.books.items) entry has.claim (claimed_of edited) kept.books kept.here here has.known
-          (subst (λ (b : Claimed). IsReply b entry.edit entry.reply) held reply) edited_is)));
-      counts = subst (λ (journal : List Entry). AreCounts plan journal new.counts.items) (sym journal_is)
-          (subst (AreCounts plan longer) (sym counts_are) (counts_push plan old.journal.items old.counts.items entry (count + 1) kept.counts feeder (ap (λ (n : ℕ). n + 1) (count_of_feeder plan old entry.feeder count kept feeder count_is))));
+          (subst (λ (b : RegisterState). IsReply b entry.edit entry.reply) held reply) edited_is)));
+      counts = subst (λ (journal : List Entry). AreEntryCounts plan journal new.counts.items) (sym journal_is)
+          (subst (AreEntryCounts plan longer) (sym counts_are) (counts_push plan old.journal.items old.counts.items entry (count + 1) kept.counts feeder (ap (λ (n : ℕ). n + 1) (count_of_feeder plan old entry.feeder count kept feeder count_is))));
     }
 
--- what a book answers is what stands after the journal
-pub answer_by : (plan : Plan) (shard : Shard) (register : ℕ) (book : Kept) (answer : Answer) → IsKept plan shard → register % plan.shards ≡ shard.at → register < length plan.claims
+-- the answer from a book is that of the register as the journal leaves it
+pub answer_by : (plan : Plan) (shard : Shard) (register : ℕ) (book : BookModel) (answer : Answer) → IsShardOf plan shard → register % plan.shards ≡ shard.at → register < length plan.claims
     → book ≡ get_or shard.books.items (register / shard.shards) book
     → IsTrue answer.holds ↔ Holds book.claim book.ops → answer.operations ≡ length book.ops → IfSome answer.witness (IsWitness book.claim book.ops) → IsNone answer.witness ↔ Holds book.claim book.ops
     → answer.fault ≡ option_map ids_of answer.witness → answer.number ≡ length shard.journal.items
@@ -167,10 +167,10 @@ answer_by plan shard register book answer kept here known is verdict operations 
     record {
       claim = has.claim;
       known = has.known;
-      verdict = subst (λ (b : Claimed). IsTrue answer.holds ↔ Holds b.claim b.ops) held verdict;
-      operations = operations ∙ ap (λ (b : Claimed). length b.ops) held;
-      witness = subst (λ (b : Claimed). IfSome answer.witness (IsWitness b.claim b.ops)) held witness;
-      none = subst (λ (b : Claimed). IsNone answer.witness ↔ Holds b.claim b.ops) held none;
+      verdict = subst (λ (b : RegisterState). IsTrue answer.holds ↔ Holds b.claim b.ops) held verdict;
+      operations = operations ∙ ap (λ (b : RegisterState). length b.ops) held;
+      witness = subst (λ (b : RegisterState). IfSome answer.witness (IsWitness b.claim b.ops)) held witness;
+      none = subst (λ (b : RegisterState). IsNone answer.witness ↔ Holds b.claim b.ops) held none;
       fault = fault;
       number = number;
     }

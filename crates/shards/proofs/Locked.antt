@@ -9,12 +9,12 @@ use Rattle.shards.specs.declared.fault.ShardFault.{ShardFault}
 use Rattle.shards.specs.declared.fault.ShardFault.TheVariants.{UnknownRegister, Memory, JournalBehind, PassMissing, Stranger, ForeignPass}
 use Rattle.shards.specs.Plan.{Plan}
 use Rattle.shards.specs.Journal.{IsJournalOf}
-use Rattle.shards.specs.Pass.{Passed, IsPassOf, IsInKeeping, with_seen}
-use Rattle.shards.specs.Closing.{Held}
+use Rattle.shards.specs.Pass.{PassModel, IsPassOf, IsInKeeping, with_seen}
+use Rattle.shards.specs.Closing.{ShardModel}
 use Rattle.shards.specs.Steps.{IsLive, IsQuestionRefusal, IsRefusal, IsStanding, IsStateRefusal, IsSubmitted, entry_of, last_entry}
 
--- the receipt of an edit that was entered
-pub submitted : (plan : Plan) (pass : Passed) (register : RegId) (edit : Edit) (answered : Result Receipt ShardFault) (old new : Held)
+-- an edit that a shard entered is submitted
+pub submitted : (plan : Plan) (pass : PassModel) (register : RegId) (edit : Edit) (answered : Result Receipt ShardFault) (old new : ShardModel)
     → IsPassOf plan pass
     → register.0 < length plan.claims
     → old.at ≡ register.0 % plan.shards
@@ -34,8 +34,8 @@ submitted plan pass register edit (Ok receipt) old new of_plan known here journa
 }
 submitted plan pass register edit (Err fault) old new of_plan known here journal of_shard receipt_is keeping = tt
 
--- the answer of a question
-pub live : (plan : Plan) (pass pass' : Passed) (register : ℕ) (answered : Result Answer ShardFault) (held : Held)
+-- a question that a shard answered is live
+pub live : (plan : Plan) (pass pass' : PassModel) (register : ℕ) (answered : Result Answer ShardFault) (held : ShardModel)
     → IsPassOf plan pass
     → held.at ≡ register % plan.shards
     → IfOk answered (IsStanding plan register held.journal)
@@ -53,8 +53,8 @@ live plan pass pass' register (Ok answer) held of_plan here standing of_shard se
 }
 live plan pass pass' register (Err fault) held of_plan here standing of_shard seen keeping = tt
 
--- what a shard refuses, the auditor does
-refusal : (plan : Plan) (pass : Passed) (register : ℕ) (held : Held) → IsPassOf plan pass → register < length plan.claims → held.at ≡ register % plan.shards
+-- what a shard refuses, the auditor refuses
+refusal : (plan : Plan) (pass : PassModel) (register : ℕ) (held : ShardModel) → IsPassOf plan pass → register < length plan.claims → held.at ≡ register % plan.shards
     → IsJournalOf plan held.at held.journal
     → (fault : ShardFault) → IsStateRefusal held.at pass held.journal fault → IsRefusal plan pass register fault
 refusal plan pass register held of_plan known here of_shard (JournalBehind shard seen found) (at_is, found_is, behind) =
@@ -65,7 +65,7 @@ refusal plan pass register held of_plan known here of_shard ForeignPass h = absu
 refusal plan pass register held of_plan known here of_shard (PassMissing feeder) h = absurd h
 refusal plan pass register held of_plan known here of_shard (Stranger at feeder number) h = absurd h
 
-of_question : (at : ℕ) (pass : Passed) (held : Held) (fault : ShardFault) → IsQuestionRefusal at pass held.journal fault
+of_question : (at : ℕ) (pass : PassModel) (held : ShardModel) (fault : ShardFault) → IsQuestionRefusal at pass held.journal fault
     → IsStateRefusal at pass held.journal fault × (fault ≢ Memory)
 of_question at pass held (JournalBehind shard seen found) h = (h, λ e. cc)
 of_question at pass held Memory h = absurd h
@@ -74,8 +74,8 @@ of_question at pass held ForeignPass h = absurd h
 of_question at pass held (PassMissing feeder) h = absurd h
 of_question at pass held (Stranger shard feeder number) h = absurd h
 
--- the refusal of an edit
-pub refused : (plan : Plan) (pass pass' : Passed) (register : ℕ) (answered : Result Receipt ShardFault) (old new : Held)
+-- the auditor refuses an edit that the shard refuses
+pub refused : (plan : Plan) (pass pass' : PassModel) (register : ℕ) (answered : Result Receipt ShardFault) (old new : ShardModel)
     → IsPassOf plan pass
     → register < length plan.claims
     → old.at ≡ register % plan.shards
@@ -87,8 +87,8 @@ refused plan pass pass' register (Ok receipt) old new of_plan known here of_shar
 refused plan pass pass' register (Err fault) old new of_plan known here of_shard refusal_is same =
     refusal plan pass register old of_plan known here (rw (same.0) at of_shard) fault refusal_is
 
--- the refusal of a question
-pub unanswered : (plan : Plan) (pass : Passed) (register : ℕ) (answered : Result Answer ShardFault) (held : Held)
+-- the auditor refuses a question that the shard refuses
+pub unanswered : (plan : Plan) (pass : PassModel) (register : ℕ) (answered : Result Answer ShardFault) (held : ShardModel)
     → IsPassOf plan pass
     → register < length plan.claims
     → held.at ≡ register % plan.shards

@@ -6,64 +6,64 @@ use Rattle.std.proofs.lemmas.Bool.{cases_order, false≢true}
 use Rattle.std.proofs.lemmas.List.Elements.{All-contains, All-weaker}
 use Rattle.std.proofs.lemmas.Option.{same_Some}
 use Rattle.shards.specs.declared.entry.Entry.{Entry}
-use Rattle.shards.specs.declared.entry.Numbered.{Numbered}
+use Rattle.shards.specs.declared.entry.NumberedEntry.{NumberedEntry}
 use Rattle.shards.specs.Plain.{PlainEntry, plain_entry}
-use Rattle.shards.specs.Pass.{Passed}
-use Rattle.shards.specs.Merge.{IsStranger, IsTold, numbered}
-use Rattle.shards.specs.Closing.{HasNoStranger, HasPassOf, Held, IsFirstStranger}
+use Rattle.shards.specs.Pass.{PassModel}
+use Rattle.shards.specs.Merge.{IsStranger, SubmittedAt, numbered}
+use Rattle.shards.specs.Closing.{HasNoStranger, HasPassOf, ShardModel, IsFirstStranger}
 use Rattle.shards.specs.Shard.{AreOwned, IsOwned}
 use Rattle.shards.proofs.Covers.{IsAmong}
 use Rattle.shards.proofs.Passes.{AreApart, all_of_none, all_of_one}
 
-abbrev number_of : Numbered → ℕ
+abbrev number_of : NumberedEntry → ℕ
 number_of known = known.number
 
--- the entry at its number among a feeder's own ones
-module _ (own : List Numbered) (known : Numbered) where
-  pub among_from : (x : Numbered) → x.number ≡ known.number → Contains own x → plain_entry x.entry ≡ plain_entry known.entry → IsAmong own known
+-- an entry and the own one of a feeder with its number
+module _ (own : List NumberedEntry) (known : NumberedEntry) where
+  pub among_from : (x : NumberedEntry) → x.number ≡ known.number → Contains own x → plain_entry x.entry ≡ plain_entry known.entry → IsAmong own known
   among_from x n (k, within, is) e = (k, x, within, is, cc)
 
-  pub reads_same : (found : Option Numbered) → ((x : Numbered) → Contains own x → x.number ≡ known.number → found ≡ Some x) → IsAmong own known → (x : Numbered) × (found ≡ Some x) × (plain_entry x.entry ≡ plain_entry known.entry)
+  pub reads_same : (found : Option NumberedEntry) → ((x : NumberedEntry) → Contains own x → x.number ≡ known.number → found ≡ Some x) → IsAmong own known → (x : NumberedEntry) × (found ≡ Some x) × (plain_entry x.entry ≡ plain_entry known.entry)
   reads_same found only (k, x, within, is, same) =
       (x, only x (k, within, is) (ap (λ (p : ℕ × PlainEntry). p.0) same), ap (λ (p : ℕ × PlainEntry). p.1) same)
 
 -- the pass of its feeder decides whether an entry is a stranger
-pub owned_by : (told : Bool) (passes : List Passed) (at : ℕ) (known : Numbered) (pass : Passed) → AreApart passes → Contains passes pass → pass.feeder ≡ known.entry.feeder
-    → IsTrue told ↔ IsTold pass at known → MatchBool told (IsOwned passes at known) (IsStranger passes at known)
-owned_by true passes at known pass apart here of is = all_of_one (λ other. IsTold other at known) passes pass known.entry.feeder apart here of (is.0 refl)
+pub owned_by : (told : Bool) (passes : List PassModel) (at : ℕ) (known : NumberedEntry) (pass : PassModel) → AreApart passes → Contains passes pass → pass.feeder ≡ known.entry.feeder
+    → IsTrue told ↔ SubmittedAt pass at known → MatchBool told (IsOwned passes at known) (IsStranger passes at known)
+owned_by true passes at known pass apart here of is = all_of_one (λ other. SubmittedAt other at known) passes pass known.entry.feeder apart here of (is.0 refl)
 owned_by false passes at known pass apart here of is = (here.0, pass, here.1, here.2, (of, λ told. false≢true (is.1 told)))
 
--- where there is none it is none
-pub owned_by_none : (passes : List Passed) (at : ℕ) (known : Numbered) → ¬ HasPassOf passes known.entry.feeder → IsOwned passes at known
-owned_by_none passes at known none = all_of_none (λ other. IsTold other at known) passes known.entry.feeder none
+-- where the feeder has no pass, the entry is no stranger
+pub owned_by_none : (passes : List PassModel) (at : ℕ) (known : NumberedEntry) → ¬ HasPassOf passes known.entry.feeder → IsOwned passes at known
+owned_by_none passes at known none = all_of_none (λ other. SubmittedAt other at known) passes known.entry.feeder none
 
-no_stranger_from : (passes : List Passed) (at : ℕ) (known : Numbered) → IsOwned passes at known → ¬ IsStranger passes at known
+no_stranger_from : (passes : List PassModel) (at : ℕ) (known : NumberedEntry) → IsOwned passes at known → ¬ IsStranger passes at known
 no_stranger_from passes at known owned (k, pass, within, is, (of, not_told)) =
-    not_told (All-contains (λ other. other.feeder ≡ known.entry.feeder → IsTold other at known) passes pass owned (k, within, is) of)
+    not_told (All-contains (λ other. other.feeder ≡ known.entry.feeder → SubmittedAt other at known) passes pass owned (k, within, is) of)
 
 length-numbered : (n : ℕ) (journal : List Entry) → length (numbered n journal) ≡ length journal
 length-numbered n [] = refl
 length-numbered n (entry ∷ journal) = ap suc (length-numbered (n + 1) journal)
 
-place_of : (n k : ℕ) (journal : List Entry) (d : Numbered) (e : Entry) → k < length journal → get_or (numbered n journal) k d ≡ record { number = n + k; entry = get_or journal k e }
+place_of : (n k : ℕ) (journal : List Entry) (d : NumberedEntry) (e : Entry) → k < length journal → get_or (numbered n journal) k d ≡ record { number = n + k; entry = get_or journal k e }
 place_of n k [] d e l = absurd (omega arith)
 place_of n zero (entry ∷ journal) d e l = ap (λ (m : ℕ). record { number = m; entry = entry }) (omega arith)
 place_of n (suc k) (entry ∷ journal) d e l =
     place_of (n + 1) k journal d e (omega arith) ∙ ap (λ (m : ℕ). record { number = m; entry = get_or journal k e }) (omega arith)
 
-at_place : (k : ℕ) (journal : List Entry) (d : Numbered) (e : Entry) → k < length journal → get_or (numbered 0 journal) k d ≡ record { number = k; entry = get_or journal k e }
+at_place : (k : ℕ) (journal : List Entry) (d : NumberedEntry) (e : Entry) → k < length journal → get_or (numbered 0 journal) k d ≡ record { number = k; entry = get_or journal k e }
 at_place k journal d e l = place_of 0 k journal d e l ∙ ap (λ (m : ℕ). record { number = m; entry = get_or journal k e }) (omega arith)
 
 -- a walk over the numbers of a journal
 module _ (journal : List Entry) (number : ℕ) where
-  -- what is read there
-  abbrev pub read : Entry → Numbered
+  -- the entry that is read at the number
+  abbrev pub read : Entry → NumberedEntry
   read d = record { number = number; entry = get_or journal number d }
 
   stands : (d : Entry) → number < length journal → Contains (numbered 0 journal) (read d)
   stands d l = (number, let m = length-numbered 0 journal in omega arith, at_place number journal (read d) d l)
 
-  module _ (P : Numbered → Type 0) where
+  module _ (P : NumberedEntry → Type 0) where
     pub lesser_more : (d : Entry) → All (λ known. known.number < number → P known) (numbered 0 journal) → P (read d) → All (λ known. known.number < number + 1 → P known) (numbered 0 journal)
     lesser_more d below this k e within less = by_cases (cases_order k number)
       where
@@ -82,7 +82,7 @@ module _ (journal : List Entry) (number : ℕ) where
         let n = ap number_of (at_place k journal e e.entry i) in
         omega arith)
 
-  pub first_stranger_from : (passes : List Passed) (at : ℕ) (d : Entry) → number < length journal → All (λ known. known.number < number → IsOwned passes at known) (numbered 0 journal) → IsStranger passes at (read d) → IsFirstStranger passes at journal (read d)
+  pub first_stranger_from : (passes : List PassModel) (at : ℕ) (d : Entry) → number < length journal → All (λ known. known.number < number → IsOwned passes at known) (numbered 0 journal) → IsStranger passes at (read d) → IsFirstStranger passes at journal (read d)
   first_stranger_from passes at d l below stranger = (
     stands d l,
     stranger,
@@ -90,13 +90,13 @@ module _ (journal : List Entry) (number : ℕ) where
         (λ known owned less. no_stranger_from passes at known (owned less)) (numbered 0 journal) below,
   )
 
-pub no_strangers_from : (passes : List Passed) (at : ℕ) (journal : List Entry) → AreOwned passes at journal → HasNoStranger passes at journal
+pub no_strangers_from : (passes : List PassModel) (at : ℕ) (journal : List Entry) → AreOwned passes at journal → HasNoStranger passes at journal
 no_strangers_from passes at journal owned =
     All-weaker (IsOwned passes at) (λ known. ¬ IsStranger passes at known) (no_stranger_from passes at) (numbered 0 journal) owned
 
 -- a walk over shards
-pub shards_more : (P : ℕ → Held → Type 0) (shards : List Held) (at : ℕ) (this : Held) → slice_get shards at ≡ Some this → P at this
-    → ((place : ℕ) (shard : Held) → place < at → slice_get shards place ≡ Some shard → P place shard) → (place : ℕ) (shard : Held) → place < at + 1 → slice_get shards place ≡ Some shard → P place shard
+pub shards_more : (P : ℕ → ShardModel → Type 0) (shards : List ShardModel) (at : ℕ) (this : ShardModel) → slice_get shards at ≡ Some this → P at this
+    → ((place : ℕ) (shard : ShardModel) → place < at → slice_get shards place ≡ Some shard → P place shard) → (place : ℕ) (shard : ShardModel) → place < at + 1 → slice_get shards place ≡ Some shard → P place shard
 shards_more P shards at this is holds below place shard less e = by_cases (cases_order place at)
   where
     by_cases : (place ≡ at) ⊎ ((place < at) ⊎ (at < place)) → P place shard

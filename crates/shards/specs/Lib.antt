@@ -1,4 +1,4 @@
--- what the public clauses speak of
+-- words of the public clauses
 pub mod Plan
 pub mod Plain
 pub mod Journal
@@ -8,5 +8,5 @@ pub mod Merge
 pub mod Closing
 pub mod Code
 -- words of private clauses
-pub mod Rows
+pub mod Compact
 pub mod Shard

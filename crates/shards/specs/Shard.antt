@@ -1,81 +1,87 @@
--- For private clauses alone: what the fields of a shard are beside its journal.
+-- The fields of a shard, passes in step, and what closing has gone through; for private clauses alone.
 use Rattle.std.specs.Prelude.{◌≡◌, ◌⊎◌, ◌<◌, ◌+◌, ◌*◌, ℕ, List, [], ◌∷◌, length, Option, Some, option_map, map, unwrap_or, slice_index_or, All, IfSome, IsSomeAnd}
 use Rattle.std.specs.List.{AllByRecursion, AllWithin, slice_get}
-use Rattle.intervals.specs.Terms.{Claimed}
-use Rattle.register_book.specs.Kept.{claimed_of}
+use Rattle.intervals.specs.Terms.{RegisterState}
+use Rattle.register_book.specs.BookModel.{claimed_of}
 use Rattle.shards.specs.declared.entry.Entry.{Entry}
-use Rattle.shards.specs.declared.entry.Numbered.{Numbered}
+use Rattle.shards.specs.declared.entry.NumberedEntry.{NumberedEntry}
 use Rattle.shards.specs.declared.shard.Shard.{Shard}
 use Rattle.shards.specs.Plan.{Plan}
 use Rattle.shards.specs.Journal.{left_by, IsJournalOf, count_by}
 use Rattle.shards.specs.Plain.{plain_numbered}
-use Rattle.shards.specs.Pass.{HasFarthest, Passed, farthest_in, last_in, told}
-use Rattle.shards.specs.Merge.{IsTold, entries_of, numbered}
-use Rattle.shards.specs.Closing.{Held, Ended}
+use Rattle.shards.specs.Pass.{HasFarthest, PassModel, farthest_in, last_in, own_entries}
+use Rattle.shards.specs.Merge.{SubmittedAt, entries_of, numbered}
+use Rattle.shards.specs.Closing.{ShardModel, ClosedShard}
 
--- each book is what the journal leaves of its register: book k is that of register k * shards + at
-abbrev pub AreBooks : Plan → ℕ → List Entry → List Claimed → Type 0
+-- each book of a shard is what the journal leaves of its register: book k is that of register k · n + at, n the
+-- number of shards
+abbrev pub AreBooks : Plan → ℕ → List Entry → List RegisterState → Type 0
 AreBooks plan at journal books =
     (slot : ℕ) → slice_get books slot ≡ option_map (left_by journal (slot * plan.shards + at)) (slice_get plan.claims (slot * plan.shards + at))
 
--- each count is the number of a feeder's entries
-abbrev pub AreCounts : Plan → List Entry → List ℕ → Type 0
-AreCounts plan journal counts = (length counts ≡ plan.feeders) × ((feeder : ℕ) → feeder < plan.feeders → slice_get counts feeder ≡ Some (count_by feeder journal))
+-- for each feeder of the plan, the count is how many entries of the journal are by it
+abbrev pub AreEntryCounts : Plan → List Entry → List ℕ → Type 0
+AreEntryCounts plan journal counts = (length counts ≡ plan.feeders) × ((feeder : ℕ) → feeder < plan.feeders → slice_get counts feeder ≡ Some (count_by feeder journal))
 
--- a shard of the plan with its journal, whose books are what that leaves, and whose counts are those of its
--- entries
-pub record IsKept (plan : Plan) (shard : Shard) : Type 0 where
+-- a shard of the plan: its journal is one of that shard, its books are what the journal leaves, and its counts are
+-- those of the entries by feeder
+pub record IsShardOf (plan : Plan) (shard : Shard) : Type 0 where
   pub shards : shard.shards ≡ plan.shards
   pub here : shard.at < plan.shards
   pub of_shard : IsJournalOf plan shard.at shard.journal.items
   pub books : AreBooks plan shard.at shard.journal.items (map claimed_of shard.books.items)
-  pub counts : AreCounts plan shard.journal.items shard.counts.items
+  pub counts : AreEntryCounts plan shard.journal.items shard.counts.items
 
-abbrev pub held_of : Shard → Held
+-- the model of a shard under its lock: its number and its journal
+abbrev pub held_of : Shard → ShardModel
 held_of shard = record { at = shard.at; journal = shard.journal.items }
 
-abbrev pub ended_of : Shard → Ended
+-- the model of a closed shard: its journal, and the claim and the operations of each book
+abbrev pub ended_of : Shard → ClosedShard
 ended_of shard = record { journal = shard.journal.items; books = map claimed_of shard.books.items }
 
--- the numbers rise
-abbrev pub Rises : List Numbered → Type 0
+-- the numbers of the entries rise
+abbrev pub Rises : List NumberedEntry → Type 0
 Rises [] = Unit {0}
 Rises (a ∷ rest) = AllByRecursion (λ b. a.number < b.number) rest × Rises rest
 
--- the entry known is farther than the pass's own one, or reads the same
-abbrev pub IsReached : Option Numbered → Numbered → Type 0
+-- the farthest entry known is there, and has a greater number than the pass's own one or reads the same, with its
+-- number
+abbrev pub IsReached : Option NumberedEntry → NumberedEntry → Type 0
 IsReached farthest own = IsSomeAnd farthest (λ known. (own.number < known.number) ⊎ (plain_numbered own ≡ plain_numbered known))
 
--- what a pass has of a shard: its own entries have rising numbers, and the farthest one that it knows reaches the
--- last of them
-pub record IsInStep (farthest : Option Numbered) (own : List Numbered) : Type 0 where
+-- what a pass has of one shard: its own entries have rising numbers, and the farthest entry known reaches the last of
+-- them (`IsReached`)
+pub record IsInStep (farthest : Option NumberedEntry) (own : List NumberedEntry) : Type 0 where
   pub rises : Rises own
   pub reached : IfSome (last_in own) (IsReached farthest)
 
--- so it is for each shard
-pub record AreInStep (own : List (List Numbered)) (farthest : List (Option Numbered)) : Type 0 where
+-- what a pass has of each shard, own entries and the farthest one, is in step (`IsInStep`)
+pub record AreInStep (own : List (List NumberedEntry)) (farthest : List (Option NumberedEntry)) : Type 0 where
   pub many : length own ≡ length farthest
   pub each : (at : ℕ) → IsInStep (farthest_in farthest at) (unwrap_or (slice_get own at) [])
 
 -- the entries before this place have numbers below this one
-abbrev pub IsStart : List Numbered → ℕ → ℕ → Type 0
-IsStart own number place = AllWithin (λ known. known.number < number) own 0 place
+abbrev pub AreNumberedBelow : List NumberedEntry → ℕ → ℕ → Type 0
+AreNumberedBelow own number place = AllWithin (λ known. known.number < number) own 0 place
 
--- the starts, by feeder, are so for the entries of each pass
-abbrev pub AreStarts : List Passed → ℕ → ℕ → List ℕ → Type 0
-AreStarts passes at number starts = All (λ pass. IsStart (told pass at) number (slice_index_or starts pass.feeder 0)) passes
+-- the start of each pass's feeder is a place before which the entries that the pass submitted in this shard have
+-- numbers below this one
+abbrev pub AreStarts : List PassModel → ℕ → ℕ → List ℕ → Type 0
+AreStarts passes at number starts = All (λ pass. AreNumberedBelow (own_entries pass at) number (slice_index_or starts pass.feeder 0)) passes
 
--- each pass of its feeder submitted the entry at its number
-abbrev pub IsOwned : List Passed → ℕ → Numbered → Type 0
-IsOwned passes at known = All (λ pass. pass.feeder ≡ known.entry.feeder → IsTold pass at known) passes
+-- each pass of the entry's feeder submitted the entry in this shard at its number
+abbrev pub IsOwned : List PassModel → ℕ → NumberedEntry → Type 0
+IsOwned passes at known = All (λ pass. pass.feeder ≡ known.entry.feeder → SubmittedAt pass at known) passes
 
--- so it is for each entry of the journal: none is a stranger
-abbrev pub AreOwned : List Passed → ℕ → List Entry → Type 0
+-- each entry of a journal of this shard was submitted there at its number by each pass of its feeder: none is a
+-- stranger
+abbrev pub AreOwned : List PassModel → ℕ → List Entry → Type 0
 AreOwned passes at journal = All (IsOwned passes at) (numbered 0 journal)
 
--- a journal of the shard in which the entries of each pass's feeder are the ones that the pass submitted, and
--- that has each pass's farthest entry at its number
-pub record IsSettledFor (plan : Plan) (passes : List Passed) (at : ℕ) (journal : List Entry) : Type 0 where
+-- a journal of this shard in which the entries of each pass's feeder read as those that the pass submitted there, and
+-- which has the farthest entry that each pass knows there
+pub record IsSettledFor (plan : Plan) (passes : List PassModel) (at : ℕ) (journal : List Entry) : Type 0 where
   pub of_shard : IsJournalOf plan at journal
-  pub of_each : All (λ pass. map plain_numbered (entries_of pass.feeder journal) ≡ map plain_numbered (told pass at)) passes
+  pub of_each : All (λ pass. map plain_numbered (entries_of pass.feeder journal) ≡ map plain_numbered (own_entries pass at)) passes
   pub farthest : All (λ pass. HasFarthest at pass journal) passes

@@ -1,11 +1,11 @@
-//! An auditor: a lock for each shard.
+//! An auditor: the registers of a tower in shards, each shard under a lock.
 
 ghost use Rattle.std.specs.Prelude.{◌≡◌, ◌⊎◌, ◌<◌, ◌≤◌, ◌%◌, ◌^◌, ◌≢◌, ℕ, List, map, IfOk, IfErr, OnOk, OnErr, length, vec_capacity, vec_len};
 ghost use Rattle.std.specs.List.{range_with_len};
-ghost use Rattle.intervals.specs.Terms.{Terms};
+ghost use Rattle.intervals.specs.Terms.{ClaimModel};
 ghost use Rattle.shards.specs.declared.fault.ShardFault.TheVariants.{ForeignPass, JournalBehind as IsJournalBehind, Memory, UnknownRegister};
 ghost use Rattle.shards.specs.Closing.{AreComplete, IsClosed, IsClosedWithSome, IsUnfinished};
-ghost use Rattle.shards.specs.Pass.{IsPassOf, fresh, with_own};
+ghost use Rattle.shards.specs.Pass.{IsPassOf, new_pass, with_own};
 ghost use Rattle.shards.specs.Plan.{plan_of};
 ghost use Rattle.shards.specs.Steps.{entered, IsLive, IsRefusal, IsSubmitted, entry_of, numbered_entry};
 
@@ -19,7 +19,7 @@ use std::alloc::Global;
 use std::sync::{Mutex, Wait};
 use tower_file::Tower;
 
-/// The registers of a tower in shards, each behind a lock of its own. Register `r` stands in shard `r` modulo
+/// The registers of a tower in shards, each shard under a lock of its own. Register `r` is in shard `r` modulo
 /// the number of shards.
 #[derive(Drop)]
 pub struct Auditor<'t, O: Opening> {
@@ -27,7 +27,7 @@ pub struct Auditor<'t, O: Opening> {
     feeders: u32,
     registers: usize,
     locks: Vec<Mutex<ShardState<'t, O>>>,
-    /// Room for what is under the locks, so that to finish takes no memory.
+    /// Room for what is under the locks, so that finishing takes no memory.
     room: Vec<Shard<'t>>,
     ghost name_is: { name ≡ O.plan.name },
     ghost feeders_is: { feeders ≡ O.plan.feeders },
@@ -40,7 +40,7 @@ pub struct Auditor<'t, O: Opening> {
     ghost enough: { O.plan.shards ≤ vec_capacity room },
 }
 
-/// An auditor that was not finished, with the passes that were given, and why not.
+/// An auditor that could not be closed, with the passes that were given, and why it could not.
 #[derive(Drop)]
 pub struct Unfinished<'t, O: Opening> {
     pub fault: ShardFault,
@@ -49,8 +49,8 @@ pub struct Unfinished<'t, O: Opening> {
 }
 
 impl<'t, O: Opening> Auditor<'t, O> {
-    /// An auditor for the registers of a tower, with a pass for each feeder, by number. Its name tells its passes
-    /// from those of other auditors; two that are opened under one name cannot tell them apart.
+    /// An auditor for the registers of a tower, with a pass for each feeder, by number. The name
+    /// distinguishes these passes from those of other auditors, so each auditor needs a name of its own.
     pub fn open(
         alloc: Global,
         name: u64,
@@ -61,7 +61,7 @@ impl<'t, O: Opening> Auditor<'t, O> {
         requires opening { O.plan ≡ plan_of name tower.now shards feeders }
         requires shards { (1 ≤ shards) × (shards ≤ 64) }
         requires feeders { (1 ≤ feeders) × (feeders ≤ 256) }
-        ensures passes { IfOk result (λ opened. opened.1.items ≡ map (fresh O.plan) (range_with_len 0 feeders)) }
+        ensures passes { IfOk result (λ opened. opened.1.items ≡ map (new_pass O.plan) (range_with_len 0 feeders)) }
         ensures memory { IfErr result (λ fault. fault ≡ Memory) }
     {
         let passes = open_passes(alloc, name, shards, feeders)?;
@@ -75,8 +75,8 @@ impl<'t, O: Opening> Auditor<'t, O> {
         Ok((auditor, passes))
     }
 
-    /// Has an edit of a register carried out or refused, and entered in the journal of its shard. It waits for
-    /// that shard's lock alone.
+    /// Carries an edit of a register out, or has the register refuse it, and enters it in the journal of the
+    /// register's shard either way. An error enters nothing. It waits for that shard's lock alone.
     pub fn submit<R: Wait, G: Gate>(
         &self,
         rt: &R,
@@ -96,7 +96,8 @@ impl<'t, O: Opening> Auditor<'t, O> {
         answered
     }
 
-    /// What stands of a register now. It waits for the lock of the register's shard alone, and takes no memory.
+    /// The verdict on a register as it is now, with how many operations stand. It waits for the lock of the
+    /// register's shard alone, and takes no memory.
     pub fn standing<R: Wait, G: Gate>(
         &self,
         rt: &R,
@@ -114,8 +115,8 @@ impl<'t, O: Opening> Auditor<'t, O> {
         answered
     }
 
-    /// Closes the auditor with the pass of each feeder. Where it refuses, everything is handed back. It takes no
-    /// memory.
+    /// Closes the auditor with the pass of each feeder. Where it refuses, it returns the auditor and the passes. It
+    /// takes no memory.
     pub fn finish(self, passes: Vec<Pass<'t>>) -> Result<Closed<'t>, Unfinished<'t, O>>
         ensures closed { IfOk result (IsClosed O.plan passes.entry.items) }
         ensures unfinished { IfErr result (λ unfinished. IsUnfinished O.plan O.plan.feeders passes.entry.items unfinished.fault) }
@@ -125,9 +126,9 @@ impl<'t, O: Opening> Auditor<'t, O> {
         self.close(wanted, passes)
     }
 
-    /// Closes the auditor with the passes that are left, maybe none, where some are lost. What the feeders
-    /// without a pass submitted is taken as it stands. Where it refuses, everything is handed back. It takes no
-    /// memory.
+    /// Closes the auditor with the passes that are left, maybe none, where some are lost. The entries of
+    /// feeders without a pass are taken as the journals have them. Where it refuses, it returns the auditor and the
+    /// passes. It takes no memory.
     pub fn finish_some(self, passes: Vec<Pass<'t>>) -> Result<Closed<'t>, Unfinished<'t, O>>
         ensures closed { IfOk result (IsClosedWithSome O.plan passes.entry.items) }
         ensures unfinished { IfErr result (λ unfinished. IsUnfinished O.plan 0 passes.entry.items unfinished.fault) }
@@ -136,7 +137,7 @@ impl<'t, O: Opening> Auditor<'t, O> {
         self.close(0, passes)
     }
 
-    /// Closes the auditor with passes, of which there must be one of each feeder below `wanted`.
+    /// Closes the auditor with passes; each feeder below `wanted` must have one.
     fn close(self, wanted: u32, passes: Vec<Pass<'t>>) -> Result<Closed<'t>, Unfinished<'t, O>>
         ensures closed { IfOk result (IsClosedWithSome O.plan passes.entry.items) }
         ensures complete { OnOk result (AreComplete wanted passes.entry.items) }
@@ -171,7 +172,7 @@ impl<'t, O: Opening> Auditor<'t, O> {
         }
     }
 
-    /// The shard of a register, where the pass is one of the auditor's and the register is there.
+    /// The shard of a register. S6 where the pass is not one of the auditor's, S1 where there is no such register.
     fn shard_of(&self, pass: &Pass<'t>, register: RegId) -> Result<u32, ShardFault>
         ensures ok { IfOk result (λ shard. IsPassOf O.plan pass.now × (register.0 < length O.plan.claims) × (shard ≡ register.0 % O.plan.shards)) }
         ensures err { IfErr result (λ fault. ((fault ≡ ForeignPass) × (¬ IsPassOf O.plan pass.now)) ⊎ ((fault ≡ UnknownRegister) × IsPassOf O.plan pass.now × (length O.plan.claims ≤ register.0))) }
@@ -186,7 +187,7 @@ impl<'t, O: Opening> Auditor<'t, O> {
         Ok(register.0 % shards as u32)
     }
 
-    /// Holds the lock of a shard for one edit.
+    /// Submits an edit to a shard, whose lock it holds meanwhile.
     fn submit_inside<R: Wait, G: Gate>(
         &self,
         rt: &R,
@@ -212,7 +213,7 @@ impl<'t, O: Opening> Auditor<'t, O> {
         state.submit(pass, register, *edit)
     }
 
-    /// Holds the lock of a shard for one question.
+    /// Answers a question from a shard, whose lock it holds meanwhile.
     fn standing_inside<R: Wait, G: Gate>(
         &self,
         rt: &R,
@@ -237,7 +238,7 @@ impl<'t, O: Opening> Auditor<'t, O> {
     }
 }
 
-/// What is answered where a lock guards another shard.
+/// The fault where a lock guards another shard than the one of its place.
 fn misplaced(shard: u32) -> ShardFault
     ensures { result ≡ IsJournalBehind shard 0 0 }
 {
@@ -255,7 +256,7 @@ fn open_passes<'t>(
     shards: u32,
     feeders: u32,
 ) -> Result<Vec<Pass<'t>>, ShardFault>
-    ensures passes { IfOk result (λ passes. (claims : List Terms) → passes.items ≡ map (fresh (record { name = name; shards = shards; feeders = feeders; claims = claims })) (range_with_len 0 feeders)) }
+    ensures passes { IfOk result (λ passes. (claims : List ClaimModel) → passes.items ≡ map (new_pass (record { name = name; shards = shards; feeders = feeders; claims = claims })) (range_with_len 0 feeders)) }
     ensures memory { IfErr result (λ fault. fault ≡ Memory) }
 {
     let mut passes = Vec::with_capacity(alloc, feeders as usize)?;

@@ -1,7 +1,7 @@
-//! What an auditor leaves.
+//! What a closed auditor leaves.
 
 ghost use Rattle.std.specs.Prelude.{◌≡◌, [], map, option_map};
-ghost use Rattle.register_book.specs.Kept.{claimed_of};
+ghost use Rattle.register_book.specs.BookModel.{claimed_of};
 ghost use Rattle.shards.specs.Closing.{book_of, journal_of};
 ghost use Rattle.shards.specs.Shard.{ended_of};
 
@@ -19,10 +19,10 @@ pub struct Closed<'t> {
 
 impl<'t> Model for Closed<'t> {
     ghost use Rattle.std.specs.Prelude.{List, map};
-    ghost use Rattle.shards.specs.Closing.{Ended};
+    ghost use Rattle.shards.specs.Closing.{ClosedShard};
     ghost use Rattle.shards.specs.Shard.{ended_of};
 
-    ghost Value = { List Ended };
+    ghost Value = { List ClosedShard };
 
     ghost view = { λ c. map ended_of c.shards.items };
 }
@@ -34,7 +34,7 @@ impl<'t> Closed<'t> {
         Closed { shards }
     }
 
-    /// The book of a register, as its journal leaves it.
+    /// The book of a register, as its shard's journal leaves it; none where there is no such register.
     pub fn book(&self, register: RegId) -> Option<&RegisterBook<'t>>
         ensures { option_map (λ book. claimed_of book.now) result ≡ book_of self.now register.0 }
     {
@@ -49,7 +49,7 @@ impl<'t> Closed<'t> {
         }
     }
 
-    /// What was answered in a shard, in order. Nothing in one that is not there.
+    /// The journal of a shard; empty where there is no such shard.
     pub fn journal(&self, shard: u32) -> &[Entry<'t>]
         ensures { result.now ≡ journal_of self.now shard }
     {

@@ -3,19 +3,19 @@
 ghost use Rattle.std.specs.Prelude.{◌≡◌, ◌≢◌, ◌↔◌, ◌<◌, ◌≤◌, ◌^◌, ℕ, All, IfSome, IsNone, IsTrue, MatchBool, Some, length, map};
 ghost use Rattle.std.specs.List.{AllPairs, slice_get};
 ghost use Rattle.std.specs.List.Sorted.{IsPartitionPoint};
-ghost use Rattle.shards.specs.Closing.{AreComplete, AreItsPasses, Held, IsClosingFault, IsFirstStranger, IsFirstWithStranger};
-ghost use Rattle.shards.specs.Merge.{IsStranger, IsTold};
-ghost use Rattle.shards.specs.Pass.{told};
-ghost use Rattle.shards.specs.Shard.{AreOwned, AreStarts, IsKept, IsOwned, IsSettledFor, IsStart, held_of};
+ghost use Rattle.shards.specs.Closing.{AreComplete, AreItsPasses, ShardModel, IsClosingFault, IsFirstStranger, IsFirstWithStranger};
+ghost use Rattle.shards.specs.Merge.{IsStranger, SubmittedAt};
+ghost use Rattle.shards.specs.Pass.{own_entries};
+ghost use Rattle.shards.specs.Shard.{AreOwned, AreStarts, IsShardOf, IsOwned, IsSettledFor, AreNumberedBelow, held_of};
 ghost use Rattle.shards.specs.Steps.{numbered_entry};
 
 use crate::fitting::{are_its_passes, first_missing, first_unfit, pass_of};
 use crate::same::is_same;
 use crate::shard::Shard;
-use crate::{Entry, Numbered, Opening, Pass, ShardFault};
+use crate::{Entry, NumberedEntry, Opening, Pass, ShardFault};
 
 /// The first fault: S6, S4, S3, S5 in this order, of the least shard, and there of the least feeder or number.
-/// Of the feeders below `wanted` each must have a pass.
+/// Each feeder below `wanted` must have a pass.
 pub fn closing_fault<'t, O: Opening>(
     name: u64,
     feeders: u32,
@@ -26,12 +26,12 @@ pub fn closing_fault<'t, O: Opening>(
     requires name { name ≡ O.plan.name }
     requires feeders { feeders ≡ O.plan.feeders }
     requires many { length shards.now ≡ O.plan.shards }
-    requires kept { All (IsKept O.plan) shards.now }
+    requires kept { All (IsShardOf O.plan) shards.now }
     requires bound { O.plan.shards < 2 ^ 32 }
     requires few { O.plan.feeders ≤ 256 }
     ensures fault { IfSome result (IsClosingFault O.plan wanted passes.now (map held_of shards.now)) }
     ensures passes { IsNone result → AreItsPasses O.plan passes.now × AreComplete wanted passes.now }
-    ensures none { IsNone result → (place : ℕ) (shard : Held) → slice_get (map held_of shards.now) place ≡ Some shard → (shard.at ≡ place) × IsSettledFor O.plan passes.now place shard.journal }
+    ensures none { IsNone result → (place : ℕ) (shard : ShardModel) → slice_get (map held_of shards.now) place ≡ Some shard → (shard.at ≡ place) × IsSettledFor O.plan passes.now place shard.journal }
 {
     if !are_its_passes::<O>(name, feeders, shards.len(), passes) {
         return Some(ShardFault::ForeignPass);
@@ -50,13 +50,13 @@ pub fn closing_fault<'t, O: Opening>(
     })
 }
 
-/// The least shard with a stranger, and the first one there.
-fn first_stranger<'t>(shards: &[Shard<'t>], passes: &[Pass<'t>]) -> Option<(u32, Numbered<'t>)>
+/// The least shard with a stranger, which is an entry that its feeder's pass did not submit, and the first there.
+fn first_stranger<'t>(shards: &[Shard<'t>], passes: &[Pass<'t>]) -> Option<(u32, NumberedEntry<'t>)>
     requires apart { AllPairs (λ a b. a.feeder ≢ b.feeder) passes.now }
     requires few { All (λ pass. pass.feeder < 256) passes.now }
     requires bound { length shards.now < 2 ^ 32 }
     ensures stranger { IfSome result (λ found. IsFirstWithStranger passes.now (map held_of shards.now) found.0 found.1) }
-    ensures none { IsNone result → (place : ℕ) (shard : Held) → slice_get (map held_of shards.now) place ≡ Some shard → AreOwned passes.now place shard.journal }
+    ensures none { IsNone result → (place : ℕ) (shard : ShardModel) → slice_get (map held_of shards.now) place ≡ Some shard → AreOwned passes.now place shard.journal }
 {
     for place in 0..shards.len() {
         let shard = &shards[place];
@@ -67,9 +67,13 @@ fn first_stranger<'t>(shards: &[Shard<'t>], passes: &[Pass<'t>]) -> Option<(u32,
     None
 }
 
-/// The first stranger of a journal. The entries of each pass are gone over once, beside the journal: from the start
-/// of its feeder on they have no lesser numbers.
-fn stranger_in<'t>(journal: &[Entry<'t>], place: u32, passes: &[Pass<'t>]) -> Option<Numbered<'t>>
+/// The first stranger of a journal. The entries of each pass are gone over once, beside the journal: those before
+/// the start of its feeder have lesser numbers than the entry that the journal is at.
+fn stranger_in<'t>(
+    journal: &[Entry<'t>],
+    place: u32,
+    passes: &[Pass<'t>],
+) -> Option<NumberedEntry<'t>>
     requires apart { AllPairs (λ a b. a.feeder ≢ b.feeder) passes.now }
     requires few { All (λ pass. pass.feeder < 256) passes.now }
     ensures stranger { IfSome result (IsFirstStranger passes.now place journal.now) }
@@ -79,7 +83,7 @@ fn stranger_in<'t>(journal: &[Entry<'t>], place: u32, passes: &[Pass<'t>]) -> Op
     for number in 0..journal.len() {
         let entry = &journal[number];
         if !is_owned(passes, place, number as u64, entry, &mut starts) {
-            return Some(Numbered {
+            return Some(NumberedEntry {
                 number: number as u64,
                 entry: *entry,
             });
@@ -88,8 +92,8 @@ fn stranger_in<'t>(journal: &[Entry<'t>], place: u32, passes: &[Pass<'t>]) -> Op
     None
 }
 
-/// Whether the pass of its feeder, where there is one, submitted the entry at its number. The feeder's start goes
-/// on to that number.
+/// Whether the pass of the entry's feeder submitted it at its number; true where there is no such pass. The
+/// feeder's start moves on to that number.
 fn is_owned(
     passes: &[Pass],
     place: u32,
@@ -114,10 +118,10 @@ fn is_owned(
     }
 }
 
-/// The first place, from this one on, of an entry that the pass submitted with no lesser number.
+/// The first place, from `place` on, of an own entry of the pass whose number is not less than `number`.
 fn start_from(pass: &Pass, shard: u32, place: usize, number: u64) -> usize
-    requires { IsStart (told pass.now shard) number place }
-    ensures { IsPartitionPoint (λ own. own.number < number) (λ own. number ≤ own.number) (told pass.now shard) result }
+    requires { AreNumberedBelow (own_entries pass.now shard) number place }
+    ensures { IsPartitionPoint (λ own. own.number < number) (λ own. number ≤ own.number) (own_entries pass.now shard) result }
 {
     let many = pass.submitted(shard) as usize;
     let mut start = place;
@@ -130,11 +134,11 @@ fn start_from(pass: &Pass, shard: u32, place: usize, number: u64) -> usize
     start
 }
 
-/// Whether the pass submitted the entry at its number, which is greater than those before a place and not greater
-/// than the others.
+/// Whether the pass submitted the entry at `number`. Its own entries before `start` have lesser numbers, the others
+/// do not.
 fn is_told(pass: &Pass, shard: u32, start: usize, number: u64, entry: &Entry) -> bool
-    requires { IsPartitionPoint (λ own. own.number < number) (λ own. number ≤ own.number) (told pass.now shard) start }
-    ensures { IsTrue result ↔ IsTold pass.now shard (numbered_entry number entry.now) }
+    requires { IsPartitionPoint (λ own. own.number < number) (λ own. number ≤ own.number) (own_entries pass.now shard) start }
+    ensures { IsTrue result ↔ SubmittedAt pass.now shard (numbered_entry number entry.now) }
 {
     match pass.entry_at(shard, start) {
         Some(own) => own.number == number && is_same(&own.entry, entry),

@@ -1,9 +1,9 @@
-//! What is entered in a journal, and what a caller is told.
+//! What is entered in a journal, and what a call returns.
 
 use intervals::{Edit, RegId};
 use register_book::{Fault, Reply, Witness};
 
-/// An edit that was answered with a receipt.
+/// An edit that was answered with a receipt, as a journal keeps it: who submitted what, and the reply.
 #[derive(Clone, Copy, Debug)]
 pub struct Entry<'t> {
     pub feeder: u32,
@@ -14,12 +14,13 @@ pub struct Entry<'t> {
 
 /// An entry with its place in the journal of its shard, from 0.
 #[derive(Clone, Copy, Debug)]
-pub struct Numbered<'t> {
+pub struct NumberedEntry<'t> {
     pub number: u64,
     pub entry: Entry<'t>,
 }
 
-/// What a feeder is told of an edit: where it was entered, a refused one too.
+/// What a feeder gets for an edit: where it was entered, and the reply. An edit that the register refused is
+/// entered too.
 #[derive(Clone, Copy, Debug, PartialEq, Eq)]
 pub struct Receipt {
     pub shard: u32,
@@ -27,7 +28,7 @@ pub struct Receipt {
     pub reply: Reply,
 }
 
-/// What stands of a register when it is asked for.
+/// The answer to a question: the verdict on a register at that time.
 #[derive(Clone, Copy, Debug)]
 pub struct Answer<'t> {
     pub holds: bool,
@@ -35,6 +36,6 @@ pub struct Answer<'t> {
     pub operations: u64,
     pub fault: Option<Fault>,
     pub witness: Option<Witness<'t>>,
-    /// How many entries the journal of the register's shard has then.
+    /// How many entries the journal of the register's shard has at that time.
     pub number: u64,
 }

@@ -2,8 +2,8 @@
 
 ghost use Rattle.std.specs.Prelude.{◌≡◌, ◌↔◌, ◌<◌, ◌^◌, ℕ, All, Contains, IfSome, IsNone, IsTrue, length, map};
 ghost use Rattle.shards.specs.Closing.{AreComplete, AreFit, AreItsPasses, Fits, HasPassOf, IsFirstMissing, IsFirstUnfit, IsUnfit};
-ghost use Rattle.shards.specs.Pass.{told};
-ghost use Rattle.shards.specs.Shard.{IsKept, Rises, held_of};
+ghost use Rattle.shards.specs.Pass.{own_entries};
+ghost use Rattle.shards.specs.Shard.{IsShardOf, Rises, held_of};
 
 use crate::keeping::first_lack;
 use crate::shard::Shard;
@@ -28,7 +28,7 @@ pub fn are_its_passes<O: Opening>(name: u64, feeders: u32, shards: usize, passes
     true
 }
 
-/// The pass of a feeder. Passes mostly come by the numbers of their feeders.
+/// The pass of a feeder. It is looked for at the feeder's number first, since passes mostly come in that order.
 pub fn pass_of<'a, 't>(passes: &'a [Pass<'t>], feeder: u32) -> Option<&'a Pass<'t>>
     ensures found { IfSome result (λ pass. (pass.now.feeder ≡ feeder) × Contains passes.now pass.now) }
     ensures none { IsNone result → ¬ HasPassOf passes.now feeder }
@@ -46,7 +46,7 @@ pub fn pass_of<'a, 't>(passes: &'a [Pass<'t>], feeder: u32) -> Option<&'a Pass<'
     None
 }
 
-/// The least feeder that has no pass.
+/// The least feeder below `feeders` that has no pass.
 pub fn first_missing(feeders: u32, passes: &[Pass]) -> Option<u32>
     ensures missing { IfSome result (IsFirstMissing feeders passes.now) }
     ensures none { IsNone result → AreComplete feeders passes.now }
@@ -59,7 +59,7 @@ pub fn first_missing(feeders: u32, passes: &[Pass]) -> Option<u32>
     None
 }
 
-/// The least shard that does not fit the passes, with the numbers that show it.
+/// The least shard that does not fit the passes, with the two numbers that show it.
 pub fn first_unfit<O: Opening>(
     feeders: u32,
     shards: &[Shard],
@@ -67,12 +67,12 @@ pub fn first_unfit<O: Opening>(
 ) -> Option<(u32, u64, u64)>
     requires feeders { feeders ≡ O.plan.feeders }
     requires many { length shards.now ≡ O.plan.shards }
-    requires kept { All (IsKept O.plan) shards.now }
+    requires kept { All (IsShardOf O.plan) shards.now }
     requires passes { AreItsPasses O.plan passes.now }
     requires bound { O.plan.shards < 2 ^ 32 }
     ensures unfit { IfSome result (λ found. IsFirstUnfit passes.now (map held_of shards.now) found.0 found.1 found.2) }
     ensures none { IsNone result → AreFit passes.now (map held_of shards.now) }
-    ensures rises { IsNone result → (place : ℕ) → place < length shards.now → All (λ pass. Rises (told pass place)) passes.now }
+    ensures rises { IsNone result → (place : ℕ) → place < length shards.now → All (λ pass. Rises (own_entries pass place)) passes.now }
 {
     for place in 0..shards.len() {
         if let Some((seen, found)) = lack_of::<O>(feeders, place as u32, &shards[place], passes) {
@@ -82,7 +82,7 @@ pub fn first_unfit<O: Opening>(
     None
 }
 
-/// The numbers that show that the shard at a place does not fit the passes.
+/// The two numbers that show that the shard at a place does not fit the passes; none where it fits.
 fn lack_of<O: Opening>(
     feeders: u32,
     place: u32,
@@ -90,11 +90,11 @@ fn lack_of<O: Opening>(
     passes: &[Pass],
 ) -> Option<(u64, u64)>
     requires feeders { feeders ≡ O.plan.feeders }
-    requires kept { IsKept O.plan shard.now }
+    requires kept { IsShardOf O.plan shard.now }
     requires passes { AreItsPasses O.plan passes.now }
     ensures unfit { IfSome result (λ lack. IsUnfit passes.now place (held_of shard.now) lack.0 lack.1) }
     ensures none { IsNone result → Fits passes.now place (held_of shard.now) }
-    ensures rises { IsNone result → All (λ pass. Rises (told pass place)) passes.now }
+    ensures rises { IsNone result → All (λ pass. Rises (own_entries pass place)) passes.now }
 {
     if shard.at != place {
         return Some((0, 0));

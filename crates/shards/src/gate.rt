@@ -1,12 +1,12 @@
-//! Where a caller may look on, or hold a feeder.
+//! Hooks at the locks, from which a caller may watch a feeder or hold it.
 
-/// What is called in each lock hold, and after each release. A call of the auditor from `inside`, for a register of
-/// the shard that is held, waits for ever.
+/// Hooks that are called while a feeder holds a shard's lock and after it has released it. Where `inside` calls the
+/// auditor for a register of that shard, the call waits for ever.
 pub trait Gate: Sync {
     /// Called once while the feeder holds the shard's lock.
     fn inside(&self, shard: u32, feeder: u32);
 
-    /// Called once after the feeder let go of it.
+    /// Called once after the feeder has released the lock.
     fn outside(&self, feeder: u32);
 }
 

@@ -1,25 +1,25 @@
-//! What the words of this crate come to, whatever the journals.
+//! Laws of journals, passes and closing, which hold of any plan. Each is proved, and does nothing.
 
 ghost use Rattle.std.specs.Prelude.{◌≡◌, ◌%◌, ℕ, List, [], ◌++◌, map, Some, All, filter, ◌≢◌, ◌<◌, ◌∷◌, Option, length, ◌≤◌, IfSome, IsSomeAnd};
 ghost use Rattle.std.specs.List.{slice_get};
-ghost use Rattle.intervals.specs.Terms.{Terms, unedited};
+ghost use Rattle.intervals.specs.Terms.{ClaimModel, unedited};
 ghost use Rattle.intervals.specs.Refusal.{standing};
 ghost use Rattle.shards.specs.declared.entry.Entry.{Entry};
 ghost use Rattle.shards.specs.Plan.{Plan};
 ghost use Rattle.shards.specs.Journal.{IsJournalOf, IsLegalJournal, asked_in, edits_of, left_by, is_by};
 ghost use Rattle.shards.specs.Plain.{plain_entry};
-ghost use Rattle.shards.specs.Pass.{Passed, told, IsPassOf, Sight, fresh, learnt, with_own, with_seen, IsBehind, IsInKeeping, farthest_in, farthest_of};
+ghost use Rattle.shards.specs.Pass.{PassModel, own_entries, IsPassOf, SeenModel, new_pass, learnt, with_own, with_seen, IsBehind, IsInKeeping, farthest_in, farthest_of};
 ghost use Rattle.shards.specs.Merge.{IsMerge};
 ghost use Rattle.shards.specs.Steps.{IsLive, IsSubmitted};
 ghost use Rattle.intervals.specs.declared.operation.RegId.{RegId};
 ghost use Rattle.intervals.specs.declared.edit.Edit.{Edit};
 ghost use Rattle.shards.specs.declared.entry.Answer.{Answer};
-ghost use Rattle.shards.specs.declared.entry.Numbered.{Numbered};
+ghost use Rattle.shards.specs.declared.entry.NumberedEntry.{NumberedEntry};
 ghost use Rattle.shards.specs.declared.entry.Receipt.{Receipt};
 ghost use Rattle.shards.specs.declared.fault.ShardFault.{ShardFault};
-ghost use Rattle.shards.specs.Closing.{Held, IsClosingFault};
+ghost use Rattle.shards.specs.Closing.{ShardModel, IsClosingFault};
 
-/// Each front of a legal journal is legal.
+/// Each prefix of a legal journal is legal.
 pub fn each_front_is_legal()
     ensures { (plan : Plan) (at : ℕ) (front rest : List Entry) → IsLegalJournal plan at (front ++ rest) → IsLegalJournal plan at front }
 {}
@@ -27,12 +27,12 @@ pub fn each_front_is_legal()
 /// A legal journal leaves a register as all its edits in order do, whether they were accepted or
 /// refused.
 pub fn what_stands_is_after_all_edits()
-    ensures { (plan : Plan) (at register : ℕ) (claim : Terms) (journal : List Entry) → IsLegalJournal plan at journal → slice_get plan.claims register ≡ Some claim
+    ensures { (plan : Plan) (at register : ℕ) (claim : ClaimModel) (journal : List Entry) → IsLegalJournal plan at journal → slice_get plan.claims register ≡ Some claim
         → left_by journal register claim ≡ standing (unedited claim) (edits_of register journal) }
 {}
 
-/// The replies of a legal journal are determined: two legal journals of one shard, with the same feeders,
-/// registers and edits in order, are one.
+/// The replies of a legal journal are determined: two legal journals of one shard with the same feeders, registers
+/// and edits, in order, are equal.
 pub fn one_reply()
     ensures { (plan : Plan) (at : ℕ) (journal other : List Entry) → IsLegalJournal plan at journal → IsLegalJournal plan at other
         → map asked_in journal ≡ map asked_in other → journal ≡ other }
@@ -41,65 +41,66 @@ pub fn one_reply()
 /// Where a journal is a merge, the entries of each pass's feeder, taken out of it in order, read the same as
 /// what the pass submitted there, in order.
 pub fn entries_are_as_submitted()
-    ensures { (at : ℕ) (passes : List Passed) (journal : List Entry) → IsMerge at passes journal
-        → All (λ pass. map plain_entry (filter (is_by pass.feeder) journal) ≡ map (λ own. plain_entry own.entry) (told pass at)) passes }
+    ensures { (at : ℕ) (passes : List PassModel) (journal : List Entry) → IsMerge at passes journal
+        → All (λ pass. map plain_entry (filter (is_by pass.feeder) journal) ≡ map (λ own. plain_entry own.entry) (own_entries pass at)) passes }
 {}
 
-/// Where there is one feeder, each entry of a journal is its. A journal that is in keeping with its pass has
+/// Where there is one feeder, each entry of a journal is by it. A journal that is in keeping with its pass has
 /// exactly as many entries as the pass submitted there: an edit is entered at the number of those before it, and
 /// a question is answered after exactly so many.
 pub fn a_lone_feeder_has_all_entries()
     ensures all { (plan : Plan) (at : ℕ) (journal : List Entry) → plan.feeders ≡ 1 → IsJournalOf plan at journal → filter (is_by 0) journal ≡ journal }
-    ensures counted { (plan : Plan) (at : ℕ) (pass : Passed) (journal : List Entry) → plan.feeders ≡ 1 → IsPassOf plan pass
-        → IsJournalOf plan at journal → IsInKeeping at pass journal → length journal ≡ length (told pass at) }
-    ensures submitted { (plan : Plan) (pass : Passed) (register : RegId) (edit : Edit) (receipt : Receipt) → plan.feeders ≡ 1
-        → IsSubmitted plan pass register edit receipt → receipt.number ≡ length (told pass receipt.shard) }
-    ensures live { (plan : Plan) (pass pass' : Passed) (register : ℕ) (answer : Answer) → plan.feeders ≡ 1
-        → IsLive plan pass pass' register answer → answer.number ≡ length (told pass (register % plan.shards)) }
+    ensures counted { (plan : Plan) (at : ℕ) (pass : PassModel) (journal : List Entry) → plan.feeders ≡ 1 → IsPassOf plan pass
+        → IsJournalOf plan at journal → IsInKeeping at pass journal → length journal ≡ length (own_entries pass at) }
+    ensures submitted { (plan : Plan) (pass : PassModel) (register : RegId) (edit : Edit) (receipt : Receipt) → plan.feeders ≡ 1
+        → IsSubmitted plan pass register edit receipt → receipt.number ≡ length (own_entries pass receipt.shard) }
+    ensures live { (plan : Plan) (pass pass' : PassModel) (register : ℕ) (answer : Answer) → plan.feeders ≡ 1
+        → IsLive plan pass pass' register answer → answer.number ≡ length (own_entries pass (register % plan.shards)) }
 {}
 
-/// Of one list of shards and passes there is at most one fault, however many passes are wanted.
+/// A list of shards and a list of passes have at most one closing fault, however many passes are wanted.
 pub fn one_closing_fault()
-    ensures { (plan : Plan) (wanted : ℕ) (passes : List Passed) (shards : List Held) (a b : ShardFault)
+    ensures { (plan : Plan) (wanted : ℕ) (passes : List PassModel) (shards : List ShardModel) (a b : ShardFault)
         → IsClosingFault plan wanted passes shards a → IsClosingFault plan wanted passes shards b → a ≡ b }
 {}
 
-/// A pass begins with no entries. One that it submits comes behind those of its shard, and all else that is
-/// done with it leaves its entries.
+/// A pass begins with no entries. An entry that it submits is added after those of its shard, and nothing else that
+/// is done with the pass changes its entries.
 pub fn what_was_told_stays()
-    ensures fresh { (plan : Plan) (feeder at : ℕ) → told (fresh plan feeder) at ≡ [] }
-    ensures own { (pass : Passed) (at : ℕ) (known : Numbered)
-        → at < length pass.own → told (with_own pass at known) at ≡ told pass at ++ known ∷ [] }
-    ensures others { (pass : Passed) (at other : ℕ) (known : Numbered)
-        → other ≢ at → told (with_own pass at known) other ≡ told pass other }
-    ensures seen { (pass : Passed) (at other : ℕ) (known : Option Numbered)
-        → ((with_seen pass at known).own ≡ pass.own) × (told (with_seen pass at known) other ≡ told pass other) }
-    ensures learnt { (pass : Passed) (seen : Sight) (other : ℕ)
-        → ((learnt pass seen).own ≡ pass.own) × (told (learnt pass seen) other ≡ told pass other) }
+    ensures fresh { (plan : Plan) (feeder at : ℕ) → own_entries (new_pass plan feeder) at ≡ [] }
+    ensures own { (pass : PassModel) (at : ℕ) (known : NumberedEntry)
+        → at < length pass.own → own_entries (with_own pass at known) at ≡ own_entries pass at ++ known ∷ [] }
+    ensures others { (pass : PassModel) (at other : ℕ) (known : NumberedEntry)
+        → other ≢ at → own_entries (with_own pass at known) other ≡ own_entries pass other }
+    ensures seen { (pass : PassModel) (at other : ℕ) (known : Option NumberedEntry)
+        → ((with_seen pass at known).own ≡ pass.own) × (own_entries (with_seen pass at known) other ≡ own_entries pass other) }
+    ensures learnt { (pass : PassModel) (seen : SeenModel) (other : ℕ)
+        → ((learnt pass seen).own ≡ pass.own) × (own_entries (learnt pass seen) other ≡ own_entries pass other) }
 {}
 
-/// Whatever is done with a pass, it stays of its plan.
+/// Whatever is done with a pass, it stays one of its plan.
 pub fn a_pass_stays_of_its_plan()
-    ensures fresh { (plan : Plan) (feeder : ℕ) → feeder < plan.feeders → IsPassOf plan (fresh plan feeder) }
-    ensures own { (plan : Plan) (pass : Passed) (at : ℕ) (known : Numbered)
+    ensures fresh { (plan : Plan) (feeder : ℕ) → feeder < plan.feeders → IsPassOf plan (new_pass plan feeder) }
+    ensures own { (plan : Plan) (pass : PassModel) (at : ℕ) (known : NumberedEntry)
         → IsPassOf plan pass → IsPassOf plan (with_own pass at known) }
-    ensures seen { (plan : Plan) (pass : Passed) (at : ℕ) (known : Option Numbered)
+    ensures seen { (plan : Plan) (pass : PassModel) (at : ℕ) (known : Option NumberedEntry)
         → IsPassOf plan pass → IsPassOf plan (with_seen pass at known) }
-    ensures learnt { (plan : Plan) (pass : Passed) (seen : Sight)
+    ensures learnt { (plan : Plan) (pass : PassModel) (seen : SeenModel)
         → IsPassOf plan pass → IsPassOf plan (learnt pass seen) }
 {}
 
-/// A journal that is behind a pass is not in keeping with it, and one number shows that.
+/// A journal is not both behind a pass (`IsBehind`) and in keeping with it, and at most one number shows
+/// that it is behind.
 pub fn behind_or_in_keeping()
-    ensures apart { (at : ℕ) (pass : Passed) (journal : List Entry) (seen : ℕ) → IsBehind at pass journal seen → ¬ IsInKeeping at pass journal }
-    ensures once { (at : ℕ) (pass : Passed) (journal : List Entry) (a b : ℕ) → IsBehind at pass journal a → IsBehind at pass journal b → a ≡ b }
+    ensures apart { (at : ℕ) (pass : PassModel) (journal : List Entry) (seen : ℕ) → IsBehind at pass journal seen → ¬ IsInKeeping at pass journal }
+    ensures once { (at : ℕ) (pass : PassModel) (journal : List Entry) (a b : ℕ) → IsBehind at pass journal a → IsBehind at pass journal b → a ≡ b }
 {}
 
-/// Who learns what another has seen knows in each shard an entry as far as the one that it knew there, and as
-/// the one that the other has seen there.
+/// A pass that learns what another feeder has seen knows in each shard an entry of no lesser number than the one
+/// that it knew there, and than the one that the other has seen there.
 pub fn one_learns_no_less()
-    ensures own { (pass : Passed) (seen : Sight) (at : ℕ) → length pass.seen.farthest ≡ length seen.farthest
+    ensures own { (pass : PassModel) (seen : SeenModel) (at : ℕ) → length pass.seen.farthest ≡ length seen.farthest
         → IfSome (farthest_of pass at) (λ known. IsSomeAnd (farthest_of (learnt pass seen) at) (λ after. known.number ≤ after.number)) }
-    ensures others { (pass : Passed) (seen : Sight) (at : ℕ) → length pass.seen.farthest ≡ length seen.farthest
+    ensures others { (pass : PassModel) (seen : SeenModel) (at : ℕ) → length pass.seen.farthest ≡ length seen.farthest
         → IfSome (farthest_in seen.farthest at) (λ known. IsSomeAnd (farthest_of (learnt pass seen) at) (λ after. known.number ≤ after.number)) }
 {}

@@ -1,6 +1,6 @@
-//! Shards: the registers of a tower behind locks, with a journal of what was answered in each.
+//! Shards: the registers of a tower under locks, with a journal of the edits that were answered in each.
 //!
-//! An auditor is opened for a tower, a number of shards and a number of feeders. Register `r` stands in
+//! An auditor is opened for a tower, a number of shards and a number of feeders. Register `r` is in
 //! shard `r` modulo the number of shards. Each feeder has a pass, with which it submits edits and asks
 //! questions, from any thread:
 //!
@@ -10,12 +10,12 @@
 //!     other.learn(pass.seen())?                                 // the other pass now knows of that entry
 //!     auditor.finish(passes)?                                   // the journals and the books
 //!
-//! Begin with `specs/Journal.antt`: a legal journal, in which each entry is answered by what stands after
-//! the entries before it. `specs/Pass.antt` has what a feeder knows, and which journals are in keeping with
+//! Begin with `specs/Journal.antt`: a legal journal, in which each entry has the reply of its register as the
+//! entries before leave it. `specs/Pass.antt` has what a feeder knows, and which journals are in keeping with
 //! that; `specs/Steps.antt` what an edit and a question come to; `specs/Merge.antt` and `specs/Closing.antt`
-//! what is left at the end. `laws.rt` says what these words come to.
+//! what is left at the end. `laws.rt` has what follows from these definitions.
 //!
-//! The value under a shard's lock is a `ShardState`: its type says that the journal is legal and each entry of
+//! The value under a shard's lock is a `ShardState`: its invariant says that the journal is legal and each entry of
 //! one of the feeders, that each book is what the journal leaves of its register, and that each feeder's count
 //! is the number of its entries. A lock forgets all of a value but its type, so the plan that the journal is
 //! legal for is a parameter of the type: an `Opening`, of which a caller picks one (`opening.rt`).
@@ -24,6 +24,7 @@
 mod auditor;
 mod closed;
 mod closing;
+mod compact;
 mod entry;
 mod fault;
 mod fitting;
@@ -33,7 +34,6 @@ pub mod laws;
 mod opening;
 mod parts;
 mod pass;
-mod row;
 mod same;
 mod seen;
 mod shard;
@@ -42,7 +42,7 @@ mod submitted;
 
 pub use auditor::{Auditor, Unfinished};
 pub use closed::Closed;
-pub use entry::{Answer, Entry, Numbered, Receipt};
+pub use entry::{Answer, Entry, NumberedEntry, Receipt};
 pub use fault::ShardFault;
 pub use gate::{Gate, NoGate};
 pub use opening::Opening;

@@ -1,9 +1,9 @@
-//! What ties a lock to the auditor that it belongs to.
+//! What ties the value under a lock to the auditor that it belongs to.
 
 use std::marker::Brand;
 
-/// The opening of an auditor, which it, the values under its locks and what it hands back belong to: for which
-/// tower, under which name, of how many shards and feeders. Each call that opens an auditor picks one.
+/// The opening of an auditor: a type parameter of the auditor and of the values under its locks. Its plan says what
+/// the registers claim, the name, and how many shards and feeders there are. Whoever opens an auditor picks one.
 pub trait Opening {
     ghost use Rattle.shards.specs.Plan.{Plan};
 

@@ -1,14 +1,14 @@
-//! Locks taken apart and put together again, without memory.
+//! Takes the values of all locks out, and puts them under locks again, without memory.
 
 ghost use Rattle.std.specs.Prelude.{◌≡◌, ◌≤◌, All, vec_capacity, vec_len};
-ghost use Rattle.shards.specs.Shard.{IsKept};
+ghost use Rattle.shards.specs.Shard.{IsShardOf};
 
 use crate::Opening;
 use crate::shard::Shard;
 use crate::state::ShardState;
 use std::sync::Mutex;
 
-/// Takes each value out from under its lock, in order, into room that is there for it.
+/// Takes each value out of its lock, in order, into room that is there for it.
 pub fn take_apart<'t, O: Opening>(
     locks: &mut Vec<Mutex<ShardState<'t, O>>>,
     shards: &mut Vec<Shard<'t>>,
@@ -16,7 +16,7 @@ pub fn take_apart<'t, O: Opening>(
     requires empty { vec_len shards.old ≡ 0 }
     requires room { vec_len locks.old ≤ vec_capacity shards.old }
     ensures many { vec_len shards.new ≡ vec_len locks.old }
-    ensures kept { All (IsKept O.plan) shards.new.items }
+    ensures kept { All (IsShardOf O.plan) shards.new.items }
     ensures empty { vec_len locks.new ≡ 0 }
     ensures room { vec_capacity locks.new ≡ vec_capacity locks.old }
     ensures capacity { vec_capacity shards.new ≡ vec_capacity shards.old }
@@ -34,7 +34,7 @@ pub fn put_together<'t, O: Opening>(
 )
     requires empty { vec_len locks.old ≡ 0 }
     requires room { vec_len shards.old ≤ vec_capacity locks.old }
-    requires kept { All (IsKept O.plan) shards.old.items }
+    requires kept { All (IsShardOf O.plan) shards.old.items }
     ensures many { vec_len locks.new ≡ vec_len shards.old }
     ensures empty { vec_len shards.new ≡ 0 }
     ensures room { vec_capacity shards.new ≡ vec_capacity shards.old }

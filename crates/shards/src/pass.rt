@@ -1,22 +1,22 @@
-//! What a feeder submitted, and what it has seen.
+//! The pass of a feeder: what it submitted, and what it has seen.
 
 ghost use Rattle.std.specs.Prelude.{◌≡◌, ◌<◌, ◌%◌, ◌↔◌, ◌++◌, ◌∷◌, [], replicate, IfOk, IfErr, IfSome, OnOk, OnErr, IsTrue, length, option_map};
 ghost use Rattle.std.specs.List.{slice_get};
 ghost use Rattle.shards.specs.declared.fault.ShardFault.TheVariants.{ForeignPass, Memory};
 ghost use Rattle.shards.specs.Journal.{IsAnswered};
-ghost use Rattle.shards.specs.Pass.{AreOfOneAuditor, IsInKeeping, IsPassOf, farthest_of, last_in, learnt, told, unseen, with_own, with_seen};
-ghost use Rattle.shards.specs.Shard.{IsKept, IsReached, Rises, held_of};
+ghost use Rattle.shards.specs.Pass.{AreOfOneAuditor, IsInKeeping, IsPassOf, farthest_of, last_in, learnt, own_entries, unseen, with_own, with_seen};
+ghost use Rattle.shards.specs.Shard.{IsShardOf, IsReached, Rises, held_of};
 ghost use Rattle.shards.specs.Steps.{entered, entry_of, last_entry, numbered_entry};
 
 use crate::shard::Shard;
 use crate::submitted::Submitted;
-use crate::{Entry, Numbered, Opening, Receipt, Seen, ShardFault};
+use crate::{Entry, NumberedEntry, Opening, Receipt, Seen, ShardFault};
 use intervals::{Edit, RegId};
 use std::alloc::Global;
 use std::marker::Model;
 
-/// The pass of a feeder. It keeps the entries that the feeder submitted, with the numbers that it was told, and
-/// for each shard the farthest entry that it knows.
+/// The pass of a feeder. It keeps the entries that the feeder submitted, with the numbers of their receipts, and
+/// for each shard the farthest entry that it knows, which is the one of greatest number.
 #[derive(Drop)]
 pub struct Pass<'t> {
     feeder: u32,
@@ -26,11 +26,11 @@ pub struct Pass<'t> {
 
 impl<'t> Model for Pass<'t> {
     ghost use Rattle.std.specs.Prelude.{map};
-    ghost use Rattle.shards.specs.Pass.{Passed};
-    ghost use Rattle.shards.specs.Rows.{entries_by};
+    ghost use Rattle.shards.specs.Pass.{PassModel};
+    ghost use Rattle.shards.specs.Compact.{entries_by};
     ghost use Rattle.shards.specs.Shard.{AreInStep};
 
-    ghost Value = { Passed };
+    ghost Value = { PassModel };
 
     ghost view = { λ p. record { feeder = p.feeder; own = map (λ own. entries_by p.feeder own.whole.items own.rows.items) p.own.items; seen = p.seen } };
 
@@ -38,7 +38,7 @@ impl<'t> Model for Pass<'t> {
 }
 
 impl<'t> Pass<'t> {
-    /// A pass with which nothing was done.
+    /// A pass before anything is done with it.
     pub(crate) fn new(
         alloc: Global,
         auditor: u64,
@@ -66,9 +66,9 @@ impl<'t> Pass<'t> {
         self.feeder
     }
 
-    /// How many entries the feeder submitted in a shard, 0 in one that is not there.
+    /// How many entries the feeder submitted in a shard; 0 where there is no such shard.
     pub fn submitted(&self, shard: u32) -> u64
-        ensures { result ≡ length (told self.now shard) }
+        ensures { result ≡ length (own_entries self.now shard) }
     {
         match self.own.get(shard as usize) {
             Some(own) => own.len() as u64,
@@ -76,15 +76,15 @@ impl<'t> Pass<'t> {
         }
     }
 
-    /// What the feeder has seen of the journals, to be handed on.
+    /// What the feeder has seen of the journals, for other feeders to learn.
     pub fn seen(&self) -> &Seen<'t>
         ensures { result.now ≡ self.now.seen }
     {
         &self.seen
     }
 
-    /// Takes over what another feeder of the same auditor has seen: in each shard the farther entry, its own
-    /// where both have one of equal number.
+    /// Takes over what another feeder of the same auditor has seen: in each shard the later entry, its own where
+    /// the numbers are equal.
     pub fn learn(&mut self, seen: &Seen<'t>) -> Result<(), ShardFault>
         ensures ok { OnOk result (self.new ≡ learnt self.old seen.now) }
         ensures refused { IfErr result (λ fault. fault ≡ ForeignPass) }
@@ -99,7 +99,7 @@ impl<'t> Pass<'t> {
         Ok(())
     }
 
-    /// Whether it is of an auditor of this name, number of shards and number of feeders.
+    /// Whether the pass is of an auditor of this name, number of shards and number of feeders.
     pub(crate) fn is_of<O: Opening>(&self, name: u64, shards: usize, feeders: u32) -> bool
         requires name { name ≡ O.plan.name }
         requires shards { shards ≡ O.plan.shards }
@@ -111,9 +111,9 @@ impl<'t> Pass<'t> {
 
     /// The number of the entry at a place among those that the feeder submitted in a shard.
     pub(crate) fn number_at(&self, shard: u32, place: usize) -> Option<u64>
-        ensures number { result ≡ option_map (λ own. own.number) (slice_get (told self.now shard) place) }
-        ensures rises { Rises (told self.now shard) }
-        ensures reached { IfSome (last_in (told self.now shard)) (IsReached (farthest_of self.now shard)) }
+        ensures number { result ≡ option_map (λ own. own.number) (slice_get (own_entries self.now shard) place) }
+        ensures rises { Rises (own_entries self.now shard) }
+        ensures reached { IfSome (last_in (own_entries self.now shard)) (IsReached (farthest_of self.now shard)) }
     {
         match self.own.get(shard as usize) {
             Some(own) => own.number(place),
@@ -122,9 +122,9 @@ impl<'t> Pass<'t> {
     }
 
     /// The entry at a place among those that the feeder submitted in a shard.
-    pub(crate) fn entry_at(&self, shard: u32, place: usize) -> Option<Numbered<'t>>
-        ensures entry { result ≡ slice_get (told self.now shard) place }
-        ensures rises { Rises (told self.now shard) }
+    pub(crate) fn entry_at(&self, shard: u32, place: usize) -> Option<NumberedEntry<'t>>
+        ensures entry { result ≡ slice_get (own_entries self.now shard) place }
+        ensures rises { Rises (own_entries self.now shard) }
     {
         match self.own.get(shard as usize) {
             Some(own) => own.entry(self.feeder, place),
@@ -132,7 +132,7 @@ impl<'t> Pass<'t> {
         }
     }
 
-    /// Has an edit entered by a shard whose journal is in keeping with the pass, and notes the entry. All growths
+    /// Has a shard enter an edit, where its journal is in keeping with the pass, and notes the entry. All growths
     /// come first.
     pub(crate) fn submit_to<O: Opening>(
         &mut self,
@@ -140,12 +140,12 @@ impl<'t> Pass<'t> {
         register: RegId,
         edit: &Edit<'t>,
     ) -> Result<Receipt, ShardFault>
-        requires kept { IsKept O.plan shard.old }
+        requires kept { IsShardOf O.plan shard.old }
         requires here { register.0 % O.plan.shards ≡ shard.old.at }
         requires known { register.0 < length O.plan.claims }
         requires pass { IsPassOf O.plan self.old }
         requires keeping { IsInKeeping shard.old.at self.old shard.old.journal.items }
-        ensures kept { IsKept O.plan shard.new }
+        ensures kept { IsShardOf O.plan shard.new }
         ensures journal { IfOk result (λ receipt. held_of shard.new ≡ record { at = shard.old.at; journal = shard.old.journal.items ++ entry_of self.old.feeder register edit.now receipt.reply ∷ [] }) }
         ensures answered { IfOk result (λ receipt. IsAnswered O.plan shard.old.at shard.old.journal.items (entry_of self.old.feeder register edit.now receipt.reply)) }
         ensures receipt { IfOk result (λ receipt. (receipt.shard ≡ shard.old.at) × (receipt.number ≡ length shard.old.journal.items)) }
@@ -156,7 +156,7 @@ impl<'t> Pass<'t> {
         let at = shard.at;
         self.own[at as usize].reserve()?;
         let receipt = shard.enter::<O>(self.feeder, register, edit)?;
-        let known = Numbered {
+        let known = NumberedEntry {
             number: receipt.number,
             entry: Entry {
                 feeder: self.feeder,
@@ -170,14 +170,14 @@ impl<'t> Pass<'t> {
         Ok(receipt)
     }
 
-    /// Sees a journal that is in keeping with the pass, to its last entry.
+    /// Notes the last entry of a journal, which is in keeping with the pass, as the farthest known in its shard.
     pub(crate) fn see(&mut self, shard: u32, journal: &[Entry<'t>])
         requires there { shard < length self.old.seen.farthest }
         requires keeping { IsInKeeping shard self.old journal.now }
         ensures { self.new ≡ with_seen self.old shard (last_entry journal.now) }
     {
         if let Some(entry) = journal.last() {
-            let last = Numbered {
+            let last = NumberedEntry {
                 number: (journal.len() - 1) as u64,
                 entry: *entry,
             };

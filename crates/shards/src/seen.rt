@@ -1,31 +1,31 @@
-//! What is known of the journals.
+//! What a feeder has seen of the journals.
 
 ghost use Rattle.std.specs.Prelude.{◌≡◌, ◌<◌, IfOk, IfErr, length, option_copied};
 ghost use Rattle.shards.specs.declared.fault.ShardFault.TheVariants.{Memory};
 ghost use Rattle.shards.specs.Pass.{farther, farther_each, farthest_in, unseen, with_farthest};
 
-use crate::{Numbered, ShardFault};
+use crate::{NumberedEntry, ShardFault};
 use std::alloc::Global;
 use std::marker::Model;
 
-/// For each shard of an auditor the farthest entry that is known. It is handed on to other feeders, whose passes
-/// learn from it.
+/// For each shard of an auditor the farthest entry that is known, which is the one of greatest number. The passes of
+/// other feeders learn from it.
 #[derive(Drop)]
 pub struct Seen<'t> {
     auditor: u64,
-    farthest: Vec<Option<Numbered<'t>>>,
+    farthest: Vec<Option<NumberedEntry<'t>>>,
 }
 
 impl<'t> Model for Seen<'t> {
-    ghost use Rattle.shards.specs.Pass.{Sight};
+    ghost use Rattle.shards.specs.Pass.{SeenModel};
 
-    ghost Value = { Sight };
+    ghost Value = { SeenModel };
 
     ghost view = { λ s. record { auditor = s.auditor; farthest = s.farthest.items } };
 }
 
 impl<'t> Seen<'t> {
-    /// Nothing is known of an auditor's shards.
+    /// Nothing known of an auditor's shards.
     pub(crate) fn new(alloc: Global, auditor: u64, shards: u32) -> Result<Self, ShardFault>
         ensures unseen { IfOk result (λ seen. seen ≡ unseen auditor shards) }
         ensures memory { IfErr result (λ fault. fault ≡ Memory) }
@@ -36,7 +36,7 @@ impl<'t> Seen<'t> {
         })
     }
 
-    /// The same once more.
+    /// A copy of it.
     pub fn copy(&self, alloc: Global) -> Result<Seen<'t>, ShardFault>
         ensures copy { IfOk result (λ copy. copy ≡ self.now) }
         ensures memory { IfErr result (λ fault. fault ≡ Memory) }
@@ -59,8 +59,8 @@ impl<'t> Seen<'t> {
         self.farthest.len()
     }
 
-    /// The farthest entry known in a shard.
-    pub fn farthest(&self, shard: u32) -> Option<&Numbered<'t>>
+    /// The farthest entry known in a shard; none where there is no such shard.
+    pub fn farthest(&self, shard: u32) -> Option<&NumberedEntry<'t>>
         ensures { option_copied result ≡ farthest_in self.now.farthest shard }
     {
         match self.farthest.get(shard as usize) {
@@ -69,15 +69,15 @@ impl<'t> Seen<'t> {
         }
     }
 
-    /// Takes an entry as the farthest one known in a shard.
-    pub(crate) fn see(&mut self, shard: u32, known: Numbered<'t>)
+    /// Notes an entry as the farthest known in a shard.
+    pub(crate) fn see(&mut self, shard: u32, known: NumberedEntry<'t>)
         requires { shard < length self.old.farthest }
         ensures { self.new ≡ with_farthest self.old shard known.entry }
     {
         self.farthest[shard as usize] = Some(known);
     }
 
-    /// Takes the farther entry of each shard. Where both have one of equal number its own stays.
+    /// Takes the later entry of each shard, its own where the numbers are equal.
     pub(crate) fn join(&mut self, other: &Seen<'t>)
         requires { length self.old.farthest ≡ length other.now.farthest }
         ensures { self.new ≡ record self.old { farthest = farther_each self.old.farthest other.now.farthest } }
@@ -86,7 +86,7 @@ impl<'t> Seen<'t> {
     }
 }
 
-fn take_farther<'t>(mine: &mut [Option<Numbered<'t>>], others: &[Option<Numbered<'t>>])
+fn take_farther<'t>(mine: &mut [Option<NumberedEntry<'t>>], others: &[Option<NumberedEntry<'t>>])
     requires { length mine.old ≡ length others.now }
     ensures { mine.new ≡ farther_each mine.old others.now }
 {
@@ -95,7 +95,10 @@ fn take_farther<'t>(mine: &mut [Option<Numbered<'t>>], others: &[Option<Numbered
     }
 }
 
-fn farther_of<'t>(a: Option<Numbered<'t>>, b: Option<Numbered<'t>>) -> Option<Numbered<'t>>
+fn farther_of<'t>(
+    a: Option<NumberedEntry<'t>>,
+    b: Option<NumberedEntry<'t>>,
+) -> Option<NumberedEntry<'t>>
     ensures { result ≡ farther a.entry b.entry }
 {
     match (a, b) {

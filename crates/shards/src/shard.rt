@@ -1,14 +1,14 @@
-//! The registers of one shard, with the journal of what was answered.
+//! The registers of one shard, with the journal of their edits.
 
 ghost use Rattle.std.specs.Prelude.{◌≡◌, ◌<◌, ◌%◌, ◌/◌, ◌++◌, ◌∷◌, [], ℕ, IfOk, IfErr, OnOk, OnErr, length, replicate, map, option_map, option_to_list};
 ghost use Rattle.std.specs.List.{slice_get};
 ghost use Rattle.shards.specs.declared.fault.ShardFault.TheVariants.{Memory};
 ghost use Rattle.intervals.specs.Terms.{unedited};
 ghost use Rattle.register_book.specs.Fault.{ids_of};
-ghost use Rattle.register_book.specs.Kept.{claimed_of};
+ghost use Rattle.register_book.specs.BookModel.{claimed_of};
 ghost use Rattle.shards.specs.Plan.{plan_of, claims_of};
 ghost use Rattle.shards.specs.Journal.{IsAnswered, count_by};
-ghost use Rattle.shards.specs.Shard.{AreBooks, IsKept, held_of};
+ghost use Rattle.shards.specs.Shard.{AreBooks, IsShardOf, held_of};
 ghost use Rattle.shards.specs.Steps.{IsStanding, entry_of};
 
 use crate::{Answer, Entry, Opening, Receipt, ShardFault};
@@ -17,7 +17,7 @@ use register_book::{Fault, RegisterBook, Witness};
 use std::alloc::Global;
 use tower_file::Tower;
 
-/// Book `k` is that of register `k * shards + at`. Count `f` is how many entries of the journal are of
+/// One shard. Book `k` is that of register `k * shards + at`. Count `f` is how many entries of the journal are by
 /// feeder `f`.
 #[derive(Drop)]
 pub struct Shard<'t> {
@@ -38,7 +38,7 @@ impl<'t> Shard<'t> {
         feeders: u32,
     ) -> Result<Self, ShardFault>
         requires { at < shards }
-        ensures kept { IfOk result (λ shard. (name : ℕ) → IsKept (plan_of name tower.now shards feeders) shard) }
+        ensures kept { IfOk result (λ shard. (name : ℕ) → IsShardOf (plan_of name tower.now shards feeders) shard) }
         ensures empty { IfOk result (λ shard. held_of shard ≡ record { at = at; journal = [] }) }
         ensures memory { IfErr result (λ fault. fault ≡ Memory) }
     {
@@ -51,18 +51,18 @@ impl<'t> Shard<'t> {
         })
     }
 
-    /// Carries an edit out, or has it refused, and enters it in the journal. All growths come first.
+    /// Carries an edit out, or has the register refuse it, and enters it in the journal. All growths come first.
     pub fn enter<O: Opening>(
         &mut self,
         feeder: u32,
         register: RegId,
         edit: &Edit<'t>,
     ) -> Result<Receipt, ShardFault>
-        requires kept { IsKept O.plan self.old }
+        requires kept { IsShardOf O.plan self.old }
         requires here { register.0 % O.plan.shards ≡ self.old.at }
         requires known { register.0 < length O.plan.claims }
         requires feeder { feeder < O.plan.feeders }
-        ensures kept { IsKept O.plan self.new }
+        ensures kept { IsShardOf O.plan self.new }
         ensures journal { IfOk result (λ receipt. held_of self.new ≡ record { at = self.old.at; journal = self.old.journal.items ++ entry_of feeder register edit.now receipt.reply ∷ [] }) }
         ensures answered { IfOk result (λ receipt. IsAnswered O.plan self.old.at self.old.journal.items (entry_of feeder register edit.now receipt.reply)) }
         ensures receipt { IfOk result (λ receipt. (receipt.shard ≡ self.old.at) × (receipt.number ≡ length self.old.journal.items)) }
@@ -87,9 +87,9 @@ impl<'t> Shard<'t> {
         })
     }
 
-    /// What stands of a register.
+    /// The answer to a question about a register.
     pub fn answer<O: Opening>(&self, register: RegId) -> Answer<'t>
-        requires kept { IsKept O.plan self.now }
+        requires kept { IsShardOf O.plan self.now }
         requires here { register.0 % O.plan.shards ≡ self.now.at }
         requires known { register.0 < length O.plan.claims }
         ensures { IsStanding O.plan register.0 self.now.journal.items result }
@@ -106,9 +106,9 @@ impl<'t> Shard<'t> {
         }
     }
 
-    /// How many entries are a feeder's.
+    /// How many entries of the journal are by a feeder.
     pub fn count<O: Opening>(&self, feeder: u32) -> u64
-        requires kept { IsKept O.plan self.now }
+        requires kept { IsShardOf O.plan self.now }
         requires feeder { feeder < O.plan.feeders }
         ensures { result ≡ count_by feeder self.now.journal.items }
     {
@@ -116,7 +116,7 @@ impl<'t> Shard<'t> {
     }
 }
 
-/// Which operations a witness has, by their ids.
+/// The fault of a witness: its operations by their ids.
 fn fault_by(witness: Option<Witness>) -> Option<Fault>
     ensures { result ≡ option_map ids_of witness.entry }
 {
@@ -150,7 +150,7 @@ fn open_books<'t>(
     Ok(books)
 }
 
-/// One book more, where there is a register of that number.
+/// Adds the book of a register, where there is one of that number.
 fn open_book<'t>(
     alloc: Global,
     tower: &Tower,

@@ -3,7 +3,7 @@
 ghost use Rattle.std.specs.Prelude.{◌≡◌, ◌<◌, ◌%◌, ◌++◌, ◌∷◌, [], IfOk, IfErr, OnOk, OnErr, length};
 ghost use Rattle.shards.specs.Journal.{IsAnswered, IsJournalOf};
 ghost use Rattle.shards.specs.Pass.{IsInKeeping, IsPassOf, with_own, with_seen};
-ghost use Rattle.shards.specs.Shard.{IsKept, held_of};
+ghost use Rattle.shards.specs.Shard.{IsShardOf, held_of};
 ghost use Rattle.shards.specs.Steps.{entered, IsQuestionRefusal, IsStanding, IsStateRefusal, entry_of, last_entry, numbered_entry};
 
 use crate::keeping::first_lack;
@@ -12,7 +12,7 @@ use crate::{Answer, Entry, Opening, Pass, Receipt, ShardFault};
 use intervals::{Edit, RegId};
 use std::marker::{Model, PhantomData};
 
-/// The registers of one shard of an opening, with its journal. Its type says that the journal is legal and each
+/// The registers of one shard of an auditor, with its journal. Its invariant says that the journal is legal and each
 /// entry of one of the feeders, that each book is what the journal leaves of its register, and that each
 /// feeder's count is the number of its entries.
 #[derive(Drop)]
@@ -22,19 +22,19 @@ pub struct ShardState<'t, O: Opening> {
 }
 
 impl<'t, O: Opening> Model for ShardState<'t, O> {
-    ghost use Rattle.shards.specs.Closing.{Held};
-    ghost use Rattle.shards.specs.Shard.{IsKept, held_of};
+    ghost use Rattle.shards.specs.Closing.{ShardModel};
+    ghost use Rattle.shards.specs.Shard.{IsShardOf, held_of};
 
-    ghost Value = { Held };
+    ghost Value = { ShardModel };
 
     ghost view = { λ s. held_of s.shard };
 
-    ghost invariant = { λ s. IsKept O.plan s.shard };
+    ghost invariant = { λ s. IsShardOf O.plan s.shard };
 }
 
 impl<'t, O: Opening> ShardState<'t, O> {
     pub(crate) fn new(shard: Shard<'t>) -> Self
-        requires { IsKept O.plan shard }
+        requires { IsShardOf O.plan shard }
         ensures { result ≡ held_of shard.entry }
     {
         ShardState {
@@ -44,14 +44,14 @@ impl<'t, O: Opening> ShardState<'t, O> {
     }
 
     pub(crate) fn into_shard(self) -> Shard<'t>
-        ensures kept { IsKept O.plan result }
+        ensures kept { IsShardOf O.plan result }
         ensures shard { held_of result ≡ self.entry }
     {
         let ShardState { shard, of: _ } = self;
         shard
     }
 
-    /// Which shard it is.
+    /// The number of the shard.
     pub fn at(&self) -> u32
         ensures at { result ≡ self.now.at }
         ensures bound { result < O.plan.shards }
@@ -59,7 +59,7 @@ impl<'t, O: Opening> ShardState<'t, O> {
         self.shard.at
     }
 
-    /// What was answered in the shard, in order.
+    /// The edits that were answered in the shard, with their replies, in order.
     pub fn journal(&self) -> &[Entry<'t>]
         ensures journal { result.now ≡ self.now.journal }
         ensures of_shard { IsJournalOf O.plan self.now.at result.now }
@@ -67,8 +67,8 @@ impl<'t, O: Opening> ShardState<'t, O> {
         self.shard.journal.as_slice()
     }
 
-    /// Carries an edit out or has it refused, and enters it in the journal, where that is in keeping with the
-    /// pass.
+    /// Carries an edit out, or has the register refuse it, and enters it in the journal. S3 where the journal is not
+    /// in keeping with the pass.
     pub fn submit(
         &mut self,
         pass: &mut Pass<'t>,
@@ -91,8 +91,8 @@ impl<'t, O: Opening> ShardState<'t, O> {
         pass.submit_to::<O>(&mut self.shard, register, &edit)
     }
 
-    /// What stands of a register, where the journal is in keeping with the pass. The pass has then seen the
-    /// whole journal.
+    /// The verdict on a register, with how many operations stand. The pass has then seen the whole journal. S3 where
+    /// the journal is not in keeping with the pass.
     pub fn standing(&self, pass: &mut Pass<'t>, register: RegId) -> Result<Answer<'t>, ShardFault>
         requires here { register.0 % O.plan.shards ≡ self.now.at }
         requires known { register.0 < length O.plan.claims }
@@ -109,7 +109,7 @@ impl<'t, O: Opening> ShardState<'t, O> {
         Ok(self.shard.answer::<O>(register))
     }
 
-    /// Refuses a pass that the journal is not in keeping with.
+    /// Refuses a pass that the journal is not in keeping with: S3.
     fn check(&self, pass: &Pass<'t>) -> Result<(), ShardFault>
         requires { IsPassOf O.plan pass.now }
         ensures of_shard { IsJournalOf O.plan self.now.at self.now.journal }

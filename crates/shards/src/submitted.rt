@@ -3,17 +3,18 @@
 ghost use Rattle.std.specs.Prelude.{◌≡◌, ◌<◌, ◌++◌, ◌∷◌, [], ℕ, IfErr, OnOk, length, vec_capacity, vec_len, option_map};
 ghost use Rattle.std.specs.List.{slice_get};
 ghost use Rattle.shards.specs.declared.fault.ShardFault.TheVariants.{Memory};
-ghost use Rattle.shards.specs.Rows.{AreWithin, entries_by};
+ghost use Rattle.shards.specs.Compact.{AreWithin, entries_by};
 
-use crate::row::Row;
-use crate::{Numbered, ShardFault};
+use crate::compact::CompactEntry;
+use crate::{NumberedEntry, ShardFault};
 use std::alloc::Global;
 
-/// The entries that a feeder submitted in one shard, in order. Those that no row has by its parts are kept whole.
+/// The entries that a feeder submitted in one shard: a row for each, in order, and the entries that no row can keep
+/// by their parts, whole.
 #[derive(Drop)]
 pub struct Submitted<'t> {
-    rows: Vec<Row<'t>>,
-    whole: Vec<Numbered<'t>>,
+    rows: Vec<CompactEntry<'t>>,
+    whole: Vec<NumberedEntry<'t>>,
     ghost within: { AreWithin (length whole.items) rows.items },
 }
 
@@ -45,17 +46,17 @@ impl<'t> Submitted<'t> {
         Ok(())
     }
 
-    /// Adds an entry, into room that is there.
-    pub fn add(&mut self, known: &Numbered<'t>)
+    /// Adds an entry, into the room that `reserve` made.
+    pub fn add(&mut self, known: &NumberedEntry<'t>)
         requires room { (vec_len self.old.rows < vec_capacity self.old.rows) × (vec_len self.old.whole < vec_capacity self.old.whole) }
         ensures { entries_by known.now.entry.feeder self.new.whole.items self.new.rows.items ≡ entries_by known.now.entry.feeder self.old.whole.items self.old.rows.items ++ known.now ∷ [] }
     {
-        match Row::by_parts(known) {
+        match CompactEntry::by_parts(known) {
             Some(row) => self.rows.push_reserved(row),
             None => {
                 let place = self.whole.len();
                 self.whole.push_reserved(*known);
-                self.rows.push_reserved(Row::Whole(place));
+                self.rows.push_reserved(CompactEntry::Whole(place));
             }
         }
     }
@@ -70,8 +71,8 @@ impl<'t> Submitted<'t> {
         }
     }
 
-    /// The entry at a place, of this feeder.
-    pub fn entry(&self, feeder: u32, place: usize) -> Option<Numbered<'t>>
+    /// The entry at a place; `feeder` is the one that submitted it.
+    pub fn entry(&self, feeder: u32, place: usize) -> Option<NumberedEntry<'t>>
         ensures { result ≡ slice_get (entries_by feeder self.now.whole.items self.now.rows.items) place }
     {
         match self.rows.get(place) {

@@ -1,4 +1,4 @@
--- Labels in their bars.
+-- Labels fit in their bars.
 use Rattle.std.proofs.Common.{◌≡◌, ◌∙◌, ◌<◌, ◌≤◌, ◌⊎◌, inl, inr, ℕ, zero, suc, ◌+◌, true, false, List, [], ◌∷◌, ◌++◌, length, Some, None, Option, String, Global, refl, sym, ap, subst, arith}
 use Rattle.std.proofs.lemmas.Bool.{cases_lt, le-leb, lt-ltb}
 use Rattle.std.proofs.lemmas.List.Elements.{All-cons, All-contains, All-nil, Contains-append_left, Contains-append_right}
@@ -11,34 +11,34 @@ use Rattle.intervals.specs.declared.operation.Op.{Op}
 use Rattle.intervals.specs.declared.operation.Moment.{Moment}
 use Rattle.intervals.specs.Operation.{EndsBefore, Precedes}
 use Rattle.intervals.specs.Standing.{HasEndsAfterBeginnings}
-use Rattle.intervals.specs.Table.{standing}
+use Rattle.intervals.specs.Table.{ops_in_slots}
 use Rattle.timeline.specs.declared.axis.Mark.{Mark}
-use Rattle.timeline.specs.declared.axis.Span.{Span}
+use Rattle.timeline.specs.declared.axis.BarSpan.{BarSpan}
 use Rattle.timeline.specs.declared.choice.Extent.{Extent}
 use Rattle.timeline.specs.declared.place.Want.{Want}
 use Rattle.timeline.specs.Axis.{AreMarks, AreSpans, IsEndAt, begin_mark, end_mark}
-use Rattle.timeline.specs.Place.{AreApart, IsKept}
+use Rattle.timeline.specs.Place.{AreSpaced, IsDistanceKept}
 use Rattle.show.specs.declared.measure.Measure.{Measure}
 use Rattle.show.specs.declared.scene.Scene.{Scene}
 use Rattle.show.specs.declared.subject.Subject.{Subject}
-use Rattle.show.specs.Measure.{end_of, label_width, wanted_between, wanted_of}
+use Rattle.show.specs.Measure.{span_end_mark, label_width, wanted_between, wanted_of}
 use Rattle.show.specs.Scene.{IsScene}
 use Rattle.show.proofs.Scenes.{shown_stand}
 use Rattle.show.proofs.Timelines.{Left}
 
--- what is wanted of a label is among all
+-- the distance that a label needs is among all
 
-abbrev want_for : ℕ → Span → ℕ → Want
-want_for many span least = record { from = span.begin; to = end_of many span; least = least }
+abbrev want_for : ℕ → BarSpan → ℕ → Want
+want_for many span least = record { from = span.begin; to = span_end_mark many span; least = least }
 
-wanted_here : (many : ℕ) (span : Span) (least : ℕ) → span.begin < end_of many span → end_of many span ≤ many → Contains (wanted_between many span.begin (end_of many span) least) (want_for many span least)
+wanted_here : (many : ℕ) (span : BarSpan) (least : ℕ) → span.begin < span_end_mark many span → span_end_mark many span ≤ many → Contains (wanted_between many span.begin (span_end_mark many span) least) (want_for many span least)
 wanted_here many span least lt le =
-    let apart : nat_lt span.begin (end_of many span) ≡ true = lt-ltb span.begin (end_of many span) lt in
-    let within : nat_le (end_of many span) many ≡ true = le-leb (end_of many span) many le in
+    let apart : nat_lt span.begin (span_end_mark many span) ≡ true = lt-ltb span.begin (span_end_mark many span) lt in
+    let within : nat_le (span_end_mark many span) many ≡ true = le-leb (span_end_mark many span) many le in
     rw (apart, within) (0, omega arith, refl)
 
-wanted_has : (measure : Measure) (many : ℕ) (labels : List (String Global)) (k number at : ℕ) (spans : List Span) (span : Span) (label : String Global) → at ≡ number + k
-    → slice_get spans k ≡ Some span → slice_get labels at ≡ Some label → span.begin < end_of many span → end_of many span ≤ many
+wanted_has : (measure : Measure) (many : ℕ) (labels : List (String Global)) (k number at : ℕ) (spans : List BarSpan) (span : BarSpan) (label : String Global) → at ≡ number + k
+    → slice_get spans k ≡ Some span → slice_get labels at ≡ Some label → span.begin < span_end_mark many span → span_end_mark many span ≤ many
     → Contains (wanted_of measure many labels number spans) (want_for many span (label_width measure label))
 wanted_has measure many labels k number at [] span label is stands labelled lt le = absurd (cc)
 wanted_has measure many labels zero number at (s ∷ spans) span label is stands labelled lt le =
@@ -46,12 +46,12 @@ wanted_has measure many labels zero number at (s ∷ spans) span label is stands
     let one : s ≡ span = same_Some s span stands in
     let least : option_map_or (label_width measure) (slice_get labels number) 0 ≡ label_width measure label =
     ap (λ (n : ℕ). option_map_or (label_width measure) (slice_get labels n) 0) here ∙ ap (λ (found : Option (String Global)). option_map_or (label_width measure) found 0) labelled in
-    let mine : Contains (wanted_between many s.begin (end_of many s) (label_width measure label)) (want_for many span (label_width measure label)) =
-    subst (λ (z : Span). Contains (wanted_between many z.begin (end_of many z) (label_width measure label)) (want_for many span (label_width measure label))) (sym one) (wanted_here many span (label_width measure label) lt le) in
-    Contains-append_left (wanted_between many s.begin (end_of many s) (option_map_or (label_width measure) (slice_get labels number) 0)) (wanted_of measure many labels (number + 1) spans) (want_for many span (label_width measure label))
-    (subst (λ (n : ℕ). Contains (wanted_between many s.begin (end_of many s) n) (want_for many span (label_width measure label))) (sym least) mine)
+    let mine : Contains (wanted_between many s.begin (span_end_mark many s) (label_width measure label)) (want_for many span (label_width measure label)) =
+    subst (λ (z : BarSpan). Contains (wanted_between many z.begin (span_end_mark many z) (label_width measure label)) (want_for many span (label_width measure label))) (sym one) (wanted_here many span (label_width measure label) lt le) in
+    Contains-append_left (wanted_between many s.begin (span_end_mark many s) (option_map_or (label_width measure) (slice_get labels number) 0)) (wanted_of measure many labels (number + 1) spans) (want_for many span (label_width measure label))
+    (subst (λ (n : ℕ). Contains (wanted_between many s.begin (span_end_mark many s) n) (want_for many span (label_width measure label))) (sym least) mine)
 wanted_has measure many labels (suc k) number at (s ∷ spans) span label is stands labelled lt le =
-    Contains-append_right (wanted_between many s.begin (end_of many s) (option_map_or (label_width measure) (slice_get labels number) 0)) (wanted_of measure many labels (number + 1) spans) (want_for many span (label_width measure label))
+    Contains-append_right (wanted_between many s.begin (span_end_mark many s) (option_map_or (label_width measure) (slice_get labels number) 0)) (wanted_of measure many labels (number + 1) spans) (want_for many span (label_width measure label))
     (wanted_has measure many labels k (number + 1) at spans span label (omega (arith, is)) stands labelled lt le)
 
 -- an operation that does not end before it begins has its marks apart
@@ -64,7 +64,7 @@ some_there (x ∷ xs) (suc i) lt = some_there xs i (omega (arith, lt))
 not_both : (number : ℕ) (op : Op) (end : Moment) → end_mark number end ≡ begin_mark number op → ⊥
 not_both number op end is = absurd (let same : true ≡ false = ap (λ (m : Mark). m.is_end) is in cc)
 
--- marks that stand one apart
+-- marks of which each is at least 1 right of the one before it
 
 abbrev ones : ℕ → List ℕ
 ones zero = []
@@ -92,7 +92,7 @@ row_at first zero k lt = absurd (omega (arith, lt))
 row_at first (suc n) zero lt = omega arith
 row_at first (suc n) (suc k) lt = let rest = row_at (first + 1) n k (omega (arith, lt)) in omega (arith, rest)
 
-row_apart : (n : ℕ) → AreApart (ones n) (range_with_len 1 n)
+row_apart : (n : ℕ) → AreSpaced (ones n) (range_with_len 1 n)
 row_apart n zero lt =
     let within : 0 < n = omega (arith, lt, row_long 1 n) in
     omega (arith, one_at n 0 within, row_at 1 n 0 within)
@@ -100,7 +100,7 @@ row_apart n (suc k) lt =
     let within : suc k < n = omega (arith, lt, row_long 1 n) in
     omega (arith, one_at n (suc k) within, row_at 1 n k (omega (arith, within)), row_at 1 n (suc k) within)
 
-module _ (law : Left) (ops : List Op) (marks : List Mark) (spans : List Span) (i : ℕ) (op : Op) (span : Span) (are : AreMarks ops marks) (spanned : AreSpans ops marks spans)
+module _ (law : Left) (ops : List Op) (marks : List Mark) (spans : List BarSpan) (i : ℕ) (op : Op) (span : BarSpan) (are : AreMarks ops marks) (spanned : AreSpans ops marks spans)
     (at_op : slice_get ops i ≡ Some op) (at_span : slice_get spans i ≡ Some span) where
   begins : slice_get marks span.begin ≡ Some (begin_mark i op)
   begins = (spanned.each i op span at_op at_span).begin
@@ -143,14 +143,14 @@ module _ (law : Left) (ops : List Op) (marks : List Mark) (spans : List Span) (i
       let within : n < length marks = slice_get_within marks n (end_mark i m) there in
       (ends_behind n m ended is there later, omega (arith, within))
 
-  pub marks_apart : IfSome op.end (λ end. op.begin.0 < end.0) → (span.begin < end_of (length marks) span) × (end_of (length marks) span ≤ length marks)
+  pub marks_apart : IfSome op.end (λ end. op.begin.0 < end.0) → (span.begin < span_end_mark (length marks) span) × (span_end_mark (length marks) span ≤ length marks)
   marks_apart later = apart_by op.end span.end refl refl (spanned.each i op span at_op at_span).end later
 
-pub labels_fit : Left → (subject : Subject) (extent : Extent) (scene : Scene) (measure : Measure) (wants others : List Want) (places : List ℕ) (i : ℕ) (span : Span) (label : String Global) → IsScene subject extent scene
-    → HasEndsAfterBeginnings (standing subject.slots.now)
-    → wants ≡ wanted_of measure (length scene.marks.items) scene.labels.items 0 scene.spans.items ++ others → All (IsKept places) wants
+pub labels_fit : Left → (subject : Subject) (extent : Extent) (scene : Scene) (measure : Measure) (wants others : List Want) (places : List ℕ) (i : ℕ) (span : BarSpan) (label : String Global) → IsScene subject extent scene
+    → HasEndsAfterBeginnings (ops_in_slots subject.slots.now)
+    → wants ≡ wanted_of measure (length scene.marks.items) scene.labels.items 0 scene.spans.items ++ others → All (IsDistanceKept places) wants
     → slice_get scene.spans.items i ≡ Some span → slice_get scene.labels.items i ≡ Some label
-    → slice_index places span.begin + label_width measure label ≤ slice_index places (end_of (length scene.marks.items) span)
+    → slice_index places span.begin + label_width measure label ≤ slice_index places (span_end_mark (length scene.marks.items) span)
 labels_fit law subject extent scene measure wants others places i span label is ends wanted kept at_span at_label =
     let many = length scene.marks.items in
     let bars = wanted_of measure many scene.labels.items 0 scene.spans.items in
@@ -158,12 +158,12 @@ labels_fit law subject extent scene measure wants others places i span label is 
     let (op, at_op) = some_there scene.ops.items i within in
     let (left_out, parts) = shown_stand subject extent scene is in
     let P : Op → Type 0 = λ o. IfSome o.end (λ end. o.begin.0 < end.0) in
-    let all : All P (scene.ops.items ++ left_out) = All-permutation P (standing subject.slots.now) (scene.ops.items ++ left_out) parts ends in
+    let all : All P (scene.ops.items ++ left_out) = All-permutation P (ops_in_slots subject.slots.now) (scene.ops.items ++ left_out) parts ends in
     let later : P op = All-contains P (scene.ops.items ++ left_out) op all (Contains-append_left scene.ops.items left_out op (contained scene.ops.items i op at_op)) in
     let apart = marks_apart law scene.ops.items scene.marks.items scene.spans.items i op span is.marks is.spans at_op at_span later in
     let want = want_for many span (label_width measure label) in
     let has = wanted_has measure many scene.labels.items i 0 i scene.spans.items span label (omega arith) at_span at_label apart.0 apart.1 in
-    All-contains (IsKept places) wants want kept (subst (λ (ws : List Want). Contains ws want) (sym wanted) (Contains-append_left bars others want has))
+    All-contains (IsDistanceKept places) wants want kept (subst (λ (ws : List Want). Contains ws want) (sym wanted) (Contains-append_left bars others want has))
   where
     contained : {X : Type 0} (xs : List X) (k : ℕ) (x : X) → slice_get xs k ≡ Some x → Contains xs x
     contained xs k x at = (k, slice_get_within xs k x at, get_or_from_slice_get xs k x x at)

@@ -12,7 +12,7 @@ over_from number place next [] one within = absurd (omega (arith, within))
 over_from number zero next (op ∷ over) one within = subst (λ (n : ℕ). over_letters number (op ∷ over) ≡ letters_by (over_letter number) op ++ over_letters n over) (sym one) refl
 over_from number (suc place) next (op ∷ over) one within = over_from number place next over one (omega (arith, within))
 
--- one more
+-- one write more
 pub over_more : (over : List Op) (number : ℕ) (old new all : List Lettered) → number < length over → new ≡ old ++ option_map_or (letters_by (over_letter number)) (slice_get over number) [] → old ++ over_letters number (drop number over) ≡ all → new ++ over_letters (number + 1) (drop (number + 1) over) ≡ all
 over_more over number old new all within pushed so_far =
     let here = option_map_or (letters_by (over_letter number)) (slice_get over number) [] in

@@ -1,4 +1,4 @@
--- What a scene shows of what stands.
+-- What a scene shows of the operations that stand.
 use Rattle.std.proofs.Common.{◌≡◌, ◌∙◌, ℕ, ◌+◌, Bool, true, false, not, List, [], ◌∷◌, ◌++◌, length, map, Some, refl, sym, ap, subst, arith}
 use Rattle.std.proofs.lemmas.List.{length-append, length-map}
 use Rattle.std.proofs.lemmas.List.Sorted.{IsPermutation-cons, IsPermutation-middle, IsPermutation-refl, IsPermutation-sym, IsPermutation-trans, length_permutation}
@@ -6,7 +6,7 @@ use Rattle.std.specs.Prelude.{◌||◌, Contains, IsPermutation, sum}
 use Rattle.intervals.specs.declared.operation.Op.{Op}
 use Rattle.intervals.specs.declared.operation.OpId.{OpId}
 use Rattle.intervals.specs.Operation.{same_id}
-use Rattle.intervals.specs.Table.{standing}
+use Rattle.intervals.specs.Table.{ops_in_slots}
 use Rattle.timeline.specs.declared.choice.Chosen.{Chosen}
 use Rattle.timeline.specs.declared.choice.Extent.{Extent}
 use Rattle.timeline.specs.Choice.{IsChosen, is_among, is_shown, picked, places_of}
@@ -15,7 +15,7 @@ use Rattle.show.specs.declared.letter.Lettered.{Lettered}
 use Rattle.show.specs.declared.scene.Scene.{Scene}
 use Rattle.show.specs.declared.subject.Subject.{Subject}
 use Rattle.show.specs.Letter.{letter_for}
-use Rattle.show.specs.Scene.{IsScene, asked_beside, asked_of, extent_of}
+use Rattle.show.specs.Scene.{IsScene, asked_beside, asked_ids, extent_of}
 use Rattle.show.proofs.Timelines.{Asked, Counted}
 
 -- two functions that agree have one list
@@ -23,7 +23,7 @@ pub map_alike : {X Y : Type 0} (f g : X → Y) → ((x : X) → f x ≡ g x) →
 map_alike f g alike [] = refl
 map_alike f g alike (x ∷ xs) = ap (λ y. y ∷ map f xs) (alike x) ∙ ap (λ ys. g x ∷ ys) (map_alike f g alike xs)
 
--- what is picked and what is not are all
+-- what is picked and what is not are together all
 
 part_by : {X : Type 0} (passes : ℕ → Bool) (place : ℕ) (x : X) (xs : List X) (test : Bool) → passes place ≡ test
     → IsPermutation xs (picked passes (place + 1) xs ++ picked (λ p. not (passes p)) (place + 1) xs)
@@ -59,7 +59,7 @@ module _ (ops : List Op) (ids : List OpId) (extent : Extent) (chosen : Chosen) (
       let both = length-append (picked passes 0 is.sorted) left_out in
       omega (arith, shown, hidden, all, both)
 
--- an operation that has a letter is asked for
+-- an operation that has a letter is among those that are shown before all others
 
 or_true : (a b : Bool) → b ≡ true → (a || b) ≡ true
 or_true true b is = refl
@@ -77,21 +77,21 @@ asked_if (l ∷ letters) id letter more found = asked_by l letters id letter mor
 
 module _ (subject : Subject) (extent : Extent) (scene : Scene) (is : IsScene subject extent scene) where
   abbrev asked : List OpId
-  asked = asked_of (standing subject.slots.now) scene.story scene.letters.items
+  asked = asked_ids (ops_in_slots subject.slots.now) scene.story scene.letters.items
 
-  pub shown_stand : (others : List Op) × IsPermutation (standing subject.slots.now) (scene.ops.items ++ others)
+  pub shown_stand : (others : List Op) × IsPermutation (ops_in_slots subject.slots.now) (scene.ops.items ++ others)
   shown_stand =
-      let (others, all) = shown_among (standing subject.slots.now) asked (extent_of scene.story extent) is.chosen is.choice in
-      (others, subst (λ (xs : List Op). IsPermutation (standing subject.slots.now) (xs ++ others)) (sym is.shown) all)
+      let (others, all) = shown_among (ops_in_slots subject.slots.now) asked (extent_of scene.story extent) is.chosen is.choice in
+      (others, subst (λ (xs : List Op). IsPermutation (ops_in_slots subject.slots.now) (xs ++ others)) (sym is.shown) all)
 
-  pub shown_or_counted : Counted → length scene.ops.items + sum scene.folded.items ≡ length (standing subject.slots.now)
+  pub shown_or_counted : Counted → length scene.ops.items + sum scene.folded.items ≡ length (ops_in_slots subject.slots.now)
   shown_or_counted law =
       let shown : length scene.ops.items ≡ length is.chosen.shown.items = ap length is.shown in
       let hidden : sum scene.folded.items ≡ length is.chosen.hidden.items = ap sum is.folded ∙ law scene.marks.items is.chosen.hidden.items is.marks.in_order in
-      let both = shown_and_hidden (standing subject.slots.now) asked (extent_of scene.story extent) is.chosen is.choice in
+      let both = shown_and_hidden (ops_in_slots subject.slots.now) asked (extent_of scene.story extent) is.chosen is.choice in
       omega (arith, shown, hidden, both)
 
-  pub lettered_are_shown : Asked → (op : Op) (letter : Letter) → Contains (standing subject.slots.now) op → letter_for scene.letters.items op.id ≡ Some letter → Contains scene.ops.items op
+  pub lettered_are_shown : Asked → (op : Op) (letter : Letter) → Contains (ops_in_slots subject.slots.now) op → letter_for scene.letters.items op.id ≡ Some letter → Contains scene.ops.items op
   lettered_are_shown law op letter stands found =
       subst (λ (xs : List Op). Contains xs op) (sym is.shown)
-      (law (standing subject.slots.now) asked (extent_of scene.story extent) is.chosen op is.choice stands (asked_if scene.letters.items op.id letter (asked_beside (standing subject.slots.now) scene.story) found))
+      (law (ops_in_slots subject.slots.now) asked (extent_of scene.story extent) is.chosen op is.choice stands (asked_if scene.letters.items op.id letter (asked_beside (ops_in_slots subject.slots.now) scene.story) found))

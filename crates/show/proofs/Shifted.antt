@@ -1,4 +1,4 @@
--- Places that are each one further right: then the first step may be none.
+-- Places that are each one further right: then the first step may be 0.
 use Rattle.std.proofs.Common.{◌≡◌, ◌<◌, ◌≤◌, ℕ, zero, suc, List, [], ◌∷◌, drop, length, map, Some, None, Option, refl, subst, arith}
 use Rattle.std.proofs.lemmas.List.{length-map}
 use Rattle.std.proofs.lemmas.List.Elements.{All-cons, All-nil}
@@ -9,9 +9,9 @@ use Rattle.intervals.specs.declared.operation.Op.{Op}
 use Rattle.intervals.specs.declared.operation.Moment.{Moment}
 use Rattle.intervals.specs.Operation.{Precedes}
 use Rattle.timeline.specs.declared.axis.Mark.{Mark}
-use Rattle.timeline.specs.declared.axis.Span.{Span}
+use Rattle.timeline.specs.declared.axis.BarSpan.{BarSpan}
 use Rattle.timeline.specs.Axis.{AreMarks, AreSpans, IsEndAt, begin_mark, end_mark}
-use Rattle.timeline.specs.Place.{AreApart}
+use Rattle.timeline.specs.Place.{AreSpaced}
 use Rattle.show.proofs.Timelines.{Left}
 
 abbrev raised : List ℕ → List ℕ
@@ -40,7 +40,7 @@ first_step steps [] many le some = absurd (omega (arith, some))
 first_step [] (place ∷ places) many le some = absurd (omega (arith, many))
 first_step (step ∷ steps) (place ∷ places) many le some = omega (arith, le)
 
-still_apart : (steps places : List ℕ) → AreApart steps places → length places ≡ length steps → AreApart (raised steps) (map suc places)
+still_apart : (steps places : List ℕ) → AreSpaced steps places → length places ≡ length steps → AreSpaced (raised steps) (map suc places)
 still_apart steps places apart many zero lt =
     let some : 0 < length places = omega (arith, lt, length-map places suc) in
     omega (arith, first_step steps places many (omega (arith, apart 0 some)) some)
@@ -49,8 +49,8 @@ still_apart steps places apart many (suc k) lt =
     let here = apart (suc k) within in
     omega (arith, here, further places k (omega (arith, within)), further places (suc k) within, later_step steps k)
 
-module _ (law : Left) (ops : List Op) (marks : List Mark) (spans : List Span) (steps places : List ℕ) (i j end : ℕ) (a b : Op) (s t : Span)
-    (are : AreMarks ops marks) (spanned : AreSpans ops marks spans) (apart : AreApart steps places) (room : length marks ≤ length places) (positive : All (λ (step : ℕ). 0 < step) (drop 1 steps)) (many : length places ≡ length steps)
+module _ (law : Left) (ops : List Op) (marks : List Mark) (spans : List BarSpan) (steps places : List ℕ) (i j end : ℕ) (a b : Op) (s t : BarSpan)
+    (are : AreMarks ops marks) (spanned : AreSpans ops marks spans) (apart : AreSpaced steps places) (room : length marks ≤ length places) (positive : All (λ (step : ℕ). 0 < step) (drop 1 steps)) (many : length places ≡ length steps)
     (at_a : slice_get ops i ≡ Some a) (span_a : slice_get spans i ≡ Some s) (at_b : slice_get ops j ≡ Some b) (span_b : slice_get spans j ≡ Some t) (ends : s.end ≡ Some end) where
   begin_within : t.begin < length places
   begin_within = omega (arith, room, slice_get_within marks t.begin (begin_mark j b) (spanned.each j b t at_b span_b).begin)

@@ -12,7 +12,7 @@ use Rattle.show.specs.declared.letter.Lettered.{Lettered}
 use Rattle.show.specs.declared.story.Story.{Story}
 use Rattle.show.specs.declared.story.Story.TheVariants.{Holds, Wrong, Unwritten, Split, Early, Crossing}
 
--- as it is printed
+-- a letter as it is printed
 abbrev pub word_of : Letter → List ℕ
 word_of A = codes "A"
 word_of B = codes "B"
@@ -28,48 +28,48 @@ word_of FirstOver = codes "W2"
 word_of SecondOver = codes "W3"
 word_of ThirdOver = codes "W4"
 
--- an operation with its letter
+-- an operation with this letter
 abbrev pub lettered : Op → Letter → Lettered
 lettered op letter = record { id = op.id; letter = letter }
 
--- the same of one that is there
+-- an optional operation with this letter
 abbrev pub letters_if : Option Op → Letter → List Lettered
 letters_if None letter = []
 letters_if (Some op) letter = lettered op letter ∷ []
 
--- of a side, where it is an operation
+-- a side of a conflict with this letter, where the side is an operation
 abbrev pub letters_at : Side → Letter → List Lettered
 letters_at (sides.Op op) letter = lettered op letter ∷ []
 letters_at sides.Initial letter = []
 
--- the letter of the write of that number among those that a wrong read overlaps: the first three have one
+-- the letter of the write of this number among those that a wrong read overlaps; the first three have one
 abbrev pub over_letter : ℕ → Option Letter
 over_letter zero = Some FirstOver
 over_letter (suc zero) = Some SecondOver
 over_letter (suc (suc zero)) = Some ThirdOver
 over_letter (suc (suc (suc number))) = None
 
--- a letter that there may be
+-- an operation with an optional letter; nothing where there is no letter
 abbrev pub letters_by : Option Letter → Op → List Lettered
 letters_by None op = []
 letters_by (Some letter) op = lettered op letter ∷ []
 
--- their letters, of which the first has this number
+-- the writes that a wrong read overlaps with their letters; the first of these writes has this number
 abbrev pub over_letters : ℕ → List Op → List Lettered
 over_letters number [] = []
 over_letters number (op ∷ ops) = letters_by (over_letter number) op ++ over_letters (number + 1) ops
 
--- two sides are one operation
+-- two sides of a conflict are one operation
 abbrev pub same_side : Side → Side → Bool
 same_side (sides.Op a) (sides.Op b) = same_id a.id b.id
 same_side (sides.Op a) sides.Initial = false
 same_side sides.Initial b = false
 
--- the second and the third operation of a conflict
+-- the second and the third operation of a conflict with their letters, or with one where they are one operation
 abbrev pub middle_letters : Side → Side → List Lettered
 middle_letters b c = if same_side b c then letters_at b Bc else letters_at b B ++ letters_at c C
 
--- the letters of a story
+-- the operations that a story is about with their letters
 abbrev pub letters_of : Story → List Lettered
 letters_of Holds = []
 letters_of (Wrong wrong) = lettered wrong.read Read ∷ (letters_if wrong.last LastWrite ++ over_letters 0 wrong.over.items)
@@ -78,6 +78,6 @@ letters_of (Split first second) = lettered first FirstRead ∷ lettered second S
 letters_of (Early read write) = lettered read Read ∷ lettered write Write ∷ []
 letters_of (Crossing a b c d) = letters_at a A ++ (middle_letters b c ++ letters_at d D)
 
--- the letter of an operation, where it has one
+-- the letter of an operation, or none
 abbrev pub letter_for : List Lettered → OpId → Option Letter
 letter_for letters id = option_map (λ (l : Lettered). l.letter) (find (λ (l : Lettered). same_id l.id id) letters)

@@ -1,4 +1,4 @@
--- What there is to tell of a register.
+-- Why a register fails, by operations.
 use Rattle.std.specs.Prelude.{◌≡◌, ◌&&◌, Bool, List, Option, Some, None, filter, find, reverse}
 use Rattle.intervals.specs.declared.operation.Op.{Op}
 use Rattle.intervals.specs.Operation.{overlaps, precedes, same_value, value_of, writes}
@@ -13,17 +13,16 @@ use Rattle.show.specs.declared.story.Wrong.{Wrong}
 abbrev pub is_of_its_value : Op → Op → Bool
 is_of_its_value read write = same_value (value_of write.act) (value_of read.act)
 
--- it is, and precedes the read
+-- the write is of the value that the read returned, and precedes the read
 abbrev pub is_source : Op → Op → Bool
 is_source read write = precedes write read && is_of_its_value read write
 
--- it is, and the read precedes it
+-- the write is of the value that the read returned, and the read precedes it
 abbrev pub is_later_source : Op → Op → Bool
 is_later_source read write = precedes read write && is_of_its_value read write
 
--- of the writes that stand, by beginning (of two that begin at one moment either may stand first), the last that
--- precedes the read, those that overlap it, the last of its value that precedes it, and the first of its value that it
--- precedes
+-- what explains a wrong read, of the writes that stand, by beginning: the last that precedes it, those that overlap
+-- it, the last of its value that precedes it, and the first of its value that it precedes
 pub record IsWrong (ops : List Op) (read : Op) (wrong : Wrong) : Type 0 where
   pub sorted : List Op
   pub by_beginning : IsByBeginning (writes ops) sorted
@@ -33,7 +32,7 @@ pub record IsWrong (ops : List Op) (read : Op) (wrong : Wrong) : Type 0 where
   pub source : wrong.source ≡ find (is_source read) (reverse sorted)
   pub later : wrong.later ≡ find (is_later_source read) sorted
 
--- the story that a witness tells of these operations
+-- the story of a register that fails, by this witness and these operations
 abbrev pub IsToldBy : List Op → Witness → Story → Type 0
 IsToldBy ops (witnesses.Wrong read) story = (wrong : Wrong) × (story ≡ stories.Wrong wrong) × IsWrong ops read wrong
 IsToldBy ops (witnesses.Unwritten read) story = story ≡ stories.Unwritten read
@@ -41,7 +40,7 @@ IsToldBy ops (witnesses.Split first second) story = story ≡ stories.Split firs
 IsToldBy ops (witnesses.Early read write) story = story ≡ stories.Early read write
 IsToldBy ops (witnesses.Crossing a b c d) story = story ≡ stories.Crossing a b c d
 
--- the story of a register with this witness, where it has one
+-- the story of a register, by its witness; that it holds where it has none
 abbrev pub IsStory : List Op → Option Witness → Story → Type 0
 IsStory ops None story = story ≡ stories.Holds
 IsStory ops (Some witness) story = IsToldBy ops witness story

@@ -5,7 +5,7 @@ use crate::layout::Layout;
 use crate::measure::{digits_of, digits_of_moment};
 use std::alloc::{AllocError, Global};
 
-/// The line below the lanes, and the moments: first those that the caption tells of, then each other that has room.
+/// The line below the lanes, and the moments: first those that the caption speaks of, then each other that has room.
 pub fn push_axis(text: &mut String, alloc: Global, canvas: &Canvas) -> Result<(), AllocError> {
     let layout = &canvas.layout;
     let (edge, y) = (layout.right_edge(), canvas.bottom.saturating_add(4));
@@ -57,13 +57,13 @@ fn push_moment(
     write!(text, " textLength=\"{length}\">{moment}</text></g>\n")
 }
 
-/// From where to where the moment of a mark stands.
+/// Where the moment of a mark is written, from left to right.
 fn moment_room(layout: &Layout, number: usize) -> Option<(u128, u128)> {
     let mark = layout.scene.marks.get(number)?;
     Some(room_of(layout, number, wide(digits_of_moment(mark.moment.0))))
 }
 
-/// The same of words of that length: with their middle below the mark, but within its row.
+/// Where words of this length are written at a mark: with their middle below it, but within its row.
 fn room_of(layout: &Layout, number: usize, length: u128) -> (u128, u128) {
     let row = layout.starts.partition_point(|start| *start <= number);
     let window = window_of(layout, row.saturating_sub(1));
@@ -75,7 +75,7 @@ fn room_of(layout: &Layout, number: usize, length: u128) -> (u128, u128) {
     (left, left.saturating_add(length))
 }
 
-/// Whether a moment that the caption tells of, or how many operations are left out, is in the way.
+/// Whether a moment that the caption speaks of, or the number of operations left out, is in the way.
 fn is_taken(layout: &Layout, number: usize, left: u128, right: u128) -> bool {
     for told in &layout.told {
         if let Some((from, to)) = moment_room(layout, *told) {
@@ -88,7 +88,7 @@ fn is_taken(layout: &Layout, number: usize, left: u128, right: u128) -> bool {
         || is_in_fold(layout, number.saturating_add(1), left, right)
 }
 
-/// Whether how many operations are left out before a mark stands there.
+/// Whether the number of operations left out before a mark is in the way.
 fn is_in_fold(layout: &Layout, number: usize, left: u128, right: u128) -> bool {
     let many = layout.left_out_before(number);
     if many == 0 {

@@ -8,10 +8,10 @@ use crate::scene::Scene;
 use crate::story::is_wrong;
 use std::alloc::{AllocError, Global};
 
-/// The part of an unfinished write that fades.
+/// The width of the part of an unfinished write that fades.
 const FADE: u128 = 36;
 
-/// The bar of an operation, which tells its id and moments too.
+/// Adds the bar of an operation, with its id and its moments as a tooltip.
 pub fn push_bar(text: &mut String, canvas: &Canvas, number: usize) -> Result<(), AllocError> {
     let Some(bar) = canvas.layout.bar(number) else {
         return Ok(());
@@ -84,7 +84,7 @@ fn push_endless(text: &mut String, bar: &Bar, y: u128) -> Result<(), AllocError>
     push_words(text, x.saturating_add(5), y, "start", bar.label)
 }
 
-/// What stands on a bar, at its middle or its beginning.
+/// Adds the label of a bar, by its middle or its beginning.
 pub fn push_words(
     text: &mut String,
     x: u128,
@@ -104,8 +104,8 @@ fn push_cross(text: &mut String, x: u128, y: u128) -> Result<(), AllocError> {
     )
 }
 
-/// Where the operations of a register that holds stand in an order that explains the reads: as far left as their beginnings and
-/// those before them let them.
+/// The points of the operations of a register that holds, in an order that explains the reads: each as far left as the
+/// operation's beginning and the point before it allow.
 pub fn points_of(alloc: Global, canvas: &Canvas) -> Result<Vec<(u128, u128)>, AllocError> {
     let mut points = Vec::new(alloc);
     let mut least = 0;
@@ -120,7 +120,7 @@ pub fn points_of(alloc: Global, canvas: &Canvas) -> Result<Vec<(u128, u128)>, Al
     Ok(points)
 }
 
-/// A line from point to point.
+/// Adds a line from point to point.
 pub fn push_order(text: &mut String, points: &[(u128, u128)]) -> Result<(), AllocError> {
     for number in 1..points.len() {
         let (from, to) = (points[number - 1], points[number]);
@@ -133,7 +133,7 @@ pub fn push_order(text: &mut String, points: &[(u128, u128)]) -> Result<(), Allo
     Ok(())
 }
 
-/// A dot at each.
+/// Adds a dot at each point.
 pub fn push_dots(text: &mut String, points: &[(u128, u128)]) -> Result<(), AllocError> {
     for point in points {
         write!(
@@ -145,7 +145,7 @@ pub fn push_dots(text: &mut String, points: &[(u128, u128)]) -> Result<(), Alloc
     Ok(())
 }
 
-/// The ranks of the operations that have one, with their numbers, in order.
+/// The ranks of the operations that have one, each with the operation's number, in order.
 fn by_rank(alloc: Global, scene: &Scene) -> Result<Vec<(usize, usize)>, AllocError> {
     let mut ranked = Vec::new(alloc);
     for number in 0..scene.ranks.len() {

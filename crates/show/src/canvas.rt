@@ -1,4 +1,4 @@
-//! Where the parts of a picture stand.
+//! Where the parts of an SVG picture are.
 
 use crate::layout::{Layout, layout_of, widest_name};
 use crate::measure::{Measure, digits_of};
@@ -11,19 +11,21 @@ use register_book::Side;
 use std::alloc::{AllocError, Global};
 use timeline::Extent;
 
-/// What is drawn, and where. Each row is a window on one strip, which has the zones, the lanes and the moments of all.
+/// What is drawn, and where, in units. Each row is a window on one strip, which has all zones, lanes and moments.
 #[derive(Drop)]
 pub struct Canvas<'s, 't> {
     pub layout: Layout<'s, 't>,
-    /// With which seats lanes end, and the lane of each operation.
+    /// For each lane, the number of the seat after its last.
     pub lane_ends: Vec<usize>,
+    /// The lane of each operation.
     pub lanes: Vec<usize>,
-    /// The zones of all values of an atomic register all of whose operations are shown.
+    /// The zones of all values, of an atomic register all of whose operations are shown.
     pub zones: Vec<Zone>,
-    /// How many units stand before the strip, for the names of lanes.
+    /// The width left of the strip, for the names of lanes.
     pub margin: u128,
-    /// The top of the lanes within the strip, and their bottom.
+    /// The top of the lanes within the strip.
     pub top: u128,
+    /// The bottom of the lanes within the strip.
     pub bottom: u128,
 }
 
@@ -34,22 +36,28 @@ pub struct Window {
     pub to: u128,
 }
 
-/// The heights of a lane, of a bar in it, of a zone of a conflict, of a row of the zones of all values, and of a line of words.
+/// The height of a lane.
 pub const LANE: u128 = 24;
 
+/// The height of a bar in its lane.
 pub const BAR: u128 = 14;
 
+/// The height of a zone of a conflict.
 pub const ZONE: u128 = 21;
 
+/// The height of a row of the zones of all values.
 pub const ZONE_ROW: u128 = 15;
 
+/// The height of a line of words.
 pub const LINE: u128 = 16;
 
-/// The heights of the moments below the lanes, of what stands above the first row, and between two rows.
+/// The height of the moments below the lanes.
 const AXIS: u128 = 30;
 
+/// The height of what is above the first row.
 const HEAD: u128 = 52;
 
+/// The height between two rows.
 const BETWEEN: u128 = 12;
 
 const MEASURE: Measure = Measure {
@@ -61,10 +69,10 @@ const MEASURE: Measure = Measure {
     last: 44,
 };
 
-/// Where all operations are shown, they stand closer.
+/// Where all operations are shown, they are closer to each other.
 const CLOSE: Measure = Measure { gap: 7, ..MEASURE };
 
-/// The scene in rows of that width, the names of lanes included.
+/// The canvas of a scene, in rows of this width, the names of lanes included.
 pub fn canvas_of<'s, 't>(
     alloc: Global,
     subject: &Subject,
@@ -112,7 +120,7 @@ pub fn canvas_of<'s, 't>(
     })
 }
 
-/// How many rows the forward zones have, and the backward ones behind them.
+/// How many rows the forward and the backward zones have together.
 fn rows_of_zones(zones: &[Zone]) -> u128 {
     rows_of(zones, true).saturating_add(rows_of(zones, false))
 }
@@ -127,7 +135,7 @@ pub fn rows_of(zones: &[Zone], is_forward: bool) -> u128 {
     rows
 }
 
-/// The lane of each operation, of those that are shown.
+/// The lane of each operation that is shown.
 fn lanes_of(alloc: Global, scene: &Scene, ends: &[usize]) -> Result<Vec<usize>, AllocError> {
     let mut lanes = vec![in alloc; 0; scene.ops.len()]?;
     let mut from = 0;
@@ -149,7 +157,7 @@ pub fn wide(characters: usize) -> u128 {
     (characters as u128).saturating_mul(6)
 }
 
-/// Room for the widest name, or for how many operations are left out before all.
+/// The width for the widest name, or for the number of operations left out before all.
 fn margin_of(alloc: Global, scene: &Scene) -> Result<u128, AllocError> {
     let mut widest = widest_name(alloc, scene, "process ")?;
     if scene.folded.first().is_some_and(|many| *many > 0) {
@@ -174,7 +182,7 @@ pub fn window_of(layout: &Layout, row: usize) -> Window {
     }
 }
 
-/// Room for how many operations are left out behind all.
+/// The width for the number of operations left out after all.
 fn tail_width(layout: &Layout) -> u128 {
     match layout.later() {
         0 => 4,
@@ -207,7 +215,7 @@ pub fn lane_of(canvas: &Canvas, number: usize) -> usize {
     }
 }
 
-/// The middle of the lane of a side.
+/// The middle of the lane of a side, from the top of the strip.
 pub fn middle_of(canvas: &Canvas, side: &Side) -> u128 {
     let top = match side {
         Side::Initial => canvas.top,

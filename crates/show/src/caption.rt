@@ -1,7 +1,7 @@
 //! The sentences below a picture.
 
 ghost use Rattle.std.specs.Prelude.{◌≡◌, ◌++◌, IfOk, OnOk, string_bytes};
-ghost use Rattle.show.specs.Caption.{before_text, holds_text, second_letter as letter_of_second, side_text, third_letter as letter_of_third};
+ghost use Rattle.show.specs.Caption.{before_text, holds_text, second_letter, side_text, third_letter};
 
 use crate::label::value_word;
 use crate::letter::{Letter, is_one, over_letter};
@@ -12,7 +12,7 @@ use intervals::{Initial, Kind, Op, Value, is_same_value};
 use register_book::Side;
 use std::alloc::{AllocError, Global};
 
-/// What there is to say of the register, in sentences of a line each.
+/// Adds what there is to say of the register, a sentence a line.
 pub fn push_caption(
     text: &mut String,
     alloc: Global,
@@ -59,7 +59,7 @@ fn push_wrong(
     text.push_str(".\n")
 }
 
-/// What the writes wrote that a read overlaps, the first three by their letters.
+/// The values of the writes that a read overlaps, the first three with their letters.
 fn push_over(text: &mut String, alloc: Global, over: &[Op]) -> Result<(), AllocError> {
     for number in 0..over.len() {
         match over_letter(number) {
@@ -89,7 +89,7 @@ fn push_one_over(
     write!(text, "{before} {value} ({letter}, overlaps it)")
 }
 
-/// What the last write before a read wrote, or the value at first.
+/// The value of the last write before a read, or the value at first.
 fn push_last(
     text: &mut String,
     alloc: Global,
@@ -109,7 +109,7 @@ fn push_last(
     }
 }
 
-/// What a read returned, and where that came from.
+/// What a read returned, and where that value came from.
 fn push_source(
     text: &mut String,
     alloc: Global,
@@ -140,7 +140,7 @@ fn push_source(
     }
 }
 
-/// Which write came between.
+/// The write that came between.
 fn push_overwritten(text: &mut String, last: &Option<Op>) -> Result<(), AllocError> {
     match last {
         Some(last) => write!(
@@ -214,18 +214,18 @@ fn push_crossing(
 }
 
 fn second_letter(b: &Side, c: &Side) -> &'static str
-    ensures { result.now ≡ letter_of_second b.now c.now }
+    ensures { result.now ≡ second_letter b.now c.now }
 {
     if is_one(b, c) { "BC" } else { "B" }
 }
 
 fn third_letter(b: &Side, c: &Side) -> &'static str
-    ensures { result.now ≡ letter_of_third b.now c.now }
+    ensures { result.now ≡ third_letter b.now c.now }
 {
     if is_one(b, c) { "BC" } else { "C" }
 }
 
-/// One operation precedes another, or is the register before any write.
+/// One side ended before the other began, or is the value at first.
 fn push_before(text: &mut String, before: &str, side: &Side, after: &str) -> Result<(), AllocError>
     ensures { OnOk result (string_bytes text.new ≡ string_bytes text.old ++ before_text before.now side.now after.now) }
 {
@@ -235,7 +235,7 @@ fn push_before(text: &mut String, before: &str, side: &Side, after: &str) -> Res
     }
 }
 
-/// What follows of the values: one was written before the other, or was there before it.
+/// What follows for the values: one was written before the other, or was there before it.
 fn push_written(
     text: &mut String,
     alloc: Global,
@@ -252,7 +252,7 @@ fn push_written(
     write!(text, "{one} was {verb} before {other}.\n")
 }
 
-/// The value of a side.
+/// The value of a side as it is printed.
 fn side_word(alloc: Global, side: &Side) -> Result<String, AllocError>
     ensures { IfOk result (λ word. string_bytes word ≡ side_text side.now) }
 {

@@ -1,12 +1,12 @@
-//! Text within SVG and HTML.
+//! A text within SVG and HTML.
 
 ghost use Rattle.std.specs.Prelude.{◌≡◌, ◌++◌, OnOk, string_bytes};
-ghost use Rattle.show.specs.Escape.{allowed as allowed_in, element_text, escaped, escaped_char};
+ghost use Rattle.show.specs.Escape.{allowed, element_text, escaped, escaped_char};
 
 use bstr::ByteSlice;
 use std::alloc::AllocError;
 
-/// Adds words between markup.
+/// Adds words between an opening and a closing markup.
 pub fn push_element(
     text: &mut String,
     opening: &str,
@@ -20,7 +20,8 @@ pub fn push_element(
     text.push_str(closing)
 }
 
-/// Adds a text that reads as it stands: what would be markup is an entity, and what XML has no place for is a blank or U+FFFD.
+/// Adds a text so that it reads as itself: what would be markup becomes an entity, what XML does not allow becomes a
+/// blank or U+FFFD.
 fn push_escaped(text: &mut String, plain: &[u8]) -> Result<(), AllocError>
     ensures { OnOk result (string_bytes text.new ≡ string_bytes text.old ++ escaped plain.now) }
 {
@@ -42,9 +43,9 @@ fn push_character(text: &mut String, character: char) -> Result<(), AllocError>
     }
 }
 
-/// The character, where XML has a place for it.
+/// The character where XML allows it, else a blank or U+FFFD.
 fn allowed(character: char) -> char
-    ensures { result ≡ allowed_in character }
+    ensures { result ≡ allowed character }
 {
     if character < ' ' && character != '\n' {
         ' '

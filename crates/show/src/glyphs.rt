@@ -3,25 +3,26 @@
 /// Characters of one cell each.
 #[derive(Clone, Copy, Debug, PartialEq, Eq)]
 pub struct Glyphs {
-    /// The line of a bar that has a letter, and of another.
+    /// The line of a bar that has a letter.
     pub bold: char,
+    /// The line of another bar.
     pub thin: char,
-    /// Where an unfinished operation goes on.
+    /// The line of an unfinished operation.
     pub dots: char,
-    /// A moment that the caption tells of.
+    /// A moment that the caption speaks of.
     pub drop: char,
     /// Where operations are left out.
     pub fold: char,
-    /// Behind a read that returned what it may not.
+    /// Right of a read that returned what it may not.
     pub cross: char,
-    /// Zones: their ends, and what lies between.
+    /// Zones: their ends, and the line between.
     pub left_end: char,
     pub left_head: char,
     pub right_end: char,
     pub right_head: char,
     pub forward: char,
     pub backward: char,
-    /// Before the first operation, and behind the last.
+    /// Before the number of operations left out at the beginning, and after that at the end.
     pub earlier: &'static str,
     pub later: &'static str,
 }

@@ -1,7 +1,7 @@
-//! What stands on a bar.
+//! The labels of bars.
 
 ghost use Rattle.std.specs.Prelude.{◌≡◌, ◌++◌, IfOk, OnOk, string_bytes};
-ghost use Rattle.show.specs.Label.{act_text, head_for, head_text, label_text, read_text, value_text};
+ghost use Rattle.show.specs.Label.{act_text, head_for, label_head_text, label_text, read_text, value_text};
 
 use crate::letter::Letter;
 use intervals::{Moment, Op, Value};
@@ -15,7 +15,7 @@ pub enum Head {
     Rank(usize),
 }
 
-/// The letter where there is one, else the rank.
+/// The letter, where there is one, else the rank.
 pub fn head_of(letter: Option<Letter>, rank: Option<usize>) -> Option<Head>
     ensures { result ≡ head_for letter rank }
 {
@@ -26,7 +26,7 @@ pub fn head_of(letter: Option<Letter>, rank: Option<usize>) -> Option<Head>
     }
 }
 
-/// What it begins with, `w` or `r`, and the value; `?` where a read has not been answered.
+/// Adds a label: its head, `w` or `r`, and the value; `?` where a read has no answer.
 pub fn push_label(text: &mut String, head: Option<Head>, op: &Op) -> Result<(), AllocError>
     ensures { OnOk result (string_bytes text.new ≡ string_bytes text.old ++ label_text head op.now) }
 {
@@ -35,7 +35,7 @@ pub fn push_label(text: &mut String, head: Option<Head>, op: &Op) -> Result<(), 
 }
 
 fn push_head(text: &mut String, head: Option<Head>) -> Result<(), AllocError>
-    ensures { OnOk result (string_bytes text.new ≡ string_bytes text.old ++ head_text head) }
+    ensures { OnOk result (string_bytes text.new ≡ string_bytes text.old ++ label_head_text head) }
 {
     match head {
         Some(Head::Letter(letter)) => {
@@ -78,7 +78,7 @@ pub fn push_value(text: &mut String, value: Value) -> Result<(), AllocError>
     }
 }
 
-/// The same by itself.
+/// A value as it is printed, as a text of its own.
 pub fn value_word(alloc: Global, value: Value) -> Result<String, AllocError>
     ensures { IfOk result (λ word. string_bytes word ≡ value_text value) }
 {

@@ -1,4 +1,4 @@
-//! Laws of scenes. Each is the contract of a function that does nothing but call the laws of the timeline that it rests on.
+//! Laws of scenes. Each is the contract of a function that only calls the laws of the timeline on which it rests.
 
 ghost use Rattle.std.specs.Prelude.{◌≡◌, ◌↔◌, ◌+◌, ◌++◌, ◌<◌, ◌≤◌, ℕ, All, Contains, IsPermutation, List, Some, drop, length, slice_index, sum};
 ghost use Rattle.std.specs.declared.alloc.Global.{Global};
@@ -7,17 +7,17 @@ ghost use Rattle.std.specs.List.{slice_get};
 ghost use Rattle.intervals.specs.declared.operation.Op.{Op};
 ghost use Rattle.intervals.specs.Operation.{Precedes};
 ghost use Rattle.intervals.specs.Standing.{HasEndsAfterBeginnings};
-ghost use Rattle.intervals.specs.Table.{standing};
-ghost use Rattle.timeline.specs.declared.axis.Span.{Span};
+ghost use Rattle.intervals.specs.Table.{ops_in_slots};
+ghost use Rattle.timeline.specs.declared.axis.BarSpan.{BarSpan};
 ghost use Rattle.timeline.specs.declared.choice.Extent.{Extent};
 ghost use Rattle.timeline.specs.declared.place.Want.{Want};
-ghost use Rattle.timeline.specs.Place.{AreApart, IsKept};
+ghost use Rattle.timeline.specs.Place.{AreSpaced, IsDistanceKept};
 ghost use Rattle.show.specs.declared.letter.Letter.{Letter};
 ghost use Rattle.show.specs.declared.measure.Measure.{Measure};
 ghost use Rattle.show.specs.declared.scene.Scene.{Scene};
 ghost use Rattle.show.specs.declared.subject.Subject.{Subject};
 ghost use Rattle.show.specs.Letter.{letter_for};
-ghost use Rattle.show.specs.Measure.{end_of, label_width, wanted_of};
+ghost use Rattle.show.specs.Measure.{span_end_mark, label_width, wanted_of};
 ghost use Rattle.show.specs.Scene.{IsScene};
 
 use timeline::laws;
@@ -25,13 +25,13 @@ use timeline::laws;
 /// What is shown stands, and is shown once: the operations that stand are those that are shown and some others.
 pub fn what_is_shown_stands()
     ensures { (subject : Subject) (extent : Extent) (scene : Scene) → IsScene subject extent scene
-        → (others : List Op) × IsPermutation (standing subject.slots.now) (scene.ops.items ++ others) }
+        → (others : List Op) × IsPermutation (ops_in_slots subject.slots.now) (scene.ops.items ++ others) }
 {}
 
-/// The operations that are shown and all that are counted between marks are as many as stand.
+/// The operations that are shown and those that are counted between marks are together as many as stand.
 pub fn what_stands_is_shown_or_counted()
     ensures { (subject : Subject) (extent : Extent) (scene : Scene) → IsScene subject extent scene
-        → length scene.ops.items + sum scene.folded.items ≡ length (standing subject.slots.now) }
+        → length scene.ops.items + sum scene.folded.items ≡ length (ops_in_slots subject.slots.now) }
 {
     laws::each_that_is_left_out_is_counted();
 }
@@ -39,30 +39,30 @@ pub fn what_stands_is_shown_or_counted()
 /// An operation that stands and has a letter is shown.
 pub fn what_has_a_letter_is_shown()
     ensures { (subject : Subject) (extent : Extent) (scene : Scene) (op : Op) (letter : Letter) → IsScene subject extent scene
-        → Contains (standing subject.slots.now) op → letter_for scene.letters.items op.id ≡ Some letter → Contains scene.ops.items op }
+        → Contains (ops_in_slots subject.slots.now) op → letter_for scene.letters.items op.id ≡ Some letter → Contains scene.ops.items op }
 {
     laws::what_is_asked_for_is_shown();
 }
 
-/// Of two operations that are shown the first ends left of where the second begins exactly where it precedes it. The first step,
-/// which is from the left edge, may be none.
+/// Of two operations that are shown the first ends left of where the second begins exactly where it precedes it. The
+/// step from the left edge to the first mark may be 0.
 pub fn ends_left_of_what_it_precedes()
-    ensures { (subject : Subject) (extent : Extent) (scene : Scene) (steps places : List ℕ) (i j end : ℕ) (a b : Op) (s t : Span)
-        → IsScene subject extent scene → AreApart steps places → length scene.marks.items ≤ length places → All (λ step. 0 < step) (drop 1 steps) → length places ≡ length steps
+    ensures { (subject : Subject) (extent : Extent) (scene : Scene) (steps places : List ℕ) (i j end : ℕ) (a b : Op) (s t : BarSpan)
+        → IsScene subject extent scene → AreSpaced steps places → length scene.marks.items ≤ length places → All (λ step. 0 < step) (drop 1 steps) → length places ≡ length steps
         → slice_get scene.ops.items i ≡ Some a → slice_get scene.spans.items i ≡ Some s → slice_get scene.ops.items j ≡ Some b → slice_get scene.spans.items j ≡ Some t → s.end ≡ Some end
         → Precedes a b ↔ (slice_index places end < slice_index places t.begin) }
 {
     laws::ends_left_of_what_it_precedes();
 }
 
-/// Where each operation that stands ends after its beginning, and what is wanted is kept, each label fits between the marks of
-/// its operation.
+/// Where each operation that stands ends after its beginning, and the least distances are kept, each label fits between
+/// the marks of its operation.
 pub fn labels_fit_in_their_bars()
-    ensures { (subject : Subject) (extent : Extent) (scene : Scene) (measure : Measure) (wants others : List Want) (places : List ℕ) (i : ℕ) (span : Span) (label : String Global)
-        → IsScene subject extent scene → HasEndsAfterBeginnings (standing subject.slots.now)
-        → wants ≡ wanted_of measure (length scene.marks.items) scene.labels.items 0 scene.spans.items ++ others → All (IsKept places) wants
+    ensures { (subject : Subject) (extent : Extent) (scene : Scene) (measure : Measure) (wants others : List Want) (places : List ℕ) (i : ℕ) (span : BarSpan) (label : String Global)
+        → IsScene subject extent scene → HasEndsAfterBeginnings (ops_in_slots subject.slots.now)
+        → wants ≡ wanted_of measure (length scene.marks.items) scene.labels.items 0 scene.spans.items ++ others → All (IsDistanceKept places) wants
         → slice_get scene.spans.items i ≡ Some span → slice_get scene.labels.items i ≡ Some label
-        → slice_index places span.begin + label_width measure label ≤ slice_index places (end_of (length scene.marks.items) span) }
+        → slice_index places span.begin + label_width measure label ≤ slice_index places (span_end_mark (length scene.marks.items) span) }
 {
     laws::ends_left_of_what_it_precedes();
 }

@@ -1,4 +1,4 @@
-//! How far right things stand in a picture, whatever it is drawn with.
+//! How far right things are in a picture, whatever it is drawn with.
 
 ghost use Rattle.std.specs.Prelude.{IfOk};
 ghost use Rattle.show.specs.Layout.{ArePlaced, IsLayout};
@@ -12,19 +12,19 @@ use crate::told::{span_for, told_of};
 use intervals::{Initial, Op, Value};
 use register_book::Side;
 use std::alloc::{AllocError, Global};
-use timeline::{Seat, Span, places, rows};
+use timeline::{BarSpan, Seat, places, rows};
 
 /// A scene, with the places of its marks.
 #[derive(Drop)]
 pub struct Layout<'s, 't> {
     pub scene: &'s Scene<'t>,
-    /// Where each mark stands, and last the right edge.
+    /// The place of each mark, and last of the right edge.
     pub places: Vec<u128>,
-    /// With which marks rows begin.
+    /// The numbers of the marks with which rows begin.
     pub starts: Vec<usize>,
-    /// The marks that a caption tells of.
+    /// The numbers of the marks that the caption speaks of.
     pub told: Vec<usize>,
-    /// What stands on the box of the value at first, empty where it is not told of.
+    /// The label of the box of the value at first; empty where the caption does not speak of it.
     pub at_first: String,
 }
 
@@ -38,7 +38,7 @@ pub struct Bar<'s, 't> {
     pub is_finished: bool,
 }
 
-/// The scene with places by that measure, in rows of that width.
+/// The scene with places by this measure, in rows of this width.
 pub fn layout_of<'s, 't>(
     alloc: Global,
     subject: &Subject,
@@ -65,7 +65,7 @@ pub fn layout_of<'s, 't>(
     })
 }
 
-/// From the left edge to the first mark: behind the box of the value at first, where there is one.
+/// The distance from the left edge to the first mark: right of the box of the value at first, where there is one.
 fn first_step(measure: &Measure, at_first: &str) -> u32 {
     if at_first.is_empty() {
         return measure.first;
@@ -75,7 +75,7 @@ fn first_step(measure: &Measure, at_first: &str) -> u32 {
         .saturating_add(measure.gap)
 }
 
-/// Where the marks stand, and last the right edge.
+/// The place of each mark, and last of the right edge.
 fn placed(
     alloc: Global,
     scene: &Scene,
@@ -90,7 +90,7 @@ fn placed(
     Ok(places)
 }
 
-/// The value at first, where an end of a conflict is the register before any write, or a wrong read might have returned it.
+/// The value at first, where it is a side of a conflict or a wrong read may return it; else empty.
 fn text_at_first(alloc: Global, subject: &Subject, story: &Story) -> Result<String, AllocError> {
     let mut text = String::new(alloc);
     let before = match story {
@@ -114,7 +114,7 @@ fn text_at_first(alloc: Global, subject: &Subject, story: &Story) -> Result<Stri
 }
 
 impl<'s, 't> Layout<'s, 't> {
-    /// Where a mark stands.
+    /// The place of a mark.
     pub fn place_of(&self, number: usize) -> u128 {
         match self.places.get(number) {
             Some(place) => *place,
@@ -137,7 +137,7 @@ impl<'s, 't> Layout<'s, 't> {
         }
     }
 
-    /// How many are left out before all marks.
+    /// How many operations are left out before all marks.
     pub fn earlier(&self) -> usize {
         match self.scene.folded.first() {
             Some(many) => *many,
@@ -145,7 +145,7 @@ impl<'s, 't> Layout<'s, 't> {
         }
     }
 
-    /// How many are left out behind all marks.
+    /// How many operations are left out after all marks.
     pub fn later(&self) -> usize {
         match self.scene.folded.last() {
             Some(many) => *many,
@@ -153,19 +153,19 @@ impl<'s, 't> Layout<'s, 't> {
         }
     }
 
-    /// In the middle between a mark and the one before it.
+    /// The middle between a mark and the one before it.
     pub fn middle_before(&self, number: usize) -> u128 {
         let left = self.place_of(number.saturating_sub(1));
         let right = self.place_of(number);
         left.saturating_add(right.saturating_sub(left) / 2)
     }
 
-    /// Where an operation ended: the left edge for the register at first, the right edge where it has no end.
+    /// Where a side ended: the left edge for the value at first, the right edge where the operation has no end.
     pub fn end_place(&self, side: &Side) -> u128 {
         match side {
             Side::Initial => 0,
             Side::Op(op) => match span_for(self.scene, op.id) {
-                Some(Span { end: Some(end), .. }) => self.place_of(end),
+                Some(BarSpan { end: Some(end), .. }) => self.place_of(end),
                 _ => self.right_edge(),
             },
         }
@@ -181,7 +181,7 @@ impl<'s, 't> Layout<'s, 't> {
         }
     }
 
-    /// The bar of the operation of that number among those that are shown.
+    /// The bar of the operation of this number among those that are shown.
     pub fn bar(&self, number: usize) -> Option<Bar<'s, 't>> {
         let op = self.scene.ops.get(number)?;
         let span = self.scene.spans.get(number)?;
@@ -198,7 +198,7 @@ impl<'s, 't> Layout<'s, 't> {
         })
     }
 
-    /// The numbers of the seats with which lanes end, each one more than its last.
+    /// For each lane, the number of the seat after its last.
     pub fn lane_ends(&self, alloc: Global) -> Result<Vec<usize>, AllocError> {
         let seats = self.scene.seats.as_slice();
         let mut ends = Vec::new(alloc);
@@ -218,7 +218,7 @@ fn is_last_of_lane(seats: &[Seat], number: usize) -> bool {
     }
 }
 
-/// Adds the process of a seat behind a word, and its trace where several have a process of that number.
+/// Adds the process of a seat after a word, and its trace where several traces have a process of that number.
 pub fn push_lane_name(
     text: &mut String,
     word: &str,
@@ -235,7 +235,7 @@ pub fn push_lane_name(
     Ok(())
 }
 
-/// Whether processes of that number are in several traces. The seats of one process stand together, by trace.
+/// Whether several traces have a process of this number. The seats of one process are together, by trace.
 fn is_of_several(seats: &[Seat], process: i64) -> bool {
     let first = seats.partition_point(|seat| seat.process < process);
     let end = seats.partition_point(|seat| seat.process <= process);
@@ -248,7 +248,7 @@ fn is_of_several(seats: &[Seat], process: i64) -> bool {
     }
 }
 
-/// How many characters the widest name beside a row has: of a lane, behind that word, or of a zone of a conflict.
+/// How many characters the widest name beside a row has: that of a lane, after this word, or of a zone of a conflict.
 pub fn widest_name(alloc: Global, scene: &Scene, word: &str) -> Result<usize, AllocError> {
     let mut widest = 0;
     for number in 0..scene.seats.len() {

@@ -4,7 +4,7 @@ ghost use Rattle.std.specs.Prelude.{◌≡◌, ◌<◌, ◌++◌, ◌∷◌, [],
 ghost use Rattle.std.specs.List.{slice_get};
 ghost use Rattle.std.specs.Option.{option_map_or};
 ghost use Rattle.intervals.specs.Operation.{same_id};
-ghost use Rattle.show.specs.Letter.{letter_for as letter_in, letters_at, letters_by, letters_of as letters_in, middle_letters, over_letters, over_letter as letter_of_number, same_side, word_of};
+ghost use Rattle.show.specs.Letter.{letter_for, letters_at, letters_by, letters_of, middle_letters, over_letters, over_letter, same_side, word_of};
 
 use crate::story::{Story, Wrong};
 use intervals::{Op, OpId};
@@ -15,7 +15,7 @@ use std::unreachable;
 /// What an operation is to the reason why its register fails.
 #[derive(Clone, Copy, Debug, PartialEq, Eq)]
 pub enum Letter {
-    /// The four operations of a conflict, of which the second and the third may be one.
+    /// The four operations of a conflict; `Bc` where the second and the third are one.
     A,
     B,
     C,
@@ -25,7 +25,7 @@ pub enum Letter {
     Read,
     FirstRead,
     SecondRead,
-    /// The write that a read was too early for.
+    /// The write that a read came too early for.
     Write,
     /// The last write before a wrong read, and the first three that overlap it.
     LastWrite,
@@ -35,7 +35,7 @@ pub enum Letter {
 }
 
 impl Letter {
-    /// As it is printed.
+    /// The letter as it is printed.
     pub fn word(self) -> &'static str
         ensures { result.now ≡ word_of self }
     {
@@ -57,16 +57,16 @@ impl Letter {
     }
 }
 
-/// The letter of an operation.
+/// An operation with its letter.
 #[derive(Clone, Copy, Debug, PartialEq, Eq)]
 pub struct Lettered {
     pub id: OpId,
     pub letter: Letter,
 }
 
-/// The letters of a story.
+/// The operations of a story with their letters.
 pub fn letters_of(alloc: Global, story: &Story) -> Result<Vec<Lettered>, AllocError>
-    ensures { IfOk result (λ letters. letters.items ≡ letters_in story.now) }
+    ensures { IfOk result (λ letters. letters.items ≡ letters_of story.now) }
 {
     let mut letters = Vec::new(alloc);
     match story {
@@ -87,7 +87,7 @@ pub fn letters_of(alloc: Global, story: &Story) -> Result<Vec<Lettered>, AllocEr
 }
 
 fn letter_wrong(letters: &mut Vec<Lettered>, wrong: &Wrong) -> Result<(), AllocError>
-    ensures { OnOk result (letters.new.items ≡ letters.old.items ++ letters_in (Story.Wrong wrong.now)) }
+    ensures { OnOk result (letters.new.items ≡ letters.old.items ++ letters_of (Story.Wrong wrong.now)) }
 {
     give(letters, &wrong.read, Letter::Read)?;
     if let Some(last) = &wrong.last {
@@ -96,7 +96,7 @@ fn letter_wrong(letters: &mut Vec<Lettered>, wrong: &Wrong) -> Result<(), AllocE
     letter_over(letters, &wrong.over)
 }
 
-/// The first three have letters.
+/// Gives letters to the first three of the writes that a wrong read overlaps.
 fn letter_over(letters: &mut Vec<Lettered>, over: &[Op]) -> Result<(), AllocError>
     ensures { OnOk result (letters.new.items ≡ letters.old.items ++ over_letters 0 over.now) }
 {
@@ -106,10 +106,10 @@ fn letter_over(letters: &mut Vec<Lettered>, over: &[Op]) -> Result<(), AllocErro
     Ok(())
 }
 
-/// The letter of the one of that number, where it has one.
+/// Gives a letter to the write of this number, where it has one.
 fn give_over(letters: &mut Vec<Lettered>, over: &[Op], number: usize) -> Result<(), AllocError>
     requires { number < length over.now }
-    ensures { OnOk result (letters.new.items ≡ letters.old.items ++ option_map_or (letters_by (letter_of_number number)) (slice_get over.now number) []) }
+    ensures { OnOk result (letters.new.items ≡ letters.old.items ++ option_map_or (letters_by (over_letter number)) (slice_get over.now number) []) }
 {
     match over.get(number) {
         Some(op) => give_by(letters, over_letter(number), op),
@@ -126,9 +126,9 @@ fn give_by(letters: &mut Vec<Lettered>, letter: Option<Letter>, op: &Op) -> Resu
     }
 }
 
-/// The letter of the write of that number among those that a wrong read overlaps, where it has one.
+/// The letter of the write of this number among those that a wrong read overlaps, where it has one.
 pub fn over_letter(number: usize) -> Option<Letter>
-    ensures { result ≡ letter_of_number number }
+    ensures { result ≡ over_letter number }
 {
     match number {
         0 => Some(Letter::FirstOver),
@@ -145,14 +145,14 @@ fn letter_crossing(
     c: &Side,
     d: &Side,
 ) -> Result<(), AllocError>
-    ensures { OnOk result (letters.new.items ≡ letters.old.items ++ letters_in (Story.Crossing a.now b.now c.now d.now)) }
+    ensures { OnOk result (letters.new.items ≡ letters.old.items ++ letters_of (Story.Crossing a.now b.now c.now d.now)) }
 {
     letter_side(letters, a, Letter::A)?;
     letter_middle(letters, b, c)?;
     letter_side(letters, d, Letter::D)
 }
 
-/// The second and the third operation of a conflict, which may be one.
+/// Gives letters to the second and the third operation of a conflict, which may be one.
 fn letter_middle(letters: &mut Vec<Lettered>, b: &Side, c: &Side) -> Result<(), AllocError>
     ensures { OnOk result (letters.new.items ≡ letters.old.items ++ middle_letters b.now c.now) }
 {
@@ -193,15 +193,15 @@ fn give(letters: &mut Vec<Lettered>, op: &Op, letter: Letter) -> Result<(), Allo
     Ok(())
 }
 
-/// The letter of the operation, where it has one.
+/// The letter of an operation, where it has one.
 pub fn letter_for(letters: &[Lettered], id: OpId) -> Option<Letter>
-    ensures { result ≡ letter_in letters.now id }
+    ensures { result ≡ letter_for letters.now id }
 {
     let found = letters.iter().find(|lettered| is_same_id(lettered.id, id))?;
     Some(found.letter)
 }
 
-/// Whether two ids are one.
+/// Whether two ids are the same.
 pub fn is_same_id(a: OpId, b: OpId) -> bool
     ensures { result ≡ same_id a b }
 {

@@ -1,24 +1,26 @@
-//! A picture of a register: what stands, and why the register fails.
+//! A picture of a register: its operations, and why it fails.
 //!
 //! ```text
 //! let look = Look { extent: Extent::Around(3), width: 100, is_ascii: false };
 //! push_timeline(&mut text, alloc, &subject, &look)?     // in lines of a terminal
 //! push_picture(&mut text, alloc, &subject, &sheet)?     // as SVG
-//! push_page_part(&mut text, alloc, &subject, &sheet, is_unfolded, report)?     // on a page, between its head and its end
+//! push_page_part(&mut text, alloc, &subject, &sheet, is_unfolded, report)?     // on a page
 //! ```
 //!
-//! A subject is a register as it stands, with the operations that show that it fails. `story.rt` finds what there is to tell
-//! of it, `letter.rt` gives letters to the operations that tell it, `rank.rt` says where they stand in an order that explains
-//! the reads, and `scene.rt` chooses what is shown and says where it stands among each other, by the crate `timeline`.
-//! `measure.rt` says how wide things are, `layout.rt` how far right they stand. Two files draw that: `text.rt` into lines of
-//! cells (`line.rt`, with the characters of `glyphs.rt`), and `svg.rt`, on a canvas (`canvas.rt`), with what stands
-//! in a picture (`strip.rt`, `bar.rt`, `axis.rt`) and the colours of `role.rt` and `style.rt`; both draw
-//! the zones of a conflict (`zone.rt`), lanes by process, and the moments below, of which those that the sentences tell of
-//! (`told.rt`) come first. `title.rt` has the first line, `caption.rt` the sentences; `page.rt` puts pictures on a page.
+//! A subject is a register with the operations that stand and the witness. `story.rt` finds why it fails, `letter.rt`
+//! gives letters to the operations that show it, `rank.rt` says which place each operation has in an order that
+//! explains the reads, and `scene.rt` chooses which operations are shown, with their marks and lanes, by the crate
+//! `timeline`. `measure.rt` says how wide things are, `layout.rt` how far right they are. Two files draw that:
+//! `text.rt` in lines of cells (`line.rt`, with the characters of `glyphs.rt`), and `svg.rt` on a canvas
+//! (`canvas.rt`), with the parts of a picture (`strip.rt`, `bar.rt`, `axis.rt`) and the colours of `role.rt` and
+//! `style.rt`. Both draw the zones of a conflict (`zone.rt`), lanes by process, and the moments below; the moments
+//! that the sentences speak of (`told.rt`) come first. `title.rt` has the first line, `caption.rt` the sentences;
+//! `page.rt` puts pictures on a page.
 //!
-//! Begin with `laws.rt`: an operation that is shown stands, and is shown once; those that are shown and those that are counted
-//! are all; one that has a letter is shown; of two the first ends left of where the second begins exactly where it precedes it;
-//! and each label fits in its bar. `layout.rt` says that a layout is such a one, and `escape.rt` what comes of a text.
+//! Begin with `laws.rt`: an operation that is shown stands, and is shown once; those that are shown and those that are
+//! counted are all; one that has a letter is shown; of two the first ends left of where the second begins exactly where
+//! it precedes it; and each label fits in its bar. `layout.rt` says what a layout keeps, and `escape.rt` how a text is
+//! written.
 #![tactic(auto)]
 
 mod axis;

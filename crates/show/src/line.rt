@@ -4,23 +4,23 @@ ghost use Rattle.std.specs.Prelude.{◌≤◌, length};
 
 use std::alloc::{AllocError, Global};
 
-/// Cells of a line from one place on.
+/// The cells of a line from one place on.
 #[derive(Debug, Drop)]
-pub struct Line {
+pub struct TextLine {
     pub from: u128,
     pub cells: Vec<char>,
 }
 
-impl Line {
+impl TextLine {
     /// So many blanks.
-    pub fn blank(alloc: Global, from: u128, width: usize) -> Result<Line, AllocError> {
-        Ok(Line {
+    pub fn blank(alloc: Global, from: u128, width: usize) -> Result<TextLine, AllocError> {
+        Ok(TextLine {
             from,
             cells: vec![in alloc; ' '; width]?,
         })
     }
 
-    /// Puts a character at a place, where the line has it.
+    /// Puts a character at a place, if the line has that place.
     pub fn put(&mut self, place: u128, character: char) {
         if place < self.from {
             return;
@@ -33,7 +33,7 @@ impl Line {
         }
     }
 
-    /// Puts it at each place up to the second.
+    /// Puts a character at each place from one up to another.
     pub fn fill(&mut self, from: u128, to: u128, character: char) {
         for number in 0..self.cells.len() {
             let place = self.from.saturating_add(number as u128);
@@ -43,7 +43,7 @@ impl Line {
         }
     }
 
-    /// Puts the characters of a text one behind the other.
+    /// Puts the characters of a text one after another.
     pub fn put_text(&mut self, place: u128, text: &str) {
         let mut at = place;
         for character in text.chars() {
@@ -52,7 +52,7 @@ impl Line {
         }
     }
 
-    /// Whether all its cells between two places are blank.
+    /// Whether all cells from one place up to another are blank.
     pub fn is_blank(&self, from: u128, to: u128) -> bool {
         for number in 0..self.cells.len() {
             let place = self.from.saturating_add(number as u128);
@@ -63,12 +63,12 @@ impl Line {
         true
     }
 
-    /// Whether one of its cells is not blank.
+    /// Whether a cell is not blank.
     pub fn has_some(&self) -> bool {
         end_of(&self.cells) > 0
     }
 
-    /// Adds it to a text, without the blanks at its end.
+    /// Adds the line to a text, without the blanks at its end.
     pub fn push(&self, text: &mut String) -> Result<(), AllocError> {
         for character in &self.cells[..end_of(&self.cells)] {
             text.push(*character)?;
@@ -77,7 +77,7 @@ impl Line {
     }
 }
 
-/// The number of the first blank behind which there are only blanks.
+/// How many cells are left without the blanks at the end.
 fn end_of(cells: &[char]) -> usize
     ensures { result ≤ length cells.now }
 {

@@ -1,33 +1,33 @@
-//! The distances that a picture wants.
+//! The distances that a picture needs.
 
 ghost use Rattle.std.specs.Prelude.{◌≡◌, ◌+◌, ◌++◌, ◌<◌, ◌≤◌, All, IfOk, List, OnOk, drop, length};
 ghost use Rattle.std.specs.List.{slice_get};
 ghost use Rattle.std.specs.Option.{option_map_or};
 ghost use Rattle.timeline.specs.declared.place.Want.{Want as AWant};
-ghost use Rattle.show.specs.Measure.{IsWanted, end_of as end_among, label_width as width_of_label, wanted_between, wanted_of, width_of as width_by};
+ghost use Rattle.show.specs.Measure.{IsWanted, span_end_mark, label_width, wanted_between, wanted_of, width_of};
 
 use crate::scene::Scene;
 use std::alloc::{AllocError, Global};
-use timeline::{Span, Want};
+use timeline::{BarSpan, Want};
 
 /// How wide things are, in cells or units.
 #[derive(Clone, Copy, Debug, PartialEq, Eq)]
 pub struct Measure {
-    /// Between two marks.
+    /// The least distance between two marks.
     pub gap: u32,
-    /// A character.
+    /// The width of a character.
     pub character: u32,
-    /// More than its characters, for a label in its bar.
+    /// The width of a bar beyond the characters of its label.
     pub label: u32,
-    /// More than its characters, for how many operations are left out between two marks.
+    /// The width that the number of operations left out between two marks takes beyond its digits and its sign.
     pub fold: u32,
-    /// From the left edge to the first mark.
+    /// The distance from the left edge to the first mark.
     pub first: u32,
-    /// From the last mark to the right edge.
+    /// The distance from the last mark to the right edge.
     pub last: u32,
 }
 
-/// The step to each mark, and last to the right edge.
+/// The step to each mark, and last the step to the right edge.
 pub fn steps_of(alloc: Global, scene: &Scene, measure: &Measure) -> Result<Vec<u32>, AllocError>
     ensures many { IfOk result (λ steps. length steps.items ≡ length scene.now.marks.items + 1) }
     ensures positive { IfOk result (λ steps. 0 < measure.now.gap → 0 < measure.now.last → All (λ step. 0 < step) (drop 1 steps.items)) }
@@ -55,7 +55,7 @@ fn step_to(scene: &Scene, measure: &Measure, number: usize) -> u32
     }
 }
 
-/// What the labels want of their bars, and the moments that are told of from one another.
+/// The distances that the labels need in their bars, and the moments that the caption speaks of between each other.
 pub fn wants_of(
     alloc: Global,
     scene: &Scene,
@@ -71,7 +71,7 @@ pub fn wants_of(
     Ok(wants)
 }
 
-/// What the labels want of their bars.
+/// The distances that the labels need in their bars.
 fn label_wants(alloc: Global, scene: &Scene, measure: &Measure) -> Result<Vec<Want>, AllocError>
     ensures within { IfOk result (λ wants. All (IsWanted (length scene.now.marks.items)) wants.items) }
     ensures labels { IfOk result (λ wants. wants.items ≡ wanted_of measure.now (length scene.now.marks.items) scene.now.labels.items 0 scene.now.spans.items) }
@@ -87,8 +87,8 @@ fn label_wants(alloc: Global, scene: &Scene, measure: &Measure) -> Result<Vec<Wa
 }
 
 /// The mark at which a span ends; the right edge where it has no end.
-fn end_of(scene: &Scene, span: Span) -> usize
-    ensures { result ≡ end_among (length scene.now.marks.items) span }
+fn end_of(scene: &Scene, span: BarSpan) -> usize
+    ensures { result ≡ span_end_mark (length scene.now.marks.items) span }
 {
     match span.end {
         Some(end) => end,
@@ -96,7 +96,7 @@ fn end_of(scene: &Scene, span: Span) -> usize
     }
 }
 
-/// What the moments that are told of want from one another.
+/// The distances that the moments that the caption speaks of need between each other.
 fn told_wants(
     alloc: Global,
     scene: &Scene,
@@ -130,7 +130,7 @@ fn want(
 }
 
 fn label_width(scene: &Scene, measure: &Measure, number: usize) -> u32
-    ensures { result ≡ option_map_or (λ label. width_of_label measure.now label) (slice_get scene.now.labels.items number) 0 }
+    ensures { result ≡ option_map_or (λ label. label_width measure.now label) (slice_get scene.now.labels.items number) 0 }
 {
     match scene.labels.get(number) {
         Some(label) => width_of(measure, label.as_str().len()).saturating_add(measure.label),
@@ -138,7 +138,7 @@ fn label_width(scene: &Scene, measure: &Measure, number: usize) -> u32
     }
 }
 
-/// The moment of a mark and a blank behind it.
+/// The width of the moment of a mark, and of a blank after it.
 fn moment_width(scene: &Scene, measure: &Measure, number: usize) -> u32 {
     match scene.marks.get(number) {
         Some(mark) => width_of(measure, digits_of_moment(mark.moment.0).saturating_add(1)),
@@ -148,7 +148,7 @@ fn moment_width(scene: &Scene, measure: &Measure, number: usize) -> u32 {
 
 /// The width of so many characters.
 pub fn width_of(measure: &Measure, characters: usize) -> u32
-    ensures { result ≡ width_by measure.now characters }
+    ensures { result ≡ width_of measure.now characters }
 {
     match u32::try_from(characters) {
         Ok(many) => many.saturating_mul(measure.character),
@@ -156,7 +156,7 @@ pub fn width_of(measure: &Measure, characters: usize) -> u32
     }
 }
 
-/// How many digits a number has.
+/// How many decimal digits a number has.
 pub fn digits_of(number: usize) -> usize {
     digits_of_moment(number as u64)
 }

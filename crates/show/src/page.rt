@@ -11,7 +11,7 @@ use crate::svg::{Sheet, push_picture};
 use crate::title::push_heading;
 use std::alloc::{AllocError, Global};
 
-/// The rules of what stands around the pictures.
+/// The rules for what is around the pictures.
 const PAGE: &str = "<style>:root{color-scheme:light dark}
 body{margin:1.5em;font-family:system-ui,sans-serif}
 summary{cursor:pointer;padding:.3em 0;font-weight:600}
@@ -20,12 +20,13 @@ pre{overflow-x:auto}
 </style>
 ";
 
-/// The rules of one theme alone.
+/// The rules of the light theme alone.
 const LIGHT: &str = "<style>:root{color-scheme:light;background:#ffffff;color:#1f2328}</style>\n";
 
+/// The rules of the dark theme alone.
 const DARK: &str = "<style>:root{color-scheme:dark;background:#0d1117;color:#e6edf3}</style>\n";
 
-/// Begins a page, with what its head line says.
+/// Begins a page, with this line as its title and heading.
 pub fn push_page_head(text: &mut String, theme: Theme, line: &str) -> Result<(), AllocError> {
     text.push_str(
         "<!DOCTYPE html>\n<html xmlns=\"http://www.w3.org/1999/xhtml\" lang=\"en\">\n<head>\n<meta charset=\"utf-8\"/>\n",
@@ -42,7 +43,7 @@ pub fn push_page_head(text: &mut String, theme: Theme, line: &str) -> Result<(),
     push_element(text, "<h1>", line, "</h1>\n")
 }
 
-/// A register: its picture, which is to be seen at once where it is open, and what the report says of it.
+/// Adds a register to a page: its picture, which is seen at once where it is unfolded, and what the report says of it.
 pub fn push_page_part(
     text: &mut String,
     alloc: Global,

@@ -9,7 +9,7 @@ use intervals::{Op, OpId};
 use std::alloc::{AllocError, Global};
 use std::collections::HashMap;
 
-/// The place of each operation of the order, from 1.
+/// The place of each operation of an order, from 1.
 pub fn places_of(alloc: Global, order: &[OpId]) -> Result<HashMap<OpId, usize>, AllocError>
     ensures { IfOk result (λ places. ArePlaces order.now places) }
 {
@@ -22,14 +22,14 @@ pub fn places_of(alloc: Global, order: &[OpId]) -> Result<HashMap<OpId, usize>, 
     Ok(places)
 }
 
-/// The place of an operation, where it has one.
+/// The place of an operation, where the order has it.
 pub fn rank_in(places: &HashMap<OpId, usize>, op: &Op) -> Option<usize>
     ensures { result ≡ get same_id places.now op.now.id }
 {
     places.get(&op.id).copied()
 }
 
-/// The places of operations.
+/// The places of these operations.
 pub fn ranks_in(
     alloc: Global,
     places: &HashMap<OpId, usize>,

@@ -1,23 +1,24 @@
-//! The colours that operations have by what they are to the reason why a register fails.
+//! What operations are to the reason why a register fails, which gives them their colours.
 
 use crate::story::{Story, Wrong};
 use intervals::{Op, Value, is_same_value, overlaps};
 use register_book::Side;
 
-/// What an operation is to the reason.
+/// What an operation is to the reason why its register fails.
 #[derive(Clone, Copy, Debug, PartialEq, Eq)]
 pub enum Role {
-    /// Of the first value of a conflict; a write that a wrong read might have returned, or was too early for.
+    /// Of the first value of a conflict; a write whose value a wrong read may return; the write that a read came too
+    /// early for; the first of two reads that cannot both be right.
     One,
-    /// Of the second value.
+    /// Of the second value of a conflict; the second of two reads that cannot both be right.
     Two,
-    /// A read that returned what it may not, and the writes of what it returned.
+    /// A read that returned what it may not, and the other writes of what it returned.
     Wrong,
     Plain,
 }
 
 impl Role {
-    /// The class of what is drawn.
+    /// The class of what is drawn with this role.
     pub fn word(self) -> &'static str {
         match self {
             Role::One => "one",
@@ -86,7 +87,7 @@ fn is_that(found: &Option<Op>, op: &Op) -> bool {
     }
 }
 
-/// Whether a side is of a value.
+/// Whether a side is an operation of a value.
 fn is_of_side(value: Value, side: &Side) -> bool {
     match side {
         Side::Op(op) => is_same_value(value, op.value()),
@@ -100,7 +101,7 @@ static READ: [Role; 2] = [Role::Wrong, Role::One];
 
 static NONE: [Role; 0] = [];
 
-/// What the lines of a caption are about, from the first on.
+/// The roles that the lines of a caption are about, from the first line on.
 pub fn caption_roles(story: &Story) -> &'static [Role] {
     match story {
         Story::Crossing { .. } => CONFLICT.as_slice(),

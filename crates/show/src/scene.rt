@@ -4,9 +4,9 @@ ghost use Rattle.std.specs.Prelude.{◌≡◌, ◌++◌, IfOk, OnOk, map, string
 ghost use Rattle.std.specs.HashMap.{get};
 ghost use Rattle.intervals.specs.Least.{less_of};
 ghost use Rattle.intervals.specs.Operation.{same_id};
-ghost use Rattle.intervals.specs.Table.{standing};
+ghost use Rattle.intervals.specs.Table.{ops_in_slots};
 ghost use Rattle.show.specs.Label.{label_by};
-ghost use Rattle.show.specs.Scene.{IsScene, asked_of as asked_in, asked_beside, extent_of as extent_for, first_of as first_in, id_of};
+ghost use Rattle.show.specs.Scene.{IsScene, asked_ids, asked_beside, extent_of, first_to_begin, ids_of_optional};
 
 use crate::label::{head_of, push_label};
 use crate::letter::{Lettered, letter_for, letters_of};
@@ -16,26 +16,26 @@ use crate::subject::Subject;
 use intervals::{Op, OpId};
 use std::alloc::{AllocError, Global};
 use std::collections::HashMap;
-use timeline::{Extent, Mark, Seat, Span, choose, folded, marks, seats, spans};
+use timeline::{BarSpan, Extent, Mark, Seat, choose, folded, marks, seats, spans};
 
-/// How many of the first operations are shown of a register that holds, for each that is shown around one otherwise.
+/// By what factor more operations are shown of a register that holds, from its first one on.
 const FIRST_FOR_EACH: usize = 8;
 
-/// The operations that are shown, by beginning, with what stands on their bars, and where they stand among each other.
+/// The operations that are shown, by beginning, with their labels, marks and seats.
 #[derive(Debug, Drop)]
 pub struct Scene<'t> {
     pub story: Story<'t>,
     pub letters: Vec<Lettered>,
     pub ops: Vec<Op<'t>>,
-    /// The place of each in an order that explains the reads, from 1.
+    /// The place of each operation in an order that explains the reads, from 1.
     pub ranks: Vec<Option<usize>>,
     pub labels: Vec<String>,
     pub marks: Vec<Mark>,
-    pub spans: Vec<Span>,
-    /// How many operations that are not shown began before each mark, and last how many behind all.
+    pub spans: Vec<BarSpan>,
+    /// How many operations that are not shown began between each mark and the one before it; last, after all.
     pub folded: Vec<usize>,
     pub seats: Vec<Seat>,
-    /// How many operations stand.
+    /// How many operations stand, shown or not.
     pub all: usize,
 }
 
@@ -73,9 +73,9 @@ pub fn scene_of<'t>(
     })
 }
 
-/// Of a register that holds more are shown, from the first on.
+/// How much is shown of a register: more operations where it holds.
 fn extent_of(story: &Story, extent: Extent) -> Extent
-    ensures { result ≡ extent_for story.now extent }
+    ensures { result ≡ extent_of story.now extent }
 {
     match (story, extent) {
         (Story::Holds, Extent::Around(around)) => {
@@ -85,15 +85,15 @@ fn extent_of(story: &Story, extent: Extent) -> Extent
     }
 }
 
-/// The operations that are to be shown before all: those that have a letter, and the writes that a wrong read came from; of a
-/// register that holds the first that stands.
+/// The operations that are shown before all others: those that have a letter, and the writes of what a wrong read
+/// returned; of a register that holds the operation that began first.
 fn asked_of(
     alloc: Global,
     slots: &[Option<Op>],
     story: &Story,
     letters: &[Lettered],
 ) -> Result<Vec<OpId>, AllocError>
-    ensures { IfOk result (λ asked. asked.items ≡ asked_in (standing slots.now) story.now letters.now) }
+    ensures { IfOk result (λ asked. asked.items ≡ asked_ids (ops_in_slots slots.now) story.now letters.now) }
 {
     let mut asked = ids_of(alloc, letters)?;
     ask_beside(&mut asked, slots, story)?;
@@ -111,7 +111,7 @@ fn ids_of(alloc: Global, letters: &[Lettered]) -> Result<Vec<OpId>, AllocError>
 }
 
 fn ask_beside(asked: &mut Vec<OpId>, slots: &[Option<Op>], story: &Story) -> Result<(), AllocError>
-    ensures { OnOk result (asked.new.items ≡ asked.old.items ++ asked_beside (standing slots.now) story.now) }
+    ensures { OnOk result (asked.new.items ≡ asked.old.items ++ asked_beside (ops_in_slots slots.now) story.now) }
 {
     match story {
         Story::Wrong(wrong) => {
@@ -124,7 +124,7 @@ fn ask_beside(asked: &mut Vec<OpId>, slots: &[Option<Op>], story: &Story) -> Res
 }
 
 fn ask(asked: &mut Vec<OpId>, op: &Option<Op>) -> Result<(), AllocError>
-    ensures { OnOk result (asked.new.items ≡ asked.old.items ++ id_of op.now) }
+    ensures { OnOk result (asked.new.items ≡ asked.old.items ++ ids_of_optional op.now) }
 {
     if let Some(op) = op {
         asked.push(op.id)?;
@@ -134,7 +134,7 @@ fn ask(asked: &mut Vec<OpId>, op: &Option<Op>) -> Result<(), AllocError>
 
 /// The operation that began first.
 fn first_of<'t>(slots: &[Option<Op<'t>>]) -> Option<Op<'t>>
-    ensures { result ≡ first_in (standing slots.now) }
+    ensures { result ≡ first_to_begin (ops_in_slots slots.now) }
 {
     let mut first: Option<Op<'t>> = None;
     for slot in slots {

@@ -1,17 +1,17 @@
-//! What is to be told of a register.
+//! Why a register fails, by the operations that a picture shows.
 
 ghost use Rattle.std.specs.Prelude.{◌≡◌, IfOk, filter, find, reverse};
-ghost use Rattle.intervals.specs.Operation.{overlaps as does_overlap, precedes as does_precede, writes as writes_among};
-ghost use Rattle.intervals.specs.Table.{standing};
+ghost use Rattle.intervals.specs.Operation.{overlaps, precedes, writes};
+ghost use Rattle.intervals.specs.Table.{ops_in_slots};
 ghost use Rattle.timeline.specs.Choice.{IsByBeginning};
-ghost use Rattle.show.specs.Story.{IsStory, IsToldBy, IsWrong, is_later_source as comes_later, is_of_its_value as has_its_value, is_source as comes_from};
+ghost use Rattle.show.specs.Story.{IsStory, IsToldBy, IsWrong, is_later_source, is_of_its_value, is_source};
 
 use crate::subject::Subject;
 use intervals::{Op, is_same_value, overlaps, precedes};
 use register_book::{Side, Witness};
 use std::alloc::{AllocError, Global};
 
-/// Why a register fails, by the operations that tell it; or that it holds.
+/// Why a register fails, by the operations that show it; or that it holds.
 #[derive(Debug, Drop)]
 pub enum Story<'t> {
     Holds,
@@ -33,23 +33,23 @@ pub enum Story<'t> {
     },
 }
 
-/// A read of a safe or regular register that returned what it may not, and what it might have returned.
+/// A read of a safe or regular register that returned what it may not, and the writes that explain it.
 #[derive(Debug, Drop)]
 pub struct Wrong<'t> {
     pub read: Op<'t>,
-    /// The last write that precedes it.
+    /// The last write that precedes the read.
     pub last: Option<Op<'t>>,
-    /// The writes that overlap it, by beginning.
+    /// The writes that overlap the read, by beginning.
     pub over: Vec<Op<'t>>,
-    /// The last write of its value that precedes it.
+    /// The last write of the value of the read that precedes it.
     pub source: Option<Op<'t>>,
-    /// The first write of its value that it precedes.
+    /// The first write of the value of the read that the read precedes.
     pub later: Option<Op<'t>>,
 }
 
-/// What is to be told of the register.
+/// Why the register fails, by its witness; or that it holds.
 pub fn story_of<'t>(alloc: Global, subject: &Subject<'_, 't>) -> Result<Story<'t>, AllocError>
-    ensures { IfOk result (IsStory (standing subject.now.slots.now) subject.now.witness) }
+    ensures { IfOk result (IsStory (ops_in_slots subject.now.slots.now) subject.now.witness) }
 {
     match subject.witness {
         Some(witness) => told_by(alloc, subject.slots, witness),
@@ -62,7 +62,7 @@ fn told_by<'t>(
     slots: &[Option<Op<'t>>],
     witness: Witness<'t>,
 ) -> Result<Story<'t>, AllocError>
-    ensures { IfOk result (IsToldBy (standing slots.now) witness.entry) }
+    ensures { IfOk result (IsToldBy (ops_in_slots slots.now) witness.entry) }
 {
     match witness {
         Witness::Wrong(read) => Ok(Story::Wrong(wrong_of(alloc, slots, read)?)),
@@ -78,7 +78,7 @@ fn wrong_of<'t>(
     slots: &[Option<Op<'t>>],
     read: Op<'t>,
 ) -> Result<Wrong<'t>, AllocError>
-    ensures { IfOk result (IsWrong (standing slots.now) read.entry) }
+    ensures { IfOk result (IsWrong (ops_in_slots slots.now) read.entry) }
 {
     let writes = writes_by_beginning(alloc, slots)?;
     Ok(Wrong {
@@ -94,7 +94,7 @@ fn writes_by_beginning<'t>(
     alloc: Global,
     slots: &[Option<Op<'t>>],
 ) -> Result<Vec<Op<'t>>, AllocError>
-    ensures { IfOk result (λ sorted. IsByBeginning (writes_among (standing slots.now)) sorted.items) }
+    ensures { IfOk result (λ sorted. IsByBeginning (writes (ops_in_slots slots.now)) sorted.items) }
 {
     let mut writes = writes_in(alloc, slots)?;
     writes.sort_unstable_by_key(|write| write.begin.0);
@@ -102,7 +102,7 @@ fn writes_by_beginning<'t>(
 }
 
 fn writes_in<'t>(alloc: Global, slots: &[Option<Op<'t>>]) -> Result<Vec<Op<'t>>, AllocError>
-    ensures { IfOk result (λ writes. writes.items ≡ writes_among (standing slots.now)) }
+    ensures { IfOk result (λ writes. writes.items ≡ writes (ops_in_slots slots.now)) }
 {
     let mut writes = Vec::new(alloc);
     for slot in slots {
@@ -117,7 +117,7 @@ fn writes_in<'t>(alloc: Global, slots: &[Option<Op<'t>>]) -> Result<Vec<Op<'t>>,
 
 /// The last of the writes that precedes the read.
 fn last_before<'t>(writes: &[Op<'t>], read: &Op) -> Option<Op<'t>>
-    ensures { result ≡ find (λ write. does_precede write read.now) (reverse writes.now) }
+    ensures { result ≡ find (λ write. precedes write read.now) (reverse writes.now) }
 {
     writes
         .iter()
@@ -126,9 +126,9 @@ fn last_before<'t>(writes: &[Op<'t>], read: &Op) -> Option<Op<'t>>
         .copied()
 }
 
-/// Those that overlap it.
+/// The writes that overlap the read.
 fn over_of<'t>(alloc: Global, writes: &[Op<'t>], read: &Op) -> Result<Vec<Op<'t>>, AllocError>
-    ensures { IfOk result (λ over. over.items ≡ filter (λ write. does_overlap write read.now) writes.now) }
+    ensures { IfOk result (λ over. over.items ≡ filter (λ write. overlaps write read.now) writes.now) }
 {
     let mut over = Vec::new(alloc);
     for write in writes {
@@ -139,9 +139,9 @@ fn over_of<'t>(alloc: Global, writes: &[Op<'t>], read: &Op) -> Result<Vec<Op<'t>
     Ok(over)
 }
 
-/// The last of its value that precedes it.
+/// The last write of the value of the read that precedes it.
 fn source_of<'t>(writes: &[Op<'t>], read: &Op) -> Option<Op<'t>>
-    ensures { result ≡ find (comes_from read.now) (reverse writes.now) }
+    ensures { result ≡ find (is_source read.now) (reverse writes.now) }
 {
     writes
         .iter()
@@ -150,9 +150,9 @@ fn source_of<'t>(writes: &[Op<'t>], read: &Op) -> Option<Op<'t>>
         .copied()
 }
 
-/// The first of its value that it precedes.
+/// The first write of the value of the read that the read precedes.
 fn later_source_of<'t>(writes: &[Op<'t>], read: &Op) -> Option<Op<'t>>
-    ensures { result ≡ find (comes_later read.now) writes.now }
+    ensures { result ≡ find (is_later_source read.now) writes.now }
 {
     writes
         .iter()
@@ -161,24 +161,24 @@ fn later_source_of<'t>(writes: &[Op<'t>], read: &Op) -> Option<Op<'t>>
 }
 
 fn is_source(write: &Op, read: &Op) -> bool
-    ensures { result ≡ comes_from read.now write.now }
+    ensures { result ≡ is_source read.now write.now }
 {
     precedes(write, read) && is_of_its_value(write, read)
 }
 
 fn is_later_source(write: &Op, read: &Op) -> bool
-    ensures { result ≡ comes_later read.now write.now }
+    ensures { result ≡ is_later_source read.now write.now }
 {
     precedes(read, write) && is_of_its_value(write, read)
 }
 
 fn is_of_its_value(write: &Op, read: &Op) -> bool
-    ensures { result ≡ has_its_value read.now write.now }
+    ensures { result ≡ is_of_its_value read.now write.now }
 {
     is_same_value(write.value(), read.value())
 }
 
-/// Whether it is a read that is wrong by itself.
+/// Whether the operation is a read that is wrong by itself, without another.
 pub fn is_wrong(story: &Story, op: &Op) -> bool {
     match story {
         Story::Wrong(wrong) => op.has_id(wrong.read.id),

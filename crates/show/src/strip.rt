@@ -1,4 +1,4 @@
-//! What stands in a picture: the time in which a read was wrong, bars, arrows, zones and moments.
+//! What is in a picture: the time in which a read was wrong, bars, arrows, zones and moments.
 
 use crate::axis::push_axis;
 use crate::bar::{points_of, push_bar, push_dots, push_order, push_words};
@@ -27,7 +27,7 @@ pub fn push_strip(text: &mut String, alloc: Global, canvas: &Canvas) -> Result<(
     push_axis(text, alloc, canvas)
 }
 
-/// The time in which a read was wrong.
+/// The time in which a read was wrong, as a band under the lanes.
 fn push_band(text: &mut String, canvas: &Canvas) -> Result<(), AllocError> {
     let layout = &canvas.layout;
     let (from, to) = match &layout.scene.story {
@@ -53,7 +53,7 @@ fn push_band(text: &mut String, canvas: &Canvas) -> Result<(), AllocError> {
     )
 }
 
-/// A dotted line at each moment that the caption tells of.
+/// A dotted line at each moment that the caption speaks of.
 fn push_told(text: &mut String, canvas: &Canvas) -> Result<(), AllocError> {
     for number in &canvas.layout.told {
         let x = canvas.layout.place_of(*number);
@@ -63,7 +63,7 @@ fn push_told(text: &mut String, canvas: &Canvas) -> Result<(), AllocError> {
     Ok(())
 }
 
-/// A jagged line where operations are left out.
+/// A jagged line where operations are left out, with how many.
 fn push_folds(text: &mut String, canvas: &Canvas) -> Result<(), AllocError> {
     for number in 1..canvas.layout.scene.marks.len() {
         let many = canvas.layout.left_out_before(number);
@@ -84,7 +84,7 @@ fn push_folds(text: &mut String, canvas: &Canvas) -> Result<(), AllocError> {
     Ok(())
 }
 
-/// The box of the value at first, and the line behind it, before which there was nothing.
+/// The box of the value at first, and right of it a line, before which there was nothing.
 fn push_at_first(text: &mut String, canvas: &Canvas) -> Result<(), AllocError> {
     let at_first = &canvas.layout.at_first;
     if at_first.is_empty() {
@@ -165,7 +165,7 @@ fn push_zone(text: &mut String, zone: &Zone, role: Role, y: u128) -> Result<(), 
     text.push_str("</title></path>\n")
 }
 
-/// That an operation of a conflict precedes the next.
+/// An arrow from each operation of a conflict to the next that it precedes.
 fn push_arrows(text: &mut String, canvas: &Canvas) -> Result<(), AllocError> {
     let Story::Crossing { a, b, c, d } = &canvas.layout.scene.story else {
         return Ok(());

@@ -5,16 +5,16 @@ use std::alloc::AllocError;
 /// Which colours a picture has.
 #[derive(Clone, Copy, Debug, PartialEq, Eq)]
 pub enum Theme {
-    /// Those that the reader's machine asks for.
+    /// Light or dark, as the reader's machine asks for.
     Auto,
     Light,
     Dark,
 }
 
-/// The colours of what has a class: of areas, of lines and of the words on them.
+/// A class, with the colours of its areas, its lines and its words.
 type Paint = (&'static str, &'static str, &'static str, &'static str);
 
-/// By Okabe and Ito's colours, which those tell apart who see few.
+/// The colours of Okabe and Ito, which colour-blind people can tell apart, on a light ground.
 static LIGHT: [Paint; 15] = [
     ("paper", "#ffffff", "none", "#1f2328"),
     ("quiet", "#59636e", "none", "#59636e"),
@@ -51,7 +51,7 @@ static DARK: [Paint; 15] = [
     ("wrong", "#3a1d0d", "#ff8f52", "#ffc5a4"),
 ];
 
-/// What does not hang on the colours: a face of one width, and what is thick, dashed or fades.
+/// What does not depend on the colours: a font of one width, and what is thick or dashed.
 const SHAPES: &str =
     ".ra text{font-family:ui-monospace,SFMono-Regular,Menlo,Consolas,\"DejaVu Sans Mono\",monospace;font-size:10px;white-space:pre}
 .ra .title{font-size:15px;font-weight:600}
@@ -62,7 +62,7 @@ const SHAPES: &str =
 .ra .arrow{stroke-width:1.5}
 ";
 
-/// Adds the rules of a picture's look.
+/// Adds the rules for how a picture looks.
 pub fn push_style(text: &mut String, theme: Theme) -> Result<(), AllocError> {
     text.push_str("<style>")?;
     text.push_str(SHAPES)?;

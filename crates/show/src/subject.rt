@@ -1,11 +1,11 @@
-//! What a picture is of.
+//! The register that a picture is of.
 
 use intervals::{Initial, Kind, Op, OpId};
 use register_book::Witness;
 
-/// A register as it stands: its name, what it claims and holds at first, the operations in the order of their appends, some
-/// places empty, and those that show that it fails, where it does. Of one that holds, all its operations in an order that
-/// explains its reads; the order is empty where there is none.
+/// A register with its operations: its name, its kind, its value at first, the operations that stand in the order of
+/// their appends with some places empty, and the witness, if it fails. The order has all operations, in an order that
+/// explains the reads; it is empty where there is none.
 #[derive(Clone, Copy, Debug)]
 pub struct Subject<'a, 't> {
     pub name: &'a [u8],

@@ -20,8 +20,8 @@ use crate::zone::{Zone, conflict_in};
 use std::alloc::{AllocError, Global};
 use timeline::Extent;
 
-/// How a picture is to look: how much it shows, how many units its rows are wide, which colours it has, whether it says them
-/// itself, and which number tells it from the others of a page.
+/// How a picture looks: how much it shows, how many units wide its rows are, its colours, whether it has the rules for
+/// them itself, and a number by which its ids differ from those of the other pictures of a page.
 #[derive(Clone, Copy, Debug, PartialEq, Eq)]
 pub struct Sheet {
     pub extent: Extent,
@@ -56,7 +56,7 @@ pub fn push_picture(
     text.push_str("</svg>\n")
 }
 
-/// Opens the picture, with what it says to those who do not see it.
+/// Opens the picture, with its title and description for those who do not see it.
 fn push_root(
     text: &mut String,
     canvas: &Canvas,
@@ -84,7 +84,7 @@ fn push_spoken(text: &mut String, heading: &str, caption: &str) -> Result<(), Al
     push_element(text, "<desc>", caption, "</desc>\n")
 }
 
-/// A picture is shown three tenths larger than its units.
+/// A length as it is shown, three tenths more than its units.
 fn enlarged(units: u128) -> u128 {
     units.saturating_mul(13) / 10
 }
@@ -121,7 +121,7 @@ fn push_head(text: &mut String, heading: &str) -> Result<(), AllocError>
     )
 }
 
-/// How many operations are shown.
+/// Adds how many operations are shown, of how many.
 fn push_count(text: &mut String, scene: &Scene) -> Result<(), AllocError> {
     text.push_str("<text class=\"quiet\" x=\"16\" y=\"40\">")?;
     let (shown, all) = (scene.ops.len(), scene.all);
@@ -177,7 +177,7 @@ fn push_window(
     write!(text, " viewBox=\"{from} 0 {width} {height}\">\n")
 }
 
-/// The names beside the lanes of a row, and a stripe behind every other lane.
+/// The names beside the lanes of a row, and a stripe under every other lane.
 fn push_lane_names(
     text: &mut String,
     alloc: Global,
@@ -212,7 +212,7 @@ fn push_lane_names(
     Ok(())
 }
 
-/// The names beside the zones: of the forward ones and the backward ones, or of the two of a conflict, where these are seen.
+/// The names beside the zones: `forward` and `backward`, or those of a conflict's zones that are in the window.
 fn push_zone_names(
     text: &mut String,
     alloc: Global,
@@ -251,7 +251,7 @@ fn push_zone_name(
     Ok(())
 }
 
-/// Whether a lane is of the process of the lane above it.
+/// Whether a lane has the name of the lane above it.
 fn is_same_name(before: &Option<String>, name: &str) -> bool {
     match before {
         Some(before) => before.as_str() == name,
@@ -266,7 +266,7 @@ fn push_name(text: &mut String, y: u128, name: &str) -> Result<(), AllocError> {
     )
 }
 
-/// What there is to say, with a square of the colour that a line is about.
+/// The sentences, each after a square of the colour of what it is about.
 fn push_sentences(text: &mut String, canvas: &Canvas, caption: &str) -> Result<(), AllocError> {
     let mut y = row_top(canvas, canvas.layout.starts.len());
     let roles = caption_roles(&canvas.layout.scene.story);

@@ -4,7 +4,7 @@ use crate::caption::push_caption;
 use crate::glyphs::{ASCII, DRAWN, Glyphs};
 use crate::layout::{Bar, Layout, layout_of, push_lane_name, widest_name, zone_name};
 use crate::letter::letter_for;
-use crate::line::Line;
+use crate::line::TextLine;
 use crate::measure::{Measure, digits_of, digits_of_moment};
 use crate::scene::{Scene, scene_of};
 use crate::story::is_wrong;
@@ -14,7 +14,8 @@ use crate::zone::{Zone, conflict_in};
 use std::alloc::{AllocError, Global};
 use timeline::Extent;
 
-/// How a timeline is to look: how much it shows, how many cells a line may have, and whether its characters are of ASCII alone.
+/// How a timeline looks: how much it shows, how many cells a line may have, and whether its characters are all of
+/// ASCII.
 #[derive(Clone, Copy, Debug, PartialEq, Eq)]
 pub struct Look {
     pub extent: Extent,
@@ -22,20 +23,20 @@ pub struct Look {
     pub is_ascii: bool,
 }
 
-/// What is drawn, and with what.
+/// What is drawn, and with which characters.
 #[derive(Drop)]
 struct Drawing<'s, 't> {
     layout: Layout<'s, 't>,
     glyphs: Glyphs,
-    /// How many cells stand before the lines of lanes.
+    /// How many cells come before the lines of lanes.
     margin: usize,
-    /// With which seats lanes end.
+    /// For each lane, the number of the seat after its last.
     lane_ends: Vec<usize>,
     /// The zones of the two values of a conflict.
     conflict: Option<(Zone, Zone)>,
 }
 
-/// Cells from one place up to another, for marks from one number up to another.
+/// Cells from one place up to another, and marks from one number up to another.
 #[derive(Clone, Copy)]
 struct Window {
     from: u128,
@@ -53,7 +54,7 @@ const MEASURE: Measure = Measure {
     last: 4,
 };
 
-/// Adds a timeline to a text: its title, the lanes by process, and what there is to say.
+/// Adds a timeline to a text: its title, the lanes by process, and the sentences.
 pub fn push_timeline(
     text: &mut String,
     alloc: Global,
@@ -90,7 +91,7 @@ fn drawing_of<'s, 't>(
     })
 }
 
-/// As many cells as the widest name and two, or as how many operations are left out before all.
+/// The cells for the widest name, or for the number of operations left out before all, and two more.
 fn margin_of(alloc: Global, scene: &Scene) -> Result<usize, AllocError> {
     let mut margin = widest_name(alloc, scene, "p")?;
     if scene.folded.first().is_some_and(|many| *many > 0) {
@@ -99,7 +100,7 @@ fn margin_of(alloc: Global, scene: &Scene) -> Result<usize, AllocError> {
     Ok(margin.saturating_add(2))
 }
 
-/// The cells that are left beside the names of lanes; some twenty at least.
+/// The cells that are left beside the names of lanes, at least 20.
 fn room_beside(width: u32, margin: usize) -> u32 {
     let beside = match u32::try_from(margin) {
         Ok(margin) => width.saturating_sub(margin),
@@ -154,8 +155,8 @@ fn tail_width(layout: &Layout) -> u128 {
     }
 }
 
-/// A line with the moments that are told of, and where operations are left out.
-fn new_line(alloc: Global, drawing: &Drawing, window: Window) -> Result<Line, AllocError> {
+/// A line with the moments that the caption speaks of, and with where operations are left out.
+fn new_line(alloc: Global, drawing: &Drawing, window: Window) -> Result<TextLine, AllocError> {
     let layout = &drawing.layout;
     let mut line = blank_line(alloc, window)?;
     for number in window.first..window.end {
@@ -169,16 +170,21 @@ fn new_line(alloc: Global, drawing: &Drawing, window: Window) -> Result<Line, Al
     Ok(line)
 }
 
-fn blank_line(alloc: Global, window: Window) -> Result<Line, AllocError> {
+fn blank_line(alloc: Global, window: Window) -> Result<TextLine, AllocError> {
     let width = match usize::try_from(window.to.saturating_sub(window.from)) {
         Ok(width) => width,
         Err(_) => 0,
     };
-    Line::blank(alloc, window.from, width)
+    TextLine::blank(alloc, window.from, width)
 }
 
-/// Adds a name, blanks up to the margin, and a line.
-fn push_named(text: &mut String, name: &str, margin: usize, line: &Line) -> Result<(), AllocError> {
+/// Adds a line after a name and blanks up to the margin.
+fn push_named(
+    text: &mut String,
+    name: &str,
+    margin: usize,
+    line: &TextLine,
+) -> Result<(), AllocError> {
     text.push_str(name)?;
     if line.has_some() {
         for _ in name.chars().count()..margin {
@@ -216,7 +222,7 @@ fn is_zone_in(window: Window, zone: &Zone) -> bool {
     zone.left < window.to && window.from <= zone.right
 }
 
-/// The zone of a value, from the least end of its operations to their greatest beginning, or the other way round.
+/// A line with the zone of a value.
 fn push_zone(
     text: &mut String,
     alloc: Global,
@@ -238,7 +244,7 @@ fn push_zone(
     push_named(text, &zone_name(alloc, zone.value)?, drawing.margin, &line)
 }
 
-/// The box of the value at first, left of all moments.
+/// A line with the box of the value at first, left of all moments.
 fn push_at_first(
     text: &mut String,
     alloc: Global,
@@ -267,7 +273,7 @@ fn first_seats(alloc: Global, drawing: &Drawing) -> Result<Vec<usize>, AllocErro
     Ok(firsts)
 }
 
-/// The lanes, of which some seats, up to the next ones, stand in rows above.
+/// The lanes. `nexts` has the first seat of each that does not end in an earlier row.
 fn push_lanes(
     text: &mut String,
     alloc: Global,
@@ -290,8 +296,8 @@ fn push_lanes(
     Ok(())
 }
 
-/// A lane, whose seats have the numbers from one up to another, where some of it is in the window. The next seat is the first
-/// that does not end before it.
+/// A lane with the seats from one number up to another, if some of it is in the window. Returns the first seat that
+/// does not end before the window.
 fn push_lane(
     text: &mut String,
     alloc: Global,
@@ -328,7 +334,7 @@ fn push_lane(
     Ok(next)
 }
 
-fn draw_bar(line: &mut Line, drawing: &Drawing, bar: &Bar) {
+fn draw_bar(line: &mut TextLine, drawing: &Drawing, bar: &Bar) {
     let scene = drawing.layout.scene;
     if bar.is_finished {
         let is_told = letter_for(&scene.letters, bar.op.id).is_some();
@@ -341,8 +347,8 @@ fn draw_bar(line: &mut Line, drawing: &Drawing, bar: &Bar) {
     }
 }
 
-/// A bar with its label in the middle.
-fn draw_whole(line: &mut Line, bar: &Bar, is_told: bool, glyphs: &Glyphs) {
+/// A finished bar, with its label in the middle.
+fn draw_whole(line: &mut TextLine, bar: &Bar, is_told: bool, glyphs: &Glyphs) {
     let inside = bar.right.saturating_sub(bar.left).saturating_sub(1);
     let spare = inside.saturating_sub(bar.label.len() as u128);
     line.fill(
@@ -362,8 +368,8 @@ fn opening(bar: &Bar) -> char {
     if bar.op.is_write() { '[' } else { '(' }
 }
 
-/// A bar that goes on to the right edge.
-fn draw_endless(line: &mut Line, bar: &Bar, glyphs: &Glyphs) {
+/// An unfinished bar, which goes on to the right edge.
+fn draw_endless(line: &mut TextLine, bar: &Bar, glyphs: &Glyphs) {
     let after = bar
         .left
         .saturating_add(1)
@@ -374,7 +380,7 @@ fn draw_endless(line: &mut Line, bar: &Bar, glyphs: &Glyphs) {
     line.put(after, ' ');
 }
 
-/// The moments, first those that are told of, and how many operations are left out.
+/// The moments, first those that the caption speaks of, and the numbers of operations left out.
 fn push_axis(
     text: &mut String,
     alloc: Global,
@@ -403,9 +409,9 @@ fn push_axis(
     push_named(text, head.as_str(), drawing.margin, &line)
 }
 
-/// The moment of a mark, where it has room.
+/// The moment of a mark, where there is room for it.
 fn put_moment(
-    line: &mut Line,
+    line: &mut TextLine,
     alloc: Global,
     layout: &Layout,
     window: Window,
@@ -423,9 +429,9 @@ fn put_moment(
     Ok(())
 }
 
-/// How many operations are left out before a mark, where some are and nothing is in the way.
+/// How many operations are left out before a mark, if any are and nothing is in the way.
 fn put_left_out(
-    line: &mut Line,
+    line: &mut TextLine,
     alloc: Global,
     layout: &Layout,
     number: usize,

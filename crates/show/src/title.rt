@@ -1,4 +1,4 @@
-//! What stands above a picture.
+//! The first line of a picture.
 
 use crate::scene::Scene;
 use crate::story::Story;
@@ -6,7 +6,7 @@ use crate::subject::Subject;
 use report::{kind_word, push_fault, push_printed};
 use std::alloc::{AllocError, Global};
 
-/// The register, its kind and verdict, why it fails, and how many of its operations are shown.
+/// Adds the register, its kind, why it fails or that it holds, and how many of its operations are shown.
 pub fn push_title(
     text: &mut String,
     alloc: Global,
@@ -25,7 +25,7 @@ pub fn push_title(
     )
 }
 
-/// Whether the register holds, or the line of its fault.
+/// Adds that the register holds, or the line of its fault.
 fn push_verdict(text: &mut String, alloc: Global, subject: &Subject) -> Result<(), AllocError> {
     let Some(witness) = &subject.witness else {
         return text.push_str("holds");
@@ -35,7 +35,7 @@ fn push_verdict(text: &mut String, alloc: Global, subject: &Subject) -> Result<(
     write!(text, "fails: {}", line.as_str().trim())
 }
 
-/// The register and why it fails, in words.
+/// Adds the register and why it fails, in words.
 pub fn push_heading(text: &mut String, subject: &Subject, story: &Story) -> Result<(), AllocError> {
     text.push_str(kind_word(subject.kind))?;
     text.push_str(" register ")?;

@@ -1,13 +1,13 @@
-//! The moments that a caption tells of.
+//! The moments that a caption speaks of.
 
 use crate::scene::Scene;
 use crate::story::Story;
 use intervals::OpId;
 use register_book::Side;
 use std::alloc::{AllocError, Global};
-use timeline::Span;
+use timeline::BarSpan;
 
-/// The numbers of their marks, each once, in order.
+/// The numbers of the marks of these moments, each once, in order.
 pub fn told_of(alloc: Global, scene: &Scene) -> Result<Vec<usize>, AllocError> {
     let mut told = Vec::new(alloc);
     match &scene.story {
@@ -69,8 +69,8 @@ fn tell_end_of(told: &mut Vec<usize>, scene: &Scene, side: &Side) -> Result<(), 
     }
 }
 
-/// The span of an operation that is shown.
-pub fn span_for(scene: &Scene, id: OpId) -> Option<Span> {
+/// The span of an operation, if it is shown.
+pub fn span_for(scene: &Scene, id: OpId) -> Option<BarSpan> {
     let number = scene.ops.iter().position(|op| op.id == id)?;
     scene.spans.get(number).copied()
 }

@@ -1,4 +1,4 @@
-//! The zones of the values of an atomic register.
+//! The zones of the values of an atomic register, as they are drawn.
 
 use crate::layout::Layout;
 use crate::story::Story;
@@ -6,14 +6,15 @@ use intervals::{Initial, Op, Value, is_same_value};
 use register_book::Side;
 use std::alloc::{AllocError, Global};
 
-/// From the least end of a value's operations to their greatest beginning, which is forward, or the other way round.
+/// The zone of a value: from the least end of its operations to their greatest beginning, if that is later (forward),
+/// else from the greatest beginning to the least end.
 #[derive(Clone, Copy)]
 pub struct Zone {
     pub value: Value,
     pub left: u128,
     pub right: u128,
     pub is_forward: bool,
-    /// Forward zones overlap in no row, and backward ones in none of theirs.
+    /// Zones of one direction overlap in no row.
     pub row: usize,
 }
 
@@ -27,7 +28,7 @@ pub fn conflict_in(layout: &Layout) -> Option<(Zone, Zone)> {
     }
 }
 
-/// The zone from the end of a side to the beginning of another, of its value.
+/// The zone from the end of one side to the beginning of another side of the same value.
 fn zone_between(layout: &Layout, least: &Side, greatest: &Side) -> Zone {
     let (end, begin) = (layout.end_place(least), layout.begin_place(greatest));
     Zone {
@@ -42,7 +43,7 @@ fn zone_between(layout: &Layout, least: &Side, greatest: &Side) -> Zone {
     }
 }
 
-/// The zones of the operations that are shown, by their left edges.
+/// The zones of the values of the operations that are shown, by their left edges.
 pub fn zones_of(alloc: Global, layout: &Layout, initial: Initial) -> Result<Vec<Zone>, AllocError> {
     let mut zones = zones_by_value(alloc, layout, initial)?;
     zones.sort_unstable_by_key(|zone| (zone.left, zone.right));
@@ -92,7 +93,7 @@ fn zones_by_value(
     Ok(zones)
 }
 
-/// Tells an edge from the other: so far the left one is the least end, and the right one the greatest beginning.
+/// Makes a zone backward if its greatest beginning, so far its right edge, is left of its least end, its left edge.
 fn turn(zone: &mut Zone) {
     if zone.right < zone.left {
         let end = zone.left;
@@ -102,7 +103,7 @@ fn turn(zone: &mut Zone) {
     }
 }
 
-/// Puts the zones of one way into rows, each into the first that is free.
+/// Puts the zones of one direction into rows, each into the first that is free.
 fn seat(alloc: Global, zones: &mut [Zone], is_forward: bool) -> Result<(), AllocError> {
     let mut ends: Vec<u128> = Vec::new(alloc);
     for number in 0..zones.len() {
@@ -132,8 +133,8 @@ fn key_of(value: Value) -> (bool, i64) {
     }
 }
 
-/// Whether the value of an operation, the first of its value, was there at first. Where nobody knows what was, it is one that
-/// nothing wrote.
+/// Whether the value of an operation, the first of its value, was there at first. Where the value at first is unknown,
+/// any value that nothing wrote is taken for it.
 fn is_at_first(initial: Initial, op: &Op) -> bool {
     match initial {
         Initial::Known(first) => is_same_value(first, op.value()),

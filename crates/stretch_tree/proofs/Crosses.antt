@@ -3,10 +3,10 @@ use denote.Param.Send.{IsSend, IsSync, sendable}
 use Rattle.std.proofs.Crossing.{crosses}
 use Rattle.summary_tree.proofs.Crosses.{tree_send, tree_sync}
 use Rattle.stretch_tree.specs.contracts.stretch.Stretch as stretch
-use Rattle.stretch_tree.specs.contracts.summary.Summary as summary
+use Rattle.stretch_tree.specs.contracts.summary.StretchSummary as summary
 use Rattle.stretch_tree.specs.contracts.tree.StretchTree.{the_row, the_field}
 
--- what a node holds beside its sides
+-- what a node holds beside its two sides
 stretch_send : IsSend stretch.the_row
 stretch_send = search (crosses, sendable) depth 60 fits 20000
 

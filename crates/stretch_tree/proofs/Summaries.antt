@@ -1,13 +1,13 @@
--- The summary of a list is that of its parts.
+-- The summary of a list of stretches is the join of the summaries of its parts.
 use Rattle.std.proofs.Common.{◌≡◌, ◌∙◌, Bool, true, false, not, ◌||◌, List, [], ◌∷◌, ◌++◌, refl, sym, ap}
 use Rattle.std.specs.Prelude.{All}
 use Rattle.std.specs.List.{list_any}
 use Rattle.std.proofs.lemmas.List.Elements.{All-nil, All-cons}
 use Rattle.std.proofs.lemmas.List.Folds.{list_any-append}
 use Rattle.stretch_tree.specs.declared.stretch.Stretch.{Stretch}
-use Rattle.stretch_tree.specs.declared.summary.Summary.{Summary}
-use Rattle.stretch_tree.specs.Look.{is_early, is_writeless}
-use Rattle.stretch_tree.specs.Summary.{join, one_stretch, summary_of}
+use Rattle.stretch_tree.specs.declared.summary.StretchSummary.{StretchSummary}
+use Rattle.stretch_tree.specs.Look.{is_read_early, has_no_write}
+use Rattle.stretch_tree.specs.Summary.{join_stretches, one_stretch, summary_of_stretches}
 
 neither : (a b : Bool) → (a || b) ≡ false → (a ≡ false) × (b ≡ false)
 neither true b e = absurd (cc)
@@ -24,15 +24,15 @@ or_false : (a : Bool) → a ≡ (a || false)
 or_false true = refl
 or_false false = refl
 
-pub summary_of_one : (s : Stretch) → one_stretch s ≡ summary_of (s ∷ [])
+pub summary_of_one : (s : Stretch) → one_stretch s ≡ summary_of_stretches (s ∷ [])
 summary_of_one s =
-    ap {B = Summary} (λ (w : Bool). record { writeless = w; early = s.written }) (or_false (not s.written))
-    ∙ ap {B = Summary} (λ (e : Bool). record { writeless = not s.written || false; early = e }) (or_false s.written)
+    ap {B = StretchSummary} (λ (w : Bool). record { writeless = w; early = s.written }) (or_false (not s.written))
+    ∙ ap {B = StretchSummary} (λ (e : Bool). record { writeless = not s.written || false; early = e }) (or_false s.written)
 
-of_both : (xs ys : List Stretch) → join (summary_of xs) (summary_of ys) ≡ summary_of (xs ++ ys)
+of_both : (xs ys : List Stretch) → join_stretches (summary_of_stretches xs) (summary_of_stretches ys) ≡ summary_of_stretches (xs ++ ys)
 of_both xs ys =
-    ap {B = Summary} (λ (w : Bool). record { writeless = w; early = list_any is_early xs || list_any is_early ys }) (sym (list_any-append is_writeless xs ys))
-    ∙ ap {B = Summary} (λ (e : Bool). record { writeless = list_any is_writeless (xs ++ ys); early = e }) (sym (list_any-append is_early xs ys))
+    ap {B = StretchSummary} (λ (w : Bool). record { writeless = w; early = list_any is_read_early xs || list_any is_read_early ys }) (sym (list_any-append has_no_write xs ys))
+    ∙ ap {B = StretchSummary} (λ (e : Bool). record { writeless = list_any has_no_write (xs ++ ys); early = e }) (sym (list_any-append is_read_early xs ys))
 
-pub summary_of_joined : (s t : Summary) (xs ys : List Stretch) → s ≡ summary_of xs → t ≡ summary_of ys → join s t ≡ summary_of (xs ++ ys)
-summary_of_joined s t xs ys e f = ap (λ (x : Summary). join x t) e ∙ (ap (join (summary_of xs)) f ∙ of_both xs ys)
+pub summary_of_joined : (s t : StretchSummary) (xs ys : List Stretch) → s ≡ summary_of_stretches xs → t ≡ summary_of_stretches ys → join_stretches s t ≡ summary_of_stretches (xs ++ ys)
+summary_of_joined s t xs ys e f = ap (λ (x : StretchSummary). join_stretches x t) e ∙ (ap (join_stretches (summary_of_stretches xs)) f ∙ of_both xs ys)

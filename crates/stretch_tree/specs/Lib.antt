@@ -1,4 +1,4 @@
--- what the public clauses speak of
+-- words of the public clauses
 pub mod Order
 -- words of private clauses
 pub mod Summary

@@ -4,14 +4,14 @@ use Rattle.intervals.specs.declared.operation.Value.{Value}
 use Rattle.intervals.specs.Operation.{same_value}
 use Rattle.stretch_tree.specs.declared.stretch.Stretch.{Stretch}
 
--- nothing wrote the value
-abbrev pub is_writeless : Stretch → Bool
-is_writeless s = not s.written
+-- whether the stretch is writeless: no write has its value
+abbrev pub has_no_write : Stretch → Bool
+has_no_write s = not s.written
 
--- the same, of another value than this
+-- whether the stretch is writeless and its value is another than this
 abbrev pub is_writeless_but : Value → Stretch → Bool
 is_writeless_but value s = not s.written && not (same_value s.value value)
 
--- the value was read before it was written
-abbrev pub is_early : Stretch → Bool
-is_early s = s.written
+-- whether the stretch is early: its value has a write, which begins after the first read of it ended
+abbrev pub is_read_early : Stretch → Bool
+is_read_early s = s.written

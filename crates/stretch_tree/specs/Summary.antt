@@ -2,17 +2,17 @@
 use Rattle.std.specs.Prelude.{not, ◌||◌, List}
 use Rattle.std.specs.List.{list_any}
 use Rattle.stretch_tree.specs.declared.stretch.Stretch.{Stretch}
-use Rattle.stretch_tree.specs.declared.summary.Summary.{Summary}
-use Rattle.stretch_tree.specs.Look.{is_early, is_writeless}
+use Rattle.stretch_tree.specs.declared.summary.StretchSummary.{StretchSummary}
+use Rattle.stretch_tree.specs.Look.{is_read_early, has_no_write}
 
--- of one stretch
-abbrev pub one_stretch : Stretch → Summary
+-- the summary of one stretch
+abbrev pub one_stretch : Stretch → StretchSummary
 one_stretch s = record { writeless = not s.written; early = s.written }
 
--- of stretches and those behind them
-abbrev pub join : Summary → Summary → Summary
-join s t = record { writeless = s.writeless || t.writeless; early = s.early || t.early }
+-- the summary of two lists of stretches, one after the other, by the summaries of both
+abbrev pub join_stretches : StretchSummary → StretchSummary → StretchSummary
+join_stretches s t = record { writeless = s.writeless || t.writeless; early = s.early || t.early }
 
--- of all stretches of a list: whether one of them is writeless, and whether one is early
-abbrev pub summary_of : List Stretch → Summary
-summary_of stretches = record { writeless = list_any is_writeless stretches; early = list_any is_early stretches }
+-- the summary of a list of stretches: whether one of them is writeless, and whether one is early
+abbrev pub summary_of_stretches : List Stretch → StretchSummary
+summary_of_stretches stretches = record { writeless = list_any has_no_write stretches; early = list_any is_read_early stretches }

@@ -3,8 +3,8 @@
 //! A value is at fault where its first read has no write, or ended before its write begins: where it is
 //! *writeless* or *early*. The stretch of such a value says when that read ended, and which of the two it is.
 //!
-//! A tree is given places first and then stretches, which takes no memory, and names the first one of each
-//! kind:
+//! Places are reserved in a tree before stretches are inserted, which takes no memory then. The tree returns the
+//! first stretch of each kind:
 //!
 //! ```text
 //! let mut tree = StretchTree::new(alloc);
@@ -20,9 +20,9 @@
 //! A history that holds has no early value, and no writeless one but perhaps that with which it began, so its
 //! tree is empty or nearly so.
 //!
-//! The clauses of the calls in `tree.rt` are the whole promise. Inside, the stretches stand in a
-//! `summary_tree` by their ends, as `stretch.rt` says: what a node keeps of the stretches below it is in
-//! `summary.rt`, and the look-ups by it in `look.rt`.
+//! The contracts of the calls in `tree.rt` are the whole promise. Inside, the stretches are in a `SummaryTree` by
+//! their ends, as `stretch.rt` says; what a node keeps of the stretches below it is in `summary.rt`, and the
+//! look-ups by that are in `look.rt`.
 #![tactic(auto)]
 
 mod look;

@@ -1,6 +1,8 @@
+//! A stretch: a value that is at fault, by the end of its first read.
+
 ghost use Rattle.std.specs.Prelude.{◌≡◌, nat_lt};
 ghost use Rattle.intervals.specs.Moments.{same_moment};
-ghost use Rattle.stretch_tree.specs.Order.{comes_before as moment_before};
+ghost use Rattle.stretch_tree.specs.Order.{moment_before};
 
 use intervals::{Moment, Value};
 use summary_tree::Keyed;
@@ -10,7 +12,7 @@ use summary_tree::Keyed;
 pub struct Stretch {
     /// When the first read of the value ended.
     pub end: Moment,
-    /// Whether the value has a write. Then the read is early, else it is writeless.
+    /// Whether the value has a write. Then the stretch is early, else it is writeless.
     pub written: bool,
     pub value: Value,
 }

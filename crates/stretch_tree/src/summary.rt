@@ -1,38 +1,38 @@
 //! What each node keeps of the stretches below it.
 
 ghost use Rattle.std.specs.Prelude.{◌≡◌};
-ghost use Rattle.stretch_tree.specs.Summary.{one_stretch, join as joined, summary_of};
+ghost use Rattle.stretch_tree.specs.Summary.{one_stretch, join_stretches, summary_of_stretches};
 
 use crate::Stretch;
 use summary_tree::Summarizes;
 
-/// Of which kinds there are stretches.
+/// Which kinds of stretches there are in a list.
 #[derive(Clone, Copy)]
-pub struct Summary {
-    /// Some value is writeless.
+pub struct StretchSummary {
+    /// Some stretch is writeless.
     pub writeless: bool,
-    /// Some value is early.
+    /// Some stretch is early.
     pub early: bool,
 }
 
-impl Summarizes<Stretch> for Summary {
+impl Summarizes<Stretch> for StretchSummary {
     ghost one = { one_stretch };
 
-    ghost join = { joined };
+    ghost join = { join_stretches };
 
-    ghost IsOf = { λ s stretches. s ≡ summary_of stretches };
+    ghost IsOf = { λ s stretches. s ≡ summary_of_stretches stretches };
 
     #[inline(always)]
     fn of_one(stretch: &Stretch) -> Self {
-        Summary {
+        StretchSummary {
             writeless: !stretch.written,
             early: stretch.written,
         }
     }
 
     #[inline(always)]
-    fn join(&self, later: &Summary) -> Self {
-        Summary {
+    fn join(&self, later: &StretchSummary) -> Self {
+        StretchSummary {
             writeless: self.writeless || later.writeless,
             early: self.early || later.early,
         }
@@ -40,11 +40,11 @@ impl Summarizes<Stretch> for Summary {
 
     #[inline(always)]
     fn with_first(&self, stretch: &Stretch) -> Self {
-        Summary::of_one(stretch).join(self)
+        StretchSummary::of_one(stretch).join(self)
     }
 
     #[inline(always)]
-    fn is_same(&self, other: &Summary) -> bool {
+    fn is_same(&self, other: &StretchSummary) -> bool {
         self.writeless == other.writeless && self.early == other.early
     }
 

@@ -1,32 +1,34 @@
+//! The tree of stretches: room is made in it before stretches are inserted, and it finds the first of each kind.
+
 ghost use Rattle.std.specs.Prelude.{◌≡◌, ◌+◌, ◌<◌, ◌≤◌, ◌&&◌, not, [], find, is_some, if◌then◌else◌, OnOk, OnErr};
 ghost use Rattle.intervals.specs.Operation.{same_value};
-ghost use Rattle.stretch_tree.specs.Order.{AreByEnd, HasNoneAt, with_stretch, without_stretch_at, stretch_at};
+ghost use Rattle.stretch_tree.specs.Order.{AreByEnd, HasNoStretchAt, with_stretch, without_stretch_at, stretch_at};
 
 use crate::Stretch;
-use crate::look::{self, Part};
-use crate::summary::Summary;
+use crate::look::{self, Subtree};
+use crate::summary::StretchSummary;
 use intervals::{Memory, Moment, Value};
 use std::alloc::Global;
 use std::marker::Model;
 use summary_tree::SummaryTree;
 
-/// Stretches of different ends, and reserved places for more. How many levels its calls go down is not
-/// counted: the bound on the steps of an edit is that of the tree of zones.
+/// Stretches of different ends, and reserved places for more. The levels that its calls go down are not counted:
+/// the bound on the steps of an edit is that of the tree of zones.
 #[derive(Drop)]
 pub struct StretchTree {
-    tree: SummaryTree<Stretch, Summary>,
+    tree: SummaryTree<Stretch, StretchSummary>,
 }
 
 impl Model for StretchTree {
-    ghost use Rattle.stretch_tree.specs.Order.{Contents};
+    ghost use Rattle.stretch_tree.specs.Order.{StretchContents};
 
-    ghost Value = { Contents };
+    ghost Value = { StretchContents };
 
     ghost view = { λ t. record { stretches = t.tree.items; free = t.tree.free } };
 }
 
 impl StretchTree {
-    /// A tree of no stretches and no places.
+    /// A tree without stretches and without places.
     pub fn new(alloc: Global) -> Self
         ensures stretches { result.stretches ≡ [] }
         ensures free { result.free ≡ 0 }
@@ -43,7 +45,7 @@ impl StretchTree {
         self.tree.free()
     }
 
-    /// Makes room for that many more stretches.
+    /// Makes sure that there are places for at least this many more stretches.
     pub fn reserve(&mut self, places: usize) -> Result<(), Memory>
         ensures stretches { self.new.stretches ≡ self.old.stretches }
         ensures ok { OnOk result (places ≤ self.new.free) }
@@ -57,7 +59,7 @@ impl StretchTree {
     /// Puts a stretch of a new end into a reserved place.
     pub fn insert(&mut self, stretch: Stretch)
         requires room { 0 < self.old.free }
-        requires new_end { HasNoneAt stretch.end self.old.stretches }
+        requires new_end { HasNoStretchAt stretch.end self.old.stretches }
         ensures stretches { self.new.stretches ≡ with_stretch stretch self.old.stretches }
         ensures free { self.new.free + 1 ≡ self.old.free }
     {
@@ -73,7 +75,7 @@ impl StretchTree {
         self.tree.remove(end)
     }
 
-    /// The writeless stretch of the least end.
+    /// The writeless stretch that ends first.
     pub fn first_writeless(&self) -> Option<Stretch>
         ensures first { result ≡ find (λ s. not s.written) self.now.stretches }
         ensures order { AreByEnd self.now.stretches }
@@ -81,7 +83,7 @@ impl StretchTree {
         look::first_writeless(self.all())
     }
 
-    /// Of the writeless stretches of another value than that the one of the least end.
+    /// The writeless stretch of another value than `value` that ends first.
     pub fn first_writeless_but(&self, value: Value) -> Option<Stretch>
         ensures first { result ≡ find (λ s. not s.written && not (same_value s.value value)) self.now.stretches }
         ensures order { AreByEnd self.now.stretches }
@@ -89,7 +91,7 @@ impl StretchTree {
         look::first_writeless_but(self.all(), value)
     }
 
-    /// The early stretch of the least end.
+    /// The early stretch that ends first.
     pub fn first_early(&self) -> Option<Stretch>
         ensures first { result ≡ find (λ s. s.written) self.now.stretches }
         ensures order { AreByEnd self.now.stretches }
@@ -97,11 +99,11 @@ impl StretchTree {
         look::first_early(self.all())
     }
 
-    fn all(&self) -> Part<'_>
+    fn all(&self) -> Subtree<'_>
         ensures stretches { result.tree.now.items ≡ self.now.stretches }
         ensures order { AreByEnd self.now.stretches }
     {
-        Part {
+        Subtree {
             tree: self.tree.tree(),
         }
     }

@@ -1,5 +1,4 @@
--- A tree may cross threads where its items and their summaries may. What holds one is found by these, since
--- a search that goes down through the nodes runs out of steps.
+-- A tree may cross threads where its items and summaries may; a search through its nodes would run out of steps.
 use denote.RattleType.{RattleType}
 use denote.Param.Send.{IsSend, IsSync, sendable}
 use Rattle.std.proofs.Crossing.{crosses}

@@ -1,4 +1,4 @@
--- A filter and a search, by what is known of the elements.
+-- What a filter and a search give, by what is known of the elements.
 use Rattle.std.proofs.Common.{◌≡◌, ◌∙◌, ◌⊎◌, inl, inr, Bool, true, false, cond, List, [], ◌∷◌, ◌++◌, Option, Some, None, refl, sym, ap}
 use Rattle.std.specs.Prelude.{All, filter}
 use Rattle.std.specs.List.{find}
@@ -39,7 +39,7 @@ module _ {X : Type 0} (p : X → Bool) where
   option_or_none None = refl
   option_or_none (Some x) = refl
 
-  -- where one part has nothing to be found
+  -- where one part of a list has nothing that passes
   pub find_front : (xs ys : List X) → All (λ y. p y ≡ false) ys → find p (xs ++ ys) ≡ find p xs
   find_front xs ys none = find-append p xs ys ∙ ap (option_or (find p xs)) (find_none ys none) ∙ option_or_none (find p xs)
 
@@ -49,7 +49,7 @@ module _ {X : Type 0} (p : X → Bool) where
   pub find_behind : (xs : List X) (y : X) (ys : List X) → All (λ x. p x ≡ false) xs → p y ≡ true → find p (xs ++ y ∷ ys) ≡ Some y
   find_behind xs y ys none e = find_back xs (y ∷ ys) none ∙ ap (λ (b : Bool). cond b (Some y) (find p ys)) e
 
-  -- what a search finds, with what is in front of it and behind it
+  -- the element that a search finds, with the elements before it and after it
   pub record IsFound (xs : List X) (y : X) : Type 0 where
     pub front : List X
     pub back : List X

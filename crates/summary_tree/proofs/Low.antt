@@ -24,6 +24,6 @@ module _ {T : Type 0} where
   pub low_node : (xs : List T) (x : T) (ys : List T) (l r : ℕ) → IsLow xs l → IsLow ys r → DifferByAtMost 1 l r → IsLow (xs ++ x ∷ ys) (max l r + 1)
   low_node xs x ys l r low more near = record { bound = λ d lt. low_at xs x ys l r d low more near lt }
 
-  -- fewer than there are numbers of 64 bits, so not high
+  -- fewer than 2^64 items, so a height of at most 128
   pub low_within : (items : List T) (height taken : ℕ) → IsLow items height → taken ≡ length items → taken < 2 ^ 64 → height ≤ 128
   low_within items height taken low count range = low.bound 64 (omega (arith, count, range))

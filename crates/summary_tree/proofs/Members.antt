@@ -1,21 +1,21 @@
--- What is left without an item, and with one in the place of another.
+-- A list without one of its items, and with an item in the place of another.
 use Rattle.std.proofs.Common.{◌≡◌, ◌∙◌, ◌⊎◌, inl, inr, ◌+◌, Bool, true, false, List, [], ◌∷◌, ◌++◌, length, Some, refl, sym, ap, subst, arith}
 use Rattle.std.specs.Prelude.{All, IsTrue, if◌then◌else◌}
 use Rattle.std.specs.List.Sorted.{IsPermutation}
 use Rattle.std.proofs.lemmas.Bool.{cases_Bool}
 use Rattle.std.proofs.lemmas.List.Elements.{All-cons, All-head, All-tail}
 use Rattle.std.proofs.lemmas.List.Sorted.{IsPermutation-middle, length_permutation}
-use Rattle.summary_tree.specs.Order.{IsOrder, IsExact, AreInOrder, above, with_item, item_at, without_item, with_replaced}
+use Rattle.summary_tree.specs.Order.{IsStrictOrder, IsExact, AreInOrder, above, with_item, item_at, without_item, with_replaced}
 use Rattle.summary_tree.proofs.Lists.{found}
 use Rattle.summary_tree.proofs.Pairs.{pairs_nil, pairs_head, pairs_tail, pairs_cons}
 use Rattle.summary_tree.proofs.Places.{below_parts, above_parts, without_middle}
 use Rattle.summary_tree.proofs.Sides.{earlier, later, other_around, replaced_at}
 
-module _ {K T : Type 0} (key : T → K) (before same : K → K → Bool) (order : IsOrder before) (exact : IsExact same) where
+module _ {K T : Type 0} (key : T → K) (before same : K → K → Bool) (order : IsStrictOrder before) (exact : IsExact same) where
   abbrev Before : T → T → Type 0
   Before a b = IsTrue (before (key a) (key b))
 
-  -- the items around the one of a key, and what is left without it
+  -- the items around the one of a key, and the list without it
   record IsParted (k : K) (items : List T) (x : T) : Type 0 where
     front : List T
     back : List T
@@ -48,7 +48,7 @@ module _ {K T : Type 0} (key : T → K) (before same : K → K → Bool) (order 
   pub count_without : (k : K) (items : List T) (x : T) → AreInOrder key before items → item_at key same k items ≡ Some x → length items ≡ length (without_item key same k items) + 1
   count_without k items x by e = omega (arith, length_permutation items (x ∷ without_item key same k items) (members_without k items x by e))
 
-  -- to put an item in the place of another is to take that one out and to put it in
+  -- to replace an item is to take it out and to put the new one in
   pub replaced_anew : (new : T) (items : List T) (x : T) → AreInOrder key before items → item_at key same (key new) items ≡ Some x → with_item key before new (without_item key same (key new) items) ≡ with_replaced key same new items
   replaced_anew new items x by e =
       let is = parted (key new) items x by e in
@@ -59,7 +59,7 @@ module _ {K T : Type 0} (key : T → K) (before same : K → K → Bool) (order 
       ∙ ap (λ zs. is.front ++ new ∷ zs) (above_parts key before order (key new) is.front is.back less more)
       ∙ sym (ap (with_replaced key same new) is.parts ∙ replaced_at key before order same exact new is.front x is.back is.by is.one)
 
-  -- the keys stay
+  -- a replacement keeps the keys
   abbrev in_place_of : T → T → T
   in_place_of new x = if same (key x) (key new) then new else x
 

@@ -4,7 +4,7 @@ use Rattle.std.specs.Prelude.{All}
 use Rattle.std.specs.List.{AllPairs}
 use Rattle.std.proofs.lemmas.List.Elements.{All-nil, All-cons, All-head, All-tail, All-append}
 
--- all of a list, front and back
+-- what holds of all elements of a list holds of those of its first part, and of those of its second part
 pub All-front : {X : Type 0} (P : X → Type 0) (xs ys : List X) → All P (xs ++ ys) → All P xs
 All-front P [] ys h = All-nil P
 All-front P (x ∷ xs) ys h = All-cons P x xs (All-head P x (xs ++ ys) h) (All-front P xs ys (All-tail P x (xs ++ ys) h))
@@ -29,7 +29,7 @@ module _ {X : Type 0} (R : X → X → Type 0) where
   pairs_cons x xs all h (suc i) zero d before within = absurd (omega arith)
   pairs_cons x xs all h (suc i) (suc j) d before within = h i j d (omega arith) (omega arith)
 
-  -- the elements of the second list stand right of those of the first
+  -- the relation holds of each element of the first list with each of the second
   abbrev pub Across : List X → List X → Type 0
   Across xs ys = All (λ x. All (R x) ys) xs
 

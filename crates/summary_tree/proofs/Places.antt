@@ -7,12 +7,12 @@ use Rattle.std.proofs.lemmas.List.{append-nil}
 use Rattle.std.proofs.lemmas.List.Elements.{All-nil, All-cons, All-head, All-tail, All-weaker, filter-append, filter_passes}
 use Rattle.std.proofs.lemmas.List.Sorted.{IsPermutation-sym, IsPermutation-middle}
 use Rattle.std.proofs.lemmas.List.Kept.{AllPairs-filter}
-use Rattle.summary_tree.specs.Order.{IsOrder, IsExact, AreInOrder, HasNoneAt, below, above, with_item, item_at, without_item}
+use Rattle.summary_tree.specs.Order.{IsStrictOrder, IsExact, AreInOrder, HasNoneAt, below, above, with_item, item_at, without_item}
 use Rattle.summary_tree.proofs.Lists.{filter_all, filter_none, find_none, none_found}
 use Rattle.summary_tree.proofs.Pairs.{pairs_head, pairs_tail, pairs_append, pairs_cons}
 
--- two keys in their order
-module _ {K : Type 0} (before : K → K → Bool) (order : IsOrder before) where
+-- lemmas on two keys
+module _ {K : Type 0} (before : K → K → Bool) (order : IsStrictOrder before) where
   pub not_both_ways : (a b : K) → IsTrue (before a b) → ¬ IsTrue (before b a)
   not_both_ways a b p q = order.irreflexive a (order.transitive a b a p q)
 
@@ -39,7 +39,7 @@ module _ {K : Type 0} (before : K → K → Bool) (order : IsOrder before) where
   one_by a b n m (inr (inl h)) = sym h
   one_by a b n m (inr (inr h)) = absurd (m h)
 
-  -- of two keys neither comes before the other only where they are one
+  -- two keys of which neither comes before the other are one
   pub one_key : (a b : K) → ¬ IsTrue (before a b) → ¬ IsTrue (before b a) → b ≡ a
   one_key a b n m = one_by a b n m (order.total a b)
 
@@ -47,11 +47,11 @@ module _ {K : Type 0} (same : K → K → Bool) (exact : IsExact same) where
   pub other_key : (a b : K) → a ≢ b → same a b ≡ false
   other_key a b n = false_from_ne_true (same a b) (λ e. n (exact.one a b e))
 
-module _ {K T : Type 0} (key : T → K) (before : K → K → Bool) (order : IsOrder before) where
+module _ {K T : Type 0} (key : T → K) (before : K → K → Bool) (order : IsStrictOrder before) where
   abbrev Before : T → T → Type 0
   Before a b = IsTrue (before (key a) (key b))
 
-  -- the items in two parts around a key that none has
+  -- the items in two parts: those whose keys come before this one, and those whose keys come after it
   pub below_parts : (k : K) (xs ys : List T) → All (λ x. IsTrue (before (key x) k)) xs → All (λ y. IsTrue (before k (key y))) ys → below key before k (xs ++ ys) ≡ xs
   below_parts k xs ys less more =
       filter-append (λ x. before (key x) k) xs ys
@@ -77,7 +77,7 @@ module _ {K T : Type 0} (key : T → K) (before : K → K → Bool) (order : IsO
       (All-weaker (Before x) (λ y. IsTrue (before k (key y))) (λ y h. order.transitive k (key x) (key y) after h) xs (pairs_head Before x xs by)) in
       sym (ap (λ zs. zs ++ above key before k (x ∷ xs)) (below_parts k [] (x ∷ xs) (All-nil (λ y. IsTrue (before (key y) k))) all) ∙ above_parts k [] (x ∷ xs) (All-nil (λ y. IsTrue (before (key y) k))) all)
 
-  -- around a key that no item has
+  -- the items before a key that no item has, and those after it, are all items
   pub parts : (k : K) (items : List T) → AreInOrder key before items → HasNoneAt key k items → items ≡ below key before k items ++ above key before k items
   parts k [] by new = refl
   parts k (x ∷ xs) by new =
@@ -97,7 +97,7 @@ module _ {K T : Type 0} (key : T → K) (before : K → K → Bool) (order : IsO
       (λ x h. All-cons (Before x) new more h (All-weaker (Before new) (Before x) (λ y g. order.transitive (key x) (key new) (key y) h g) more above_new))
       less (filter_passes (λ x. before (key x) (key new)) items))
 
-  -- the items and one more, in another order
+  -- the items with one more are those and that one
   pub members_with : (new : T) (items : List T) → AreInOrder key before items → HasNoneAt key (key new) items → IsPermutation (new ∷ items) (with_item key before new items)
   members_with new items by none =
       let less = below key before (key new) items in

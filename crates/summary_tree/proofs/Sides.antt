@@ -4,7 +4,7 @@ use Rattle.std.specs.Prelude.{All, IsTrue, if◌then◌else◌}
 use Rattle.std.proofs.lemmas.Bool.{not_from_false}
 use Rattle.std.proofs.lemmas.List.{append-nil, map-append}
 use Rattle.std.proofs.lemmas.List.Elements.{All-cons, All-head, All-tail, All-weaker, filter-append}
-use Rattle.summary_tree.specs.Order.{IsOrder, IsExact, AreInOrder, HasNoneAt, below, above, with_item, item_at, without_item, with_replaced}
+use Rattle.summary_tree.specs.Order.{IsStrictOrder, IsExact, AreInOrder, HasNoneAt, below, above, with_item, item_at, without_item, with_replaced}
 use Rattle.summary_tree.proofs.Lists.{filter_all, filter_none, find_front, find_back, find_behind}
 use Rattle.summary_tree.proofs.Pairs.{pairs_front, pairs_back, pairs_across, pairs_head, pairs_tail, All-front, All-back}
 use Rattle.summary_tree.proofs.Places.{before-false, not_back, after_from, differs, one_key, other_key, keep_all, without_middle}
@@ -22,7 +22,7 @@ module _ {K T : Type 0} (key : T → K) (before : K → K → Bool) where
   pub sides_in_order : (xs : List T) (x : T) (ys : List T) → AreInOrder key before (xs ++ x ∷ ys) → AreInOrder key before xs × AreInOrder key before ys
   sides_in_order xs x ys by = (left_in_order xs x ys by, right_in_order xs x ys by)
 
-  -- the items before one, and those behind it
+  -- the items before one have lesser keys, and those after it greater ones
   pub earlier : (xs : List T) (x : T) (ys : List T) → AreInOrder key before (xs ++ x ∷ ys) → All (λ y. Before y x) xs
   earlier xs x ys by =
       All-weaker (λ y. All (Before y) (x ∷ ys)) (λ y. Before y x) (λ y h. All-head (Before y) x ys h) xs (pairs_across Before xs (x ∷ ys) by)
@@ -37,8 +37,8 @@ module _ {K T : Type 0} (key : T → K) where
   pub none_right : (k : K) (xs : List T) (x : T) (ys : List T) → HasNoneAt key k (xs ++ x ∷ ys) → HasNoneAt key k ys
   none_right k xs x ys none = All-tail (λ y. key y ≢ k) x ys (All-back (λ y. key y ≢ k) xs (x ∷ ys) none)
 
-module _ {K T : Type 0} (key : T → K) (before : K → K → Bool) (order : IsOrder before) where
-  -- the items behind one that comes after a key, and those before one that comes before it
+module _ {K T : Type 0} (key : T → K) (before : K → K → Bool) (order : IsStrictOrder before) where
+  -- after an item that comes after a key all items do, and before one that comes before a key all items do
   pub all_after : (k : K) (xs : List T) (x : T) (ys : List T) → AreInOrder key before (xs ++ x ∷ ys) → IsTrue (before k (key x)) → All (λ y. IsTrue (before k (key y))) (x ∷ ys)
   all_after k xs x ys by h =
       All-cons (λ y. IsTrue (before k (key y))) x ys h
@@ -51,7 +51,7 @@ module _ {K T : Type 0} (key : T → K) (before : K → K → Bool) (order : IsO
   not_before : (k : K) (items : List T) → All (λ y. IsTrue (before k (key y))) items → All (λ y. before (key y) k ≡ false) items
   not_before k items h = All-weaker (λ y. IsTrue (before k (key y))) (λ y. before (key y) k ≡ false) (λ y g. not_back before order k (key y) g) items h
 
-  -- the items below and above a key, on either side of one item
+  -- the items below and above a key, on either side of an item
   below_left : (k : K) (xs : List T) (x : T) (ys : List T) → AreInOrder key before (xs ++ x ∷ ys) → IsTrue (before k (key x)) → below key before k (xs ++ x ∷ ys) ≡ below key before k xs
   below_left k xs x ys by h =
       filter-append (λ y. before (key y) k) xs (x ∷ ys)
@@ -69,7 +69,7 @@ module _ {K T : Type 0} (key : T → K) (before : K → K → Bool) (order : IsO
       ∙ ap (λ zs. zs ++ below key before k (x ∷ ys)) (filter_all (λ y. before (key y) k) xs (all_before k xs x ys by h))
       ∙ ap (λ (b : Bool). xs ++ cond b (x ∷ below key before k ys) (below key before k ys)) h
 
-  -- where the key is not after that of the item
+  -- where the key does not come after that of the item
   above_right : (k : K) (xs : List T) (x : T) (ys : List T) → AreInOrder key before (xs ++ x ∷ ys) → ¬ IsTrue (before k (key x)) → above key before k (xs ++ x ∷ ys) ≡ above key before k ys
   above_right k xs x ys by n =
       filter-append (λ y. before k (key y)) xs (x ∷ ys)
@@ -77,7 +77,7 @@ module _ {K T : Type 0} (key : T → K) (before : K → K → Bool) (order : IsO
       (All-weaker (λ y. IsTrue (before (key y) (key x))) (λ y. before k (key y) ≡ false) (λ y g. before-false before order k (key y) (λ h. n (order.transitive k (key y) (key x) h g))) xs (earlier key before xs x ys by)))
       ∙ ap (λ (b : Bool). cond b (x ∷ above key before k ys) (above key before k ys)) (before-false before order k (key x) n)
 
-  -- one more item left of one and right of one
+  -- one more item, on the left of an item and on the right
   pub with_left : (new : T) (xs : List T) (x : T) (ys : List T) → AreInOrder key before (xs ++ x ∷ ys) → IsTrue (before (key new) (key x)) → with_item key before new (xs ++ x ∷ ys) ≡ with_item key before new xs ++ x ∷ ys
   with_left new xs x ys by h =
       ap (λ zs. zs ++ new ∷ above key before (key new) (xs ++ x ∷ ys)) (below_left (key new) xs x ys by h)
@@ -101,14 +101,14 @@ module _ {K T : Type 0} (key : T → K) (before : K → K → Bool) (order : IsO
     other_after k items h =
         All-weaker (λ y. IsTrue (before k (key y))) (λ y. same (key y) k ≡ false) (λ y g. other_key same exact (key y) k (λ e. differs before order k (key y) g (sym e))) items h
 
-    -- those around one item have another key than it
+    -- the items around one have other keys
     pub other_around : (k : K) (xs : List T) (x : T) (ys : List T) → AreInOrder key before (xs ++ x ∷ ys) → key x ≡ k → All (λ y. same (key y) k ≡ false) xs × All (λ y. same (key y) k ≡ false) ys
     other_around k xs x ys by e = (
       other_before k xs (subst (λ (j : K). All (λ y. IsTrue (before (key y) j)) xs) e (earlier key before xs x ys by)),
       other_after k ys (subst (λ (j : K). All (λ y. IsTrue (before j (key y))) ys) e (later key before xs x ys by)),
     )
 
-    -- the item of a key, left of one, right of one and there
+    -- the item of a key, on the left of an item, on the right, and the item itself
     pub at_left : (k : K) (xs : List T) (x : T) (ys : List T) → AreInOrder key before (xs ++ x ∷ ys) → IsTrue (before k (key x)) → item_at key same k (xs ++ x ∷ ys) ≡ item_at key same k xs
     at_left k xs x ys by h = find_front (λ y. same (key y) k) xs (x ∷ ys) (other_after k (x ∷ ys) (all_after k xs x ys by h))
 
@@ -122,7 +122,7 @@ module _ {K T : Type 0} (key : T → K) (before : K → K → Bool) (order : IsO
         let e = one_key before order k (key x) n m in
         find_behind (λ y. same (key y) k) xs x ys (other_around k xs x ys by e).0 (exact.here (key x) k e)
 
-    -- the items without that of a key, likewise
+    -- the list without the item of a key, on the left of an item, on the right, and without the item itself
     pub without_left : (k : K) (xs : List T) (x : T) (ys : List T) → AreInOrder key before (xs ++ x ∷ ys) → IsTrue (before k (key x)) → without_item key same k (xs ++ x ∷ ys) ≡ without_item key same k xs ++ x ∷ ys
     without_left k xs x ys by h =
         filter-append (λ y. not (same (key y) k)) xs (x ∷ ys)
@@ -140,7 +140,7 @@ module _ {K T : Type 0} (key : T → K) (before : K → K → Bool) (order : IsO
         let around = other_around k xs x ys by e in
         without_middle key same exact k xs x ys around.0 (exact.here (key x) k e) around.1
 
-    -- the items with one in the place of that of its key, likewise
+    -- a replacement of the item of a key, on the left of an item, on the right, and of the item itself
     abbrev in_place_of : T → T → T
     in_place_of new x = if same (key x) (key new) then new else x
 

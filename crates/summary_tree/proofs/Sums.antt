@@ -1,4 +1,4 @@
--- The summary of the items around one is made of those of its sides.
+-- The summary of a node's items is made of those of its sides and of its item.
 use Rattle.std.proofs.Common.{List, [], ◌∷◌, ◌++◌, Option, Some, None, sym, subst}
 use Rattle.summary_tree.specs.Layers.{IsSummed, with_first, joined}
 

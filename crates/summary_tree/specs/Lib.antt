@@ -1,6 +1,6 @@
--- what the public clauses speak of
+-- words of the public clauses
 pub mod Order
 pub mod Layers
 pub mod Node
 -- words of private clauses
-pub mod Stock
+pub mod NodePool

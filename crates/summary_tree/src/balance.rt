@@ -1,24 +1,23 @@
 //! Rotations, and the way back up.
 
 ghost use Rattle.std.specs.Prelude.{◌≡◌, ◌+◌, ◌<◌, max, IsTrue};
-ghost use Rattle.summary_tree.specs.Layers.{DifferByAtMost, IsSettled};
-ghost use Rattle.summary_tree.specs.Node.{items_of, IsRight, IsBalancedNode, KeepsNode};
+ghost use Rattle.summary_tree.specs.Layers.{DifferByAtMost, IsBalancedHeight};
+ghost use Rattle.summary_tree.specs.Node.{items_of, IsRightNode, IsBalancedNode, KeepsNode};
 
 use crate::node::{Node, Tree, close};
 use crate::{Keyed, Summarizes};
 use std::mem;
 
-/// Settles a node of which a side has changed, where it stands. Says whether it keeps its height and its
-/// summary. Where the side keeps its own, nothing is made anew, which is what comes most often: so that case
-/// stands where it is called.
+/// Settles a node of which a side has changed, in place, and returns whether its height and its summary stay.
+/// Where the side kept its own (`stays`) nothing is made again. That is the most frequent case, so it is inlined.
 #[inline(always)]
 pub fn settle<T: Keyed, S: Summarizes<T>>(top: &mut Box<Node<T, S>>, stays: bool) -> bool
     requires near { DifferByAtMost 2 top.old.value.left.height top.old.value.right.height }
     requires room { max top.old.value.left.height top.old.value.right.height < 255 }
-    requires stays { IsTrue stays → IsRight S.one S.join top.old.value }
+    requires stays { IsTrue stays → IsRightNode S.one S.join top.old.value }
     ensures balanced { IsBalancedNode S.one S.join S.IsOf top.new.value }
     ensures items { items_of top.new.value ≡ items_of top.old.value }
-    ensures height { IsSettled top.old.value.left.height top.old.value.right.height top.new.value.height }
+    ensures height { IsBalancedHeight top.old.value.left.height top.old.value.right.height top.new.value.height }
     ensures stays { IsTrue result → KeepsNode top.old.value top.new.value }
 {
     if stays {
@@ -28,15 +27,15 @@ pub fn settle<T: Keyed, S: Summarizes<T>>(top: &mut Box<Node<T, S>>, stays: bool
     settle_anew(top)
 }
 
-/// Settles a node of which a side has changed, with its height and its summary made anew. It stands apart
-/// so that where the side keeps its own no more than a test is done.
+/// Settles a node of which a side has changed: makes its height and its summary again, with a rotation where one
+/// is due. It is not inlined, so that the frequent case is a test alone.
 #[inline(never)]
 fn settle_anew<T: Keyed, S: Summarizes<T>>(top: &mut Box<Node<T, S>>) -> bool
     requires near { DifferByAtMost 2 top.old.value.left.height top.old.value.right.height }
     requires room { max top.old.value.left.height top.old.value.right.height < 255 }
     ensures balanced { IsBalancedNode S.one S.join S.IsOf top.new.value }
     ensures items { items_of top.new.value ≡ items_of top.old.value }
-    ensures height { IsSettled top.old.value.left.height top.old.value.right.height top.new.value.height }
+    ensures height { IsBalancedHeight top.old.value.left.height top.old.value.right.height top.new.value.height }
     ensures stays { IsTrue result → KeepsNode top.old.value top.new.value }
 {
     let (left, right) = (top.left.height(), top.right.height());
@@ -51,14 +50,14 @@ fn settle_anew<T: Keyed, S: Summarizes<T>>(top: &mut Box<Node<T, S>>) -> bool
     }
 }
 
-/// Turns a node whose left side is two higher.
+/// Rotates a node whose left side is higher by two.
 #[inline(never)]
 fn lean_right<T: Keyed, S: Summarizes<T>>(top: &mut Box<Node<T, S>>)
     requires higher { top.old.value.left.height ≡ top.old.value.right.height + 2 }
     requires room { top.old.value.left.height < 255 }
     ensures balanced { IsBalancedNode S.one S.join S.IsOf top.new.value }
     ensures items { items_of top.new.value ≡ items_of top.old.value }
-    ensures height { IsSettled top.old.value.left.height top.old.value.right.height top.new.value.height }
+    ensures height { IsBalancedHeight top.old.value.left.height top.old.value.right.height top.new.value.height }
 {
     let Some(mut side) = top.left.take() else {
         unreachable!()
@@ -81,14 +80,14 @@ fn lean_right<T: Keyed, S: Summarizes<T>>(top: &mut Box<Node<T, S>>)
     let _ = top.renew();
 }
 
-/// Turns a node whose right side is two higher.
+/// Rotates a node whose right side is higher by two.
 #[inline(never)]
 fn lean_left<T: Keyed, S: Summarizes<T>>(top: &mut Box<Node<T, S>>)
     requires higher { top.old.value.right.height ≡ top.old.value.left.height + 2 }
     requires room { top.old.value.right.height < 255 }
     ensures balanced { IsBalancedNode S.one S.join S.IsOf top.new.value }
     ensures items { items_of top.new.value ≡ items_of top.old.value }
-    ensures height { IsSettled top.old.value.left.height top.old.value.right.height top.new.value.height }
+    ensures height { IsBalancedHeight top.old.value.left.height top.old.value.right.height top.new.value.height }
 {
     let Some(mut side) = top.right.take() else {
         unreachable!()

@@ -1,5 +1,5 @@
-//! Insertions, removals and replacements: one way down, and settled on the way back up. Each node is edited
-//! where it stands, and each descent goes through `go_left` or `go_right`, which count it.
+//! Insertions, removals and replacements: each goes one way down and settles the nodes on the way back up. Nodes
+//! are edited in place, and each step down is one of `go_left` or `go_right`, which count it.
 
 ghost use Rattle.std.specs.Prelude.{◌≡◌, ◌+◌, ◌-◌, ◌^◌, ◌<◌, ◌≤◌, ◌++◌, None, min, max, IsTrue, MatchOption};
 ghost use Rattle.std.specs.Borrow.{Lends, sem};
@@ -7,7 +7,7 @@ ghost use Rattle.summary_tree.specs.contracts.node.Node.{the_row};
 ghost use Rattle.summary_tree.specs.contracts.node.Tree.{the_row as the_tree};
 ghost use Rattle.summary_tree.specs.Order.{AreInOrder, HasNoneAt, with_item, without_item, item_at, with_replaced};
 ghost use Rattle.summary_tree.specs.Layers.{no_layers, DifferByAtMost, KeepsLayers};
-ghost use Rattle.summary_tree.specs.Node.{items_of, HasSidesInOrder, IsAlone, IsFirst, IsTaken};
+ghost use Rattle.summary_tree.specs.Node.{items_of, HasSidesInOrder, IsAlone, HasTakenFirst, HasTakenItem};
 
 use crate::balance::settle;
 use crate::node::{Node, Tree, close, keep};
@@ -37,8 +37,8 @@ impl<T: Copy, S: Summarizes<T>> Node<T, S> {
 }
 
 impl<T: Keyed, S: Summarizes<T>> Node<T, S> {
-    /// The law of items in order: those of each side are. It does nothing: a proof that needs the law has it
-    /// by a call.
+    /// The law of items in order: those of each side are in order. It does nothing: a proof that needs the law has
+    /// it by a call.
     #[inline(always)]
     #[tactic(auto, using(crate::proofs::Sides::sides_in_order))]
     fn sides_are_in_order(&self)
@@ -48,8 +48,8 @@ impl<T: Keyed, S: Summarizes<T>> Node<T, S> {
 }
 
 impl<T: Keyed, S: Summarizes<T>> Tree<T, S> {
-    /// Puts a node by itself to its place. Says whether the tree keeps its height and its summary, as
-    /// then those above do.
+    /// Puts a node that has nothing on its sides in its place. Returns whether the tree keeps its height and its
+    /// summary: then the trees above it do too.
     #[tactic(auto, using(crate::proofs::Sides::with_left, crate::proofs::Sides::with_right, crate::proofs::Sides::none_left, crate::proofs::Sides::none_right))]
     pub(crate) fn insert(&mut self, place: Box<Node<T, S>>, steps: &mut u64) -> bool
         requires order { AreInOrder T.key T.comes_before self.old.items }
@@ -78,11 +78,11 @@ impl<T: Keyed, S: Summarizes<T>> Tree<T, S> {
         }
     }
 
-    /// Takes the node of that key out. Says whether the tree keeps its height and its summary.
+    /// Takes the node of that key out. Returns also whether the tree keeps its height and its summary.
     #[tactic(auto, using(crate::proofs::Sides::at_left, crate::proofs::Sides::at_right, crate::proofs::Sides::at_here, crate::proofs::Sides::without_left, crate::proofs::Sides::without_right, crate::proofs::Sides::without_here))]
     pub(crate) fn remove(&mut self, key: T::Key, steps: &mut u64) -> (Option<Box<Node<T, S>>>, bool)
         requires order { AreInOrder T.key T.comes_before self.old.items }
-        ensures item { MatchOption result.0 (item_at T.key T.same key self.old.items ≡ None) (λ node. IsTaken T.key T.same node.value key self.old.items) }
+        ensures item { MatchOption result.0 (item_at T.key T.same key self.old.items ≡ None) (λ node. HasTakenItem T.key T.same node.value key self.old.items) }
         ensures items { self.new.items ≡ without_item T.key T.same key self.old.items }
         ensures not_higher { self.new.height ≤ self.old.height }
         ensures at_most_one_lower { self.old.height ≤ self.new.height + 1 }
@@ -111,8 +111,8 @@ impl<T: Keyed, S: Summarizes<T>> Tree<T, S> {
         (Some(alone), false)
     }
 
-    /// Puts an item in the place of the one of its key, where there is one. Says whether the tree keeps
-    /// its summary.
+    /// Puts an item in the place of the one that has its key, if there is one. Returns whether the tree keeps its
+    /// summary.
     #[tactic(auto, using(crate::proofs::Sides::replaced_left, crate::proofs::Sides::replaced_right, crate::proofs::Sides::replaced_here))]
     pub(crate) fn replace(&mut self, item: &T, steps: &mut u64) -> bool
         requires order { AreInOrder T.key T.comes_before self.old.items }
@@ -140,7 +140,7 @@ impl<T: Keyed, S: Summarizes<T>> Tree<T, S> {
 
     /// Takes the first node out.
     fn take_first(&mut self, steps: &mut u64) -> Option<Box<Node<T, S>>>
-        ensures first { MatchOption result ((self.old ≡ no_layers) × (self.new ≡ no_layers)) (λ node. IsFirst node.value self.old.items self.new.items) }
+        ensures first { MatchOption result ((self.old ≡ no_layers) × (self.new ≡ no_layers)) (λ node. HasTakenFirst node.value self.old.items self.new.items) }
         ensures not_higher { self.new.height ≤ self.old.height }
         ensures at_most_one_lower { self.old.height ≤ self.new.height + 1 }
         ensures steps { steps.new ≤ steps.old + self.old.height }
@@ -161,7 +161,7 @@ impl<T: Keyed, S: Summarizes<T>> Tree<T, S> {
     }
 }
 
-/// The tree of both sides of a node, and the node by itself.
+/// The tree of both sides of a node, and the node with nothing on its sides.
 fn join_sides<T: Keyed, S: Summarizes<T>>(
     mut top: Box<Node<T, S>>,
     steps: &mut u64,

@@ -1,9 +1,9 @@
 //! What an item of a tree is: it has a key, and keys are in one strict order.
 
 ghost use Rattle.std.specs.Prelude.{◌≡◌, Bool};
-ghost use Rattle.summary_tree.specs.Order.{IsOrder, IsExact};
+ghost use Rattle.summary_tree.specs.Order.{IsStrictOrder, IsExact};
 
-/// What stands in a tree, each item by a key of its own.
+/// An item of a tree. Each has a key of its own.
 pub trait Keyed: Copy {
     type Key: Copy;
 
@@ -13,7 +13,7 @@ pub trait Keyed: Copy {
 
     ghost same: { Self.Key → Self.Key → Bool };
 
-    /// The item of a spare node.
+    /// The item of a spare node, which is in no tree.
     fn spare() -> Self;
 
     fn key(&self) -> Self::Key
@@ -24,6 +24,6 @@ pub trait Keyed: Copy {
 
     /// The law of the order. It does nothing: a proof that needs the law has it by a call.
     fn keys_are_in_one_order()
-        ensures order { IsOrder comes_before }
+        ensures order { IsStrictOrder comes_before }
         ensures exact { IsExact same };
 }

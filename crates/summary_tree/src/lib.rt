@@ -1,7 +1,7 @@
 //! A height-balanced tree of boxes (Adelson-Velsky and Landis 1962), generic over its items, the order of
 //! their keys and what each node keeps of the items below it.
 //!
-//! A tree is given places first and then items, which takes no memory:
+//! Places are reserved first, which may take memory; then items are put in, which takes none:
 //!
 //! ```text
 //! let mut tree = SummaryTree::new(alloc);
@@ -12,7 +12,7 @@
 //! ```
 //!
 //! The crate above says what an item is (`Keyed`) and what a summary is (`Summarizes`). It looks things up
-//! by itself: `SummaryTree::tree` lends the tree of boxes, `Tree::top` its top node, and a node has two
+//! itself: `SummaryTree::tree` lends the tree of boxes, `Tree::top` its top node, and a node has two
 //! trees as its sides, so a look-up is a recursion that the summaries guide. The rows of `read_tree` and
 //! `zone_tree` run these calls.
 //!
@@ -20,11 +20,11 @@
 //!
 //!     keyed         what an item is
 //!     summarizes    what a summary is
-//!     node          the tree of boxes: each node is as `specs/Node.antt` says, as `keep` asks
+//!     node          the tree of boxes; `keep` asks of each node what `specs/Node.antt` says
 //!     balance       rotations, and the way back up, which ends where nothing changed
 //!     edit          insertion, removal and replacement: one way down, counted
 //!     look          the item of a key
-//!     stock         spare nodes for reserved places
+//!     node_pool     spare nodes for reserved places
 //!     tree          the calls: a tree, its reserved places and its count of steps
 #![tactic(auto)]
 
@@ -33,7 +33,7 @@ mod edit;
 mod keyed;
 mod look;
 mod node;
-mod stock;
+mod node_pool;
 mod summarizes;
 mod tree;
 

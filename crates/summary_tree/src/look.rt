@@ -1,4 +1,4 @@
-//! The item of a key. Other look-ups are those of the crates above.
+//! The look-up of an item by its key. Other look-ups are those of the crates above.
 
 ghost use Rattle.std.specs.Prelude.{◌≡◌};
 ghost use Rattle.summary_tree.specs.Order.{AreInOrder, item_at};

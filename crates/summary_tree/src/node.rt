@@ -1,13 +1,14 @@
-//! The tree of boxes. `keep` alone makes trees of nodes, and `edit` changes them where they stand: each node is
-//! as `specs/Node.antt` says.
+//! The tree of boxes. Each node is as `specs/Node.antt` says: `keep` alone makes trees of nodes and asks for that,
+//! and `edit` changes nodes in place.
 
 ghost use Rattle.std.specs.Prelude.{◌≡◌, ◌+◌, ◌<◌, max, IsTrue, MatchOption};
-ghost use Rattle.summary_tree.specs.Layers.{no_layers, DifferByAtMost, IsLow, IsSummed, with_first as summary_with_first, joined};
-ghost use Rattle.summary_tree.specs.Node.{items_of, summary_around, layers_of, IsRight, IsBalanced, IsBalancedNode, IsTop, KeepsNode};
+ghost use Rattle.summary_tree.specs.Layers.{no_layers, DifferByAtMost, IsLow, IsSummed, with_first, joined};
+ghost use Rattle.summary_tree.specs.Node.{items_of, summary_around, layers_of, IsRightNode, IsBalanced, IsBalancedNode, IsTop, KeepsNode};
 
 use crate::Summarizes;
 use std::marker::Model;
 
+/// A tree of boxes: a node at the top, or nothing.
 #[cycle(tree)]
 #[derive(Drop)]
 pub struct Tree<T: Copy, S: Summarizes<T>> {
@@ -63,7 +64,7 @@ impl<T: Copy, S: Summarizes<T>> Tree<T, S> {
         }
     }
 
-    /// The top node, without a way around it.
+    /// The top node, with what is known of its items and its summary.
     pub fn top(&self) -> Option<&Node<T, S>>
         ensures { MatchOption result (self.now ≡ no_layers) (λ node. IsTop S.IsOf node.now self.now.items) }
     {
@@ -82,7 +83,7 @@ impl<T: Copy, S: Summarizes<T>> Tree<T, S> {
         self.top.take()
     }
 
-    /// The summary of the items of this tree and of those behind them.
+    /// The summary of the items of this tree and of those after them.
     #[inline(always)]
     #[tactic(auto, unfolding(crate::specs::Layers::joined))]
     fn before(&self, later: S) -> S
@@ -94,11 +95,11 @@ impl<T: Copy, S: Summarizes<T>> Tree<T, S> {
         }
     }
 
-    /// The summary of an item and of those of this tree behind it.
+    /// The summary of an item and of those of this tree after it.
     #[inline(always)]
     #[tactic(auto, unfolding(crate::specs::Layers::with_first))]
     fn with_first(&self, item: &T) -> S
-        ensures { result ≡ summary_with_first S.one S.join item.now self.now.summary }
+        ensures { result ≡ with_first S.one S.join item.now self.now.summary }
     {
         match &self.top {
             Some(top) => top.summary.with_first(item),
@@ -108,7 +109,7 @@ impl<T: Copy, S: Summarizes<T>> Tree<T, S> {
 }
 
 impl<T: Copy, S: Summarizes<T>> Node<T, S> {
-    /// The summary of its items, by those of its sides.
+    /// The summary of its items, made of those of its sides.
     #[inline(always)]
     fn sum(&self) -> S
         ensures { result ≡ summary_around S.one S.join self.now }
@@ -116,7 +117,7 @@ impl<T: Copy, S: Summarizes<T>> Node<T, S> {
         self.left.before(self.right.with_first(&self.item))
     }
 
-    /// Makes its height and its summary anew. Says whether both stay.
+    /// Makes its height and its summary again. Returns whether both stay.
     #[inline(always)]
     pub(crate) fn renew(&mut self) -> bool
         requires near { DifferByAtMost 1 self.old.left.height self.old.right.height }
@@ -135,11 +136,11 @@ impl<T: Copy, S: Summarizes<T>> Node<T, S> {
         stays
     }
 
-    /// The law of a node whose height and summary are right: it is balanced, since its sides are. It does
-    /// nothing: a proof that needs the law has it by a call.
+    /// The law of a node whose height and summary are right: it is balanced, since its sides are. It does nothing:
+    /// a proof that needs the law has it by a call.
     #[inline(always)]
     pub(crate) fn sides_are_balanced(&self)
-        requires { IsRight S.one S.join self.now }
+        requires { IsRightNode S.one S.join self.now }
         ensures { IsBalancedNode S.one S.join S.IsOf self.now }
     {
         S::summaries_add_up();
@@ -147,7 +148,7 @@ impl<T: Copy, S: Summarizes<T>> Node<T, S> {
     }
 }
 
-/// The tree of a node, of which height and summary are made anew.
+/// The tree of a node, once its height and its summary are made again.
 pub(crate) fn close<T: Copy, S: Summarizes<T>>(mut node: Box<Node<T, S>>) -> Tree<T, S>
     requires near { DifferByAtMost 1 node.value.left.height node.value.right.height }
     requires room { max node.value.left.height node.value.right.height < 255 }

@@ -2,7 +2,7 @@
 
 ghost use Rattle.std.specs.Prelude.{◌≡◌, ◌↔◌, IsTrue, List, [], ◌∷◌, ◌++◌};
 
-/// A summary of lists of items. `IsOf` says of which: of one list there may be several.
+/// A summary of a list of items. `IsOf` says whether it is one of that list: a list may have several.
 pub trait Summarizes<T>: Copy {
     ghost one: { T → Self };
 
@@ -10,17 +10,19 @@ pub trait Summarizes<T>: Copy {
 
     ghost IsOf: { Self → List T → Type 0 };
 
+    /// The summary of one item.
     fn of_one(item: &T) -> Self
         ensures { result ≡ one item.now };
 
-    /// Of items and of those behind them.
+    /// The summary of items and of those after them.
     fn join(&self, later: &Self) -> Self
         ensures { result ≡ join self.now later.now };
 
-    /// Of an item and of those behind it.
+    /// The summary of an item and of those after it.
     fn with_first(&self, item: &T) -> Self
         ensures { result ≡ join (one item.now) self.now };
 
+    /// Whether the two are one summary.
     fn is_same(&self, other: &Self) -> bool
         ensures { IsTrue result ↔ (self.now ≡ other.now) };
 

@@ -4,7 +4,7 @@ ghost use Rattle.std.specs.Prelude.{◌≡◌, ◌+◌, ◌*◌, ◌^◌, ◌<�
 ghost use Rattle.summary_tree.specs.Order.{AreInOrder, HasNoneAt, with_item, without_item, item_at, with_replaced};
 
 use crate::node::Tree;
-use crate::stock::Stock;
+use crate::node_pool::NodePool;
 use crate::{Keyed, Summarizes};
 use intervals::Memory;
 use std::alloc::Global;
@@ -14,18 +14,18 @@ use std::marker::Model;
 #[derive(Drop)]
 pub struct SummaryTree<T: Keyed, S: Summarizes<T>> {
     tree: Tree<T, S>,
-    places: Stock<T, S>,
+    places: NodePool<T, S>,
     steps: u64,
 }
 
 impl<T: Keyed, S: Summarizes<T>> Model for SummaryTree<T, S> {
-    ghost use Rattle.summary_tree.specs.Order.{Contents, IsKept};
+    ghost use Rattle.summary_tree.specs.Order.{TreeContents, IsTreeOf};
 
-    ghost Value = { Contents T };
+    ghost Value = { TreeContents T };
 
     ghost view = { λ t. record { items = t.tree.items; free = t.places.free; steps = t.steps } };
 
-    ghost invariant = { λ t. IsKept T.key T.comes_before t.tree.items t.places.taken };
+    ghost invariant = { λ t. IsTreeOf T.key T.comes_before t.tree.items t.places.taken };
 }
 
 impl<T: Keyed, S: Summarizes<T>> SummaryTree<T, S> {
@@ -37,7 +37,7 @@ impl<T: Keyed, S: Summarizes<T>> SummaryTree<T, S> {
     {
         SummaryTree {
             tree: Tree::new(),
-            places: Stock::new(alloc),
+            places: NodePool::new(alloc),
             steps: 0,
         }
     }
@@ -56,8 +56,8 @@ impl<T: Keyed, S: Summarizes<T>> SummaryTree<T, S> {
         self.places.free()
     }
 
-    /// How many times insertions, removals and replacements went from a node to one of its sides, up to the
-    /// greatest number.
+    /// How many times insertions, removals and replacements went from a node to one of its sides; the count ends
+    /// at `u64::MAX`.
     pub fn steps(&self) -> u64
         ensures { result ≡ self.now.steps }
     {
@@ -79,7 +79,8 @@ impl<T: Keyed, S: Summarizes<T>> SummaryTree<T, S> {
         self.tree.get(key)
     }
 
-    /// Makes room for that many more items.
+    /// Makes room for that many more items. It fails where memory is refused, or where so many places cannot be
+    /// counted.
     pub fn reserve(&mut self, places: usize) -> Result<(), Memory>
         ensures items { self.new.items ≡ self.old.items }
         ensures steps { self.new.steps ≡ self.old.steps }
@@ -127,7 +128,7 @@ impl<T: Keyed, S: Summarizes<T>> SummaryTree<T, S> {
         Some(item)
     }
 
-    /// Puts an item in the place of the one of its key, where there is one.
+    /// Puts an item in the place of the one that has its key; where there is none nothing changes.
     pub fn replace(&mut self, item: T)
         ensures items { self.new.items ≡ with_replaced T.key T.same item self.old.items }
         ensures free { self.new.free ≡ self.old.free }

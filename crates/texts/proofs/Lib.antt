@@ -1,1 +1,2 @@
+-- the lines of a list of topics
 pub mod Lines

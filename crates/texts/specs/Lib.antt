@@ -1,2 +1,3 @@
+-- words of the public clauses
 pub mod Printing
 pub mod Topics

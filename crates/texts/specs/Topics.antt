@@ -20,7 +20,7 @@ use Rattle.texts.specs.declared.notes.Note.TheVariants as note_codes
 use Rattle.texts.specs.declared.report_words.ReportWord.{ReportWord}
 use Rattle.texts.specs.declared.report_words.ReportWord.TheVariants as report_words
 
--- the code of a text and of its reading
+-- the code of a topic on a text or on its reading
 abbrev pub text_code : TextCode → List ℕ
 text_code text_codes.Truncated = codes "E1"
 text_code text_codes.StrayClose = codes "E2"
@@ -32,7 +32,7 @@ text_code text_codes.NoMemoryForText = codes "E7"
 text_code text_codes.ReadFailed = codes "N1"
 text_code text_codes.TooLong = codes "N2"
 
--- the code of an element's form
+-- the code of a topic on the form of an element
 abbrev pub form_code : FormCode → List ℕ
 form_code form_codes.NotAMap = codes "F1"
 form_code form_codes.MissingField = codes "F2"
@@ -43,14 +43,14 @@ form_code form_codes.BadValue = codes "F6"
 form_code form_codes.BadMoment = codes "F7"
 form_code form_codes.NoRegister = codes "F8"
 
--- the code of invocations and answers
+-- the code of a topic on the pairing of invocations and answers
 abbrev pub pair_code : PairCode → List ℕ
 pair_code pair_codes.ProcessBusy = codes "P1"
 pair_code pair_codes.NoInvocation = codes "P2"
 pair_code pair_codes.AnswerMismatch = codes "P3"
 pair_code pair_codes.NoMemoryForPair = codes "P4"
 
--- the code of a register
+-- the code of a topic on a refusal by a register
 abbrev pub register_code : RegisterCode → List ℕ
 register_code register_codes.UnknownOp = codes "X1"
 register_code register_codes.OpTaken = codes "X2"
@@ -67,7 +67,7 @@ register_code register_codes.ClaimOverlap = codes "X12"
 register_code register_codes.ClaimRepeats = codes "X13"
 register_code register_codes.ClaimInitial = codes "X14"
 
--- the code of a tower file
+-- the code of a topic on a tower file
 abbrev pub tower_code : TowerCode → List ℕ
 tower_code tower_codes.Edn = codes "V1"
 tower_code tower_codes.Shape = codes "V2"
@@ -80,7 +80,7 @@ tower_code tower_codes.TooMany = codes "V8"
 tower_code tower_codes.NoMemoryForTower = codes "V9"
 tower_code tower_codes.UnknownInitial = codes "V10"
 
--- the code of a shard
+-- the code of a topic on a fault of a shard
 abbrev pub shard_code : ShardCode → List ℕ
 shard_code shard_codes.UnknownRegister = codes "S1"
 shard_code shard_codes.NoMemoryForShard = codes "S2"
@@ -89,7 +89,7 @@ shard_code shard_codes.PassMissing = codes "S4"
 shard_code shard_codes.Stranger = codes "S5"
 shard_code shard_codes.ForeignPass = codes "S6"
 
--- the code of a note
+-- the code of a topic on a note
 abbrev pub note_code : NoteCode → List ℕ
 note_code note_codes.SkippedClient = codes "L1"
 note_code note_codes.NoOperation = codes "L2"
@@ -100,7 +100,7 @@ note_code note_codes.SilentWriter = codes "L6"
 note_code note_codes.TiedMoments = codes "L7"
 note_code note_codes.RestsOnARefusal = codes "L8"
 
--- the word
+-- the word of a topic on a word of a report
 abbrev pub report_word : ReportWord → List ℕ
 report_word report_words.Wrong = codes "wrong"
 report_word report_words.Unwritten = codes "unwritten"
@@ -113,7 +113,7 @@ report_word report_words.Broken = codes "broken"
 report_word report_words.Order = codes "order"
 report_word report_words.Status = codes "status"
 
--- the code of a topic
+-- the code of a topic, or its word
 unfoldable pub topic_code : Topic → List ℕ
 topic_code (Text code) = text_code code
 topic_code (Form code) = form_code code
@@ -154,14 +154,14 @@ all_topics =
     Word report_words.Order ∷ Word report_words.Status ∷
     []
 
--- the first of these topics whose code is this word, in capitals or not
+-- the first of these topics whose code is this word, in capitals or not; or none
 abbrev pub topic_among : List Topic → List ℕ → Option Topic
 topic_among topics word = find (λ topic. str_eq_ignore_ascii_case (topic_code topic) word) topics
 
--- the topic that a word names
+-- the topic that a word names, in capitals or not; or none
 abbrev pub topic_of : List ℕ → Option Topic
 topic_of word = topic_among all_topics word
 
--- the topic that a code in small letters names
+-- the topic that this code names when it is in small letters; or none
 abbrev pub topic_of_lower : List ℕ → Option Topic
 topic_of_lower code = topic_of (str_to_ascii_lowercase code)

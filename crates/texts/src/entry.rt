@@ -1,29 +1,29 @@
-//! What is said of a topic, and how it is printed.
+//! The entries that explain codes and words, and how they are printed.
 
 ghost use Rattle.std.specs.Prelude.{◌≡◌, ◌++◌, OnOk, string_bytes};
 ghost use Rattle.texts.specs.Printing.{column, entry_text, line_text, part_text};
 
 use std::alloc::AllocError;
 
-/// What a code, or a word of a report, says.
+/// What is said of a code, or of a word of a report.
 #[derive(Clone, Copy)]
-pub struct Entry {
-    /// As it is printed.
+pub struct Explanation {
+    /// The code or the word, as it is printed.
     pub code: &'static str,
     pub name: &'static str,
     /// What becomes of the element, the trace or the run, in one line.
     pub outcome: &'static str,
-    /// What it says, in one line.
+    /// What the code says, in one line.
     pub what: &'static str,
-    /// More of what it says; may be empty.
+    /// More of what the code says; may be empty.
     pub more: &'static str,
-    /// What it mostly comes from.
+    /// What it comes from in most cases.
     pub mostly: &'static str,
-    /// The tower file of an example that is a trace, else empty.
+    /// The tower file of an example that is a trace; else empty.
     pub tower: &'static str,
-    /// A trace or a tower file that meets it, as it is fed; or in words that there is none.
+    /// A trace or a tower file that shows the code, as it is given to the program; or that there is none, in words.
     pub example: &'static str,
-    /// How it is mended.
+    /// How to mend it.
     pub mend: &'static str,
     /// Related codes; may be empty.
     pub see: &'static str,
@@ -37,18 +37,20 @@ pub(crate) const NOT_PRINTED: &str = "The code itself is not printed, and there 
 
 pub(crate) const NO_EXAMPLE: &str = "none: no text leads here.";
 
-/// A tower of one safe register, of one atomic register with any writers, and of one with one writer.
+/// The tower file of one safe register.
 pub(crate) const ONE_SAFE: &str =
     "{:levels [{:name l :registers [{:name r :kind :safe :writers [0] :initial 0}]}]}";
 
+/// The tower file of one atomic register with any writers.
 pub(crate) const ANY_WRITERS: &str =
     "{:levels [{:name l :registers [{:name x :kind :atomic :writers :any}]}]}";
 
+/// The tower file of one atomic register with one writer.
 pub(crate) const ONE_WRITER: &str =
     "{:levels [{:name l :registers [{:name x :kind :atomic :writers [0]}]}]}";
 
-/// An entry as it is explained.
-pub fn push_entry(text: &mut String, entry: &Entry) -> Result<(), AllocError>
+/// Adds all that is said of a code.
+pub fn push_entry(text: &mut String, entry: &Explanation) -> Result<(), AllocError>
     ensures { OnOk result (string_bytes text.new ≡ string_bytes text.old ++ entry_text entry.now) }
 {
     push_headed(text, entry, entry.outcome)?;
@@ -63,15 +65,15 @@ pub fn push_entry(text: &mut String, entry: &Entry) -> Result<(), AllocError>
     push_part(text, "See:     ", entry.see)
 }
 
-/// A line of a list: the code, the name and what it says.
-pub(crate) fn push_line(text: &mut String, entry: &Entry) -> Result<(), AllocError>
+/// Adds a line of a list: the code, the name and what the code says.
+pub(crate) fn push_line(text: &mut String, entry: &Explanation) -> Result<(), AllocError>
     ensures { OnOk result (string_bytes text.new ≡ string_bytes text.old ++ line_text entry.now entry.now.what.now) }
 {
     push_headed(text, entry, entry.what)
 }
 
-/// Code and name of an entry, and another text.
-fn push_headed(text: &mut String, entry: &Entry, last: &str) -> Result<(), AllocError>
+/// Adds a line with the code and the name of an entry, and a text.
+fn push_headed(text: &mut String, entry: &Explanation, last: &str) -> Result<(), AllocError>
     ensures { OnOk result (string_bytes text.new ≡ string_bytes text.old ++ line_text entry.now last.now) }
 {
     push_column(text, entry.code, 11)?;
@@ -80,7 +82,7 @@ fn push_headed(text: &mut String, entry: &Entry, last: &str) -> Result<(), Alloc
     text.push_str("\n")
 }
 
-/// A word, and blanks up to that many columns.
+/// Adds a word, and blanks up to so many columns.
 fn push_column(text: &mut String, word: &str, columns: usize) -> Result<(), AllocError>
     ensures { OnOk result (string_bytes text.new ≡ string_bytes text.old ++ column columns word.now) }
 {
@@ -91,7 +93,7 @@ fn push_column(text: &mut String, word: &str, columns: usize) -> Result<(), Allo
     Ok(())
 }
 
-/// A part behind its head; nothing where it is empty.
+/// Adds a part of an entry after its head; nothing where the part is empty.
 fn push_part(text: &mut String, head: &str, part: &str) -> Result<(), AllocError>
     ensures { OnOk result (string_bytes text.new ≡ string_bytes text.old ++ part_text head.now part.now) }
 {

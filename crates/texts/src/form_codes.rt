@@ -1,10 +1,10 @@
-//! What the codes of an element's form say: F codes.
+//! What the codes of an element's form, F1 to F8, say.
 
 ghost use Rattle.std.specs.Prelude.{◌≡◌, Some};
-ghost use Rattle.jepsen_form.specs.Code.{code_of};
+ghost use Rattle.jepsen_form.specs.Code.{form_fault_code};
 ghost use Rattle.texts.specs.Topics.{form_code, topic_code, topic_of, topic_of_lower};
 
-use crate::entry::{Entry, ONE_SAFE, REFUSES};
+use crate::entry::{Explanation, ONE_SAFE, REFUSES};
 use crate::topic::Topic;
 use jepsen_form::FormFault;
 
@@ -22,7 +22,7 @@ pub enum FormCode {
 }
 
 impl FormCode {
-    pub(crate) fn entry(self) -> Entry
+    pub(crate) fn entry(self) -> Explanation
         ensures { result.code.now ≡ form_code self }
     {
         match self {
@@ -38,12 +38,12 @@ impl FormCode {
     }
 }
 
-/// The topic of why an element is no item.
+/// The topic for why an element is no item.
 #[tactic(auto, unfolding(crate::specs::Topics::topic_code))]
 pub fn of_form(fault: &FormFault) -> Topic
-    ensures code { topic_code result ≡ code_of fault.now }
-    ensures found { topic_of (code_of fault.now) ≡ Some result }
-    ensures found_lower { topic_of_lower (code_of fault.now) ≡ Some result }
+    ensures code { topic_code result ≡ form_fault_code fault.now }
+    ensures found { topic_of (form_fault_code fault.now) ≡ Some result }
+    ensures found_lower { topic_of_lower (form_fault_code fault.now) ≡ Some result }
 {
     match fault {
         FormFault::NotAMap => Topic::Form(FormCode::NotAMap),
@@ -57,7 +57,7 @@ pub fn of_form(fault: &FormFault) -> Topic
     }
 }
 
-const NOT_A_MAP: Entry = Entry {
+const NOT_A_MAP: Explanation = Explanation {
     code: "F1",
     name: "NotAMap",
     outcome: REFUSES,
@@ -72,7 +72,7 @@ const NOT_A_MAP: Entry = Entry {
     see: "",
 };
 
-const MISSING_FIELD: Entry = Entry {
+const MISSING_FIELD: Explanation = Explanation {
     code: "F2",
     name: "MissingField",
     outcome: REFUSES,
@@ -87,7 +87,7 @@ claim `:register` and `:kind`.",
     see: "F3, F7",
 };
 
-const DUPLICATE_FIELD: Entry = Entry {
+const DUPLICATE_FIELD: Explanation = Explanation {
     code: "F3",
     name: "DuplicateField",
     outcome: REFUSES,
@@ -101,7 +101,7 @@ like.",
     see: "F2",
 };
 
-const BAD_TYPE: Entry = Entry {
+const BAD_TYPE: Explanation = Explanation {
     code: "F4",
     name: "BadType",
     outcome: REFUSES,
@@ -115,7 +115,7 @@ const BAD_TYPE: Entry = Entry {
     see: "F5",
 };
 
-const UNSUPPORTED_F: Entry = Entry {
+const UNSUPPORTED_F: Explanation = Explanation {
     code: "F5",
     name: "UnsupportedF",
     outcome: REFUSES,
@@ -130,7 +130,7 @@ one does not cover it.",
     see: "",
 };
 
-const BAD_VALUE: Entry = Entry {
+const BAD_VALUE: Explanation = Explanation {
     code: "F6",
     name: "BadValue",
     outcome: REFUSES,
@@ -143,7 +143,7 @@ const BAD_VALUE: Entry = Entry {
     see: "F8, for a pair `[k v]`",
 };
 
-const BAD_MOMENT: Entry = Entry {
+const BAD_MOMENT: Explanation = Explanation {
     code: "F7",
     name: "BadMoment",
     outcome: REFUSES,
@@ -157,7 +157,7 @@ and `:end`; only an `:end` may be `nil`.",
     see: "X5, for a moment that is too large",
 };
 
-const NO_REGISTER: Entry = Entry {
+const NO_REGISTER: Explanation = Explanation {
     code: "F8",
     name: "NoRegister",
     outcome: REFUSES,

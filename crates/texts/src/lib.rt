@@ -1,4 +1,4 @@
-//! Texts that the program prints as they stand: what a code or a word of a report says, and the version.
+//! Fixed texts that the program prints: what a code or a word of a report says, and the version.
 //!
 //! ```text
 //! Topic::named("x7")                        Some(Topic::Register(RegisterCode::WritesOverlap))
@@ -24,7 +24,7 @@ mod topic;
 mod tower_codes;
 mod version;
 
-pub use entry::{Entry, push_entry};
+pub use entry::{Explanation, push_entry};
 pub use form_codes::{FormCode, of_form};
 pub use notes::Note;
 pub use pair_codes::{PairCode, of_pair};

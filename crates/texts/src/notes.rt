@@ -1,11 +1,11 @@
-//! What the notes on a trace or a tower file say that is read, and may not be meant: L codes.
+//! What the codes of notes, L1 to L8, say: notes on what is taken as it is, and may not be meant.
 
 ghost use Rattle.std.specs.Prelude.{◌≡◌};
 ghost use Rattle.texts.specs.Topics.{note_code};
 
-use crate::entry::{ANY_WRITERS, Entry, ONE_SAFE, ONE_WRITER};
+use crate::entry::{ANY_WRITERS, Explanation, ONE_SAFE, ONE_WRITER};
 
-/// The notes on what is read, and may not be meant.
+/// The codes of notes.
 #[derive(Clone, Copy)]
 pub enum Note {
     SkippedClient,
@@ -19,7 +19,7 @@ pub enum Note {
 }
 
 impl Note {
-    pub(crate) fn entry(self) -> Entry
+    pub(crate) fn entry(self) -> Explanation
         ensures { result.code.now ≡ note_code self }
     {
         match self {
@@ -37,7 +37,7 @@ impl Note {
 
 const NOTES: &str = "a note: nothing is refused, and the status is as it was";
 
-const SKIPPED_CLIENT: Entry = Entry {
+const SKIPPED_CLIENT: Explanation = Explanation {
     code: "L1",
     name: "SkippedClient",
     outcome: NOTES,
@@ -51,7 +51,7 @@ const SKIPPED_CLIENT: Entry = Entry {
     see: "L2",
 };
 
-const NO_OPERATION: Entry = Entry {
+const NO_OPERATION: Explanation = Explanation {
     code: "L2",
     name: "NoOperation",
     outcome: NOTES,
@@ -64,7 +64,7 @@ const NO_OPERATION: Entry = Entry {
     see: "L1, F8",
 };
 
-const NO_VALUE: Entry = Entry {
+const NO_VALUE: Explanation = Explanation {
     code: "L3",
     name: "NoValue",
     outcome: NOTES,
@@ -77,7 +77,7 @@ const NO_VALUE: Entry = Entry {
     see: "F2, L4",
 };
 
-const UNREAD_FIELD: Entry = Entry {
+const UNREAD_FIELD: Explanation = Explanation {
     code: "L4",
     name: "UnreadField",
     outcome: NOTES,
@@ -91,7 +91,7 @@ const UNREAD_FIELD: Entry = Entry {
     see: "V2, for one that is needed",
 };
 
-const UNANSWERED: Entry = Entry {
+const UNANSWERED: Explanation = Explanation {
     code: "L5",
     name: "Unanswered",
     outcome: NOTES,
@@ -104,7 +104,7 @@ const UNANSWERED: Entry = Entry {
     see: "X7, E1",
 };
 
-const SILENT_WRITER: Entry = Entry {
+const SILENT_WRITER: Explanation = Explanation {
     code: "L6",
     name: "SilentWriter",
     outcome: NOTES,
@@ -117,7 +117,7 @@ const SILENT_WRITER: Entry = Entry {
     see: "X6",
 };
 
-const TIED_MOMENTS: Entry = Entry {
+const TIED_MOMENTS: Explanation = Explanation {
     code: "L7",
     name: "TiedMoments",
     outcome: NOTES,
@@ -132,7 +132,7 @@ proportion that is at least 1000 times the ones before and behind it, neither of
     see: "X4",
 };
 
-const RESTS_ON_A_REFUSAL: Entry = Entry {
+const RESTS_ON_A_REFUSAL: Explanation = Explanation {
     code: "L8",
     name: "RestsOnARefusal",
     outcome: NOTES,

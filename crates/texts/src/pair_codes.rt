@@ -1,10 +1,10 @@
-//! What the codes of invocations and their answers say: P codes.
+//! What the codes of invocations and their answers, P1 to P4, say.
 
 ghost use Rattle.std.specs.Prelude.{◌≡◌, Some};
-ghost use Rattle.pairing.specs.Code.{code_of};
+ghost use Rattle.pairing.specs.Code.{pair_fault_code};
 ghost use Rattle.texts.specs.Topics.{pair_code, topic_code, topic_of, topic_of_lower};
 
-use crate::entry::{ENDS_THE_RUN, Entry, NO_EXAMPLE, NOT_PRINTED, ONE_SAFE, REFUSES};
+use crate::entry::{ENDS_THE_RUN, Explanation, NO_EXAMPLE, NOT_PRINTED, ONE_SAFE, REFUSES};
 use crate::topic::Topic;
 use pairing::PairFault;
 
@@ -18,7 +18,7 @@ pub enum PairCode {
 }
 
 impl PairCode {
-    pub(crate) fn entry(self) -> Entry
+    pub(crate) fn entry(self) -> Explanation
         ensures { result.code.now ≡ pair_code self }
     {
         match self {
@@ -30,12 +30,12 @@ impl PairCode {
     }
 }
 
-/// The topic of why an item is not taken.
+/// The topic for why the pairing of events refuses an item.
 #[tactic(auto, unfolding(crate::specs::Topics::topic_code))]
 pub fn of_pair(fault: &PairFault) -> Topic
-    ensures code { topic_code result ≡ code_of fault.now }
-    ensures found { topic_of (code_of fault.now) ≡ Some result }
-    ensures found_lower { topic_of_lower (code_of fault.now) ≡ Some result }
+    ensures code { topic_code result ≡ pair_fault_code fault.now }
+    ensures found { topic_of (pair_fault_code fault.now) ≡ Some result }
+    ensures found_lower { topic_of_lower (pair_fault_code fault.now) ≡ Some result }
 {
     match fault {
         PairFault::ProcessBusy => Topic::Pair(PairCode::ProcessBusy),
@@ -45,7 +45,7 @@ pub fn of_pair(fault: &PairFault) -> Topic
     }
 }
 
-const PROCESS_BUSY: Entry = Entry {
+const PROCESS_BUSY: Explanation = Explanation {
     code: "P1",
     name: "ProcessBusy",
     outcome: REFUSES,
@@ -61,7 +61,7 @@ const PROCESS_BUSY: Entry = Entry {
     see: "P2 and P3, which its answer may then meet",
 };
 
-const NO_INVOCATION: Entry = Entry {
+const NO_INVOCATION: Explanation = Explanation {
     code: "P2",
     name: "NoInvocation",
     outcome: REFUSES,
@@ -77,7 +77,7 @@ is the place of an invocation in its own trace that has no F or P code; places c
     see: "P1, X1",
 };
 
-const ANSWER_MISMATCH: Entry = Entry {
+const ANSWER_MISMATCH: Explanation = Explanation {
     code: "P3",
     name: "AnswerMismatch",
     outcome: REFUSES,
@@ -93,7 +93,7 @@ invocation waits for its answer as before.",
     see: "P1, which the next invocation of the process meets",
 };
 
-const NO_MEMORY_FOR_PAIR: Entry = Entry {
+const NO_MEMORY_FOR_PAIR: Explanation = Explanation {
     code: "P4",
     name: "Memory",
     outcome: ENDS_THE_RUN,

@@ -1,14 +1,14 @@
-//! What the codes of a register say: X codes.
+//! What the codes of refusals by a register, X1 to X14, say.
 
 ghost use Rattle.std.specs.Prelude.{◌≡◌, Some};
-ghost use Rattle.intervals.specs.Code.{code_of};
+ghost use Rattle.intervals.specs.Code.{refusal_code};
 ghost use Rattle.texts.specs.Topics.{register_code, topic_code, topic_of, topic_of_lower};
 
-use crate::entry::{ANY_WRITERS, Entry, NO_EXAMPLE, ONE_SAFE, ONE_WRITER, REFUSES};
+use crate::entry::{ANY_WRITERS, Explanation, NO_EXAMPLE, ONE_SAFE, ONE_WRITER, REFUSES};
 use crate::topic::Topic;
 use intervals::Refusal;
 
-/// The codes of a register.
+/// The codes of refusals by a register.
 #[derive(Clone, Copy)]
 pub enum RegisterCode {
     UnknownOp,
@@ -28,7 +28,7 @@ pub enum RegisterCode {
 }
 
 impl RegisterCode {
-    pub(crate) fn entry(self) -> Entry
+    pub(crate) fn entry(self) -> Explanation
         ensures { result.code.now ≡ register_code self }
     {
         match self {
@@ -50,12 +50,12 @@ impl RegisterCode {
     }
 }
 
-/// The topic of why a register refuses an edit.
+/// The topic for why a register refuses an edit.
 #[tactic(auto, unfolding(crate::specs::Topics::topic_code))]
 pub fn of_refusal(refusal: &Refusal) -> Topic
-    ensures code { topic_code result ≡ code_of refusal.now }
-    ensures found { topic_of (code_of refusal.now) ≡ Some result }
-    ensures found_lower { topic_of_lower (code_of refusal.now) ≡ Some result }
+    ensures code { topic_code result ≡ refusal_code refusal.now }
+    ensures found { topic_of (refusal_code refusal.now) ≡ Some result }
+    ensures found_lower { topic_of_lower (refusal_code refusal.now) ≡ Some result }
 {
     match refusal {
         Refusal::UnknownOp => Topic::Register(RegisterCode::UnknownOp),
@@ -75,7 +75,7 @@ pub fn of_refusal(refusal: &Refusal) -> Topic
     }
 }
 
-const UNKNOWN_OP: Entry = Entry {
+const UNKNOWN_OP: Explanation = Explanation {
     code: "X1",
     name: "UnknownOp",
     outcome: REFUSES,
@@ -89,7 +89,7 @@ const UNKNOWN_OP: Entry = Entry {
     see: "the code of the invocation, here X6; P2, where there was none",
 };
 
-const OP_TAKEN: Entry = Entry {
+const OP_TAKEN: Explanation = Explanation {
     code: "X2",
     name: "OpTaken",
     outcome: REFUSES,
@@ -102,7 +102,7 @@ const OP_TAKEN: Entry = Entry {
     see: "",
 };
 
-const END_NOT_AFTER_BEGIN: Entry = Entry {
+const END_NOT_AFTER_BEGIN: Explanation = Explanation {
     code: "X3",
     name: "EndNotAfterBegin",
     outcome: REFUSES,
@@ -116,7 +116,7 @@ const END_NOT_AFTER_BEGIN: Entry = Entry {
     see: "X7, which the next write may meet, since this one stays open",
 };
 
-const MOMENT_TAKEN: Entry = Entry {
+const MOMENT_TAKEN: Explanation = Explanation {
     code: "X4",
     name: "MomentTaken",
     outcome: REFUSES,
@@ -131,7 +131,7 @@ const MOMENT_TAKEN: Entry = Entry {
     see: "which of two operations is refused may change from run to run, if they are of two traces",
 };
 
-const MOMENT_TOO_LARGE: Entry = Entry {
+const MOMENT_TOO_LARGE: Explanation = Explanation {
     code: "X5",
     name: "MomentTooLarge",
     outcome: REFUSES,
@@ -144,7 +144,7 @@ const MOMENT_TOO_LARGE: Entry = Entry {
     see: "F7, past 64 bits",
 };
 
-const NOT_A_WRITER: Entry = Entry {
+const NOT_A_WRITER: Explanation = Explanation {
     code: "X6",
     name: "NotAWriter",
     outcome: REFUSES,
@@ -158,7 +158,7 @@ const NOT_A_WRITER: Entry = Entry {
     see: "X1",
 };
 
-const WRITES_OVERLAP: Entry = Entry {
+const WRITES_OVERLAP: Explanation = Explanation {
     code: "X7",
     name: "WritesOverlap",
     outcome: REFUSES,
@@ -177,7 +177,7 @@ const WRITES_OVERLAP: Entry = Entry {
     see: "its `:ok` is refused too, as X1. A read of its value may then be called wrong.",
 };
 
-const VALUE_TAKEN: Entry = Entry {
+const VALUE_TAKEN: Explanation = Explanation {
     code: "X8",
     name: "ValueTaken",
     outcome: REFUSES,
@@ -193,7 +193,7 @@ write it saw. A write counts though it failed to answer.",
     see: "X13, of a claim; `unwritten`, which a read of the value may become",
 };
 
-const OUT_OF_DOMAIN: Entry = Entry {
+const OUT_OF_DOMAIN: Explanation = Explanation {
     code: "X9",
     name: "OutOfDomain",
     outcome: REFUSES,
@@ -206,7 +206,7 @@ const OUT_OF_DOMAIN: Entry = Entry {
     see: "V6, V7",
 };
 
-const CLAIM_FIXED: Entry = Entry {
+const CLAIM_FIXED: Explanation = Explanation {
     code: "X10",
     name: "ClaimFixed",
     outcome: REFUSES,
@@ -219,7 +219,7 @@ const CLAIM_FIXED: Entry = Entry {
     see: "",
 };
 
-const CLAIM_WRITERS: Entry = Entry {
+const CLAIM_WRITERS: Explanation = Explanation {
     code: "X11",
     name: "ClaimWriters",
     outcome: REFUSES,
@@ -232,7 +232,7 @@ const CLAIM_WRITERS: Entry = Entry {
     see: "V4, of the tower file",
 };
 
-const CLAIM_OVERLAP: Entry = Entry {
+const CLAIM_OVERLAP: Explanation = Explanation {
     code: "X12",
     name: "ClaimOverlap",
     outcome: REFUSES,
@@ -250,7 +250,7 @@ const CLAIM_OVERLAP: Entry = Entry {
     see: "X7",
 };
 
-const CLAIM_REPEATS: Entry = Entry {
+const CLAIM_REPEATS: Explanation = Explanation {
     code: "X13",
     name: "ClaimRepeats",
     outcome: REFUSES,
@@ -265,7 +265,7 @@ const CLAIM_REPEATS: Entry = Entry {
     see: "X8",
 };
 
-const CLAIM_INITIAL: Entry = Entry {
+const CLAIM_INITIAL: Explanation = Explanation {
     code: "X14",
     name: "ClaimInitial",
     outcome: REFUSES,

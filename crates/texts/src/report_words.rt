@@ -3,7 +3,7 @@
 ghost use Rattle.std.specs.Prelude.{◌≡◌};
 ghost use Rattle.texts.specs.Topics.{report_word};
 
-use crate::entry::{ANY_WRITERS, Entry, ONE_SAFE};
+use crate::entry::{ANY_WRITERS, Explanation, ONE_SAFE};
 
 /// The words of a report.
 #[derive(Clone, Copy)]
@@ -21,7 +21,7 @@ pub enum ReportWord {
 }
 
 impl ReportWord {
-    pub(crate) fn entry(self) -> Entry
+    pub(crate) fn entry(self) -> Explanation
         ensures { result.code.now ≡ report_word self }
     {
         match self {
@@ -41,7 +41,7 @@ impl ReportWord {
 
 const FAILS: &str = "the register fails; status 1";
 
-const WRONG: Entry = Entry {
+const WRONG: Explanation = Explanation {
     code: "wrong",
     name: "a fault",
     outcome: FAILS,
@@ -59,7 +59,7 @@ value or one of the overlapping writes' where it is regular.",
     see: "`culprit`. If its value was refused as a write, with an X code, mend that first.",
 };
 
-const UNWRITTEN: Entry = Entry {
+const UNWRITTEN: Explanation = Explanation {
     code: "unwritten",
     name: "a fault",
     outcome: FAILS,
@@ -75,7 +75,7 @@ such values, and only one can be the initial one.",
     see: "X8, which refuses a second write of a value",
 };
 
-const EARLY: Entry = Entry {
+const EARLY: Explanation = Explanation {
     code: "early",
     name: "a fault",
     outcome: FAILS,
@@ -90,7 +90,7 @@ const EARLY: Entry = Entry {
     see: "`conflict`",
 };
 
-const CONFLICT: Entry = Entry {
+const CONFLICT: Explanation = Explanation {
     code: "conflict",
     name: "a fault",
     outcome: FAILS,
@@ -110,7 +110,7 @@ the value of A is the older one; C ended before D began, so it is the newer one.
     see: "`culprit`",
 };
 
-const CULPRIT: Entry = Entry {
+const CULPRIT: Explanation = Explanation {
     code: "culprit",
     name: "a line",
     outcome: "the register is to blame",
@@ -126,7 +126,7 @@ const CULPRIT: Entry = Entry {
     see: "`wrong`, `unwritten`, `early`, `conflict`",
 };
 
-const ANSWER: Entry = Entry {
+const ANSWER: Explanation = Explanation {
     code: "answer",
     name: "a line",
     outcome: "tells how a register stood in mid-run",
@@ -141,7 +141,7 @@ then.",
     see: "F8, for a name that the tower does not have",
 };
 
-const REFUSED: Entry = Entry {
+const REFUSED: Explanation = Explanation {
     code: "refused",
     name: "a line",
     outcome: "one element was left out; status 3 where no register fails",
@@ -155,7 +155,7 @@ not its lines. The code says why.",
     see: "F1 to F8, P1 to P3, X1 to X14",
 };
 
-const BROKEN: Entry = Entry {
+const BROKEN: Explanation = Explanation {
     code: "broken",
     name: "a line",
     outcome: "one trace was not read to its end; status 2",
@@ -169,7 +169,7 @@ the fault. What stands before it is judged.",
     see: "E1 to E6, N1, N2",
 };
 
-const ORDER: Entry = Entry {
+const ORDER: Explanation = Explanation {
     code: "order",
     name: "a line",
     outcome: "printed where `--order NAME` asks for it",
@@ -185,7 +185,7 @@ without an end are not in it. `none` where the register fails or is not atomic."
     see: "`conflict`",
 };
 
-const STATUS: Entry = Entry {
+const STATUS: Explanation = Explanation {
     code: "status",
     name: "of the program",
     outcome: "what a script sees",

@@ -1,10 +1,10 @@
-//! What the codes of a shard say: S codes.
+//! What the codes of a shard, S1 to S6, say.
 
 ghost use Rattle.std.specs.Prelude.{◌≡◌, Some};
-ghost use Rattle.shards.specs.Code.{code_of};
+ghost use Rattle.shards.specs.Code.{shard_fault_code};
 ghost use Rattle.texts.specs.Topics.{shard_code, topic_code, topic_of, topic_of_lower};
 
-use crate::entry::{ENDS_THE_RUN, Entry, NO_EXAMPLE, NOT_PRINTED};
+use crate::entry::{ENDS_THE_RUN, Explanation, NO_EXAMPLE, NOT_PRINTED};
 use crate::topic::Topic;
 use shards::ShardFault;
 
@@ -20,7 +20,7 @@ pub enum ShardCode {
 }
 
 impl ShardCode {
-    pub(crate) fn entry(self) -> Entry
+    pub(crate) fn entry(self) -> Explanation
         ensures { result.code.now ≡ shard_code self }
     {
         match self {
@@ -34,12 +34,12 @@ impl ShardCode {
     }
 }
 
-/// The topic of why a shard refuses a call.
+/// The topic for why a shard refuses a call.
 #[tactic(auto, unfolding(crate::specs::Topics::topic_code))]
 pub fn of_shard(fault: &ShardFault) -> Topic
-    ensures code { topic_code result ≡ code_of fault.now }
-    ensures found { topic_of (code_of fault.now) ≡ Some result }
-    ensures found_lower { topic_of_lower (code_of fault.now) ≡ Some result }
+    ensures code { topic_code result ≡ shard_fault_code fault.now }
+    ensures found { topic_of (shard_fault_code fault.now) ≡ Some result }
+    ensures found_lower { topic_of_lower (shard_fault_code fault.now) ≡ Some result }
 {
     match fault {
         ShardFault::UnknownRegister => Topic::Shard(ShardCode::UnknownRegister),
@@ -59,7 +59,7 @@ const OF_ITSELF: &str = "a fault of regaudit itself.";
 
 const REPORT_IT: &str = "report it, with the tower file and the traces.";
 
-const UNKNOWN_REGISTER: Entry = Entry {
+const UNKNOWN_REGISTER: Explanation = Explanation {
     code: "S1",
     name: "UnknownRegister",
     outcome: FAULT_OF_REGAUDIT,
@@ -72,7 +72,7 @@ const UNKNOWN_REGISTER: Entry = Entry {
     see: "F8, for a name in a trace that the tower does not have",
 };
 
-const NO_MEMORY_FOR_SHARD: Entry = Entry {
+const NO_MEMORY_FOR_SHARD: Explanation = Explanation {
     code: "S2",
     name: "Memory",
     outcome: ENDS_THE_RUN,
@@ -85,7 +85,7 @@ const NO_MEMORY_FOR_SHARD: Entry = Entry {
     see: "E7",
 };
 
-const JOURNAL_BEHIND: Entry = Entry {
+const JOURNAL_BEHIND: Explanation = Explanation {
     code: "S3",
     name: "JournalBehind",
     outcome: FAULT_OF_REGAUDIT,
@@ -98,7 +98,7 @@ const JOURNAL_BEHIND: Entry = Entry {
     see: "",
 };
 
-const PASS_MISSING: Entry = Entry {
+const PASS_MISSING: Explanation = Explanation {
     code: "S4",
     name: "PassMissing",
     outcome: FAULT_OF_REGAUDIT,
@@ -111,7 +111,7 @@ const PASS_MISSING: Entry = Entry {
     see: "",
 };
 
-const STRANGER: Entry = Entry {
+const STRANGER: Explanation = Explanation {
     code: "S5",
     name: "Stranger",
     outcome: FAULT_OF_REGAUDIT,
@@ -124,7 +124,7 @@ const STRANGER: Entry = Entry {
     see: "",
 };
 
-const FOREIGN_PASS: Entry = Entry {
+const FOREIGN_PASS: Explanation = Explanation {
     code: "S6",
     name: "ForeignPass",
     outcome: FAULT_OF_REGAUDIT,

@@ -1,10 +1,10 @@
-//! What the codes of a text say: E of its form, and N of its reading.
+//! What the codes of a text, E1 to E7, and of its reading, N1 and N2, say.
 
 ghost use Rattle.std.specs.Prelude.{◌≡◌, Some};
 ghost use Rattle.feeders.specs.Code.{break_code_of};
 ghost use Rattle.texts.specs.Topics.{text_code, topic_code, topic_of, topic_of_lower};
 
-use crate::entry::{ENDS_THE_RUN, Entry, NO_EXAMPLE, NOT_PRINTED, ONE_SAFE};
+use crate::entry::{ENDS_THE_RUN, Explanation, NO_EXAMPLE, NOT_PRINTED, ONE_SAFE};
 use crate::topic::Topic;
 use feeders::BreakCode;
 
@@ -23,7 +23,7 @@ pub enum TextCode {
 }
 
 impl TextCode {
-    pub(crate) fn entry(self) -> Entry
+    pub(crate) fn entry(self) -> Explanation
         ensures { result.code.now ≡ text_code self }
     {
         match self {
@@ -40,7 +40,7 @@ impl TextCode {
     }
 }
 
-/// The topic of why a trace broke off.
+/// The topic for why a trace broke off.
 #[tactic(auto, unfolding(crate::specs::Topics::topic_code))]
 pub fn of_break(code: BreakCode) -> Topic
     ensures code { topic_code result ≡ break_code_of code }
@@ -61,7 +61,7 @@ pub fn of_break(code: BreakCode) -> Topic
 
 const BREAKS: &str = "ends the trace; what stands before it is judged; status 2";
 
-const TRUNCATED: Entry = Entry {
+const TRUNCATED: Explanation = Explanation {
     code: "E1",
     name: "Truncated",
     outcome: BREAKS,
@@ -79,7 +79,7 @@ of the text, and not that of what is open. The open element is dropped.",
     see: "E3, where another bracket comes to close it",
 };
 
-const STRAY_CLOSE: Entry = Entry {
+const STRAY_CLOSE: Explanation = Explanation {
     code: "E2",
     name: "StrayClose",
     outcome: BREAKS,
@@ -94,7 +94,7 @@ const STRAY_CLOSE: Entry = Entry {
     see: "E3",
 };
 
-const WRONG_CLOSE: Entry = Entry {
+const WRONG_CLOSE: Explanation = Explanation {
     code: "E3",
     name: "WrongClose",
     outcome: BREAKS,
@@ -107,7 +107,7 @@ const WRONG_CLOSE: Entry = Entry {
     see: "E1, E2",
 };
 
-const TOO_DEEP: Entry = Entry {
+const TOO_DEEP: Explanation = Explanation {
     code: "E4",
     name: "TooDeep",
     outcome: BREAKS,
@@ -120,7 +120,7 @@ const TOO_DEEP: Entry = Entry {
     see: "E1",
 };
 
-const ODD_MAP: Entry = Entry {
+const ODD_MAP: Explanation = Explanation {
     code: "E5",
     name: "OddMap",
     outcome: BREAKS,
@@ -135,7 +135,7 @@ const ODD_MAP: Entry = Entry {
     see: "E6",
 };
 
-const TAG_WITHOUT_ELEMENT: Entry = Entry {
+const TAG_WITHOUT_ELEMENT: Explanation = Explanation {
     code: "E6",
     name: "TagWithoutElement",
     outcome: BREAKS,
@@ -148,7 +148,7 @@ const TAG_WITHOUT_ELEMENT: Entry = Entry {
     see: "E5",
 };
 
-const NO_MEMORY_FOR_TEXT: Entry = Entry {
+const NO_MEMORY_FOR_TEXT: Explanation = Explanation {
     code: "E7",
     name: "Memory",
     outcome: ENDS_THE_RUN,
@@ -161,7 +161,7 @@ const NO_MEMORY_FOR_TEXT: Entry = Entry {
     see: "P4, S2, V9, which say the same of other steps",
 };
 
-const READ_FAILED: Entry = Entry {
+const READ_FAILED: Explanation = Explanation {
     code: "N1",
     name: "ReadFailed",
     outcome: BREAKS,
@@ -175,7 +175,7 @@ that were read.",
     see: "N2",
 };
 
-const TOO_LONG: Entry = Entry {
+const TOO_LONG: Explanation = Explanation {
     code: "N2",
     name: "TooLong",
     outcome: BREAKS,

@@ -1,11 +1,11 @@
-//! What codes and words are about.
+//! Topics: the codes and words that are explained.
 
 ghost use Rattle.std.specs.Prelude.{◌≡◌, ◌++◌, ℕ, List, OnOk, string_bytes};
 ghost use Rattle.std.specs.Array.Iter.{array_into_iter_items};
 ghost use Rattle.texts.specs.Printing.{AreLines};
 ghost use Rattle.texts.specs.Topics.{all_topics, topic_among, topic_code, topic_of};
 
-use crate::entry::{Entry, push_line};
+use crate::entry::{Explanation, push_line};
 use crate::form_codes::FormCode;
 use crate::notes::Note;
 use crate::pair_codes::PairCode;
@@ -17,7 +17,7 @@ use crate::tower_codes::TowerCode;
 use std::alloc::AllocError;
 use std::array;
 
-/// What a code, or a word of a report, is about.
+/// A code, or a word of a report, by what it is about.
 #[derive(Clone, Copy)]
 pub enum Topic {
     Text(TextCode),
@@ -31,23 +31,23 @@ pub enum Topic {
 }
 
 impl Topic {
-    /// The topic of a code or a word, in capitals or not.
+    /// The topic of a code or a word, in capitals or not; or none.
     pub fn named(word: &str) -> Option<Topic>
         ensures { result ≡ topic_of word.now }
     {
         first_named(Topic::all(), word)
     }
 
-    /// The code, as it is printed, or the word.
+    /// The code as it is printed, or the word.
     pub fn code(self) -> &'static str
         ensures { result.now ≡ topic_code self }
     {
         self.entry().code
     }
 
-    /// What is said of it.
+    /// What is said of the topic.
     #[tactic(auto, unfolding(crate::specs::Topics::topic_code))]
-    pub fn entry(self) -> Entry
+    pub fn entry(self) -> Explanation
         ensures { result.code.now ≡ topic_code self }
     {
         match self {

@@ -1,10 +1,10 @@
-//! What the codes of a tower file say: V codes.
+//! What the codes of a tower file, V1 to V10, say.
 
 ghost use Rattle.std.specs.Prelude.{◌≡◌, Some};
-ghost use Rattle.tower_file.specs.Tower.{code_of};
+ghost use Rattle.tower_file.specs.Tower.{tower_fault_code};
 ghost use Rattle.texts.specs.Topics.{tower_code, topic_code, topic_of, topic_of_lower};
 
-use crate::entry::{ENDS_THE_RUN, Entry, NO_EXAMPLE, NOT_PRINTED};
+use crate::entry::{ENDS_THE_RUN, Explanation, NO_EXAMPLE, NOT_PRINTED};
 use crate::topic::Topic;
 use tower_file::TowerFault;
 
@@ -24,7 +24,7 @@ pub enum TowerCode {
 }
 
 impl TowerCode {
-    pub(crate) fn entry(self) -> Entry
+    pub(crate) fn entry(self) -> Explanation
         ensures { result.code.now ≡ tower_code self }
     {
         match self {
@@ -42,12 +42,12 @@ impl TowerCode {
     }
 }
 
-/// The topic of why a text is no tower file.
+/// The topic for why a text is no tower file.
 #[tactic(auto, unfolding(crate::specs::Topics::topic_code))]
 pub fn of_tower(fault: &TowerFault) -> Topic
-    ensures code { topic_code result ≡ code_of fault.now }
-    ensures found { topic_of (code_of fault.now) ≡ Some result }
-    ensures found_lower { topic_of_lower (code_of fault.now) ≡ Some result }
+    ensures code { topic_code result ≡ tower_fault_code fault.now }
+    ensures found { topic_of (tower_fault_code fault.now) ≡ Some result }
+    ensures found_lower { topic_of_lower (tower_fault_code fault.now) ≡ Some result }
 {
     match fault {
         TowerFault::Edn(_) => Topic::Tower(TowerCode::Edn),
@@ -65,7 +65,7 @@ pub fn of_tower(fault: &TowerFault) -> Topic
 
 const NO_TOWER: &str = "refuses the tower file; nothing is judged; status 2";
 
-const EDN: Entry = Entry {
+const EDN: Explanation = Explanation {
     code: "V1",
     name: "Edn",
     outcome: NO_TOWER,
@@ -78,7 +78,7 @@ const EDN: Entry = Entry {
     see: "E1, E2, E3, E4, E5, E6",
 };
 
-const SHAPE: Entry = Entry {
+const SHAPE: Explanation = Explanation {
     code: "V2",
     name: "Shape",
     outcome: NO_TOWER,
@@ -95,7 +95,7 @@ vector; a register is a map with `:name`, `:kind` and `:writers`.",
     see: "V1",
 };
 
-const NAME_TAKEN: Entry = Entry {
+const NAME_TAKEN: Explanation = Explanation {
     code: "V3",
     name: "NameTaken",
     outcome: NO_TOWER,
@@ -109,7 +109,7 @@ const NAME_TAKEN: Entry = Entry {
     see: "",
 };
 
-const WRITER_COUNT: Entry = Entry {
+const WRITER_COUNT: Explanation = Explanation {
     code: "V4",
     name: "WriterCount",
     outcome: NO_TOWER,
@@ -122,7 +122,7 @@ const WRITER_COUNT: Entry = Entry {
     see: "X11, of a claim",
 };
 
-const UNKNOWN_PART: Entry = Entry {
+const UNKNOWN_PART: Explanation = Explanation {
     code: "V5",
     name: "UnknownPart",
     outcome: NO_TOWER,
@@ -136,7 +136,7 @@ const UNKNOWN_PART: Entry = Entry {
     see: "F8, for a name in a trace",
 };
 
-const EMPTY_DOMAIN: Entry = Entry {
+const EMPTY_DOMAIN: Explanation = Explanation {
     code: "V6",
     name: "EmptyDomain",
     outcome: NO_TOWER,
@@ -149,7 +149,7 @@ const EMPTY_DOMAIN: Entry = Entry {
     see: "X9",
 };
 
-const INITIAL_OUT_OF_DOMAIN: Entry = Entry {
+const INITIAL_OUT_OF_DOMAIN: Explanation = Explanation {
     code: "V7",
     name: "InitialOutOfDomain",
     outcome: NO_TOWER,
@@ -163,7 +163,7 @@ const INITIAL_OUT_OF_DOMAIN: Entry = Entry {
     see: "X9",
 };
 
-const TOO_MANY: Entry = Entry {
+const TOO_MANY: Explanation = Explanation {
     code: "V8",
     name: "TooMany",
     outcome: NO_TOWER,
@@ -177,7 +177,7 @@ const TOO_MANY: Entry = Entry {
     see: "F8",
 };
 
-const NO_MEMORY_FOR_TOWER: Entry = Entry {
+const NO_MEMORY_FOR_TOWER: Explanation = Explanation {
     code: "V9",
     name: "Memory",
     outcome: ENDS_THE_RUN,
@@ -190,7 +190,7 @@ const NO_MEMORY_FOR_TOWER: Entry = Entry {
     see: "E7",
 };
 
-const UNKNOWN_INITIAL: Entry = Entry {
+const UNKNOWN_INITIAL: Explanation = Explanation {
     code: "V10",
     name: "UnknownInitial",
     outcome: NO_TOWER,

@@ -1,4 +1,4 @@
-//! Which build this is.
+//! The version of the program.
 
 /// The program's version, what it is proved by, and the version of its report.
 pub const VERSION: &str = "regaudit 1.0.0

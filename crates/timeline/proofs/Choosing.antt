@@ -1,4 +1,4 @@
--- What is shown of a history, and how much of it is not.
+-- Which operations are shown: those that are asked for are, and each operation is shown or counted.
 use Rattle.std.proofs.Common.{◌≡◌, ◌∙◌, ℕ, zero, suc, ◌+◌, ◌-◌, Bool, true, false, not, List, [], ◌∷◌, length, map, Some, refl, sym, ap, subst, arith}
 use Rattle.std.proofs.lemmas.Bool.{le-leb}
 use Rattle.std.proofs.lemmas.List.{length-map}
@@ -16,7 +16,7 @@ use Rattle.timeline.specs.declared.choice.Extent.TheVariants.{All, Around}
 use Rattle.timeline.specs.Choice.{IsByBeginning, IsChosen, are_near, is_among, is_far_from, is_folded, is_near, is_shown, picked, places_of}
 use Rattle.timeline.proofs.Picking.{beginnings_rise, picked_rises}
 
--- the choice is that of the operations in order
+-- what the loops choose from the operations in order is the choice
 pub chosen_by : (ops : List Op) (ids : List OpId) (extent : Extent) (sorted listed counted : List Op) (centres places : List ℕ) (chosen : Chosen)
     → IsByBeginning ops sorted → listed ≡ sorted → counted ≡ sorted → places ≡ places_of ids 0 listed → centres ≡ places
     → chosen.shown.items ≡ picked (is_shown extent (length counted) centres) 0 counted
@@ -45,7 +45,7 @@ both_long : {X : Type 0} (passes : ℕ → Bool) (place : ℕ) (xs : List X) →
 both_long passes place [] = refl
 both_long passes place (x ∷ xs) = one_long passes place x xs (passes place) refl (both_long passes (place + 1) xs)
 
--- the shown ones and those that are not are all
+-- the operations that are shown and those that are not are together as many as all
 pub shown_and_hidden : (ops : List Op) (ids : List OpId) (extent : Extent) (chosen : Chosen) → IsChosen ops ids extent chosen → length chosen.shown.items + length chosen.hidden.items ≡ length ops
 shown_and_hidden ops ids extent chosen is =
     let passes = is_shown extent (length is.sorted) (places_of ids 0 is.sorted) in
@@ -55,7 +55,7 @@ shown_and_hidden ops ids extent chosen is =
     let many : length is.sorted ≡ length ops = length_permutation ops is.sorted is.by_beginning.each_once in
     omega (arith, shown, hidden, both, many)
 
--- what passes is picked
+-- an element whose place passes is picked
 
 behind : {X : Type 0} (test : Bool) (y : X) (xs : List X) (x : X) → Contains xs x → Contains (if test then y ∷ xs else xs) x
 behind true y xs x (k, within, is) = (suc k, omega (arith, within), is)
@@ -77,7 +77,7 @@ places_have ids zero place at (o ∷ ops) op is stands asked =
     rw test (0, omega arith, here)
 places_have ids (suc k) place at (o ∷ ops) op is stands asked = behind (is_among ids o.id) place (places_of ids (place + 1) ops) at (places_have ids k (place + 1) at ops op (omega (arith, is)) stands asked)
 
--- a centre is near itself, and so is not folded
+-- a centre is near itself, so its place is not folded
 
 or_true : (a b : Bool) → b ≡ true → (a || b) ≡ true
 or_true true b is = refl
@@ -138,7 +138,7 @@ asked_is_shown ops ids extent chosen op is has asked =
     let shown = shown_near extent (length is.sorted) (places_of ids 0 is.sorted) k centre in
     subst (λ (xs : List Op). Contains xs op) (sym is.shown) (picked_has (is_shown extent (length is.sorted) (places_of ids 0 is.sorted)) k 0 k is.sorted op (omega arith) stands shown)
 
--- both parts are in order
+-- the operations that are shown are in order, and so are the beginnings of the others
 pub shown_rise : (ops : List Op) (ids : List OpId) (extent : Extent) (chosen : Chosen) → IsChosen ops ids extent chosen → IsNonDecreasingBy (λ (op : Op). op.begin.0) chosen.shown.items
 shown_rise ops ids extent chosen is =
     subst (IsNonDecreasingBy (λ (op : Op). op.begin.0)) (sym is.shown) (picked_rises (λ (op : Op). op.begin.0) (is_shown extent (length is.sorted) (places_of ids 0 is.sorted)) 0 is.sorted is.by_beginning.in_order)

@@ -1,4 +1,4 @@
--- How many of the moments come before marks.
+-- How many of the moments come before each mark; all are counted once.
 use Rattle.std.proofs.Common.{◌≡◌, ◌≤◌, ◌<◌, ◌⊎◌, inl, inr, ℕ, zero, suc, ◌+◌, ◌-◌, Bool, true, false, List, [], ◌∷◌, length, get_or, Some, refl, ap, subst, arith}
 use Rattle.std.proofs.lemmas.Bool.{cases_lt, lt-ltb, ltb-true}
 use Rattle.std.proofs.lemmas.List.Sums.{sum_by-cons}
@@ -12,7 +12,7 @@ use Rattle.timeline.specs.declared.axis.Mark.{Mark}
 use Rattle.timeline.specs.Axis.{began, folded_of, mark_cmp}
 use Rattle.timeline.proofs.InOrder.{earlier}
 
--- where all that pass stand first, their number is that of the first that does not
+-- where all elements that pass come first, their number is the index of the first that does not pass
 pub passing : {X : Type 0} (p : X → Bool) (xs : List X) (n : ℕ) → n ≤ length xs → AllWithin (λ x. p x ≡ true) xs 0 n → AllWithin (λ x. p x ≡ false) xs n (length xs) → length (filter p xs) ≡ n
 passing p [] n le front back = omega (arith, le)
 passing p (x ∷ xs) zero le front back =
@@ -23,7 +23,7 @@ passing p (x ∷ xs) (suc n) le front back =
     let rest = passing p xs n (omega (arith, le)) (λ k d low high. front (suc k) d (omega arith) (omega (arith, high))) (λ k d low high. back (suc k) d (omega (arith, low)) (omega (arith, high))) in
     rw here (ap suc rest)
 
--- no fewer come before a later moment
+-- no fewer moments come before a later moment
 
 weaker : (moment a b : ℕ) → a ≤ b → nat_lt moment a ≡ true → nat_lt moment b ≡ true
 weaker moment a b le is = lt-ltb moment b (omega (arith, le, ltb-true moment a is))
@@ -46,11 +46,11 @@ pub began_within : (moments : List Moment) (a : Moment) → began moments a ≤ 
 began_within [] a = omega arith
 began_within (m ∷ moments) a = within_by moments a m (nat_lt m.0 a.0) refl (began_within moments a)
 
--- those that come before a moment stand before the others
+-- in a list in order the moments before a given one come first
 pub parted : (moments : List Moment) (moment : Moment) → IsNonDecreasingBy (λ (m : Moment). m.0) moments → IsPartitionedBy (λ (m : Moment). nat_lt m.0 moment.0) moments
 parted moments moment sorted i j d le within later = lt-ltb (get_or moments i d).0 moment.0 (omega (arith, sorted i j d le within, ltb-true (get_or moments j d).0 moment.0 later))
 
--- all are counted once
+-- all moments are counted once
 
 abbrev pub Rise : ℕ → List Mark → List Moment → Type 0
 Rise before [] moments = before ≤ length moments
@@ -63,7 +63,7 @@ counted before (mark ∷ marks) moments rise =
     let step : sum (folded_of before (mark ∷ marks) moments) ≡ (began moments mark.moment - before) + sum (folded_of (began moments mark.moment) marks moments) = sum_by-cons (λ (n : ℕ). n) (began moments mark.moment - before) (folded_of (began moments mark.moment) marks moments) in
     omega (arith, rise.0, rest, step)
 
--- marks in order come at moments that rise
+-- the moments of marks in order rise
 
 not_earlier : (a b : Mark) → is_lt (mark_cmp b a) ≡ false → a.moment.0 ≤ b.moment.0
 not_earlier a b is = by_cases (cases_lt b.moment.0 a.moment.0)
@@ -87,7 +87,7 @@ rise before (mark ∷ marks) moments sorted within first = (first mark refl, ris
         let here = sorted 0 mark (omega arith) (omega (arith, more)) in
         began_rises moments mark.moment second.moment (not_earlier mark second (subst (λ (m : Mark). is_lt (mark_cmp m mark) ≡ false) (get_or_from_slice_get marks 0 second mark is) here))
 
--- each that is left out is counted
+-- each operation that is left out is counted
 pub all_counted : (marks : List Mark) (moments : List Moment) → IsSorted mark_cmp marks → sum (folded_of 0 marks moments) ≡ length moments
 all_counted marks moments sorted =
     let all = counted 0 marks moments (rise 0 marks moments sorted (omega arith) (λ first is. omega arith)) in

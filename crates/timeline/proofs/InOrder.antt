@@ -1,4 +1,4 @@
--- Marks in order: which one stands at a number, and what precedence makes of their numbers.
+-- Marks in order: a search finds each, and an end is left of a beginning exactly where its operation precedes.
 use Rattle.std.proofs.Common.{◌≡◌, ◌∙◌, ◌≤◌, ◌<◌, ◌⊎◌, inl, inr, ℕ, zero, suc, ◌+◌, Bool, true, false, List, [], ◌∷◌, ◌++◌, length, get_or, Some, None, Option, refl, sym, ap, subst, arith, rules}
 use Rattle.std.proofs.lemmas.Bool.{cases_lt, lt-ltb}
 use Rattle.std.proofs.lemmas.Cmp.{nat_cmp_total, ranked, tied_itself}
@@ -15,10 +15,10 @@ use Rattle.intervals.specs.declared.operation.Op.{Op}
 use Rattle.intervals.specs.declared.operation.Moment.{Moment}
 use Rattle.intervals.specs.Operation.{EndsBefore, Precedes}
 use Rattle.timeline.specs.declared.axis.Mark.{Mark}
-use Rattle.timeline.specs.declared.axis.Span.{Span}
+use Rattle.timeline.specs.declared.axis.BarSpan.{BarSpan}
 use Rattle.timeline.specs.contracts.axis.MarkOrd.TheImpl.Laws.{total-law}
 use Rattle.timeline.specs.Axis.{AreMarks, AreSpans, IsEndAt, IsSpan, begin_mark, end_mark, end_marks, mark_cmp, marks_from}
-use Rattle.timeline.specs.Place.{AreApart}
+use Rattle.timeline.specs.Place.{AreSpaced}
 use Rattle.timeline.proofs.Loops.{get_pushed}
 use Rattle.timeline.proofs.Placing.{stands_right}
 
@@ -44,7 +44,7 @@ missed marks mark number sorted (k, within, is) gives = by_side (cases_lt k numb
     by_side (inl lt) = less≢equal (sym (subst (λ (m : Mark). mark_cmp m mark ≡ Less) is (parts.0 k mark (omega arith) lt)) ∙ tied mark)
     by_side (inr le) = greater≢equal (sym (subst (λ (m : Mark). mark_cmp m mark ≡ Greater) is (parts.1 k mark le within)) ∙ tied mark)
 
--- what the order does not tell apart is one mark
+-- marks that compare as equal are equal
 
 then_equal : (a b : Ordering) → ordering_then a b ≡ Equal → (a ≡ Equal) × (b ≡ Equal)
 then_equal Less b is = absurd (less≢equal is)
@@ -74,7 +74,7 @@ one_mark a b is =
 pub found : (marks : List Mark) (mark : Mark) (number : ℕ) → number < length marks → ((d : Mark) → mark_cmp (get_or marks number d) mark ≡ Equal) → slice_get marks number ≡ Some mark
 found marks mark number within is = slice_get-get_or marks number mark within ∙ ap Some (one_mark (get_or marks number mark) mark (is mark))
 
--- each operation has its marks among all
+-- the marks of each operation are among all marks
 
 pub begin_stands : (first number at : ℕ) (ops : List Op) (op : Op) → at ≡ first + number → slice_get ops number ≡ Some op → Contains (marks_from first ops) (begin_mark at op)
 begin_stands first number at [] op is stands = absurd (cc)
@@ -110,17 +110,17 @@ end_among_all ops marks number op are stands = by_end op.end refl
     by_end None is = tt
     by_end (Some end) is = Contains-permutation (marks_from 0 ops) marks (end_mark number end) are.each_once (end_stands 0 number number ops op end (omega arith) stands is)
 
--- the span of an operation is that of whatever stands at its number
-pub span_there : (ops : List Op) (marks : List Mark) (number : ℕ) (op : Op) (span : Span) → slice_get ops number ≡ Some op → IsSpan marks number op span → (other : Op) → slice_get ops number ≡ Some other → IsSpan marks number other span
+-- a span of the operation at a number is that of any operation at this number
+pub span_there : (ops : List Op) (marks : List Mark) (number : ℕ) (op : Op) (span : BarSpan) → slice_get ops number ≡ Some op → IsSpan marks number op span → (other : Op) → slice_get ops number ≡ Some other → IsSpan marks number other span
 span_there ops marks number op span stands is other at = subst (λ (o : Op). IsSpan marks number o span) (same_Some op other (sym stands ∙ at)) is
 
--- one more span
-pub spans_more : (ops : List Op) (marks : List Mark) (number : ℕ) (old new : List Span) (span : Span) → new ≡ old ++ span ∷ [] → length old ≡ number
-    → ((n : ℕ) (op : Op) (s : Span) → slice_get ops n ≡ Some op → slice_get old n ≡ Some s → IsSpan marks n op s)
+-- the spans with one more
+pub spans_more : (ops : List Op) (marks : List Mark) (number : ℕ) (old new : List BarSpan) (span : BarSpan) → new ≡ old ++ span ∷ [] → length old ≡ number
+    → ((n : ℕ) (op : Op) (s : BarSpan) → slice_get ops n ≡ Some op → slice_get old n ≡ Some s → IsSpan marks n op s)
     → ((op : Op) → slice_get ops number ≡ Some op → IsSpan marks number op span)
-    → (n : ℕ) (op : Op) (s : Span) → slice_get ops n ≡ Some op → slice_get new n ≡ Some s → IsSpan marks n op s
+    → (n : ℕ) (op : Op) (s : BarSpan) → slice_get ops n ≡ Some op → slice_get new n ≡ Some s → IsSpan marks n op s
 spans_more ops marks number old new span pushed many each here n op s at_op at_span =
-    by_cases (get_pushed old span s n (subst (λ (ss : List Span). slice_get ss n ≡ Some s) pushed at_span))
+    by_cases (get_pushed old span s n (subst (λ (ss : List BarSpan). slice_get ss n ≡ Some s) pushed at_span))
   where
     by_cases : (slice_get old n ≡ Some s) ⊎ ((n ≡ length old) × (span ≡ s)) → IsSpan marks n op s
     by_cases (inl before) = each n op s at_op before
@@ -128,7 +128,7 @@ spans_more ops marks number old new span pushed many each here n op s at_op at_s
         let now : number ≡ n = omega (arith, last, many) in
         subst (λ (k : ℕ). IsSpan marks k op s) now (subst (IsSpan marks number op) same (here op (subst (λ (k : ℕ). slice_get ops k ≡ Some op) (sym now) at_op)))
 
--- of two marks in order the first is not greater
+-- of two marks in order the first is not greater than the second
 
 no_less : (marks : List Mark) (i j : ℕ) (a b : Mark) → IsSorted mark_cmp marks → i ≤ j → slice_get marks i ≡ Some a → slice_get marks j ≡ Some b → is_lt (mark_cmp b a) ≡ false
 no_less marks i j a b sorted le at_a at_b =
@@ -136,7 +136,7 @@ no_less marks i j a b sorted le at_a at_b =
     subst (λ (y : Mark). is_lt (mark_cmp y a) ≡ false) (get_or_from_slice_get marks j b a at_b)
     (subst (λ (x : Mark). is_lt (mark_cmp (get_or marks j a) x) ≡ false) (get_or_from_slice_get marks i a a at_a) far)
 
--- an end stands before a beginning exactly where its moment does
+-- an end comes before a beginning, in the order of marks, exactly where its moment is before
 
 pub earlier : (m n : ℕ) → m < n → (rest : Ordering) → is_lt (ordering_then (nat_cmp m n) rest) ≡ true
 earlier m n lt rest = let less : nat_lt m n ≡ true = lt-ltb m n lt in rw less refl
@@ -167,9 +167,9 @@ precedes_it marks i j number other end op sorted at_end at_begin lt = by_cases (
     by_cases (inl less) = less
     by_cases (inr le) = absurd (let not_less = no_less marks i j (end_mark number end) (begin_mark other op) sorted (omega (arith, lt)) at_end at_begin in let is_less = begin_first op.begin.0 end.0 le (nat_cmp other number) in cc)
 
--- an end stands left of a beginning exactly where its operation precedes the other
-module _ (ops : List Op) (marks : List Mark) (spans : List Span) (steps places : List ℕ) (i j end : ℕ) (a b : Op) (s t : Span)
-    (are : AreMarks ops marks) (spanned : AreSpans ops marks spans) (apart : AreApart steps places) (room : length marks ≤ length places) (positive : All (λ (step : ℕ). 0 < step) steps) (many : length places ≡ length steps)
+-- an end is left of a beginning exactly where its operation precedes that of the beginning
+module _ (ops : List Op) (marks : List Mark) (spans : List BarSpan) (steps places : List ℕ) (i j end : ℕ) (a b : Op) (s t : BarSpan)
+    (are : AreMarks ops marks) (spanned : AreSpans ops marks spans) (apart : AreSpaced steps places) (room : length marks ≤ length places) (positive : All (λ (step : ℕ). 0 < step) steps) (many : length places ≡ length steps)
     (at_a : slice_get ops i ≡ Some a) (span_a : slice_get spans i ≡ Some s) (at_b : slice_get ops j ≡ Some b) (span_b : slice_get spans j ≡ Some t) (ends : s.end ≡ Some end) where
   begins : slice_get marks t.begin ≡ Some (begin_mark j b)
   begins = (spanned.each j b t at_b span_b).begin

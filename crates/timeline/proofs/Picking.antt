@@ -1,4 +1,4 @@
--- What is picked of a list in order is in order.
+-- The elements that are picked of a list in order are in order.
 use Rattle.std.proofs.Common.{◌≤◌, ℕ, zero, suc, ◌+◌, Bool, true, false, List, [], ◌∷◌, map, arith}
 use Rattle.std.proofs.lemmas.List.Elements.{All-cons, All-map, All-nil}
 use Rattle.std.specs.Prelude.{All, if◌then◌else◌}

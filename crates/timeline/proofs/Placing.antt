@@ -1,4 +1,4 @@
--- Places while one more is put behind the others.
+-- Places that are spaced, kept and tight still are when that of one more mark is put after them.
 use Rattle.std.proofs.Common.{◌≡◌, ◌≢◌, ◌∙◌, ◌≤◌, ◌<◌, ◌⊎◌, inl, inr, ℕ, zero, suc, ◌+◌, ◌-◌, List, [], ◌∷◌, ◌++◌, length, get_or, max, refl, sym, ap, subst, arith}
 use Rattle.std.proofs.lemmas.Bool.{cases_lt}
 use Rattle.std.proofs.lemmas.List.{get_or_default}
@@ -7,9 +7,9 @@ use Rattle.std.specs.Prelude.{All, Any, IsPermutation, slice_index}
 use Rattle.std.specs.List.{AllWithin}
 use Rattle.std.specs.List.Sorted.{IsNonDecreasing, IsNonDecreasingBy}
 use Rattle.timeline.specs.declared.place.Want.{Want}
-use Rattle.timeline.specs.Place.{AreApart, AreBounded, AreTight, IsBounded, IsKept, IsPutBefore, IsPutBy, IsReason, IsWithin, before, wanted_by}
+use Rattle.timeline.specs.Place.{AreSpaced, AreBounded, AreTight, IsBounded, IsDistanceKept, IsPutBefore, IsPutBy, IsReason, IsWithin, before, wanted_by}
 
--- what stands where, in a list with one more
+-- which place is at an index of a list with one more at the end
 
 old_place : (places : List ℕ) (place number : ℕ) → number < length places → slice_index (places ++ place ∷ []) number ≡ slice_index places number
 old_place [] place number within = absurd (omega arith)
@@ -31,7 +31,7 @@ before_same places place zero within = refl
 before_same places place (suc number) within = old_place places place number (omega (arith, within))
 
 module _ (steps places : List ℕ) (wants : List Want) (number place : ℕ) (here : number ≡ length places) where
-  pub apart_more : AreApart steps places → before places number + slice_index steps number ≤ place → AreApart steps (places ++ place ∷ [])
+  pub apart_more : AreSpaced steps places → before places number + slice_index steps number ≤ place → AreSpaced steps (places ++ place ∷ [])
   apart_more apart behind n within = by_cases (cases_lt n number)
     where
       by_cases : (n < number) ⊎ (number ≤ n) → before (places ++ place ∷ []) n + slice_index steps n ≤ slice_index (places ++ place ∷ []) n
@@ -53,22 +53,22 @@ module _ (steps places : List ℕ) (wants : List Want) (number place : ℕ) (her
           let same : n ≡ number = omega (arith, le, within, many_more places place, here) in
           rw (new_place places place n (same ∙ here)) (subst (λ (k : ℕ). IsBounded k place) (sym same) now)
 
-  -- a reason stays one
+  -- a want that was a reason for a place still is
   pub reason_stays : (n : ℕ) (want : Want) → n < number → want.from < number → IsReason places n want → IsReason (places ++ place ∷ []) n want
   reason_stays n want lt from is = (is.0, rw (old_place places place want.from (omega (arith, from, here)), old_place places place n (omega (arith, lt, here))) is.1)
 
-  pub kept_stays : (want : Want) → want.from < number → want.to < number → IsKept places want → IsKept (places ++ place ∷ []) want
+  pub kept_stays : (want : Want) → want.from < number → want.to < number → IsDistanceKept places want → IsDistanceKept (places ++ place ∷ []) want
   kept_stays want from to is = rw (old_place places place want.from (omega (arith, from, here)), old_place places place want.to (omega (arith, to, here))) is
 
-  pub kept_now : (want : Want) → want.from < number → want.to ≡ number → wanted_by places want ≤ place → IsKept (places ++ place ∷ []) want
+  pub kept_now : (want : Want) → want.from < number → want.to ≡ number → wanted_by places want ≤ place → IsDistanceKept (places ++ place ∷ []) want
   kept_now want from to is = rw (old_place places place want.from (omega (arith, from, here)), new_place places place want.to (to ∙ here)) is
 
   pub reason_now : (want : Want) → want.from < number → want.to ≡ number → wanted_by places want ≡ place → IsReason (places ++ place ∷ []) number want
   reason_now want from to is = (to, rw (old_place places place want.from (omega (arith, from, here)), new_place places place number here) is)
 
--- a mark with a greater number stands further right
+-- a mark with a greater number is further right
 
-rises_by : (steps places : List ℕ) (i d : ℕ) → AreApart steps places → All (λ (step : ℕ). 0 < step) steps → length places ≡ length steps → i + suc d < length places → slice_index places i < slice_index places (i + suc d)
+rises_by : (steps places : List ℕ) (i d : ℕ) → AreSpaced steps places → All (λ (step : ℕ). 0 < step) steps → length places ≡ length steps → i + suc d < length places → slice_index places i < slice_index places (i + suc d)
 rises_by steps places i zero apart positive many within =
     let next : i + 1 ≡ suc i = omega arith in
     let here = apart (suc i) (omega (arith, within)) in
@@ -80,7 +80,7 @@ rises_by steps places i (suc d) apart positive many within =
     let here = apart (suc (i + suc d)) (omega (arith, within)) in
     subst (λ (n : ℕ). slice_index places i < slice_index places n) (sym next) (omega (arith, here, rest))
 
-rise_by : (steps places : List ℕ) (i d e : ℕ) → AreApart steps places → i + e < length places → e ≡ d → slice_index places i ≤ slice_index places (i + e)
+rise_by : (steps places : List ℕ) (i d e : ℕ) → AreSpaced steps places → i + e < length places → e ≡ d → slice_index places i ≤ slice_index places (i + e)
 rise_by steps places i zero e apart within is =
     let same : i ≡ i + e = omega (arith, is) in
     subst (λ (n : ℕ). slice_index places i ≤ slice_index places n) same (omega arith)
@@ -91,20 +91,20 @@ rise_by steps places i (suc d) e apart within is =
     subst (λ (n : ℕ). slice_index places i ≤ slice_index places n) next (omega (arith, here, rest))
 
 -- places rise
-pub places_rise : (steps places : List ℕ) → AreApart steps places → IsNonDecreasing places
+pub places_rise : (steps places : List ℕ) → AreSpaced steps places → IsNonDecreasing places
 places_rise steps places apart i j d le within =
     let same : i + (j - i) ≡ j = omega (arith, le) in
     let inside : i < length places = omega (arith, le, within) in
     let rises = subst (λ (n : ℕ). slice_index places i ≤ slice_index places n) same (rise_by steps places i (j - i) (j - i) apart (omega (arith, le, within)) refl) in
     subst (λ (n : ℕ). n ≤ get_or places j d) (get_or_default places i 0 d inside) (subst (λ (n : ℕ). slice_index places i ≤ n) (get_or_default places j 0 d within) rises)
 
-pub stands_right : (steps places : List ℕ) (i j : ℕ) → AreApart steps places → All (λ (step : ℕ). 0 < step) steps → length places ≡ length steps → i < j → j < length places → slice_index places i < slice_index places j
+pub stands_right : (steps places : List ℕ) (i j : ℕ) → AreSpaced steps places → All (λ (step : ℕ). 0 < step) steps → length places ≡ length steps → i < j → j < length places → slice_index places i < slice_index places j
 stands_right steps places i j apart positive many lt within =
     let d = j - suc i in
     let same : i + suc d ≡ j = omega (arith, lt) in
     subst (λ (n : ℕ). slice_index places i < slice_index places n) same (rises_by steps places i d apart positive many (omega (arith, within, same)))
 
--- in whatever order the wants stand
+-- the order of the wants does not matter
 
 any_moved : (P : Want → Type 0) (xs ys : List Want) → IsPermutation xs ys → Any P xs → Any P ys
 any_moved P xs ys moved (k, want, within, is, holds) =
@@ -118,14 +118,14 @@ tight_moved steps places xs ys moved tight number within = by_cases (tight numbe
     by_cases (inl step) = inl step
     by_cases (inr reason) = inr (any_moved (IsReason places number) xs ys moved reason)
 
--- wants that are for no earlier mark, the first of which is not for this one, are for later ones
+-- wants in order whose first is for a later mark than this are all for later ones
 pub later_ones : (wants : List Want) (mark end : ℕ) (none : Want) → IsNonDecreasingBy (λ (want : Want). want.to) wants → end < length wants → mark ≤ (get_or wants end none).to → (get_or wants end none).to ≢ mark
     → AllWithin (λ (want : Want). mark < want.to) wants end (length wants)
 later_ones wants mark end none sorted within le other k d low high =
     let same : (get_or wants end none).to ≡ (get_or wants end d).to = ap (λ (want : Want). want.to) (get_or_default wants end none d within) in
     omega (arith, same, sorted end k d low high, le, other)
 
--- one more want
+-- the place with one more want
 
 pub put_before_more : (places : List ℕ) (wants : List Want) (from number place next : ℕ) (none : Want) → place ≤ next → wanted_by places (get_or wants number none) ≤ next → number < length wants
     → AllWithin (IsPutBefore places place) wants from number → AllWithin (IsPutBefore places next) wants from (number + 1)
@@ -164,14 +164,14 @@ pub tight_by : (places slice : List ℕ) (wants : List Want) (next end place lea
 tight_by places slice wants next end place least step is least_is (inl first) = inl (first ∙ least_is)
 tight_by places slice wants next end place least step is least_is (inr by) = inr (subst (λ (ps : List ℕ). IsPutBy ps wants next end place) is by)
 
--- all marks before one, with the wants that are for them and those that are left
+-- the places of the marks before this number, with the wants for them and those that are left
 pub record ArePlaced (steps places : List ℕ) (wants : List Want) (number next : ℕ) : Type 0 where
   pub many : length places ≡ number
   pub bounded : AreBounded places
-  pub apart : AreApart steps places
+  pub apart : AreSpaced steps places
   pub tight : AreTight steps wants places
   pub done : AllWithin (λ (want : Want). want.to < number) wants 0 next
-  pub kept : AllWithin (IsKept places) wants 0 next
+  pub kept : AllWithin (IsDistanceKept places) wants 0 next
   pub left : AllWithin (λ (want : Want). number ≤ want.to) wants next (length wants)
 
 pub none_placed : (steps : List ℕ) (wants : List Want) → ArePlaced steps [] wants 0 0
@@ -200,10 +200,10 @@ module _ (steps places : List ℕ) (wants : List Want) (number next end place : 
       by_cases (inl lt) = omega (arith, placed.done k d low lt)
       by_cases (inr le) = omega (arith, for_it k d le high)
 
-  kept_more : AllWithin (IsPutBefore places place) wants next end → AllWithin (IsKept (places ++ place ∷ [])) wants 0 end
+  kept_more : AllWithin (IsPutBefore places place) wants next end → AllWithin (IsDistanceKept (places ++ place ∷ [])) wants 0 end
   kept_more put k d low high = by_cases (cases_lt k next)
     where
-      by_cases : (k < next) ⊎ (next ≤ k) → IsKept (places ++ place ∷ []) (get_or wants k d)
+      by_cases : (k < next) ⊎ (next ≤ k) → IsDistanceKept (places ++ place ∷ []) (get_or wants k d)
       by_cases (inl lt) =
           let to : (get_or wants k d).to < number = placed.done k d low lt in
           kept_stays steps places wants number place here (get_or wants k d) (omega (arith, from_before k d high, to)) to (placed.kept k d low lt)

@@ -1,4 +1,4 @@
--- Lanes while operations are put into them.
+-- Lanes: the seats in each are still in turn when one more operation takes one.
 use Rattle.std.proofs.Common.{◌≡◌, ◌≢◌, ◌∙◌, ◌≤◌, ◌<◌, ◌⊎◌, inl, inr, ℕ, zero, suc, ◌+◌, Bool, true, false, List, [], ◌∷◌, ◌++◌, length, map, get_or, set, Some, None, Option, refl, sym, ap, subst, arith}
 use Rattle.std.proofs.lemmas.Bool.{cases_lt, eqb-true}
 use Rattle.std.proofs.lemmas.Bool.Decides.{Decides-int_eq}
@@ -17,9 +17,9 @@ use Rattle.intervals.specs.Operation.{precedes as precedes_test}
 use Rattle.intervals.proofs.Agreement.{Decides-precedes}
 use Rattle.timeline.specs.declared.seat.Seat.{Seat}
 use Rattle.timeline.specs.declared.seat.Tail.{Tail}
-use Rattle.timeline.specs.Seat.{AreInTurn, IsSeat, IsTaken, is_free, put, seat_of, tail_of}
+use Rattle.timeline.specs.Seat.{AreInTurn, IsSeat, TakesLane, is_free, put, seat_of, tail_of}
 
--- a list with one element put into it
+-- a list with one element put into it (`put`)
 
 pub put_here : {X : Type 0} (xs : List X) (n : ℕ) (y : X) → n ≤ length xs → slice_get (put xs n y) n ≡ Some y
 put_here [] zero y le = refl
@@ -62,7 +62,7 @@ range_more n =
     let last : 0 + n ≡ n = omega arith in
     subst (λ (k : ℕ). range_with_len 0 k ≡ range_with_len 0 n ++ n ∷ []) next (range_suc 0 n ∙ ap (λ (k : ℕ). range_with_len 0 n ++ k ∷ []) last)
 
--- a seat stands in a lane, of whose tail it is the seat or before which it stands
+-- a seat is in a lane: it is that of the lane's tail, or comes before it and its operation precedes the tail's
 
 pub record StandsIn (ops : List Op) (tails : List Tail) (seat : Seat) : Type 0 where
   pub tail : Tail
@@ -72,7 +72,7 @@ pub record StandsIn (ops : List Op) (tails : List Tail) (seat : Seat) : Type 0 w
   pub rises : seat.op ≤ tail.op
   pub before : seat.op < tail.op → (x y : Op) → slice_get ops seat.op ≡ Some x → slice_get ops tail.op ≡ Some y → Precedes x y
 
--- the lanes before the operation of that number
+-- the seats and tails after the operations before this number have taken theirs
 pub record AreSoFar (ops : List Op) (number : ℕ) (tails : List Tail) (seats : List Seat) : Type 0 where
   pub numbered : map (λ (seat : Seat). seat.op) seats ≡ range_with_len 0 number
   pub below : All (λ (seat : Seat). seat.op < number) seats
@@ -81,7 +81,7 @@ pub record AreSoFar (ops : List Op) (number : ℕ) (tails : List Tail) (seats : 
   pub tails_below : (lane : ℕ) (tail : Tail) → slice_get tails lane ≡ Some tail → tail.op < number
   pub in_turn : (a b : Seat) → Contains seats a → Contains seats b → a.lane ≡ b.lane → a.op < b.op → AreInTurn ops a b
 
--- what ended before an operation began ended before any that began later
+-- an end before a moment is before each later one
 ends_before_later : (end : Option Moment) (a b : Moment) → EndsBefore end a → a.0 ≤ b.0 → EndsBefore end b
 ends_before_later None a b before le = absurd before
 ends_before_later (Some end) a b before le = omega (arith, before, le)
@@ -93,12 +93,12 @@ begins_by ops i j x y sorted le at_x at_y =
     (subst (λ (op : Op). op.begin.0 ≤ (get_or ops j x).begin.0) (get_or_from_slice_get ops i x x at_x) far)
 
 module _ (ops : List Op) (sorted : IsNonDecreasingBy (λ (op : Op). op.begin.0) ops) (number : ℕ) (op : Op) (at : slice_get ops number ≡ Some op) where
-  -- the lane is new, or its tail is of the operation's process and trace and precedes it
+  -- the lane is new, or its tail is of the operation's process and trace and its operation precedes this one
   pub record IsFree (tails : List Tail) (lane : ℕ) : Type 0 where
     pub within : lane ≤ length tails
     pub free : (tail : Tail) → slice_get tails lane ≡ Some tail → (tail.process ≡ op.process) × (tail.feeder ≡ op.id.feeder) × ((before : Op) → slice_get ops tail.op ≡ Some before → Precedes before op)
 
-  -- a seat of the lane precedes the operation
+  -- the operation of each seat in the lane precedes this one
   precedes : (tails : List Tail) (lane : ℕ) (seat : Seat) (tail : Tail) (x : Op) → IsFree tails lane → slice_get tails lane ≡ Some tail → tail.op < number
       → seat.op ≤ tail.op → (seat.op < tail.op → (x y : Op) → slice_get ops seat.op ≡ Some x → slice_get ops tail.op ≡ Some y → Precedes x y) → slice_get ops seat.op ≡ Some x → Precedes x op
   precedes tails lane seat tail x free is below rises before at_x = by_cases (cases_lt seat.op tail.op)
@@ -135,7 +135,7 @@ module _ (ops : List Op) (sorted : IsNonDecreasingBy (λ (op : Op). op.begin.0) 
       before = λ lt. absurd (omega (arith, lt));
     }
 
-    -- an earlier one of this lane stands before it
+    -- an earlier seat of this lane comes before the new tail
     old_here : (s : Seat) → s.op < number → StandsIn ops tails s → s.lane ≡ lane → StandsIn ops new s
     old_here s below stands same =
         let is : slice_get tails lane ≡ Some stands.tail = subst (λ (l : ℕ). slice_get tails l ≡ Some stands.tail) same stands.is in
@@ -186,7 +186,7 @@ module _ (ops : List Op) (sorted : IsNonDecreasingBy (λ (op : Op). op.begin.0) 
             let tail_is : tail_of op number ≡ tail = same_some (tail_of op number) tail (sym mine ∙ subst (λ (k : ℕ). slice_get new k ≡ Some tail) same is) in
             subst (λ (t : Tail). t.op < number + 1) tail_is (omega arith)
 
-    -- it and an earlier one of its lane
+    -- the new seat and an earlier one of its lane are in turn
     new_turn : (a : Seat) → Contains seats a → a.lane ≡ lane → AreInTurn ops a seat
     new_turn a has same =
         let below = All-contains (λ (s : Seat). s.op < number) seats a so_far.below has in
@@ -223,7 +223,7 @@ module _ (ops : List Op) (sorted : IsNonDecreasingBy (λ (op : Op). op.begin.0) 
       in_turn = in_turn;
     }
 
--- by the tests
+-- free lanes by the test, and the lanes after the operation took one
 
 there : {X : Type 0} (xs : List X) (n : ℕ) → n < length xs → (x : X) × (slice_get xs n ≡ Some x)
 there [] n lt = absurd (omega (arith, lt))
@@ -248,7 +248,7 @@ free_of : (ops : List Op) (op : Op) (tails : List Tail) (lane : ℕ) (tail : Tai
 free_of ops op tails lane tail free is = subst (λ (o : Option Tail). IfSome o (λ (t : Tail). is_free ops op t ≡ true)) is free
 
 pub next_seat : (ops : List Op) (number : ℕ) (tails new : List Tail) (seats now : List Seat) (taken : Seat) → IsNonDecreasingBy (λ (op : Op). op.begin.0) ops → number < length ops → now ≡ seats ++ taken ∷ []
-    → ((op : Op) → slice_get ops number ≡ Some op → IsTaken ops number op tails taken new) → AreSoFar ops number tails seats → AreSoFar ops (number + 1) new now
+    → ((op : Op) → slice_get ops number ≡ Some op → TakesLane ops number op tails taken new) → AreSoFar ops number tails seats → AreSoFar ops (number + 1) new now
 next_seat ops number tails new seats now taken sorted within pushed takes so_far =
     let (op, at) = there ops number within in
     let is = takes op at in
@@ -256,7 +256,7 @@ next_seat ops number tails new seats now taken sorted within pushed takes so_far
     let more = one_more ops sorted number op at tails new seats taken.lane so_far free is.after in
     subst (AreSoFar ops (number + 1) new) (sym (pushed ∙ ap (λ (s : Seat). seats ++ s ∷ []) is.seat)) more
 
--- put where there is one
+-- to put an element over another sets it
 
 pub put_over : {X : Type 0} (xs : List X) (n : ℕ) (y : X) → n < length xs → set xs n y ≡ put xs n y
 put_over [] n y lt = absurd (omega (arith, lt))

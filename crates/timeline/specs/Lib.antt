@@ -1,4 +1,4 @@
--- what the public clauses speak of
+-- words of the public clauses
 pub mod Choice
 pub mod Axis
 pub mod Place

@@ -1,16 +1,16 @@
-//! The moments of a picture, in order, and how many operations are left out between them.
+//! The marks of a picture, in the order of their moments, and how many operations are left out between them.
 
 ghost use Rattle.std.specs.Prelude.{◌≡◌, ◌<◌, Contains, IfOk, IfSome, IsSorted, Some, length};
 ghost use Rattle.std.specs.List.{slice_get};
 ghost use Rattle.std.specs.List.Sorted.{IsNonDecreasingBy};
 ghost use Rattle.intervals.specs.declared.operation.Op.{Op as AnOp};
-ghost use Rattle.timeline.specs.Axis.{AreMarks, AreSpans, IsSpan, began as began_of, begin_mark as mark_of_begin, end_mark as mark_of_end, folded_of, mark_cmp, marks_from};
+ghost use Rattle.timeline.specs.Axis.{AreMarks, AreSpans, IsSpan, began, begin_mark, end_mark, folded_of, mark_cmp, marks_from};
 
 use intervals::{Moment, Op};
 use std::alloc::{AllocError, Global};
 use std::unreachable;
 
-/// Where an operation begins or ends. Of two at one moment the beginning stands first.
+/// Where an operation begins or ends. At one moment beginnings come before ends.
 #[derive(Clone, Copy, Debug, PartialEq, Eq, PartialOrd, Ord)]
 pub struct Mark {
     pub moment: Moment,
@@ -19,9 +19,9 @@ pub struct Mark {
     pub op: usize,
 }
 
-/// The numbers of the marks at which an operation begins and ends; an unfinished one has no end.
+/// The indices of the marks at which an operation begins and ends; an unfinished one has no end.
 #[derive(Clone, Copy, Debug, PartialEq, Eq)]
-pub struct Span {
+pub struct BarSpan {
     pub begin: usize,
     pub end: Option<usize>,
 }
@@ -49,7 +49,7 @@ fn unsorted_marks(alloc: Global, ops: &[Op]) -> Result<Vec<Mark>, AllocError>
 }
 
 fn begin_mark(number: usize, op: &Op) -> Mark
-    ensures { result ≡ mark_of_begin number op.now }
+    ensures { result ≡ begin_mark number op.now }
 {
     Mark {
         moment: op.begin,
@@ -59,7 +59,7 @@ fn begin_mark(number: usize, op: &Op) -> Mark
 }
 
 fn end_mark(number: usize, end: Moment) -> Mark
-    ensures { result ≡ mark_of_end number end }
+    ensures { result ≡ end_mark number end }
 {
     Mark {
         moment: end,
@@ -68,8 +68,8 @@ fn end_mark(number: usize, end: Moment) -> Mark
     }
 }
 
-/// Between which marks each operation stands.
-pub fn spans(alloc: Global, ops: &[Op], marks: &[Mark]) -> Result<Vec<Span>, AllocError>
+/// The marks at which each operation begins and ends, in the order of the operations.
+pub fn spans(alloc: Global, ops: &[Op], marks: &[Mark]) -> Result<Vec<BarSpan>, AllocError>
     requires { AreMarks ops.now marks.now }
     ensures { IfOk result (λ spans. AreSpans ops.now marks.now spans.items) }
 {
@@ -80,7 +80,7 @@ pub fn spans(alloc: Global, ops: &[Op], marks: &[Mark]) -> Result<Vec<Span>, All
     Ok(spans)
 }
 
-fn span_at(ops: &[Op], marks: &[Mark], number: usize) -> Span
+fn span_at(ops: &[Op], marks: &[Mark], number: usize) -> BarSpan
     requires marks { AreMarks ops.now marks.now }
     requires within { number < length ops.now }
     ensures { (op : AnOp) → slice_get ops.now number ≡ Some op → IsSpan marks.now number op result }
@@ -91,13 +91,13 @@ fn span_at(ops: &[Op], marks: &[Mark], number: usize) -> Span
     }
 }
 
-fn span_of(marks: &[Mark], number: usize, op: &Op) -> Span
+fn span_of(marks: &[Mark], number: usize, op: &Op) -> BarSpan
     requires sorted { IsSorted mark_cmp marks.now }
-    requires begin { Contains marks.now (mark_of_begin number op.now) }
-    requires end { IfSome op.now.end (λ end. Contains marks.now (mark_of_end number end)) }
+    requires begin { Contains marks.now (begin_mark number op.now) }
+    requires end { IfSome op.now.end (λ end. Contains marks.now (end_mark number end)) }
     ensures { IsSpan marks.now number op.now result }
 {
-    Span {
+    BarSpan {
         begin: number_of(marks, begin_mark(number, op)),
         end: match op.end {
             Some(end) => Some(number_of(marks, end_mark(number, end))),
@@ -106,7 +106,7 @@ fn span_of(marks: &[Mark], number: usize, op: &Op) -> Span
     }
 }
 
-/// The number of a mark.
+/// The index of the mark.
 fn number_of(marks: &[Mark], mark: Mark) -> usize
     requires sorted { IsSorted mark_cmp marks.now }
     requires stands { Contains marks.now mark }
@@ -118,8 +118,8 @@ fn number_of(marks: &[Mark], mark: Mark) -> usize
     }
 }
 
-/// How many of the operations that are left out began before each mark and behind the one before it, and last how many behind
-/// the last mark.
+/// How many of the operations that are left out began before each mark, without those that began before the mark
+/// that precedes it; and last how many are left. `hidden` has their beginnings.
 pub fn folded(alloc: Global, marks: &[Mark], hidden: &[Moment]) -> Result<Vec<usize>, AllocError>
     requires { IsNonDecreasingBy (λ moment. moment.0) hidden.now }
     ensures { IfOk result (λ folded. folded.items ≡ folded_of 0 marks.now hidden.now) }
@@ -135,10 +135,10 @@ pub fn folded(alloc: Global, marks: &[Mark], hidden: &[Moment]) -> Result<Vec<us
     Ok(folded)
 }
 
-/// How many of them began before the moment.
+/// How many of the operations that are left out began before the moment.
 fn began(hidden: &[Moment], moment: Moment) -> usize
     requires { IsNonDecreasingBy (λ moment. moment.0) hidden.now }
-    ensures { result ≡ began_of hidden.now moment }
+    ensures { result ≡ began hidden.now moment }
 {
     hidden.partition_point(|began| began.0 < moment.0)
 }

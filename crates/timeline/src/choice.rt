@@ -1,10 +1,10 @@
-//! Which operations of a register are shown.
+//! Which operations of a register a picture shows.
 
 ghost use Rattle.std.specs.Prelude.{◌≡◌, IfOk, length, map, not};
 ghost use Rattle.std.specs.List.Sorted.{IsNonDecreasingBy};
 ghost use Rattle.intervals.specs.Operation.{same_id};
-ghost use Rattle.intervals.specs.Table.{standing};
-ghost use Rattle.timeline.specs.Choice.{IsByBeginning, IsChosen, are_near, is_among as is_one_of, is_far_from as far_from, is_folded as folded_at, is_near as near, is_shown as shown_at, picked, places_of as places_in};
+ghost use Rattle.intervals.specs.Table.{ops_in_slots};
+ghost use Rattle.timeline.specs.Choice.{IsByBeginning, IsChosen, are_near, is_among, is_far_from, is_folded, is_near, is_shown, picked, places_of};
 
 use intervals::{Moment, Op, OpId};
 use std::alloc::{AllocError, Global};
@@ -14,26 +14,26 @@ use std::alloc::{AllocError, Global};
 pub enum Extent {
     /// Each operation.
     All,
-    /// The operations that are asked for, and so many by their beginnings before and behind each of them. Where no more than two
-    /// in a row would be left out, they are shown too.
+    /// The operations that are asked for, and this many before and after each of them, by beginning. Where no more
+    /// than two in a row would be left out, they are shown too.
     Around(usize),
 }
 
-/// The operations of a register that are shown, and when the others began, both by beginning.
+/// The operations of a register that are shown, and the beginnings of the others, both in the order of beginnings.
 #[derive(Debug, Drop)]
 pub struct Chosen<'t> {
     pub shown: Vec<Op<'t>>,
     pub hidden: Vec<Moment>,
 }
 
-/// Chooses among the operations that stand, those of these ids before all.
+/// Chooses which of the operations that stand are shown. Those of the ids always are.
 pub fn choose<'t>(
     alloc: Global,
     slots: &[Option<Op<'t>>],
     ids: &[OpId],
     extent: Extent,
 ) -> Result<Chosen<'t>, AllocError>
-    ensures chosen { IfOk result (IsChosen (standing slots.now) ids.now extent) }
+    ensures chosen { IfOk result (IsChosen (ops_in_slots slots.now) ids.now extent) }
     ensures shown { IfOk result (λ chosen. IsNonDecreasingBy (λ op. op.begin.0) chosen.shown.items) }
     ensures hidden { IfOk result (λ chosen. IsNonDecreasingBy (λ moment. moment.0) chosen.hidden.items) }
 {
@@ -43,9 +43,9 @@ pub fn choose<'t>(
     Ok(chosen)
 }
 
-/// The operations that stand, by beginning.
+/// The operations that stand, in the order of their beginnings.
 fn by_beginning<'t>(alloc: Global, slots: &[Option<Op<'t>>]) -> Result<Vec<Op<'t>>, AllocError>
-    ensures { IfOk result (λ ops. IsByBeginning (standing slots.now) ops.items) }
+    ensures { IfOk result (λ ops. IsByBeginning (ops_in_slots slots.now) ops.items) }
 {
     let mut ops = standing_in(alloc, slots)?;
     ops.sort_unstable_by_key(|op| op.begin.0);
@@ -53,7 +53,7 @@ fn by_beginning<'t>(alloc: Global, slots: &[Option<Op<'t>>]) -> Result<Vec<Op<'t
 }
 
 fn standing_in<'t>(alloc: Global, slots: &[Option<Op<'t>>]) -> Result<Vec<Op<'t>>, AllocError>
-    ensures { IfOk result (λ ops. ops.items ≡ standing slots.now) }
+    ensures { IfOk result (λ ops. ops.items ≡ ops_in_slots slots.now) }
 {
     let mut ops = Vec::new(alloc);
     for slot in slots {
@@ -64,9 +64,9 @@ fn standing_in<'t>(alloc: Global, slots: &[Option<Op<'t>>]) -> Result<Vec<Op<'t>
     Ok(ops)
 }
 
-/// The places at which operations of these ids stand.
+/// The places of the operations that have one of the ids.
 fn places_of(alloc: Global, ops: &[Op], ids: &[OpId]) -> Result<Vec<usize>, AllocError>
-    ensures { IfOk result (λ places. places.items ≡ places_in ids.now 0 ops.now) }
+    ensures { IfOk result (λ places. places.items ≡ places_of ids.now 0 ops.now) }
 {
     let mut places = Vec::new(alloc);
     for place in 0..ops.len() {
@@ -78,7 +78,7 @@ fn places_of(alloc: Global, ops: &[Op], ids: &[OpId]) -> Result<Vec<usize>, Allo
 }
 
 fn is_among(ids: &[OpId], id: OpId) -> bool
-    ensures { result ≡ is_one_of ids.now id }
+    ensures { result ≡ is_among ids.now id }
 {
     ids.iter().any(|other| is_same_id(*other, id))
 }
@@ -89,15 +89,15 @@ fn is_same_id(a: OpId, b: OpId) -> bool
     a.feeder == b.feeder && a.event == b.event
 }
 
-/// The operations that are shown, and when the others began.
+/// The operations that are shown, and the beginnings of the others.
 fn split<'t>(
     alloc: Global,
     ops: &[Op<'t>],
     centres: &[usize],
     extent: Extent,
 ) -> Result<Chosen<'t>, AllocError>
-    ensures shown { IfOk result (λ chosen. chosen.shown.items ≡ picked (shown_at extent (length ops.now) centres.now) 0 ops.now) }
-    ensures hidden { IfOk result (λ chosen. chosen.hidden.items ≡ map (λ op. op.begin) (picked (λ place. not (shown_at extent (length ops.now) centres.now place)) 0 ops.now)) }
+    ensures shown { IfOk result (λ chosen. chosen.shown.items ≡ picked (is_shown extent (length ops.now) centres.now) 0 ops.now) }
+    ensures hidden { IfOk result (λ chosen. chosen.hidden.items ≡ map (λ op. op.begin) (picked (λ place. not (is_shown extent (length ops.now) centres.now place)) 0 ops.now)) }
 {
     let mut shown = Vec::new(alloc);
     let mut hidden = Vec::new(alloc);
@@ -113,7 +113,7 @@ fn split<'t>(
 
 /// Whether the operation at that place of so many is shown.
 fn is_shown(extent: Extent, many: usize, centres: &[usize], place: usize) -> bool
-    ensures { result ≡ shown_at extent many centres.now place }
+    ensures { result ≡ is_shown extent many centres.now place }
 {
     match extent {
         Extent::All => true,
@@ -121,18 +121,18 @@ fn is_shown(extent: Extent, many: usize, centres: &[usize], place: usize) -> boo
     }
 }
 
-/// Whether it is one of three in a row that are far from all centres.
+/// Whether the place is one of three in a row that are far from all centres.
 fn is_folded(many: usize, around: usize, centres: &[usize], place: usize) -> bool
-    ensures { result ≡ folded_at many around centres.now place }
+    ensures { result ≡ is_folded many around centres.now place }
 {
     is_far_from(many, around, centres, place.saturating_sub(2))
         || is_far_from(many, around, centres, place.saturating_sub(1))
         || is_far_from(many, around, centres, place)
 }
 
-/// Whether the three from that place on are there, and far from all centres.
+/// Whether the three places from that one on are there, and far from all centres.
 fn is_far_from(many: usize, around: usize, centres: &[usize], place: usize) -> bool
-    ensures { result ≡ far_from many around centres.now place }
+    ensures { result ≡ is_far_from many around centres.now place }
 {
     many.saturating_sub(place) > 2
         && !is_near(around, centres, place)
@@ -140,9 +140,9 @@ fn is_far_from(many: usize, around: usize, centres: &[usize], place: usize) -> b
         && !is_near(around, centres, place + 2)
 }
 
-/// Whether a centre is no more places away than that.
+/// Whether a centre is at most `around` places away.
 fn is_near(around: usize, centres: &[usize], place: usize) -> bool
-    ensures { result ≡ near around centres.now place }
+    ensures { result ≡ is_near around centres.now place }
 {
     centres
         .iter()

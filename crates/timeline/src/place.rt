@@ -1,13 +1,13 @@
-//! Where marks stand, by the distances that are wanted between them.
+//! How far right each mark is, by the distances that are wanted between marks.
 
 ghost use Rattle.std.specs.Prelude.{◌≡◌, ◌+◌, ◌≤◌, ◌<◌, ◌⊎◌, All, IfOk, length};
 ghost use Rattle.std.specs.List.{AllWithin};
 ghost use Rattle.std.specs.List.Sorted.{IsNonDecreasing, IsNonDecreasingBy};
-ghost use Rattle.timeline.specs.Place.{AreApart, AreBounded, AreTight, IsBounded, IsKept, IsPutBefore, IsPutBy, IsWithin, before, wanted_by};
+ghost use Rattle.timeline.specs.Place.{AreSpaced, AreBounded, AreTight, IsBounded, IsDistanceKept, IsPutBefore, IsPutBy, IsWithin, before, wanted_by};
 
 use std::alloc::{AllocError, Global};
 
-/// A distance that a mark is to have at least from one before it, by their numbers.
+/// The least distance that is wanted between two marks, by their numbers, `from` the earlier.
 #[derive(Clone, Copy, Debug, PartialEq, Eq)]
 pub struct Want {
     pub from: usize,
@@ -15,14 +15,14 @@ pub struct Want {
     pub least: u32,
 }
 
-/// Where each mark stands: as far left as its distance from the one before it and all that is wanted let it. The first
-/// distance is that from the left edge.
+/// The place of each mark, as far left as the steps and the wants allow. A step is the least distance from the
+/// mark before it, the first from the left edge.
 pub fn places(alloc: Global, steps: &[u32], wants: Vec<Want>) -> Result<Vec<u128>, AllocError>
     requires { All (IsWithin steps.now) wants.items }
     ensures many { IfOk result (λ places. length places.items ≡ length steps.now) }
-    ensures apart { IfOk result (λ places. AreApart steps.now places.items) }
+    ensures apart { IfOk result (λ places. AreSpaced steps.now places.items) }
     ensures rising { IfOk result (λ places. IsNonDecreasing places.items) }
-    ensures kept { IfOk result (λ places. All (IsKept places.items) wants.items) }
+    ensures kept { IfOk result (λ places. All (IsDistanceKept places.items) wants.items) }
     ensures tight { IfOk result (λ places. AreTight steps.now wants.items places.items) }
 {
     let mut sorted = wants;
@@ -35,8 +35,8 @@ fn place_all(alloc: Global, steps: &[u32], wants: &[Want]) -> Result<Vec<u128>, 
     requires within { All (IsWithin steps.now) wants.now }
     requires sorted { IsNonDecreasingBy (λ want. want.to) wants.now }
     ensures many { IfOk result (λ places. length places.items ≡ length steps.now) }
-    ensures apart { IfOk result (λ places. AreApart steps.now places.items) }
-    ensures kept { IfOk result (λ places. All (IsKept places.items) wants.now) }
+    ensures apart { IfOk result (λ places. AreSpaced steps.now places.items) }
+    ensures kept { IfOk result (λ places. All (IsDistanceKept places.items) wants.now) }
     ensures tight { IfOk result (λ places. AreTight steps.now wants.now places.items) }
 {
     let mut places = Vec::with_capacity(alloc, steps.len())?;
@@ -50,7 +50,7 @@ fn place_all(alloc: Global, steps: &[u32], wants: &[Want]) -> Result<Vec<u128>, 
     Ok(places)
 }
 
-/// The number of the first want, from that one on, that is for a later mark than this.
+/// The index of the first want, from that one on, that is for a later mark than this.
 fn end_of(wants: &[Want], from: usize, mark: usize) -> usize
     requires within { from ≤ length wants.now }
     requires sorted { IsNonDecreasingBy (λ want. want.to) wants.now }
@@ -66,7 +66,7 @@ fn end_of(wants: &[Want], from: usize, mark: usize) -> usize
     end
 }
 
-/// So far behind the last place; from the left edge where there is none.
+/// The place that is the step right of the last place, or of the left edge where there is none.
 fn behind(places: &[u128], step: u32) -> u128
     requires { AreBounded places.now }
     ensures value { result ≡ before places.now (length places.now) + step }
@@ -78,7 +78,7 @@ fn behind(places: &[u128], step: u32) -> u128
     }
 }
 
-/// The greatest of this place and those that the wants between two numbers ask for.
+/// The greatest of `least` and the places where the wants from one index up to the other put their mark.
 fn farthest(places: &[u128], wants: &[Want], from: usize, to: usize, least: u128) -> u128
     requires order { (from ≤ to) × (to ≤ length wants.now) }
     requires within { AllWithin (λ want. want.from < length places.now) wants.now from to }
@@ -95,7 +95,7 @@ fn farthest(places: &[u128], wants: &[Want], from: usize, to: usize, least: u128
     place
 }
 
-/// Where a want puts its mark.
+/// The place where the want puts its mark.
 fn wanted(places: &[u128], want: &Want) -> u128
     requires within { want.now.from < length places.now }
     requires bounded { AreBounded places.now }

@@ -3,13 +3,13 @@
 ghost use Rattle.std.specs.Prelude.{◌≡◌, ◌+◌, ◌-◌, ◌^◌, ◌≤◌, ◌<◌, ◌⊎◌, IfOk, length, slice_index};
 ghost use Rattle.std.specs.List.Sorted.{IsNonDecreasing};
 ghost use Rattle.timeline.specs.Axis.{ongoing_before, ongoing_behind};
-ghost use Rattle.timeline.specs.Row.{AreRowsUpTo, IsRow};
+ghost use Rattle.timeline.specs.Row.{AreRowsUpTo, FitsRow};
 
 use crate::axis::Mark;
 use std::alloc::{AllocError, Global};
 
-/// With which marks rows begin, by number. A row is no wider than that, or has one mark. Before the last of a row that is full it
-/// ends where the fewest operations go on, in its last seventh.
+/// The numbers of the marks with which rows begin. A row is no wider than `width`, or has one mark. Each but the
+/// last ends where the fewest operations are ongoing, looked for in the last seventh of the width.
 pub fn rows(
     alloc: Global,
     marks: &[Mark],
@@ -44,7 +44,7 @@ fn ongoing(alloc: Global, marks: &[Mark]) -> Result<Vec<usize>, AllocError>
     Ok(ongoing)
 }
 
-/// How many go on behind a mark before which that many do.
+/// How many operations are ongoing after the mark, where `many` are ongoing before it.
 fn after(mark: Mark, many: usize) -> usize
     requires { many + 1 < 2 ^ 64 }
     ensures { result ≡ ongoing_behind mark many }
@@ -56,14 +56,14 @@ fn after(mark: Mark, many: usize) -> usize
     }
 }
 
-/// The mark behind the last of the row that begins with this one.
+/// The number of the first mark after the row that begins with `start`.
 fn end_of_row(places: &[u128], ongoing: &[usize], start: usize, width: u32) -> usize
     requires within { start < length ongoing.now }
     requires rising { IsNonDecreasing places.now }
     requires many { length ongoing.now ≤ length places.now }
     ensures behind { start < result }
     ensures within { result ≤ length ongoing.now }
-    ensures row { IsRow places.now width start result }
+    ensures row { FitsRow places.now width start result }
 {
     let farthest = places[start].saturating_add(u128::from(width));
     let end = end_within(places, ongoing.len(), start, farthest);
@@ -74,7 +74,7 @@ fn end_of_row(places: &[u128], ongoing: &[usize], start: usize, width: u32) -> u
     best_end(places, ongoing, start, end, near)
 }
 
-/// The first of so many marks, behind this one, that stands further right.
+/// The number of the first mark after `start` that is further right than `farthest`, or `many` where none is.
 fn end_within(places: &[u128], many: usize, start: usize, farthest: u128) -> usize
     requires within { (start < many) × (many ≤ length places.now) }
     ensures behind { start < result }
@@ -88,7 +88,8 @@ fn end_within(places: &[u128], many: usize, start: usize, farthest: u128) -> usi
     end
 }
 
-/// Of the ends of a row up to this one, behind marks that stand far enough right, the last before which the fewest operations are going on.
+/// Of `end` and the earlier ends of the row whose last mark is not left of `near`, the one before which the fewest
+/// operations are ongoing.
 fn best_end(places: &[u128], ongoing: &[usize], start: usize, end: usize, near: u128) -> usize
     requires behind { start < end }
     requires within { end < length ongoing.now }

@@ -1,10 +1,10 @@
--- The example, token by token and then key by key.
+-- What the text of the example says, worked out token by token and then key by key.
 use Rattle.std.proofs.Common.{◌≡◌, ℕ, List, [], ◌∷◌, Some, Ok, refl}
 use Rattle.std.specs.Prelude.{codes}
 use Rattle.edn_reader.specs.declared.element.ElementKind.TheVariants as kinds
 use Rattle.edn_reader.specs.Bytes.{class_of}
 use Rattle.edn_reader.specs.Integer.{integer_of, natural_of, digits_after}
-use Rattle.edn_reader.specs.Grammar.{Piece, nothing}
+use Rattle.edn_reader.specs.Grammar.{ElementModel, nothing}
 use Rattle.edn_reader.specs.Text.{IsText}
 use Rattle.edn_reader.specs.Pairs.{HasPairs, HasMembers}
 use Rattle.edn_reader.specs.Given.{Missing, One}
@@ -65,7 +65,7 @@ levels = record { kind = kinds.Vector; text = codes "[{:name top :registers [{:n
 abbrev file : Item
 file = record { kind = kinds.Map; text = alone_text }
 
--- ---- each stands
+-- ---- each element is spelled out
 
 stands_levels_key : (depth : ℕ) → Stands depth levels_key
 unfolding class_of
@@ -149,16 +149,16 @@ all_file = (stands_levels_key 5, (stands_levels, tt))
 stands_file : Stands 6 file
 stands_file room place rest e = map_of 5 levels_key (levels ∷ []) all_file room place rest refl
 
--- ---- what they are made of
+-- ---- what the elements are made of
 
 is_text : IsText alone_text (piece_at 0 file ∷ [])
 is_text = (82, 82, on_inside 6 58 0 file [] [] (stands_file, tt) tt, nothing)
 
--- the pieces, where they stand in the text
-abbrev at : ℕ → Item → Piece
+-- the elements, at their places in the text
+abbrev at : ℕ → Item → ElementModel
 at = piece_at
 
-abbrev file_pairs : List (Piece × Piece)
+abbrev file_pairs : List (ElementModel × ElementModel)
 file_pairs = (at 1 levels_key, at 9 levels) ∷ []
 
 file_has : HasPairs (at 0 file) file_pairs
@@ -167,7 +167,7 @@ file_has = pairs_of (at 0 file) (inside levels_key (levels ∷ []) (125 ∷ []))
 levels_have : HasMembers (at 9 levels) (at 10 level ∷ [])
 levels_have = members_of (at 9 levels) (inside level [] (93 ∷ [])) (at 10 level ∷ []) 80 refl refl (on_inside 4 59 10 level [] (93 ∷ []) all_levels square_ends)
 
-abbrev level_pairs : List (Piece × Piece)
+abbrev level_pairs : List (ElementModel × ElementModel)
 level_pairs = (at 11 name_key, at 17 top) ∷ (at 21 registers_key, at 32 registers) ∷ []
 
 level_has : HasPairs (at 10 level) level_pairs
@@ -176,7 +176,7 @@ level_has = pairs_of (at 10 level) (inside name_key behind_level_name (125 ∷ [
 registers_have : HasMembers (at 32 registers) (at 33 register ∷ [])
 registers_have = members_of (at 32 registers) (inside register [] (93 ∷ [])) (at 33 register ∷ []) 78 refl refl (on_inside 2 61 33 register [] (93 ∷ []) all_registers square_ends)
 
-abbrev register_pairs : List (Piece × Piece)
+abbrev register_pairs : List (ElementModel × ElementModel)
 register_pairs = (at 34 name_key, at 40 r) ∷ (at 42 kind_key, at 48 safe) ∷ (at 54 writers_key, at 63 writers) ∷ (at 67 initial_key, at 76 nought) ∷ []
 
 register_has : HasPairs (at 33 register) register_pairs
@@ -185,7 +185,7 @@ register_has = pairs_of (at 33 register) (inside name_key behind_name (125 ∷ [
 writers_have : HasMembers (at 63 writers) (at 64 nought ∷ [])
 writers_have = members_of (at 63 writers) (inside nought [] (93 ∷ [])) (at 64 nought ∷ []) 65 refl refl (on_inside 0 63 64 nought [] (93 ∷ []) all_writers square_ends)
 
--- ---- what is said
+-- ---- what the file says
 
 abbrev register_form : RegisterForm
 register_form = record {

@@ -1,4 +1,4 @@
--- Of each register that a file says to be safe or regular the initial value is known.
+-- Each register that a file says to be safe or regular has a known initial value.
 use Rattle.std.proofs.Common.{arith, ◌≡◌, ◌≢◌, ◌∷◌, [], ℕ, Bool, true, false, List, Option, Some, None, Result, Ok, Err, refl, subst, length}
 use Rattle.std.specs.Prelude.{IfOk, not, nat_le, is_some}
 use Rattle.std.proofs.lemmas.List.Elements.{All-push}
@@ -10,12 +10,12 @@ use Rattle.tower_file.specs.declared.fault.TowerField.TheVariants as fields
 use Rattle.tower_file.specs.declared.fault.TowerFault.{TowerFault}
 use Rattle.tower_file.specs.declared.fault.TowerFault.TheVariants.{NameTaken, WriterCount, UnknownInitial, EmptyDomain, InitialOutOfDomain, TooMany}
 use Rattle.tower_file.specs.Form.{RegisterForm, LevelForm, FileForm}
-use Rattle.tower_file.specs.Contents.{Register, Contents, empty, number_of, AreKnownUnlessAtomic}
+use Rattle.tower_file.specs.Contents.{Register, TowerModel, empty, number_of, AreKnownUnlessAtomic}
 use Rattle.tower_file.specs.Steps.{◌>>=◌}
-use Rattle.tower_file.specs.Reading.{each, name_in, Said, said_by, has_its_writers, initial_of, has_its_initial, part_of, is_empty_domain, is_outside, fails_if, register_among, register_read, through, with_register, with_registers, with_level, vector_in, level_after, levels_after, contents_of}
+use Rattle.tower_file.specs.Reading.{each, name_in, RegisterFields, said_by, has_its_writers, stated_or_nil, has_its_initial, part_of, is_empty_domain, is_outside, fails_if, register_among, register_read, through, with_register, with_registers, with_level, vector_in, level_after, levels_after, contents_of}
 use Rattle.tower_file.specs.Tower.{IsTowerOf}
 
--- one step after another, the first of which may say something of what it gives
+-- what holds after two steps, where something holds of what the first one gave
 both : {X Y : Type 0} (First : X → Type 0) (Then : Y → Type 0) (x : Result X TowerFault) (read : X → Result Y TowerFault) → IfOk x First → ((y : X) → First y → IfOk (read y) Then) → IfOk (x >>= read) Then
 both First Then (Ok x) read h k = k x h
 both First Then (Err fault) read h k = tt
@@ -28,7 +28,7 @@ not_refused : (test : Bool) (fault : TowerFault) → IfOk (fails_if (not test) f
 not_refused true fault = refl
 not_refused false fault = tt
 
-known_by : (kind : Kind) (initial : Option Initial) → has_its_initial kind initial ≡ true → kind ≢ Atomic → is_known (initial_of initial) ≡ true
+known_by : (kind : Kind) (initial : Option Initial) → has_its_initial kind initial ≡ true → kind ≢ Atomic → is_known (stated_or_nil initial) ≡ true
 known_by Safe initial e other = e
 known_by Regular initial e other = e
 known_by Atomic initial e other = absurd (other refl)
@@ -36,7 +36,7 @@ known_by Atomic initial e other = absurd (other refl)
 abbrev Is_known : Register → Type 0
 Is_known register = IsKnownUnlessAtomic register.claim
 
-of_placed : (level first : ℕ) (registers : List Register) (said : Said) → IfOk (register_among level first registers said) Is_known
+of_placed : (level first : ℕ) (registers : List Register) (said : RegisterFields) → IfOk (register_among level first registers said) Is_known
 of_placed level first registers said =
     after Is_known (fails_if (is_some (number_of registers said.name)) NameTaken) _ (λ taken.
     after Is_known (fails_if (not (has_its_writers said.kind said.writers)) WriterCount) _ (λ writers.
@@ -60,10 +60,10 @@ of_registers level registers forms h =
     of_through AreKnownUnlessAtomic (with_register level (length registers)) registers forms h (λ before form known.
     both Is_known AreKnownUnlessAtomic (register_read level (length registers) before form) _ (of_register level (length registers) before form) (λ register k. All-push Is_known before register known k))
 
-abbrev Has_known : Contents → Type 0
+abbrev Has_known : TowerModel → Type 0
 Has_known tower = AreKnownUnlessAtomic tower.registers
 
-of_level : (tower : Contents) (form : Option LevelForm) → Has_known tower → IfOk (level_after tower form) Has_known
+of_level : (tower : TowerModel) (form : Option LevelForm) → Has_known tower → IfOk (level_after tower form) Has_known
 of_level tower None h = tt
 of_level tower (Some level) h =
     after Has_known (name_in fields.Name level.name) _ (λ name.
@@ -78,5 +78,5 @@ of_contents None = tt
 of_contents (Some file) =
     after Has_known (vector_in fields.Levels file.levels) (levels_after empty) (λ forms. of_through Has_known level_after empty forms none_unknown of_level)
 
-pub known_unless_atomic : (bytes : List ℕ) (tower : Contents) → IsTowerOf bytes tower → AreKnownUnlessAtomic tower.registers
-known_unless_atomic bytes tower t = subst (λ (answer : Result Contents TowerFault). IfOk answer Has_known) t.2 (of_contents t.0)
+pub known_unless_atomic : (bytes : List ℕ) (tower : TowerModel) → IsTowerOf bytes tower → AreKnownUnlessAtomic tower.registers
+known_unless_atomic bytes tower t = subst (λ (answer : Result TowerModel TowerFault). IfOk answer Has_known) t.2 (of_contents t.0)

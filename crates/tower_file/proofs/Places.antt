@@ -1,4 +1,4 @@
--- One more register of a level.
+-- The registers of a level, with one register more or a fault.
 use Rattle.std.proofs.Common.{◌≡◌, ◌++◌, ◌∷◌, [], ℕ, List, Option, Ok, Err, refl}
 use Rattle.tower_file.specs.declared.fault.TowerFault.{TowerFault}
 use Rattle.tower_file.specs.Form.{RegisterForm}

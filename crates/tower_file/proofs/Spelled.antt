@@ -1,4 +1,4 @@
--- Elements that are spelled out: they stand wherever their bytes stand and no run goes on behind them.
+-- Elements that are spelled out: each is an element wherever its bytes are, if no run goes on after them.
 use Rattle.std.proofs.Common.{◌≡◌, ℕ, zero, suc, Bool, true, false, cond, List, [], ◌∷◌, ◌++◌, refl, sym, subst}
 use Rattle.edn_reader.specs.declared.bytes.ByteClass.TheVariants.{White, Plain, Opens, Closes}
 use Rattle.edn_reader.specs.declared.bytes.Bracket.TheVariants.{Square, Curly}
@@ -7,15 +7,15 @@ use Rattle.edn_reader.specs.declared.element.ElementKind.TheVariants as kinds
 use Rattle.edn_reader.specs.declared.token.Opener.TheVariants as openers
 use Rattle.edn_reader.specs.declared.token.Token.TheVariants.{Opens as Opening}
 use Rattle.edn_reader.specs.Bytes.{class_of, is_run, Ends}
-use Rattle.edn_reader.specs.Grammar.{Piece, untagged, ended, more, IsRun, IsToken, white, run, opening, close, nothing, skipped, IsElementAt, leaf, bracketed, IsElements, none, next, is_odd}
+use Rattle.edn_reader.specs.Grammar.{ElementModel, untagged, ended, more, IsWholeRun, IsToken, white, run, opening, close, nothing, skipped, IsElementAt, leaf, bracketed, IsElements, none, next, is_odd}
 use Rattle.edn_reader.specs.Pairs.{HasPairs, HasMembers, in_turn}
 
--- so much more room
+-- room for so many more levels
 abbrev pub deep : ℕ → ℕ → ℕ
 deep zero room = room
 deep (suc depth) room = suc (deep depth room)
 
--- the place behind bytes
+-- the place after bytes
 abbrev pub behind : ℕ → List ℕ → ℕ
 behind place [] = place
 behind place (b ∷ bytes) = behind (suc place) bytes
@@ -25,15 +25,15 @@ pub record Item : Type 0 where
   pub kind : ElementKind
   pub text : List ℕ
 
-abbrev pub piece_at : ℕ → Item → Piece
+abbrev pub piece_at : ℕ → Item → ElementModel
 piece_at place item = record { kind = item.kind; start = place; text = item.text; core = record { kind = item.kind; start = place } }
 
--- it stands wherever its bytes stand, with so much nested in it
+-- the bytes are this element wherever they are, with so many levels nested in it
 abbrev pub Stands : ℕ → Item → Type 0
 Stands depth item = (room place : ℕ) (rest : List ℕ) → Ends is_run rest
     → IsElementAt (deep depth room) item.kind (record { kind = item.kind; start = place }) place (item.text ++ rest) (behind place item.text) rest
 
--- ---- classes
+-- ---- the classes of bytes
 
 space_is_white : class_of 32 ≡ White
 unfolding class_of
@@ -77,7 +77,7 @@ run_by : (b : ℕ) (bytes : List ℕ) (t : Bool) → is_run b ≡ t → cond t (
 run_by b bytes true e h = (e, h)
 run_by b bytes false e h = absurd cc
 
-run_on : (place : ℕ) (bytes rest : List ℕ) → all_run bytes ≡ true → Ends is_run rest → IsRun place (bytes ++ rest) (behind place bytes) rest
+run_on : (place : ℕ) (bytes rest : List ℕ) → all_run bytes ≡ true → Ends is_run rest → IsWholeRun place (bytes ++ rest) (behind place bytes) rest
 run_on place [] rest h e = ended e
 run_on place (b ∷ bytes) rest h e =
     let k = run_by b bytes (is_run b) refl h in more k.0 (run_on (suc place) bytes rest k.1 e)
@@ -85,13 +85,13 @@ run_on place (b ∷ bytes) rest h e =
 pub atom : (depth b : ℕ) (bytes : List ℕ) → class_of b ≡ Plain → all_run bytes ≡ true → Stands depth (record { kind = kinds.Atom; text = b ∷ bytes })
 atom depth b bytes c h room place rest e = leaf (run c (run_on (suc place) bytes rest h e))
 
--- ---- elements in turn
+-- ---- elements one after another
 
 abbrev pub All_stand : ℕ → List Item → Type 0
 All_stand depth [] = Unit {0}
 All_stand depth (item ∷ items) = Stands depth item × All_stand depth items
 
--- each behind a space
+-- elements, each after a space
 abbrev pub spaced : List Item → List ℕ → List ℕ
 spaced [] rest = rest
 spaced (item ∷ items) rest = 32 ∷ (item.text ++ spaced items rest)
@@ -100,7 +100,7 @@ abbrev pub spaced_behind : ℕ → List Item → ℕ
 spaced_behind place [] = place
 spaced_behind place (item ∷ items) = spaced_behind (behind (suc place) item.text) items
 
-abbrev pub spaced_pieces : ℕ → List Item → List Piece
+abbrev pub spaced_pieces : ℕ → List Item → List ElementModel
 spaced_pieces place [] = []
 spaced_pieces place (item ∷ items) = piece_at (suc place) item ∷ spaced_pieces (behind (suc place) item.text) items
 
@@ -115,14 +115,14 @@ on_spaced depth room place (item ∷ items) rest h e =
     next {piece = piece_at (suc place) item} (skipped (white space_is_white) nothing) (h.0 room (suc place) (spaced items rest) (spaced_ends items rest e)) refl
     (on_spaced depth room (behind (suc place) item.text) items rest h.1 e)
 
--- the first one behind nothing
+-- elements, all but the first after a space
 abbrev pub inside : Item → List Item → List ℕ → List ℕ
 inside first items rest = first.text ++ spaced items rest
 
 abbrev pub inside_behind : ℕ → Item → List Item → ℕ
 inside_behind place first items = spaced_behind (behind place first.text) items
 
-abbrev pub inside_pieces : ℕ → Item → List Item → List Piece
+abbrev pub inside_pieces : ℕ → Item → List Item → List ElementModel
 inside_pieces place first items = piece_at place first ∷ spaced_pieces (behind place first.text) items
 
 pub on_inside : (depth room place : ℕ) (first : Item) (items : List Item) (rest : List ℕ) → All_stand depth (first ∷ items) → Ends is_run rest
@@ -148,9 +148,9 @@ map_of depth first items h room place rest even =
     bracketed {opener = openers.Map} {bracket = Curly} (opening {bracket = Curly} curly_opens) (on_inside depth room (suc place) first items (125 ∷ rest) h curly_ends) nothing
     (close curly_closes) refl even
 
--- ---- what stands between the brackets
+-- ---- the elements between brackets
 
-pub members_of : (piece : Piece) (bytes : List ℕ) (members : List Piece) (ends : ℕ) → piece.core.kind ≡ kinds.Vector → (untagged piece).text ≡ 91 ∷ bytes
+pub members_of : (piece : ElementModel) (bytes : List ℕ) (members : List ElementModel) (ends : ℕ) → piece.core.kind ≡ kinds.Vector → (untagged piece).text ≡ 91 ∷ bytes
     → IsElements 63 (suc piece.core.start) bytes members ends (93 ∷ []) → HasMembers piece members
 members_of piece bytes members ends kind text elements = record {
   kind = kind;
@@ -171,7 +171,7 @@ members_of piece bytes members ends kind text elements = record {
   };
 }
 
-pub pairs_of : (piece : Piece) (bytes : List ℕ) (pairs : List (Piece × Piece)) (ends : ℕ) → piece.core.kind ≡ kinds.Map → (untagged piece).text ≡ 123 ∷ bytes
+pub pairs_of : (piece : ElementModel) (bytes : List ℕ) (pairs : List (ElementModel × ElementModel)) (ends : ℕ) → piece.core.kind ≡ kinds.Map → (untagged piece).text ≡ 123 ∷ bytes
     → IsElements 63 (suc piece.core.start) bytes (in_turn pairs) ends (125 ∷ []) → HasPairs piece pairs
 pairs_of piece bytes pairs ends kind text elements = record {
   kind = kind;

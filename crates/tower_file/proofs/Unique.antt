@@ -1,12 +1,12 @@
--- A text is written in one form.
+-- A text is read as one form at most.
 use Rattle.std.proofs.Common.{◌≡◌, ℕ, List, [], ◌∷◌, Option, Some, None, refl, sym, ap, subst, ◌∙◌}
-use Rattle.edn_reader.specs.Grammar.{Piece}
+use Rattle.edn_reader.specs.Grammar.{ElementModel}
 use Rattle.edn_reader.specs.Text.{IsText}
 use Rattle.edn_reader.specs.Pairs.{HasPairs, HasMembers}
 use Rattle.edn_reader.specs.Given.{Missing, One, Many}
-use Rattle.tower_file.specs.Form.{IsGiven, AreMembers, Each, IsVectorOf, IsMapOf, Sequence, IsSequence, RegisterForm, AreRegisterFields, IsRegister, LevelForm, AreLevelFields, IsLevel, FileForm, AreFileFields, IsFile, IsFileOf}
+use Rattle.tower_file.specs.Form.{IsGiven, AreVectorElements, Each, IsVectorOf, IsMapOf, Sequence, IsSequence, RegisterForm, AreRegisterFields, IsRegister, LevelForm, AreLevelFields, IsLevel, FileForm, AreFileFields, IsFile, IsFileOf}
 
--- one form at most
+-- what is read is read as one form at most
 abbrev pub One_form : {X Form : Type 0} → (X → Form → Type 0) → Type 0
 One_form {X} {Form} IsRead = (x : X) (first second : Form) → IsRead x first → IsRead x second → first ≡ second
 
@@ -27,7 +27,7 @@ one_given IsRead one Many Many Missing h k = absurd k
 one_given IsRead one Many Many (One z) h k = absurd k
 one_given IsRead one Many Many Many h k = refl
 
-one_each : {Form : Type 0} (IsRead : Piece → Form → Type 0) → One_form IsRead → One_form (Each IsRead)
+one_each : {Form : Type 0} (IsRead : ElementModel → Form → Type 0) → One_form IsRead → One_form (Each IsRead)
 one_each IsRead one [] [] [] h k = refl
 one_each IsRead one [] [] (z ∷ zs) h k = absurd k
 one_each IsRead one [] (y ∷ ys) second h k = absurd h
@@ -37,7 +37,7 @@ one_each IsRead one (piece ∷ pieces) (y ∷ ys) (z ∷ zs) h k =
     let head = one piece y z h.0 k.0 in
     let rest = one_each IsRead one pieces ys zs h.1 k.1 in cc
 
-same_sequence : (element other : Piece) (members others : Option (List Piece)) → element ≡ other → members ≡ others
+same_sequence : (element other : ElementModel) (members others : Option (List ElementModel)) → element ≡ other → members ≡ others
     → ◌≡◌ {A = Sequence} (record { element = element; members = members }) (record { element = other; members = others })
 same_sequence element other members others e m = cc
 
@@ -54,23 +54,23 @@ same_level first second name registers = cc
 same_file : (first second : FileForm) → first.levels ≡ second.levels → ◌≡◌ {A = FileForm} (record { levels = first.levels }) (record { levels = second.levels })
 same_file first second levels = cc
 
-module _ (one_pairs : (piece : Piece) (firsts seconds : List (Piece × Piece)) → HasPairs piece firsts → HasPairs piece seconds → firsts ≡ seconds)
-    (one_members : (piece : Piece) (firsts seconds : List Piece) → HasMembers piece firsts → HasMembers piece seconds → firsts ≡ seconds) where
-  pub one_map : {Form : Type 0} (IsRead : List (Piece × Piece) → Form → Type 0) → One_form IsRead → One_form (IsMapOf IsRead)
+module _ (one_pairs : (piece : ElementModel) (firsts seconds : List (ElementModel × ElementModel)) → HasPairs piece firsts → HasPairs piece seconds → firsts ≡ seconds)
+    (one_members : (piece : ElementModel) (firsts seconds : List ElementModel) → HasMembers piece firsts → HasMembers piece seconds → firsts ≡ seconds) where
+  pub one_map : {Form : Type 0} (IsRead : List (ElementModel × ElementModel) → Form → Type 0) → One_form IsRead → One_form (IsMapOf IsRead)
   one_map IsRead one piece None None h k = refl
   one_map IsRead one piece None (Some g) h k = absurd (h k.1.kind)
   one_map IsRead one piece (Some f) None h k = absurd (k h.1.kind)
   one_map IsRead one piece (Some f) (Some g) h k =
-      ap Some (one k.0 f g (subst (λ (pairs : List (Piece × Piece)). IsRead pairs f) (one_pairs piece h.0 k.0 h.1 k.1) h.2) k.2)
+      ap Some (one k.0 f g (subst (λ (pairs : List (ElementModel × ElementModel)). IsRead pairs f) (one_pairs piece h.0 k.0 h.1 k.1) h.2) k.2)
 
-  one_vector : {Form : Type 0} (IsRead : Piece → Form → Type 0) → One_form IsRead → One_form (IsVectorOf IsRead)
+  one_vector : {Form : Type 0} (IsRead : ElementModel → Form → Type 0) → One_form IsRead → One_form (IsVectorOf IsRead)
   one_vector IsRead one piece None None h k = refl
   one_vector IsRead one piece None (Some zs) h k = absurd (h k.1.kind)
   one_vector IsRead one piece (Some ys) None h k = absurd (k h.1.kind)
   one_vector IsRead one piece (Some ys) (Some zs) h k =
-      ap Some (one_each IsRead one k.0 ys zs (subst (λ (members : List Piece). Each IsRead members ys) (one_members piece h.0 k.0 h.1 k.1) h.2) k.2)
+      ap Some (one_each IsRead one k.0 ys zs (subst (λ (members : List ElementModel). Each IsRead members ys) (one_members piece h.0 k.0 h.1 k.1) h.2) k.2)
 
-  one_list : One_form AreMembers
+  one_list : One_form AreVectorElements
   one_list piece None None h k = refl
   one_list piece None (Some zs) h k = absurd (h k.kind)
   one_list piece (Some ys) None h k = absurd (k h.kind)
@@ -82,8 +82,8 @@ module _ (one_pairs : (piece : Piece) (firsts seconds : List (Piece × Piece)) �
   pub one_register : One_form AreRegisterFields
   one_register pairs first second h k =
       let writers = one_given IsSequence one_sequence _ first.writers second.writers h.writers k.writers in
-      let domain = one_given AreMembers one_list _ first.domain second.domain h.domain k.domain in
-      let parts = one_given AreMembers one_list _ first.parts second.parts h.parts k.parts in
+      let domain = one_given AreVectorElements one_list _ first.domain second.domain h.domain k.domain in
+      let parts = one_given AreVectorElements one_list _ first.parts second.parts h.parts k.parts in
       same_register first second (h.name ∙ sym k.name) (h.kind ∙ sym k.kind) writers (h.initial ∙ sym k.initial) domain parts (h.fixed ∙ sym k.fixed)
 
   pub one_level : One_form AreLevelFields
@@ -101,7 +101,7 @@ module _ (one_pairs : (piece : Piece) (firsts seconds : List (Piece × Piece)) �
   one_file (piece ∷ []) first second h k = one_map AreFileFields one_fields piece first second h k
   one_file (piece ∷ other ∷ pieces) first second h k = h ∙ sym k
 
-  -- a text is one file
-  pub one_file_of : ((bytes : List ℕ) (firsts seconds : List Piece) → IsText bytes firsts → IsText bytes seconds → firsts ≡ seconds) → One_form IsFileOf
+  -- a text is one file at most
+  pub one_file_of : ((bytes : List ℕ) (firsts seconds : List ElementModel) → IsText bytes firsts → IsText bytes seconds → firsts ≡ seconds) → One_form IsFileOf
   one_file_of division bytes first second h k =
-      one_file k.0 first second (subst (λ (pieces : List Piece). IsFile pieces first) (division bytes h.0 k.0 h.1 k.1) h.2) k.2
+      one_file k.0 first second (subst (λ (pieces : List ElementModel). IsFile pieces first) (division bytes h.0 k.0 h.1 k.1) h.2) k.2

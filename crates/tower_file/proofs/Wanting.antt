@@ -1,9 +1,9 @@
--- What a file says is never want of memory.
+-- What a file says is never the fault that memory was refused.
 use Rattle.std.proofs.Common.{ℕ, Bool, true, false, List, [], ◌∷◌, Option, Some, None, Result, Ok, Err}
 use Rattle.std.specs.Str.{bytes_eq}
 use Rattle.std.specs.Prelude.{if◌then◌else◌, not, nat_lt, nat_le, length, is_some}
 use Rattle.intervals.specs.declared.operation.RegId.{RegId}
-use Rattle.edn_reader.specs.Grammar.{Piece}
+use Rattle.edn_reader.specs.Grammar.{ElementModel}
 use Rattle.edn_reader.specs.Pairs.{is_word}
 use Rattle.edn_reader.specs.Integer.{int_of}
 use Rattle.edn_reader.specs.Given.{Given, Missing, One, Many}
@@ -13,12 +13,12 @@ use Rattle.tower_file.specs.declared.fault.TowerField.TheVariants as fields
 use Rattle.tower_file.specs.declared.fault.TowerFault.{TowerFault}
 use Rattle.tower_file.specs.declared.fault.TowerFault.TheVariants.{Edn, Shape, NameTaken, WriterCount, UnknownPart, EmptyDomain, InitialOutOfDomain, TooMany, Memory, UnknownInitial}
 use Rattle.tower_file.specs.Form.{Sequence, RegisterForm, LevelForm, FileForm}
-use Rattle.tower_file.specs.Contents.{Register, Contents, empty, number_of}
+use Rattle.tower_file.specs.Contents.{Register, TowerModel, empty, number_of}
 use Rattle.tower_file.specs.Steps.{◌>>=◌}
 use Rattle.tower_file.specs.Stating.{stated_value, stated_initial, stated_kind}
-use Rattle.tower_file.specs.Reading.{needed, optional, formed, each, value_of, initial_claimed, process_of, kind_claimed, processes_of, writers_listed, domain_of, name_in, kind_in, writers_in, initial_in, domain_in, parts_in, fixed_in, name_of, Said, said_by, has_its_writers, has_its_initial, earlier, part_of, is_empty_domain, is_outside, fails_if, register_among, register_read, through, with_register, with_registers, with_level, vector_in, level_after, levels_after, contents_of}
+use Rattle.tower_file.specs.Reading.{needed, optional, formed, each, domain_value, initial_claimed, process_of, kind_claimed, processes_of, writers_listed, domain_of, name_in, kind_in, writers_in, initial_in, domain_in, parts_in, fixed_in, name_of, RegisterFields, said_by, has_its_writers, has_its_initial, earlier, part_of, is_empty_domain, is_outside, fails_if, register_among, register_read, through, with_register, with_registers, with_level, vector_in, level_after, levels_after, contents_of}
 
--- no want of memory
+-- any fault but that memory was refused
 abbrev pub IsOther : TowerFault → Type 0
 IsOther (Edn fault) = Unit {0}
 IsOther (Shape field) = Unit {0}
@@ -61,37 +61,37 @@ of_each : {X Y : Type 0} (read : X → Result Y TowerFault) (xs : List X) → ((
 of_each read [] h = tt
 of_each read (x ∷ xs) h = after (read x) (λ y. each read xs >>= (λ ys. Ok (y ∷ ys))) (h x) (λ y. after (each read xs) (λ ys. Ok (y ∷ ys)) (of_each read xs h) (λ ys. tt))
 
-of_value : (piece : Piece) → Wants_none (value_of piece)
+of_value : (piece : ElementModel) → Wants_none (domain_value piece)
 of_value piece = of_formed fields.Domain (stated_value piece)
 
-of_initial : (piece : Piece) → Wants_none (initial_claimed piece)
+of_initial : (piece : ElementModel) → Wants_none (initial_claimed piece)
 of_initial piece = of_formed fields.Initial (stated_initial piece)
 
-of_kind : (piece : Piece) → Wants_none (kind_claimed piece)
+of_kind : (piece : ElementModel) → Wants_none (kind_claimed piece)
 of_kind piece = of_formed fields.Kind (stated_kind piece)
 
-of_processes : (members : Option (List Piece)) → Wants_none (processes_of members)
+of_processes : (members : Option (List ElementModel)) → Wants_none (processes_of members)
 of_processes None = tt
 of_processes (Some members) = after (each process_of members) (λ processes. Ok (Some processes)) (of_each process_of members (λ piece. of_formed fields.Writers (int_of piece))) (λ processes. tt)
 
 of_writers : (writers : Sequence) → Wants_none (writers_listed writers)
 of_writers writers = either (is_word (codes ":any") writers.element) _ (processes_of writers.members) tt (of_processes writers.members)
 
-of_values : (members : Option (List Piece)) → Wants_none (domain_of members)
+of_values : (members : Option (List ElementModel)) → Wants_none (domain_of members)
 of_values None = tt
-of_values (Some members) = of_each value_of members of_value
+of_values (Some members) = of_each domain_value members of_value
 
-of_name : (field : TowerField) (name : Given Piece) → Wants_none (name_in field name)
+of_name : (field : TowerField) (name : Given ElementModel) → Wants_none (name_in field name)
 of_name field Missing = tt
 of_name field (One piece) = tt
 of_name field Many = tt
 
-of_parts : (parts : Given (Option (List Piece))) → Wants_none (parts_in parts)
+of_parts : (parts : Given (Option (List ElementModel))) → Wants_none (parts_in parts)
 of_parts Missing = tt
 of_parts (One members) = of_formed fields.Parts members
 of_parts Many = tt
 
-of_fixed : (fixed : Given Piece) → Wants_none (fixed_in fixed)
+of_fixed : (fixed : Given ElementModel) → Wants_none (fixed_in fixed)
 of_fixed Missing = tt
 of_fixed (One piece) = either (bytes_eq (name_of piece) (codes "true")) _ _ tt (either (bytes_eq (name_of piece) (codes "false")) _ _ tt tt)
 of_fixed Many = tt
@@ -114,7 +114,7 @@ of_refused : (test : Bool) (fault : TowerFault) → IsOther fault → Wants_none
 of_refused true fault h = h
 of_refused false fault h = tt
 
-of_placed : (level first : ℕ) (registers : List Register) (said : Said) → Wants_none (register_among level first registers said)
+of_placed : (level first : ℕ) (registers : List Register) (said : RegisterFields) → Wants_none (register_among level first registers said)
 of_placed level first registers said =
     after (fails_if (is_some (number_of registers said.name)) NameTaken) _ (of_refused _ NameTaken tt) (λ taken.
     after (fails_if (not (has_its_writers said.kind said.writers)) WriterCount) _ (of_refused _ WriterCount tt) (λ writers.
@@ -140,14 +140,14 @@ of_registers level registers forms =
 of_vector : {Form : Type 0} (field : TowerField) (forms : Given (Option (List Form))) → Wants_none (vector_in field forms)
 of_vector field forms = after (needed field forms) (formed field) (of_needed field forms) (of_formed field)
 
-of_level : (tower : Contents) (form : Option LevelForm) → Wants_none (level_after tower form)
+of_level : (tower : TowerModel) (form : Option LevelForm) → Wants_none (level_after tower form)
 of_level tower None = tt
 of_level tower (Some level) =
     after (name_in fields.Name level.name) _ (of_name fields.Name level.name) (λ name.
     after (vector_in fields.Registers level.registers) (with_level tower name) (of_vector fields.Registers level.registers) (λ forms.
     after (with_registers (length tower.levels) tower.registers forms) _ (of_registers (length tower.levels) tower.registers forms) (λ registers. tt)))
 
--- what a file says wants no memory
+-- what a file says is not that memory was refused
 pub of_contents : (form : Option FileForm) → Wants_none (contents_of form)
 of_contents None = tt
 of_contents (Some file) =

@@ -1,12 +1,12 @@
--- Where reading comes to something that is kept in memory.
+-- Which levels of a file are kept in memory.
 use Rattle.std.specs.Prelude.{◌≡◌, ℕ, List, ◌∷◌, ◌++◌, Option, Some, Ok}
 use Rattle.tower_file.specs.declared.fault.TowerField.TheVariants.{Name, Registers, Levels}
 use Rattle.tower_file.specs.Form.{RegisterForm, LevelForm, FileForm}
-use Rattle.tower_file.specs.Contents.{Contents, empty}
+use Rattle.tower_file.specs.Contents.{TowerModel, empty}
 use Rattle.tower_file.specs.Reading.{name_in, vector_in, levels_after}
 
--- A level that is kept, whatever is wrong with its registers: a map with a name and a vector of registers.
-pub record IsKept (form : Option LevelForm) : Type 0 where
+-- a level that is kept, whatever is wrong with its registers: a map with one name and one vector of registers
+pub record IsLevelKept (form : Option LevelForm) : Type 0 where
   pub level : LevelForm
   pub name : List ℕ
   pub registers : List (Option RegisterForm)
@@ -14,17 +14,17 @@ pub record IsKept (form : Option LevelForm) : Type 0 where
   pub has_name : name_in Name level.name ≡ Ok name
   pub has_registers : vector_in Registers level.registers ≡ Ok registers
 
--- From a tower on, reading these levels comes to one that is kept: those before it have no fault.
-pub record ReachesKept (start : Contents) (levels : List (Option LevelForm)) : Type 0 where
+-- reading these levels in order, from the tower `start` on, reaches one that is kept: those before it have no fault
+pub record ReachesKept (start : TowerModel) (levels : List (Option LevelForm)) : Type 0 where
   pub before : List (Option LevelForm)
   pub form : Option LevelForm
   pub later : List (Option LevelForm)
-  pub tower : Contents
+  pub tower : TowerModel
   pub order : levels ≡ before ++ form ∷ later
   pub read : levels_after start before ≡ Ok tower
-  pub kept : IsKept form
+  pub kept : IsLevelKept form
 
--- A file of which a level is kept.
+-- a file of which a level is kept: a map with one vector of levels, the reading of which reaches one that is kept
 pub record KeepsALevel (form : Option FileForm) : Type 0 where
   pub file : FileForm
   pub levels : List (Option LevelForm)

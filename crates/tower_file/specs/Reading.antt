@@ -1,5 +1,4 @@
--- What a file says (this project's own form, docs/FORMATS.md): its levels and registers in file order, and the first fault
--- that is met.
+-- What a file says (docs/FORMATS.md): its levels and registers in file order, or the first fault that is met.
 use Rattle.std.specs.Prelude.{ℕ, ℤ, nat_lt, nat_le, ◌==◌, Bool, true, false, not, List, [], ◌∷◌, ◌++◌, length, Option, Some, None, Result, Ok, Err, codes, if◌then◌else◌, is_some}
 use Rattle.std.specs.List.{list_any}
 use Rattle.std.specs.Option.{ok_or}
@@ -13,8 +12,8 @@ use Rattle.intervals.specs.declared.claim.Kind.{Kind}
 use Rattle.intervals.specs.declared.claim.Kind.TheVariants as kinds
 use Rattle.intervals.specs.Operation.{same_value}
 use Rattle.intervals.specs.Refusal.{is_one_writer}
-use Rattle.intervals.specs.Terms.{Terms, value_at_first, is_known}
-use Rattle.edn_reader.specs.Grammar.{Piece, untagged}
+use Rattle.intervals.specs.Terms.{ClaimModel, value_at_first, is_known}
+use Rattle.edn_reader.specs.Grammar.{ElementModel, untagged}
 use Rattle.edn_reader.specs.Pairs.{is_word}
 use Rattle.edn_reader.specs.Given.{Given, Missing, One, Many}
 use Rattle.edn_reader.specs.Integer.{int_of}
@@ -25,108 +24,108 @@ use Rattle.tower_file.specs.declared.fault.TowerFault.TheVariants.{Shape, NameTa
 use Rattle.tower_file.specs.Form.{Sequence, RegisterForm, LevelForm, FileForm}
 use Rattle.tower_file.specs.Steps.{◌>>=◌, once, at_most_once}
 use Rattle.tower_file.specs.Stating.{stated_value, stated_initial, stated_kind}
-use Rattle.tower_file.specs.Contents.{Register, Contents, empty, number_of}
+use Rattle.tower_file.specs.Contents.{Register, TowerModel, empty, number_of}
 
--- What stands once under a key that is needed.
+-- what is under a key that must be there once; else V2 (`Shape`) of its field
 abbrev pub needed : {X : Type 0} → TowerField → Given X → Result X TowerFault
 needed field given = once (Shape field) (Shape field) given
 
--- What stands under a key that may be left out, read further; none where it is.
+-- what is under an optional key, read further, or none where it is not there; V2 where it is there more than once
 abbrev pub optional : {X Y : Type 0} → TowerField → (X → Result Y TowerFault) → Given X → Result (Option Y) TowerFault
 optional field read given = at_most_once (Shape field) read given
 
--- What is of the form that it is to have.
+-- what has the form that it must have; V2 (`Shape`) of its field where it has another
 abbrev pub formed : {X : Type 0} → TowerField → Option X → Result X TowerFault
 formed field x = ok_or x (Shape field)
 
--- Each of a list, read in turn.
+-- what the elements of a list are read to, in order; the fault of the first that has one
 abbrev pub each : {X Y : Type 0} → (X → Result Y TowerFault) → List X → Result (List Y) TowerFault
 each read [] = Ok []
 each read (x ∷ xs) = read x >>= (λ y. each read xs >>= (λ ys. Ok (y ∷ ys)))
 
--- The bytes of an element without its tags, which are the name that it gives.
-abbrev pub name_of : Piece → List ℕ
+-- the name that an element gives: its bytes without its tags
+abbrev pub name_of : ElementModel → List ℕ
 name_of piece = (untagged piece).text
 
--- A value of a domain: the one that is stated.
-abbrev pub value_of : Piece → Result Value TowerFault
-value_of piece = formed fields.Domain (stated_value piece)
+-- a value of a domain: nil, or an integer of 64 bits; V2 of `:domain` where the element is another
+abbrev pub domain_value : ElementModel → Result Value TowerFault
+domain_value piece = formed fields.Domain (stated_value piece)
 
--- The initial value that is stated: a value, or that nobody knows it.
-abbrev pub initial_claimed : Piece → Result Initial TowerFault
+-- an initial value: a value, or unknown for `:unknown`; V2 of `:initial` where the element is another
+abbrev pub initial_claimed : ElementModel → Result Initial TowerFault
 initial_claimed piece = formed fields.Initial (stated_initial piece)
 
--- A process: an integer that fits.
-abbrev pub process_of : Piece → Result ℤ TowerFault
+-- a process: an integer of 64 bits; V2 of `:writers` where the element is another
+abbrev pub process_of : ElementModel → Result ℤ TowerFault
 process_of piece = formed fields.Writers (int_of piece)
 
--- A kind, by its keyword.
-abbrev pub kind_claimed : Piece → Result Kind TowerFault
+-- a kind, named `:safe`, `:regular` or `:atomic`; V2 of `:kind` where the element is another
+abbrev pub kind_claimed : ElementModel → Result Kind TowerFault
 kind_claimed piece = formed fields.Kind (stated_kind piece)
 
--- The processes of a vector.
-abbrev pub processes_of : Option (List Piece) → Result (Option (List ℤ)) TowerFault
+-- the processes that a vector lists; V2 of `:writers` where the element is no vector or lists something else
+abbrev pub processes_of : Option (List ElementModel) → Result (Option (List ℤ)) TowerFault
 processes_of members = formed fields.Writers members >>= each process_of >>= (λ processes. Ok (Some processes))
 
--- The writers: any process, for which none are listed, or those of a vector.
+-- the writers: any process for `:any`, for which there is no list, or those that a vector lists
 abbrev pub writers_listed : Sequence → Result (Option (List ℤ)) TowerFault
 writers_listed writers = if is_word (codes ":any") writers.element then Ok None else processes_of writers.members
 
--- The values of a vector.
-abbrev pub domain_of : Option (List Piece) → Result (List Value) TowerFault
-domain_of members = formed fields.Domain members >>= each value_of
+-- the values of a vector; V2 of `:domain` where the element is no vector or has something else
+abbrev pub domain_of : Option (List ElementModel) → Result (List Value) TowerFault
+domain_of members = formed fields.Domain members >>= each domain_value
 
--- What is said under each key of a register.
-abbrev pub name_in : TowerField → Given Piece → Result (List ℕ) TowerFault
+-- the name under a key that must be there once; else V2 of its field
+abbrev pub name_in : TowerField → Given ElementModel → Result (List ℕ) TowerFault
 name_in field name = needed field name >>= (λ piece. Ok (name_of piece))
 
--- The kind that stands under its key.
-abbrev pub kind_in : Given Piece → Result Kind TowerFault
+-- the kind under `:kind`, which must be there once
+abbrev pub kind_in : Given ElementModel → Result Kind TowerFault
 kind_in kind = needed fields.Kind kind >>= kind_claimed
 
--- The writers that stand under their key; none listed is any process.
+-- the writers under `:writers`, which must be there once; no list where any process may write
 abbrev pub writers_in : Given Sequence → Result (Option (List ℤ)) TowerFault
 writers_in writers = needed fields.Writers writers >>= writers_listed
 
--- The initial value, where one stands under its key.
-abbrev pub initial_in : Given Piece → Result (Option Initial) TowerFault
+-- the optional initial value under `:initial`
+abbrev pub initial_in : Given ElementModel → Result (Option Initial) TowerFault
 initial_in initial = optional fields.Initial initial_claimed initial
 
--- The domain, where one stands under its key.
-abbrev pub domain_in : Given (Option (List Piece)) → Result (Option (List Value)) TowerFault
+-- the optional domain under `:domain`
+abbrev pub domain_in : Given (Option (List ElementModel)) → Result (Option (List Value)) TowerFault
 domain_in domain = optional fields.Domain domain_of domain
 
--- The elements that name parts; none where the key is left out.
-abbrev pub parts_in : Given (Option (List Piece)) → Result (List Piece) TowerFault
+-- the elements under `:of`, which name the parts; no elements where the key is missing
+abbrev pub parts_in : Given (Option (List ElementModel)) → Result (List ElementModel) TowerFault
 parts_in Missing = Ok []
 parts_in (One members) = formed fields.Parts members
 parts_in Many = Err (Shape fields.Parts)
 
--- Whether the word is true or false.
-abbrev pub fixed_of : Piece → Result Bool TowerFault
+-- whether the kind is fixed, by the word `true` or `false`; V2 of `:fixed` where the element is another
+abbrev pub fixed_of : ElementModel → Result Bool TowerFault
 fixed_of piece =
     if bytes_eq (name_of piece) (codes "true") then Ok true
     else if bytes_eq (name_of piece) (codes "false") then Ok false
     else Err (Shape fields.Fixed)
 
--- Whether the kind may not change; it may where the key is left out.
-abbrev pub fixed_in : Given Piece → Result Bool TowerFault
+-- whether the kind is fixed, by what is under `:fixed`; it is not where the key is missing
+abbrev pub fixed_in : Given ElementModel → Result Bool TowerFault
 fixed_in Missing = Ok false
 fixed_in (One piece) = fixed_of piece
 fixed_in Many = Err (Shape fields.Fixed)
 
--- What a register says by itself, before it is placed among the others.
-pub record Said : Type 0 where
+-- what a register says by itself, before it is placed among the others
+pub record RegisterFields : Type 0 where
   pub name : List ℕ
   pub kind : Kind
   pub writers : Option (List ℤ)
   pub initial : Option Initial
   pub domain : Option (List Value)
-  pub parts : List Piece
+  pub parts : List ElementModel
   pub fixed : Bool
 
--- The keys are read in this order.
-abbrev pub said_by : RegisterForm → Result Said TowerFault
+-- what a register says by itself, read in this order: name, kind, writers, initial value, domain, parts, fixed
+abbrev pub said_by : RegisterForm → Result RegisterFields TowerFault
 said_by form =
     name_in fields.Name form.name >>= (λ name.
     kind_in form.kind >>= (λ kind.
@@ -137,57 +136,57 @@ said_by form =
     fixed_in form.fixed >>= (λ fixed.
     Ok (record { name = name; kind = kind; writers = writers; initial = initial; domain = domain; parts = parts; fixed = fixed }))))))))
 
--- Safe and regular registers have one writer (Lamport 1986).
+-- whether a register has the writers that its kind allows: one if safe or regular (Lamport 1986), any if atomic
 abbrev pub has_its_writers : Kind → Option (List ℤ) → Bool
 has_its_writers kinds.Safe writers = is_one_writer writers
 has_its_writers kinds.Regular writers = is_one_writer writers
 has_its_writers kinds.Atomic writers = true
 
--- The initial value; nil, which is known, where none is said.
-abbrev pub initial_of : Option Initial → Initial
-initial_of None = Known Nil
-initial_of (Some initial) = initial
+-- the stated initial value; nil, which is known, where none is stated
+abbrev pub stated_or_nil : Option Initial → Initial
+stated_or_nil None = Known Nil
+stated_or_nil (Some initial) = initial
 
--- The initial value of a safe or regular register is known.
+-- whether a register has an initial value that its kind allows: a known one if safe or regular, any if atomic
 abbrev pub has_its_initial : Kind → Option Initial → Bool
-has_its_initial kinds.Safe initial = is_known (initial_of initial)
-has_its_initial kinds.Regular initial = is_known (initial_of initial)
+has_its_initial kinds.Safe initial = is_known (stated_or_nil initial)
+has_its_initial kinds.Regular initial = is_known (stated_or_nil initial)
 has_its_initial kinds.Atomic initial = true
 
--- A number that is there and below the first one of a level.
+-- this number of a register, if it is there and below `first`, a level's first number; else V5 (`UnknownPart`)
 abbrev pub earlier : ℕ → Option RegId → Result RegId TowerFault
 earlier first None = Err UnknownPart
 earlier first (Some number) = if nat_lt number.0 first then Ok number else Err UnknownPart
 
--- The part that an element names: a register of an earlier level.
-abbrev pub part_of : ℕ → List Register → Piece → Result RegId TowerFault
+-- the part that an element names: a register of an earlier level, with a number below `first`; else V5 (`UnknownPart`)
+abbrev pub part_of : ℕ → List Register → ElementModel → Result RegId TowerFault
 part_of first registers piece = earlier first (number_of registers (name_of piece))
 
--- The domain is there and has no value.
+-- whether there is a domain, and it has no value
 abbrev pub is_empty_domain : Option (List Value) → Bool
 is_empty_domain None = false
 is_empty_domain (Some values) = length values == 0
 
--- A known initial value and the domain are there, and the one is not in the other.
+-- whether there are a known initial value and a domain, and the value is not in the domain
 abbrev pub is_outside : Option Initial → Option (List Value) → Bool
 is_outside None domain = false
 is_outside (Some Unknown) domain = false
 is_outside (Some (Known initial)) None = false
 is_outside (Some (Known initial)) (Some values) = not (list_any (λ value. same_value value initial) values)
 
--- What is claimed of the register that is said.
-abbrev pub claim_said : Said → Terms
+-- what a register claims, by what it says by itself; without a stated initial value it is nil at first
+abbrev pub claim_said : RegisterFields → ClaimModel
 claim_said said = record {
   kind = said.kind;
   writers = said.writers;
-  initial = value_at_first (initial_of said.initial);
-  known = is_known (initial_of said.initial);
+  initial = value_at_first (stated_or_nil said.initial);
+  known = is_known (stated_or_nil said.initial);
   domain = said.domain;
   fixed = said.fixed;
 }
 
--- The register that is said, on a level.
-abbrev pub register_said : ℕ → Said → List RegId → Register
+-- the register on this level that says this by itself, with these parts
+abbrev pub register_said : ℕ → RegisterFields → List RegId → Register
 register_said level said parts = record {
   name = said.name;
   claim = claim_said said;
@@ -195,13 +194,14 @@ register_said level said parts = record {
   parts = parts;
 }
 
--- A fault where a test holds, and else none.
+-- this fault where the test is true; else no fault
 abbrev pub fails_if : Bool → TowerFault → Result Unit TowerFault
 fails_if true fault = Err fault
 fails_if false fault = Ok tt
 
--- A register among those before it, of which the earlier levels have the first ones: what is wrong with it is asked in this order.
-abbrev pub register_among : ℕ → ℕ → List Register → Said → Result Register TowerFault
+-- the register that says this, placed after `registers`, of which those below `first` are on earlier levels; the faults
+-- are looked for in this order: V3, V4, V10, V5, V6, V7, V8
+abbrev pub register_among : ℕ → ℕ → List Register → RegisterFields → Result Register TowerFault
 register_among level first registers said =
     fails_if (is_some (number_of registers said.name)) NameTaken >>= (λ _.
     fails_if (not (has_its_writers said.kind said.writers)) WriterCount >>= (λ _.
@@ -212,46 +212,46 @@ register_among level first registers said =
     fails_if (nat_le 65536 (length registers)) TooMany >>= (λ _.
     Ok (register_said level said parts))))))))
 
--- The register that an element is, on a level, among those before it.
+-- the register that is written so, placed on a level after those before it; V2 where it is no map
 abbrev pub register_read : ℕ → ℕ → List Register → Option RegisterForm → Result Register TowerFault
 register_read level first registers form = formed fields.Registers form >>= said_by >>= register_among level first registers
 
--- One step for each of a list, in turn, each from what the one before leaves.
+-- one step for each of a list, in order, each from the state that the one before it left; the first fault ends them
 abbrev pub through : {State X : Type 0} → (State → X → Result State TowerFault) → State → List X → Result State TowerFault
 through step state [] = Ok state
 through step state (x ∷ xs) = step state x >>= (λ next. through step next xs)
 
--- The registers with one more of a level.
+-- the registers so far, and the next one of a level
 abbrev pub with_register : ℕ → ℕ → List Register → Option RegisterForm → Result (List Register) TowerFault
 with_register level first registers form = register_read level first registers form >>= (λ register. Ok (registers ++ register ∷ []))
 
--- The registers after those of a level, whose first one gets the number of those before it.
+-- the registers so far, and then those of a level, in order; its first number is how many there were before
 abbrev pub with_registers : ℕ → List Register → List (Option RegisterForm) → Result (List Register) TowerFault
 with_registers level registers forms = through (with_register level (length registers)) registers forms
 
--- One more level of a tower, of that name and with these registers.
-abbrev pub with_level : Contents → List ℕ → List (Option RegisterForm) → Result Contents TowerFault
+-- the tower with one more level on top, with this name and these registers
+abbrev pub with_level : TowerModel → List ℕ → List (Option RegisterForm) → Result TowerModel TowerFault
 with_level tower name registers =
     with_registers (length tower.levels) tower.registers registers
     >>= (λ after. Ok (record { levels = tower.levels ++ name ∷ []; registers = after }))
 
--- The elements of a vector that is needed.
+-- the elements of the vector under a key that must be there once; else V2 of its field
 abbrev pub vector_in : {Form : Type 0} → TowerField → Given (Option (List Form)) → Result (List Form) TowerFault
 vector_in field given = needed field given >>= formed field
 
--- The tower after one level, of which the name is read first.
-abbrev pub level_after : Contents → Option LevelForm → Result Contents TowerFault
+-- the tower after one more level, whose name is read before its registers
+abbrev pub level_after : TowerModel → Option LevelForm → Result TowerModel TowerFault
 level_after tower form =
     formed fields.Levels form >>= (λ level.
     name_in fields.Name level.name >>= (λ name.
     vector_in fields.Registers level.registers >>= with_level tower name))
 
--- The tower after these levels.
-abbrev pub levels_after : Contents → List (Option LevelForm) → Result Contents TowerFault
+-- the tower after these levels, in order; the first fault ends them
+abbrev pub levels_after : TowerModel → List (Option LevelForm) → Result TowerModel TowerFault
 levels_after = through level_after
 
--- The tower of a file.
-abbrev pub contents_of : Option FileForm → Result Contents TowerFault
+-- the tower that a file says, or its first fault
+abbrev pub contents_of : Option FileForm → Result TowerModel TowerFault
 contents_of form =
     formed fields.File form >>= (λ file.
     vector_in fields.Levels file.levels >>= levels_after empty)

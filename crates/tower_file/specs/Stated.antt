@@ -1,12 +1,11 @@
--- What a program holds of the keys of a register, of a vector that is left to go over, and of a text. No public clause
--- speaks of it.
+-- What the program holds of a register's keys, of a vector and of a text. Only private clauses speak of it.
 use Rattle.std.specs.Prelude.{◌≡◌, ◌≢◌, ℕ, List, [], ◌∷◌, Option, Some, None, Result, Ok, Err, Vec}
 use Rattle.std.specs.Option.{option_map}
 use Rattle.std.specs.declared.alloc.Global.{Global}
 use Rattle.edn_reader.specs.declared.element.Element.{Element}
 use Rattle.edn_reader.specs.declared.view.MapView.{MapView}
 use Rattle.edn_reader.specs.declared.view.VectorView.{VectorView}
-use Rattle.edn_reader.specs.Grammar.{Piece}
+use Rattle.edn_reader.specs.Grammar.{ElementModel}
 use Rattle.edn_reader.specs.Pairs.{HasMembers}
 use Rattle.edn_reader.specs.Fault.{FaultOf}
 use Rattle.edn_reader.specs.Given.{seen}
@@ -14,35 +13,35 @@ use Rattle.edn_reader.specs.Lent.{piece_of, MembersLeft, PairsLeft}
 use Rattle.intervals.specs.declared.operation.Value.{Value}
 use Rattle.intervals.specs.Terms.{writers_of}
 use Rattle.tower_file.specs.declared.said.Fields.{Fields}
-use Rattle.tower_file.specs.declared.said.Said.{Said as Found}
+use Rattle.tower_file.specs.declared.said.RegisterFields.{RegisterFields as Found}
 use Rattle.tower_file.specs.declared.fault.TowerFault.{TowerFault}
 use Rattle.tower_file.specs.declared.fault.TowerFault.TheVariants.{Edn, Shape, NameTaken, WriterCount, UnknownPart, EmptyDomain, InitialOutOfDomain, TooMany, Memory, UnknownInitial}
-use Rattle.tower_file.specs.Form.{RegisterForm, IsGiven, IsSequence, AreMembers, Each}
-use Rattle.tower_file.specs.Reading.{Said}
+use Rattle.tower_file.specs.Form.{RegisterForm, IsGiven, IsSequence, AreVectorElements, Each}
+use Rattle.tower_file.specs.Reading.{RegisterFields}
 use Rattle.tower_file.specs.Tower.{NestsDeeply}
-use Rattle.tower_file.specs.Located.{Span, span_of, pairs_under}
+use Rattle.tower_file.specs.Located.{ByteSpan, byte_span_of, pairs_under}
 
--- The program has looked up what stands under each key of a register.
-pub record AreFound (found : Fields) (form : RegisterForm) : Type 0 where
+-- what the program found under each key of a register is what the register has there
+pub record AreFieldsOf (found : Fields) (form : RegisterForm) : Type 0 where
   pub name : form.name ≡ seen found.name
   pub kind : form.kind ≡ seen found.kind
   pub writers : IsGiven IsSequence (seen found.writers) form.writers
   pub initial : form.initial ≡ seen found.initial
-  pub domain : IsGiven AreMembers (seen found.domain) form.domain
-  pub parts : IsGiven AreMembers (seen found.parts) form.parts
+  pub domain : IsGiven AreVectorElements (seen found.domain) form.domain
+  pub parts : IsGiven AreVectorElements (seen found.parts) form.parts
   pub fixed : form.fixed ≡ seen found.fixed
 
--- The elements that a view has left; none where there is no view.
-abbrev pub NamesLeft : Option VectorView → List Piece → Type 0
+-- these elements are left in a view of a vector; no elements where there is no view
+abbrev pub NamesLeft : Option VectorView → List ElementModel → Type 0
 NamesLeft None pieces = pieces ≡ []
 NamesLeft (Some view) pieces = MembersLeft view pieces
 
--- The values of a domain, where one is given.
+-- the list of values of an optional domain
 abbrev pub domain_items : Option (Vec Value Global) → Option (List Value)
 domain_items domain = option_map (λ values. values.items) domain
 
--- The program holds what is said.
-pub record IsSaid (found : Found) (said : Said) : Type 0 where
+-- the program holds what a register says by itself, field by field
+pub record IsSaid (found : Found) (said : RegisterFields) : Type 0 where
   pub name : said.name ≡ found.name.now
   pub kind : said.kind ≡ found.kind
   pub writers : said.writers ≡ writers_of found.writers
@@ -51,16 +50,17 @@ pub record IsSaid (found : Found) (said : Said) : Type 0 where
   pub parts : NamesLeft found.parts said.parts
   pub fixed : said.fixed ≡ found.fixed
 
--- What a function answered stands for what is to be answered, where memory was not refused.
+-- what a function answered is the answer that is due, with its result shown by a relation; nothing is said where memory
+-- was refused
 abbrev pub ShowsOrMemory : {X Y : Type 0} → (X → Y → Type 0) → Result X TowerFault → Result Y TowerFault → Type 0
 ShowsOrMemory {X} {Y} Shows (Ok x) wanted = (y : Y) × (wanted ≡ Ok y) × Shows x y
 ShowsOrMemory Shows (Err fault) wanted = fault ≢ Memory → wanted ≡ Err fault
 
--- These are left of a vector whose elements are read by a relation.
-abbrev pub FormsLeft : {Form : Type 0} → (Piece → Form → Type 0) → VectorView → List Form → Type 0
-FormsLeft IsRead view forms = (members : List Piece) × MembersLeft view members × Each IsRead members forms
+-- the forms are read from the elements that are left in a view of a vector, in order
+abbrev pub FormsLeft : {Form : Type 0} → (ElementModel → Form → Type 0) → VectorView → List Form → Type 0
+FormsLeft IsRead view forms = (members : List ElementModel) × MembersLeft view members × Each IsRead members forms
 
--- What reading the text alone may answer: a fault of the text, or want of memory where brackets are nested deeply.
+-- how reading the text alone may fail: by its fault as EDN, or out of memory where it nests deeply (`NestsDeeply`)
 abbrev pub IsTextFault : List ℕ → TowerFault → Type 0
 IsTextFault bytes (Edn fault) = FaultOf bytes fault
 IsTextFault bytes (Shape field) = ⊥
@@ -73,16 +73,16 @@ IsTextFault bytes TooMany = ⊥
 IsTextFault bytes Memory = NestsDeeply bytes
 IsTextFault bytes UnknownInitial = ⊥
 
--- The span is that of an element of which this holds.
-abbrev pub IsSpanned : (Piece → Type 0) → Option Span → Type 0
-IsSpanned IsIt span = (wrong : Piece) × IsIt wrong × (span ≡ Some (span_of wrong))
+-- the span is that of an element of which `IsIt` holds
+abbrev pub IsSpanned : (ElementModel → Type 0) → Option ByteSpan → Type 0
+IsSpanned IsIt span = (wrong : ElementModel) × IsIt wrong × (span ≡ Some (byte_span_of wrong))
 
--- What is given next of the pairs under a key, and what a view has left then.
-abbrev pub NextUnder : List ℕ → Option (Element × Element) → MapView → List (Piece × Piece) → Type 0
+-- the next of these pairs under a key, and a view that has left the pairs after it; none where no pair is under the key
+abbrev pub NextUnder : List ℕ → Option (Element × Element) → MapView → List (ElementModel × ElementModel) → Type 0
 NextUnder key None view pairs = pairs_under key pairs ≡ []
 NextUnder key (Some pair) view pairs =
-    (left : List (Piece × Piece)) × PairsLeft view left × (pairs_under key pairs ≡ (piece_of pair.0, piece_of pair.1) ∷ pairs_under key left)
+    (left : List (ElementModel × ElementModel)) × PairsLeft view left × (pairs_under key pairs ≡ (piece_of pair.0, piece_of pair.1) ∷ pairs_under key left)
 
--- There is one pair, and a view has left the elements of its value.
-abbrev pub IsVectorAt : List (Piece × Piece) → VectorView → Type 0
-IsVectorAt pairs view = (pair : Piece × Piece) × (pairs ≡ pair ∷ []) × ((members : List Piece) → MembersLeft view members → HasMembers pair.1 members)
+-- there is just one pair, and what is left in the view are the elements of its value, a vector
+abbrev pub IsVectorAt : List (ElementModel × ElementModel) → VectorView → Type 0
+IsVectorAt pairs view = (pair : ElementModel × ElementModel) × (pairs ≡ pair ∷ []) × ((members : List ElementModel) → MembersLeft view members → HasMembers pair.1 members)

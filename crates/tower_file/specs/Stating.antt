@@ -3,7 +3,7 @@ use Rattle.std.specs.Prelude.{Option, Some, None, codes, if◌then◌else◌}
 use Rattle.std.specs.Option.{option_map}
 use Rattle.intervals.specs.declared.operation.Value.{Value}
 use Rattle.intervals.specs.declared.operation.Value.TheVariants.{Nil, Int}
-use Rattle.edn_reader.specs.Grammar.{Piece}
+use Rattle.edn_reader.specs.Grammar.{ElementModel}
 use Rattle.intervals.specs.declared.claim.Initial.{Initial}
 use Rattle.intervals.specs.declared.claim.Initial.TheVariants.{Known, Unknown}
 use Rattle.intervals.specs.declared.claim.Kind.{Kind}
@@ -11,16 +11,16 @@ use Rattle.intervals.specs.declared.claim.Kind.TheVariants.{Safe, Regular, Atomi
 use Rattle.edn_reader.specs.Pairs.{is_nil, is_word}
 use Rattle.edn_reader.specs.Integer.{int_of}
 
--- The value that an element states: nil, or an integer that fits; none where it is another element (this project's profile).
-abbrev pub stated_value : Piece → Option Value
+-- the value that an element states: nil, or an integer of 64 bits; none for another element (this project's profile)
+abbrev pub stated_value : ElementModel → Option Value
 stated_value piece = if is_nil piece then Some Nil else option_map Int (int_of piece)
 
--- The initial value that an element states: a value, or by its keyword that nobody knows it; none where it is another element.
-abbrev pub stated_initial : Piece → Option Initial
+-- the initial value that an element states: a value, or unknown for `:unknown`; none for another element
+abbrev pub stated_initial : ElementModel → Option Initial
 stated_initial piece = if is_word (codes ":unknown") piece then Some Unknown else option_map Known (stated_value piece)
 
--- The kind that an element names by its keyword; none where it is another element.
-abbrev pub stated_kind : Piece → Option Kind
+-- the kind that an element names: `:safe`, `:regular` or `:atomic`; none for another element
+abbrev pub stated_kind : ElementModel → Option Kind
 stated_kind piece =
     if is_word (codes ":safe") piece then Some Safe
     else if is_word (codes ":regular") piece then Some Regular

@@ -1,48 +1,48 @@
--- The tower that a text says, or the first fault of a tower file that it has; and where reading may want memory.
+-- The tower that a text says, or its first fault as a tower file, and where reading it may run out of memory.
 use Rattle.std.specs.Prelude.{◌≡◌, ◌⊎◌, ℕ, List, Option, Result, Ok, Err, codes}
 use Rattle.edn_reader.specs.declared.fault.EdnFault.{EdnFault}
-use Rattle.edn_reader.specs.Grammar.{Piece}
+use Rattle.edn_reader.specs.Grammar.{ElementModel}
 use Rattle.edn_reader.specs.Fault.{FaultOf, CanWantMemory}
 use Rattle.tower_file.specs.declared.fault.TowerFault.{TowerFault}
 use Rattle.tower_file.specs.declared.fault.TowerFault.TheVariants.{Edn, Shape, NameTaken, WriterCount, UnknownPart, EmptyDomain, InitialOutOfDomain, TooMany, Memory, UnknownInitial}
 use Rattle.tower_file.specs.Form.{FileForm, IsFileOf}
-use Rattle.tower_file.specs.Contents.{Contents}
+use Rattle.tower_file.specs.Contents.{TowerModel}
 use Rattle.tower_file.specs.Reading.{contents_of}
 use Rattle.tower_file.specs.Keeping.{KeepsALevel}
 
--- What the file that a text is says.
-abbrev pub Says : List ℕ → Result Contents TowerFault → Type 0
+-- the text has no fault as EDN, and read as a tower file it gives this: a tower, or the first fault in reading order
+abbrev pub Says : List ℕ → Result TowerModel TowerFault → Type 0
 Says bytes answer = (form : Option FileForm) × IsFileOf bytes form × (contents_of form ≡ answer)
 
--- A text says this tower.
-abbrev pub IsTowerOf : List ℕ → Contents → Type 0
+-- the text says this tower
+abbrev pub IsTowerOf : List ℕ → TowerModel → Type 0
 IsTowerOf bytes tower = Says bytes (Ok tower)
 
--- A fault of the text, wherever it is.
+-- the fault is V1, with the fault of the text as EDN, wherever in the text that is
 abbrev pub HasTextFault : List ℕ → TowerFault → Type 0
 HasTextFault bytes fault = (of_text : EdnFault) × (fault ≡ Edn of_text) × FaultOf bytes of_text
 
--- The first fault of a tower file: one of the text, and else the first in reading order.
+-- the text has this first fault of a tower file: that of the text as EDN, else the first one in reading order
 abbrev pub HasTowerFault : List ℕ → TowerFault → Type 0
 HasTowerFault bytes fault = HasTextFault bytes fault ⊎ Says bytes (Err fault)
 
--- Somewhere in a text sixteen or more brackets, tags and discards stand open, and one more begins.
+-- somewhere in the text sixteen or more brackets, tags and discards are open, and one more begins
 abbrev pub NestsDeeply : List ℕ → Type 0
-NestsDeeply bytes = (pieces : List Piece) × (place : ℕ) × CanWantMemory bytes pieces place
+NestsDeeply bytes = (pieces : List ElementModel) × (place : ℕ) × CanWantMemory bytes pieces place
 
--- Reading a text may want memory only where it nests deeply, or is a file of which a level is kept.
+-- reading the text may run out of memory: it nests deeply (`NestsDeeply`), or is a file of which a level is kept
 abbrev pub MayWantMemory : List ℕ → Type 0
 MayWantMemory bytes = NestsDeeply bytes ⊎ ((form : Option FileForm) × IsFileOf bytes form × KeepsALevel form)
 
--- The code of a fault, as it is printed.
-abbrev pub code_of : TowerFault → List ℕ
-code_of (Edn fault) = codes "V1"
-code_of (Shape field) = codes "V2"
-code_of NameTaken = codes "V3"
-code_of WriterCount = codes "V4"
-code_of UnknownPart = codes "V5"
-code_of EmptyDomain = codes "V6"
-code_of InitialOutOfDomain = codes "V7"
-code_of TooMany = codes "V8"
-code_of Memory = codes "V9"
-code_of UnknownInitial = codes "V10"
+-- the printed code of a fault of a tower file, V1 to V10
+abbrev pub tower_fault_code : TowerFault → List ℕ
+tower_fault_code (Edn fault) = codes "V1"
+tower_fault_code (Shape field) = codes "V2"
+tower_fault_code NameTaken = codes "V3"
+tower_fault_code WriterCount = codes "V4"
+tower_fault_code UnknownPart = codes "V5"
+tower_fault_code EmptyDomain = codes "V6"
+tower_fault_code InitialOutOfDomain = codes "V7"
+tower_fault_code TooMany = codes "V8"
+tower_fault_code Memory = codes "V9"
+tower_fault_code UnknownInitial = codes "V10"

@@ -1,20 +1,20 @@
-//! What single elements of a tower file say.
+//! Reads what single elements of a tower file say.
 
 ghost use Rattle.std.specs.Prelude.{◌≡◌};
-ghost use Rattle.edn_reader.specs.Grammar.{Piece};
+ghost use Rattle.edn_reader.specs.Grammar.{ElementModel};
 ghost use Rattle.edn_reader.specs.Lent.{piece_of};
 ghost use Rattle.edn_reader.specs.Given.{seen};
-ghost use Rattle.tower_file.specs.Stating.{stated_value as value_stated, stated_initial as initial_stated, stated_kind};
-ghost use Rattle.tower_file.specs.Reading.{value_of as value_in, process_of as process_in, name_of as name_that, needed as needed_of, name_in, kind_in, initial_in, fixed_in, fixed_of as fixed_said};
+ghost use Rattle.tower_file.specs.Stating.{stated_value, stated_initial, stated_kind};
+ghost use Rattle.tower_file.specs.Reading.{domain_value, process_of, name_of, needed, name_in, kind_in, initial_in, fixed_in, fixed_of};
 ghost use Rattle.tower_file.specs.Steps.{GivesSeen};
 
 use crate::fault::{TowerFault, TowerField};
 use edn_reader::{Element, Field};
 use intervals::{Initial, Kind, Value};
 
-/// What stands once under a key that is needed.
+/// The element in a field that must be there once.
 pub fn needed<'t>(field: &Field<'t>, name: TowerField) -> Result<Element<'t>, TowerFault>
-    ensures { GivesSeen piece_of result (needed_of name (seen field.now)) }
+    ensures { GivesSeen piece_of result (needed name (seen field.now)) }
 {
     match field {
         Field::Once(element) => Ok(*element),
@@ -24,7 +24,7 @@ pub fn needed<'t>(field: &Field<'t>, name: TowerField) -> Result<Element<'t>, To
 
 /// The bytes of an element without its tags.
 pub fn name_of<'t>(element: &Element<'t>) -> &'t [u8]
-    ensures { result.now ≡ name_that (piece_of element.now) }
+    ensures { result.now ≡ name_of (piece_of element.now) }
 {
     element.untagged().text()
 }
@@ -44,7 +44,8 @@ pub fn read_kind(field: &Field) -> Result<Kind, TowerFault>
     }
 }
 
-/// The kind that an element names by its keyword, behind tags or not; none where it is another element.
+/// The kind that an element names, tags before it or not: `:safe`, `:regular` or `:atomic`; none for another
+/// element.
 pub fn kind_of(element: &Element) -> Option<Kind>
     ensures { result ≡ stated_kind (piece_of element.now) }
 {
@@ -59,7 +60,7 @@ pub fn kind_of(element: &Element) -> Option<Kind>
     }
 }
 
-/// The initial value, where one is said.
+/// The optional initial value.
 pub fn read_initial(field: &Field) -> Result<Option<Initial>, TowerFault>
     ensures { result ≡ initial_in (seen field.now) }
 {
@@ -73,10 +74,10 @@ pub fn read_initial(field: &Field) -> Result<Option<Initial>, TowerFault>
     }
 }
 
-/// The initial value that an element states: a value, or unknown by its keyword, behind tags or not; none where it
-/// is another element.
+/// The initial value that an element states, tags before it or not: a value, or unknown for `:unknown`; none for
+/// another element.
 fn stated_initial(element: &Element) -> Option<Initial>
-    ensures { result ≡ initial_stated (piece_of element.now) }
+    ensures { result ≡ stated_initial (piece_of element.now) }
 {
     if element.is_keyword(b":unknown") {
         return Some(Initial::Unknown);
@@ -84,7 +85,7 @@ fn stated_initial(element: &Element) -> Option<Initial>
     Some(Initial::Known(stated_value(element)?))
 }
 
-/// Whether the kind may not change: the word `true` or `false`, and false where there is none.
+/// Whether the kind is fixed: by the word `true` or `false`; false where there is none.
 pub fn read_fixed(field: &Field) -> Result<bool, TowerFault>
     ensures { result ≡ fixed_in (seen field.now) }
 {
@@ -96,7 +97,7 @@ pub fn read_fixed(field: &Field) -> Result<bool, TowerFault>
 }
 
 fn fixed_of(element: &Element) -> Result<bool, TowerFault>
-    ensures { result ≡ fixed_said (piece_of element.now) }
+    ensures { result ≡ fixed_of (piece_of element.now) }
 {
     let word = name_of(element);
     if word == b"true".as_slice() {
@@ -108,9 +109,9 @@ fn fixed_of(element: &Element) -> Result<bool, TowerFault>
     }
 }
 
-/// The value that an element states: nil, or an integer that fits; none where it is another element.
+/// The value that an element states: nil, or an integer of 64 bits; none for another element.
 fn stated_value(element: &Element) -> Option<Value>
-    ensures { result ≡ value_stated (piece_of element.now) }
+    ensures { result ≡ stated_value (piece_of element.now) }
 {
     if element.is_nil() {
         return Some(Value::Nil);
@@ -118,9 +119,9 @@ fn stated_value(element: &Element) -> Option<Value>
     Some(Value::Int(element.as_int()?))
 }
 
-/// A value of a domain: nil, or an integer that fits.
+/// A value of a domain: nil, or an integer of 64 bits.
 pub fn value_of(element: &Element) -> Result<Value, TowerFault>
-    ensures { result ≡ value_in (piece_of element.now) }
+    ensures { result ≡ domain_value (piece_of element.now) }
 {
     match stated_value(element) {
         Some(value) => Ok(value),
@@ -128,9 +129,9 @@ pub fn value_of(element: &Element) -> Result<Value, TowerFault>
     }
 }
 
-/// A process: an integer that fits.
+/// A process: an integer of 64 bits.
 pub fn process_of(element: &Element) -> Result<i64, TowerFault>
-    ensures { result ≡ process_in (piece_of element.now) }
+    ensures { result ≡ process_of (piece_of element.now) }
 {
     match element.as_int() {
         Some(number) => Ok(number),

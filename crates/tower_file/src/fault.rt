@@ -1,14 +1,14 @@
 //! Why a text is no tower file.
 
 ghost use Rattle.std.specs.Prelude.{◌≡◌};
-ghost use Rattle.tower_file.specs.Tower.{code_of};
+ghost use Rattle.tower_file.specs.Tower.{tower_fault_code};
 ghost use Rattle.tower_file.specs.declared.fault.TowerFault.TheVariants.{Memory};
 
 use edn_reader::EdnFault;
 use std::alloc::{AllocError, AllocFailed};
 use thiserror::Error;
 
-/// The part of a tower file that is missing, stands twice or has another form.
+/// The part of a tower file that is missing, is there twice or has another form.
 #[derive(Clone, Copy, Debug, PartialEq, Eq)]
 pub enum TowerField {
     /// The file: one map and nothing else.
@@ -20,18 +20,18 @@ pub enum TowerField {
     Writers,
     Initial,
     Domain,
-    /// What stands under `:of`.
+    /// What is under `:of`.
     Parts,
     Fixed,
 }
 
-/// The first fault of a tower file, in reading order.
+/// The first fault of a tower file: that of the text as EDN, else the first in reading order.
 #[derive(Clone, Copy, Debug, PartialEq, Eq, Error)]
 pub enum TowerFault {
-    /// The text has a fault, anywhere in the file.
+    /// The text has a fault as EDN, anywhere in the file.
     #[error("V1 Edn {0}")]
     Edn(EdnFault),
-    /// A part is missing, stands twice or has another form.
+    /// A part of the file is missing, is there twice or has another form.
     #[error("V2 Shape of {0:?}")]
     Shape(TowerField),
     /// An earlier register has the name.
@@ -40,7 +40,7 @@ pub enum TowerFault {
     /// A safe or regular register has not exactly one writer.
     #[error("V4 WriterCount")]
     WriterCount,
-    /// A part is no register of an earlier level.
+    /// A part of a register is no register of an earlier level.
     #[error("V5 UnknownPart")]
     UnknownPart,
     /// A domain without a value.
@@ -52,7 +52,7 @@ pub enum TowerFault {
     /// 65,536 registers come before this one.
     #[error("V8 TooMany")]
     TooMany,
-    /// A growth was refused.
+    /// Memory was refused.
     #[error("V9 Memory")]
     Memory,
     /// The initial value of a safe or regular register is unknown.
@@ -63,7 +63,7 @@ pub enum TowerFault {
 impl TowerFault {
     /// The code that users see.
     pub fn code(&self) -> &'static str
-        ensures { result.now ≡ code_of self.now }
+        ensures { result.now ≡ tower_fault_code self.now }
     {
         match self {
             TowerFault::Edn(_) => "V1",

@@ -1,4 +1,4 @@
-//! The map that a tower file is.
+//! Reads the map that a tower file is.
 
 ghost use Rattle.std.specs.Prelude.{◌≡◌, ◌≢◌, Option, IfErr};
 ghost use Rattle.edn_reader.specs.Lent.{piece_of};
@@ -16,7 +16,7 @@ use crate::registers::Registers;
 use edn_reader::Element;
 use std::alloc::Global;
 
-/// The names of the levels, and the registers, of the map that a file is.
+/// Reads the map that a file is: the names of its levels, and its registers.
 pub fn read_file(
     alloc: Global,
     element: &Element,

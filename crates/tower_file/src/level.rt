@@ -1,15 +1,15 @@
-//! The levels of a tower.
+//! Reads the levels of a tower.
 
 ghost use Rattle.std.specs.Prelude.{◌≡◌, ◌≢◌, List, Option, Some, Ok, Err, IfOk, IfErr, OnOk, codes};
-ghost use Rattle.edn_reader.specs.Grammar.{Piece};
+ghost use Rattle.edn_reader.specs.Grammar.{ElementModel};
 ghost use Rattle.edn_reader.specs.Pairs.{HasMembers};
 ghost use Rattle.edn_reader.specs.Lent.{piece_of, PairsLeft, MembersLeft};
 ghost use Rattle.edn_reader.specs.Given.{Given, One, seen};
 ghost use Rattle.tower_file.specs.Form.{under, RegisterForm, LevelForm, IsGiven, IsVectorOf, IsRegister, IsLevel};
 ghost use Rattle.tower_file.specs.Steps.{GivesSeen};
-ghost use Rattle.tower_file.specs.Located.{at_key as key_or_map, pairs_under, span_of, fault_alone, NoneForMemory, IsInLevel, IsAmongLevels};
+ghost use Rattle.tower_file.specs.Located.{at_key, pairs_under, byte_span_of, fault_alone, NoneForMemory, IsInLevel, IsAmongLevels};
 ghost use Rattle.tower_file.specs.Reading.{name_in, vector_in, level_after, levels_after};
-ghost use Rattle.tower_file.specs.Keeping.{IsKept, ReachesKept};
+ghost use Rattle.tower_file.specs.Keeping.{IsLevelKept, ReachesKept};
 ghost use Rattle.tower_file.specs.Views.{contents_with};
 ghost use Rattle.tower_file.specs.Stated.{FormsLeft, ShowsOrMemory, IsSpanned, IsVectorAt};
 ghost use Rattle.tower_file.specs.declared.fault.TowerFault.TheVariants.{Memory};
@@ -23,7 +23,7 @@ use crate::registers::Registers;
 use edn_reader::{Element, Field, MapView, VectorView};
 use std::alloc::Global;
 
-/// Adds levels to those before them.
+/// Reads levels, and adds them and their registers to those before.
 pub fn read_levels(
     alloc: Global,
     view: VectorView,
@@ -60,7 +60,7 @@ fn read_level(
     ensures span { IfErr result (λ located. located.fault ≢ Memory → (form : Option LevelForm) → IsLevel (piece_of element.now) form
         → IsSpanned (IsInLevel (contents_with levels.old registers.old) located.fault (piece_of element.now)) located.span) }
     ensures nowhere { IfErr result (λ located. NoneForMemory located) }
-    ensures memory { IfErr result (λ located. located.fault ≡ Memory → (form : Option LevelForm) → IsLevel (piece_of element.now) form → IsKept form) }
+    ensures memory { IfErr result (λ located. located.fault ≡ Memory → (form : Option LevelForm) → IsLevel (piece_of element.now) form → IsLevelKept form) }
 {
     let Some(map) = element.as_map() else {
         return Err(located(TowerFault::Shape(TowerField::Levels), element));
@@ -73,10 +73,10 @@ fn read_level(
 }
 
 fn level_name<'t>(element: &Element<'t>, map: &MapView<'t>) -> Result<&'t [u8], LocatedFault>
-    ensures name { (pairs : List (Piece × Piece)) → PairsLeft map.now pairs
+    ensures name { (pairs : List (ElementModel × ElementModel)) → PairsLeft map.now pairs
         → GivesSeen (λ name. name.now) (fault_alone result) (name_in TowerField.Name (under (codes ":name") pairs)) }
-    ensures span { IfErr result (λ located. (pairs : List (Piece × Piece)) → PairsLeft map.now pairs
-        → located.span ≡ Some (span_of (key_or_map (piece_of element.now) (pairs_under (codes ":name") pairs)))) }
+    ensures span { IfErr result (λ located. (pairs : List (ElementModel × ElementModel)) → PairsLeft map.now pairs
+        → located.span ≡ Some (byte_span_of (at_key (piece_of element.now) (pairs_under (codes ":name") pairs)))) }
     ensures shape { IfErr result (λ located. located.fault ≢ Memory) }
 {
     match read_name(&map.field(b":name")) {
@@ -85,21 +85,21 @@ fn level_name<'t>(element: &Element<'t>, map: &MapView<'t>) -> Result<&'t [u8], 
     }
 }
 
-/// The vector that stands once under a key of a map.
+/// The vector under a key that a map must have once; a fault has the span of what is wrong at the key.
 pub fn vector_under<'t>(
     element: &Element<'t>,
     map: &MapView<'t>,
     key: &[u8],
     name: TowerField,
 ) -> Result<VectorView<'t>, LocatedFault>
-    ensures registers { (pairs : List (Piece × Piece)) (given : Given (Option (List (Option RegisterForm)))) → PairsLeft map.now pairs
+    ensures registers { (pairs : List (ElementModel × ElementModel)) (given : Given (Option (List (Option RegisterForm)))) → PairsLeft map.now pairs
         → IsGiven (IsVectorOf IsRegister) (under key.now pairs) given → ShowsOrMemory (FormsLeft IsRegister) (fault_alone result) (vector_in name given) }
-    ensures levels { (pairs : List (Piece × Piece)) (given : Given (Option (List (Option LevelForm)))) → PairsLeft map.now pairs
+    ensures levels { (pairs : List (ElementModel × ElementModel)) (given : Given (Option (List (Option LevelForm)))) → PairsLeft map.now pairs
         → IsGiven (IsVectorOf IsLevel) (under key.now pairs) given → ShowsOrMemory (FormsLeft IsLevel) (fault_alone result) (vector_in name given) }
     ensures shape { IfErr result (λ located. located.fault ≡ TowerFault.Shape name) }
-    ensures vector { IfOk result (λ view. (pairs : List (Piece × Piece)) → PairsLeft map.now pairs → IsVectorAt (pairs_under key.now pairs) view) }
-    ensures span { IfErr result (λ located. (pairs : List (Piece × Piece)) → PairsLeft map.now pairs
-        → located.span ≡ Some (span_of (key_or_map (piece_of element.now) (pairs_under key.now pairs)))) }
+    ensures vector { IfOk result (λ view. (pairs : List (ElementModel × ElementModel)) → PairsLeft map.now pairs → IsVectorAt (pairs_under key.now pairs) view) }
+    ensures span { IfErr result (λ located. (pairs : List (ElementModel × ElementModel)) → PairsLeft map.now pairs
+        → located.span ≡ Some (byte_span_of (at_key (piece_of element.now) (pairs_under key.now pairs)))) }
 {
     match read_vector(&map.field(key), name) {
         Ok(view) => Ok(view),
@@ -107,14 +107,14 @@ pub fn vector_under<'t>(
     }
 }
 
-/// What stands once under a key that is needed, as a vector.
+/// The vector in a field that must be there once.
 fn read_vector<'t>(field: &Field<'t>, name: TowerField) -> Result<VectorView<'t>, TowerFault>
     ensures registers { (given : Given (Option (List (Option RegisterForm)))) → IsGiven (IsVectorOf IsRegister) (seen field.now) given
         → ShowsOrMemory (FormsLeft IsRegister) result (vector_in name given) }
     ensures levels { (given : Given (Option (List (Option LevelForm)))) → IsGiven (IsVectorOf IsLevel) (seen field.now) given
         → ShowsOrMemory (FormsLeft IsLevel) result (vector_in name given) }
     ensures shape { IfErr result (λ fault. fault ≡ TowerFault.Shape name) }
-    ensures vector { IfOk result (λ view. (value : Piece) × (seen field.now ≡ One value) × ((members : List Piece) → MembersLeft view members → HasMembers value members)) }
+    ensures vector { IfOk result (λ view. (value : ElementModel) × (seen field.now ≡ One value) × ((members : List ElementModel) → MembersLeft view members → HasMembers value members)) }
 {
     match needed(field, name)?.as_vector() {
         Some(view) => Ok(view),

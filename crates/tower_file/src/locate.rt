@@ -1,9 +1,9 @@
-//! What of a map and of a register a fault is about.
+//! Finds what of a map or of a register a fault is about.
 
 ghost use Rattle.std.specs.Prelude.{◌≡◌, List};
-ghost use Rattle.edn_reader.specs.Grammar.{Piece};
+ghost use Rattle.edn_reader.specs.Grammar.{ElementModel};
 ghost use Rattle.edn_reader.specs.Lent.{piece_of, PairsLeft, MembersLeft};
-ghost use Rattle.tower_file.specs.Located.{at_key as key_or_map, pairs_under, key_of as key_that, key_of_field as key_that_field, is_wrong as is_that_wrong, is_misformed as is_that_misformed, first_wrong as first_that_is_wrong, IsInValue, IsInRegister};
+ghost use Rattle.tower_file.specs.Located.{at_key, pairs_under, key_of, key_of_field, is_wrong, is_misformed, first_wrong_element, IsInValue, IsInRegister};
 ghost use Rattle.tower_file.specs.Stated.{NextUnder};
 
 use crate::element::{process_of, value_of};
@@ -12,9 +12,9 @@ use crate::place::part_of;
 use crate::registers::Registers;
 use edn_reader::{Element, Field, MapView, VectorView};
 
-/// The next pair under a key. The view has left what comes behind it.
+/// The next pair under a key. What comes after it is then left in the view.
 fn next_under<'t>(view: &mut MapView<'t>, key: &[u8]) -> Option<(Element<'t>, Element<'t>)>
-    ensures { (pairs : List (Piece × Piece)) → PairsLeft view.old pairs → NextUnder key.now result view.new pairs }
+    ensures { (pairs : List (ElementModel × ElementModel)) → PairsLeft view.old pairs → NextUnder key.now result view.new pairs }
 {
     while let Some((name, value)) = view.next_pair() {
         if name.is_keyword(key) {
@@ -24,9 +24,10 @@ fn next_under<'t>(view: &mut MapView<'t>, key: &[u8]) -> Option<(Element<'t>, El
     None
 }
 
-/// The value where a key stands once, the second key where it stands again, and the whole map where it is missing.
+/// The value where a key is there once, the second key where it is there again, and the whole map where it is
+/// missing.
 pub fn at_key<'t>(whole: &Element<'t>, map: &MapView<'t>, key: &[u8]) -> Element<'t>
-    ensures { (pairs : List (Piece × Piece)) → PairsLeft map.now pairs → piece_of result ≡ key_or_map (piece_of whole.now) (pairs_under key.now pairs) }
+    ensures { (pairs : List (ElementModel × ElementModel)) → PairsLeft map.now pairs → piece_of result ≡ at_key (piece_of whole.now) (pairs_under key.now pairs) }
 {
     let mut view = *map;
     let Some((_, value)) = next_under(&mut view, key) else {
@@ -79,8 +80,8 @@ fn first_wrong<'t>(
     first: usize,
     registers: &Registers,
 ) -> Element<'t>
-    ensures { (members : List Piece) → MembersLeft view.entry members
-        → piece_of result ≡ first_that_is_wrong (is_that_wrong fault first registers.now) (piece_of whole.now) members }
+    ensures { (members : List ElementModel) → MembersLeft view.entry members
+        → piece_of result ≡ first_wrong_element (is_wrong fault first registers.now) (piece_of whole.now) members }
 {
     let mut left = view;
     while let Some(element) = left.next() {
@@ -91,9 +92,10 @@ fn first_wrong<'t>(
     *whole
 }
 
-/// Whether a fault is about an element of a vector by itself.
+/// Whether an element of a vector is what a fault is about: it has another form, or names no register of an earlier
+/// level.
 fn is_wrong(fault: TowerFault, element: &Element, first: usize, registers: &Registers) -> bool
-    ensures { result ≡ is_that_wrong fault first registers.now (piece_of element.now) }
+    ensures { result ≡ is_wrong fault first registers.now (piece_of element.now) }
 {
     match fault {
         TowerFault::Shape(field) => is_misformed(field, element),
@@ -103,7 +105,7 @@ fn is_wrong(fault: TowerFault, element: &Element, first: usize, registers: &Regi
 }
 
 fn is_misformed(field: TowerField, element: &Element) -> bool
-    ensures { result ≡ is_that_misformed field (piece_of element.now) }
+    ensures { result ≡ is_misformed field (piece_of element.now) }
 {
     match field {
         TowerField::Writers => process_of(element).is_err(),
@@ -114,7 +116,7 @@ fn is_misformed(field: TowerField, element: &Element) -> bool
 
 /// The key of a register that a fault is about; empty where it is about the whole register.
 fn key_of(fault: TowerFault) -> &'static [u8]
-    ensures { result.now ≡ key_that fault }
+    ensures { result.now ≡ key_of fault }
 {
     match fault {
         TowerFault::Shape(field) => key_of_field(field),
@@ -128,7 +130,7 @@ fn key_of(fault: TowerFault) -> &'static [u8]
 }
 
 fn key_of_field(field: TowerField) -> &'static [u8]
-    ensures { result.now ≡ key_that_field field }
+    ensures { result.now ≡ key_of_field field }
 {
     match field {
         TowerField::Name => b":name",

@@ -2,15 +2,15 @@
 
 ghost use Rattle.std.specs.Prelude.{◌≡◌, ◌≢◌, Some, None};
 ghost use Rattle.edn_reader.specs.Lent.{piece_of};
-ghost use Rattle.tower_file.specs.Located.{span_of, wanting, NoneForMemory};
+ghost use Rattle.tower_file.specs.Located.{byte_span_of, wanting, NoneForMemory};
 ghost use Rattle.tower_file.specs.declared.fault.TowerFault.TheVariants.{Memory};
 
 use crate::fault::TowerFault;
 use edn_reader::Element;
 use std::alloc::{AllocError, AllocFailed};
 
-/// A fault, and the bytes that are wrong: the place of the first one, and the place behind the last one. Both are the
-/// place of the fault where it is one of the text (V1). Want of memory (V9) has no place.
+/// A fault, and the span of the bytes that are wrong: the place of the first one, and the place after the last one.
+/// Both are the place of the fault where it is one of the text (V1). Where memory was refused (V9) there is no span.
 #[derive(Clone, Copy)]
 pub struct LocatedFault {
     pub fault: TowerFault,
@@ -42,11 +42,11 @@ fn wanting() -> LocatedFault
     }
 }
 
-/// A fault whose place is an element.
+/// The fault, with the span of an element; without one where memory was refused.
 pub fn located(fault: TowerFault, element: &Element) -> LocatedFault
     ensures fault { result.fault ≡ fault }
     ensures nowhere { NoneForMemory result }
-    ensures span { fault ≢ Memory → result.span ≡ Some (span_of (piece_of element.now)) }
+    ensures span { fault ≢ Memory → result.span ≡ Some (byte_span_of (piece_of element.now)) }
 {
     match fault {
         TowerFault::Memory => wanting(),

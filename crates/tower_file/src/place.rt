@@ -1,41 +1,41 @@
-//! A register among those before it.
+//! Places a register among those before it.
 
 ghost use Rattle.std.specs.Prelude.{◌≡◌, ◌<◌, List, Option, None, IfOk, OnOk, length, not};
-ghost use Rattle.edn_reader.specs.Grammar.{Piece};
+ghost use Rattle.edn_reader.specs.Grammar.{ElementModel};
 ghost use Rattle.edn_reader.specs.Lent.{piece_of, MembersLeft};
 ghost use Rattle.std.specs.List.{list_any};
 ghost use Rattle.intervals.specs.Operation.{same_value};
-ghost use Rattle.intervals.specs.Terms.{writers_of as listed_writers, terms_of, IsKnownUnlessAtomic};
+ghost use Rattle.intervals.specs.Terms.{writers_of, terms_of, IsKnownUnlessAtomic};
 ghost use Rattle.tower_file.specs.Contents.{number_of};
-ghost use Rattle.tower_file.specs.Reading.{each, Said as SaidBy, has_its_writers as has_writers, has_its_initial as has_initial, part_of as part_that, is_empty_domain, is_outside as is_that_outside, initial_of as initial_that, register_among};
+ghost use Rattle.tower_file.specs.Reading.{each, RegisterFields as SaidBy, has_its_writers, has_its_initial, part_of, is_empty_domain, is_outside, stated_or_nil, register_among};
 ghost use Rattle.tower_file.specs.Views.{kept_register, GivesOrMemory};
 ghost use Rattle.tower_file.specs.Stated.{NamesLeft, IsSaid, domain_items};
 
 use crate::element::name_of;
 use crate::fault::TowerFault;
-use crate::registers::{Entry, Registers};
-use crate::said::Said;
+use crate::registers::{NameEntry, Registers};
+use crate::said::RegisterFields;
 use edn_reader::{Element, VectorView};
 use intervals::{Claim, Initial, Kind, RegId, Value, Writers};
 use std::alloc::Global;
 
-/// How many registers a tower may have.
+/// The most registers that a tower may have.
 const MOST_REGISTERS: usize = 65_536;
 
-/// The register that is said, on a level whose first register has the number `first`.
+/// The name and the entry of the register that says this, on a level whose first register has the number `first`.
 pub fn place(
     alloc: Global,
-    said: Said,
+    said: RegisterFields,
     level: usize,
     first: usize,
     registers: &Registers,
-) -> Result<(Vec<u8>, Entry), TowerFault>
+) -> Result<(Vec<u8>, NameEntry), TowerFault>
     ensures placed { (form : SaidBy) → IsSaid said.entry form → GivesOrMemory kept_register result (register_among level first registers.now form) }
     ensures new { IfOk result (λ entry. number_of registers.now entry.0.items ≡ None) }
     ensures room { OnOk result (length registers.now < 65536) }
     ensures known { IfOk result (λ entry. IsKnownUnlessAtomic (terms_of entry.1.claim)) }
 {
-    let Said {
+    let RegisterFields {
         name,
         kind,
         writers,
@@ -70,7 +70,7 @@ pub fn place(
         domain,
         fixed,
     };
-    let entry = Entry {
+    let entry = NameEntry {
         claim,
         level,
         parts,
@@ -78,9 +78,9 @@ pub fn place(
     Ok((Vec::from_slice(alloc, name)?, entry))
 }
 
-/// Whether a safe or regular register has one writer.
+/// Whether a register has the writers that its kind allows: one if safe or regular, any if atomic.
 fn has_its_writers(kind: Kind, writers: &Writers) -> bool
-    ensures { result ≡ has_writers kind (listed_writers writers.now) }
+    ensures { result ≡ has_its_writers kind (writers_of writers.now) }
 {
     match (kind, writers) {
         (Kind::Atomic, _) => true,
@@ -88,9 +88,9 @@ fn has_its_writers(kind: Kind, writers: &Writers) -> bool
     }
 }
 
-/// Whether the initial value of a safe or regular register is known.
+/// Whether a register has an initial value that its kind allows: a known one if safe or regular, any if atomic.
 fn has_its_initial(kind: Kind, initial: Option<Initial>) -> bool
-    ensures { result ≡ has_initial kind initial }
+    ensures { result ≡ has_its_initial kind initial }
 {
     match (kind, initial) {
         (Kind::Atomic, _) => true,
@@ -108,9 +108,9 @@ fn is_empty(domain: &Option<Vec<Value>>) -> bool
     }
 }
 
-/// Whether a known initial value is given that is not in a domain that is given.
+/// Whether there are a known initial value and a domain, and the value is not in the domain.
 fn is_outside(initial: Option<Initial>, domain: &Option<Vec<Value>>) -> bool
-    ensures { result ≡ is_that_outside initial (domain_items domain.now) }
+    ensures { result ≡ is_outside initial (domain_items domain.now) }
 {
     match (initial, domain) {
         (Some(Initial::Known(value)), Some(values)) => !is_among(values.as_slice(), value),
@@ -130,9 +130,9 @@ fn is_same(a: Value, b: Value) -> bool
     a == b
 }
 
-/// The initial value that is said; nil where none is.
+/// The stated initial value; nil where none is stated.
 fn initial_of(initial: Option<Initial>) -> Initial
-    ensures { result ≡ initial_that initial }
+    ensures { result ≡ stated_or_nil initial }
 {
     match initial {
         Some(initial) => initial,
@@ -146,7 +146,7 @@ fn read_parts(
     first: usize,
     registers: &Registers,
 ) -> Result<Vec<RegId>, TowerFault>
-    ensures { (members : List Piece) → NamesLeft parts.entry members → GivesOrMemory (λ found. found.items) result (each (part_that first registers.now) members) }
+    ensures { (members : List ElementModel) → NamesLeft parts.entry members → GivesOrMemory (λ found. found.items) result (each (part_of first registers.now) members) }
 {
     match parts {
         Some(view) => parts_of(alloc, view, first, registers),
@@ -160,7 +160,7 @@ fn parts_of(
     first: usize,
     registers: &Registers,
 ) -> Result<Vec<RegId>, TowerFault>
-    ensures { (members : List Piece) → MembersLeft view.entry members → GivesOrMemory (λ found. found.items) result (each (part_that first registers.now) members) }
+    ensures { (members : List ElementModel) → MembersLeft view.entry members → GivesOrMemory (λ found. found.items) result (each (part_of first registers.now) members) }
 {
     let mut left = view;
     let mut parts = Vec::new(alloc);
@@ -170,9 +170,9 @@ fn parts_of(
     Ok(parts)
 }
 
-/// The register of an earlier level that an element names.
+/// The register of an earlier level, with a number below `first`, that an element names.
 pub fn part_of(element: &Element, first: usize, registers: &Registers) -> Result<RegId, TowerFault>
-    ensures { result ≡ part_that first registers.now (piece_of element.now) }
+    ensures { result ≡ part_of first registers.now (piece_of element.now) }
 {
     match registers.find(name_of(element)) {
         Some(number) if (number.0 as usize) < first => Ok(number),

@@ -1,4 +1,4 @@
-//! The registers of a level.
+//! Reads the registers of a level.
 
 ghost use Rattle.std.specs.Prelude.{◌≡◌, ◌≢◌, ◌<◌, List, Option, None, Ok, Err, IfOk, IfErr, OnOk, length};
 ghost use Rattle.edn_reader.specs.Lent.{piece_of};
@@ -15,12 +15,12 @@ use crate::fault::{TowerFault, TowerField};
 use crate::locate::in_register;
 use crate::located::{LocatedFault, located};
 use crate::place::place;
-use crate::registers::{Entry, Registers};
+use crate::registers::{NameEntry, Registers};
 use crate::said::{look_up, read_said};
 use edn_reader::{Element, VectorView};
 use std::alloc::Global;
 
-/// Adds the registers of a level to those before them.
+/// Reads the registers of a level, and adds them to those before.
 pub fn read_registers(
     alloc: Global,
     view: VectorView,
@@ -44,14 +44,14 @@ pub fn read_registers(
     Ok(())
 }
 
-/// A register; where it has a fault, with the place of what that is about.
+/// Reads a register; its fault has the span of what it is about.
 fn locate_register(
     alloc: Global,
     element: &Element,
     level: usize,
     first: usize,
     registers: &Registers,
-) -> Result<(Vec<u8>, Entry), LocatedFault>
+) -> Result<(Vec<u8>, NameEntry), LocatedFault>
     ensures register { (form : Option RegisterForm) → IsRegister (piece_of element.now) form
         → GivesOrMemory kept_register (fault_alone result) (register_read level first registers.now form) }
     ensures new { IfOk result (λ entry. number_of registers.now entry.0.items ≡ None) }
@@ -73,7 +73,7 @@ fn read_register(
     level: usize,
     first: usize,
     registers: &Registers,
-) -> Result<(Vec<u8>, Entry), TowerFault>
+) -> Result<(Vec<u8>, NameEntry), TowerFault>
     ensures register { (form : Option RegisterForm) → IsRegister (piece_of element.now) form → GivesOrMemory kept_register result (register_read level first registers.now form) }
     ensures new { IfOk result (λ entry. number_of registers.now entry.0.items ≡ None) }
     ensures room { OnOk result (length registers.now < 65536) }

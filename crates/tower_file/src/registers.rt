@@ -17,7 +17,7 @@ use std::marker::Model;
 
 /// What is kept of a register beside its name.
 #[derive(Debug, Drop)]
-pub struct Entry {
+pub struct NameEntry {
     pub claim: Claim,
     pub level: usize,
     pub parts: Vec<RegId>,
@@ -26,7 +26,7 @@ pub struct Entry {
 /// At most 65,536 registers, in the order in which they were added.
 #[derive(Drop)]
 pub struct Registers {
-    by_name: IndexMap<Vec<u8>, Entry>,
+    by_name: IndexMap<Vec<u8>, NameEntry>,
 }
 
 impl Model for Registers {
@@ -57,7 +57,7 @@ impl Registers {
         self.by_name.len()
     }
 
-    /// The number of the register of that name.
+    /// The number of the register of that name, if there is one.
     pub fn find(&self, name: &[u8]) -> Option<RegId>
         ensures { result ≡ number_of self.now name.now }
     {
@@ -67,8 +67,8 @@ impl Registers {
         }
     }
 
-    /// The name of a register, and what is kept beside it.
-    pub fn get(&self, id: RegId) -> Option<(&Vec<u8>, &Entry)>
+    /// The name of a register, and what is kept beside it, if there is such a register.
+    pub fn get(&self, id: RegId) -> Option<(&Vec<u8>, &NameEntry)>
         ensures kept { option_map (λ entry. kept_register (entry.0.now, entry.1.now)) result ≡ slice_get self.now id.0 }
         ensures known { IfSome result (λ entry. IsKnownUnlessAtomic (terms_of entry.1.now.claim)) }
     {
@@ -76,7 +76,7 @@ impl Registers {
     }
 
     /// Adds a register of a new name.
-    pub fn push(&mut self, name: Vec<u8>, entry: Entry) -> Result<(), LocatedFault>
+    pub fn push(&mut self, name: Vec<u8>, entry: NameEntry) -> Result<(), LocatedFault>
         requires new { number_of self.old name.items ≡ None }
         requires room { length self.old < 65536 }
         requires known { IsKnownUnlessAtomic (terms_of entry.claim) }

@@ -1,14 +1,14 @@
-//! What a register says by itself.
+//! Reads what a register says by itself.
 
 ghost use Rattle.std.specs.Prelude.{◌≡◌, List, Option};
-ghost use Rattle.edn_reader.specs.Grammar.{Piece};
+ghost use Rattle.edn_reader.specs.Grammar.{ElementModel};
 ghost use Rattle.edn_reader.specs.Given.{Given, seen};
 ghost use Rattle.edn_reader.specs.Lent.{PairsLeft as PairsOfView, MembersLeft};
-ghost use Rattle.intervals.specs.Terms.{writers_of as listed_writers};
-ghost use Rattle.tower_file.specs.Form.{Sequence, RegisterForm, AreRegisterFields, IsGiven, IsSequence, AreMembers};
-ghost use Rattle.tower_file.specs.Reading.{each, value_of as value_in, process_of as process_in, writers_in, domain_in, parts_in, said_by};
+ghost use Rattle.intervals.specs.Terms.{writers_of};
+ghost use Rattle.tower_file.specs.Form.{Sequence, RegisterForm, AreRegisterFields, IsGiven, IsSequence, AreVectorElements};
+ghost use Rattle.tower_file.specs.Reading.{each, domain_value, process_of, writers_in, domain_in, parts_in, said_by};
 ghost use Rattle.tower_file.specs.Views.{GivesOrMemory};
-ghost use Rattle.tower_file.specs.Stated.{AreFound, NamesLeft, IsSaid, ShowsOrMemory, domain_items};
+ghost use Rattle.tower_file.specs.Stated.{AreFieldsOf, NamesLeft, IsSaid, ShowsOrMemory, domain_items};
 
 use crate::element::{
     needed, process_of, read_fixed, read_initial, read_kind, read_name, value_of,
@@ -18,7 +18,7 @@ use edn_reader::{Field, MapView, VectorView};
 use intervals::{Initial, Kind, Value, Writers};
 use std::alloc::Global;
 
-/// What a register has under the keys that are read.
+/// What a register has under each key that is read.
 #[derive(Clone, Copy)]
 pub struct Fields<'t> {
     name: Field<'t>,
@@ -30,9 +30,9 @@ pub struct Fields<'t> {
     fixed: Field<'t>,
 }
 
-/// What they say, before the register is placed among the others.
+/// What a register says by itself, before it is placed among the others.
 #[derive(Drop)]
-pub struct Said<'t> {
+pub struct RegisterFields<'t> {
     pub name: &'t [u8],
     pub kind: Kind,
     pub writers: Writers,
@@ -43,7 +43,7 @@ pub struct Said<'t> {
 }
 
 pub fn look_up<'t>(map: &MapView<'t>) -> Fields<'t>
-    ensures { (pairs : List (Piece × Piece)) (form : RegisterForm) → PairsOfView map.now pairs → AreRegisterFields pairs form → AreFound result form }
+    ensures { (pairs : List (ElementModel × ElementModel)) (form : RegisterForm) → PairsOfView map.now pairs → AreRegisterFields pairs form → AreFieldsOf result form }
 {
     Fields {
         name: map.field(b":name"),
@@ -56,8 +56,8 @@ pub fn look_up<'t>(map: &MapView<'t>) -> Fields<'t>
     }
 }
 
-pub fn read_said<'t>(alloc: Global, fields: &Fields<'t>) -> Result<Said<'t>, TowerFault>
-    ensures { (form : RegisterForm) → AreFound fields.now form → ShowsOrMemory IsSaid result (said_by form) }
+pub fn read_said<'t>(alloc: Global, fields: &Fields<'t>) -> Result<RegisterFields<'t>, TowerFault>
+    ensures { (form : RegisterForm) → AreFieldsOf fields.now form → ShowsOrMemory IsSaid result (said_by form) }
 {
     let name = read_name(&fields.name)?;
     let kind = read_kind(&fields.kind)?;
@@ -66,7 +66,7 @@ pub fn read_said<'t>(alloc: Global, fields: &Fields<'t>) -> Result<Said<'t>, Tow
     let domain = read_domain(alloc, &fields.domain)?;
     let parts = read_parts(&fields.parts)?;
     let fixed = read_fixed(&fields.fixed)?;
-    Ok(Said {
+    Ok(RegisterFields {
         name,
         kind,
         writers,
@@ -78,7 +78,7 @@ pub fn read_said<'t>(alloc: Global, fields: &Fields<'t>) -> Result<Said<'t>, Tow
 }
 
 fn read_writers(alloc: Global, field: &Field) -> Result<Writers, TowerFault>
-    ensures { (given : Given Sequence) → IsGiven IsSequence (seen field.now) given → GivesOrMemory listed_writers result (writers_in given) }
+    ensures { (given : Given Sequence) → IsGiven IsSequence (seen field.now) given → GivesOrMemory writers_of result (writers_in given) }
 {
     let element = needed(field, TowerField::Writers)?;
     if element.is_keyword(b":any") {
@@ -91,7 +91,7 @@ fn read_writers(alloc: Global, field: &Field) -> Result<Writers, TowerFault>
 }
 
 fn processes_of(alloc: Global, view: VectorView) -> Result<Vec<i64>, TowerFault>
-    ensures { (members : List Piece) → MembersLeft view.entry members → GivesOrMemory (λ found. found.items) result (each process_in members) }
+    ensures { (members : List ElementModel) → MembersLeft view.entry members → GivesOrMemory (λ found. found.items) result (each process_of members) }
 {
     let mut left = view;
     let mut processes = Vec::new(alloc);
@@ -102,7 +102,7 @@ fn processes_of(alloc: Global, view: VectorView) -> Result<Vec<i64>, TowerFault>
 }
 
 fn read_domain(alloc: Global, field: &Field) -> Result<Option<Vec<Value>>, TowerFault>
-    ensures { (given : Given (Option (List Piece))) → IsGiven AreMembers (seen field.now) given → GivesOrMemory domain_items result (domain_in given) }
+    ensures { (given : Given (Option (List ElementModel))) → IsGiven AreVectorElements (seen field.now) given → GivesOrMemory domain_items result (domain_in given) }
 {
     let element = match field {
         Field::Absent => return Ok(None),
@@ -116,7 +116,7 @@ fn read_domain(alloc: Global, field: &Field) -> Result<Option<Vec<Value>>, Tower
 }
 
 fn values_of(alloc: Global, view: VectorView) -> Result<Vec<Value>, TowerFault>
-    ensures { (members : List Piece) → MembersLeft view.entry members → GivesOrMemory (λ found. found.items) result (each value_in members) }
+    ensures { (members : List ElementModel) → MembersLeft view.entry members → GivesOrMemory (λ found. found.items) result (each domain_value members) }
 {
     let mut left = view;
     let mut values = Vec::new(alloc);
@@ -127,7 +127,7 @@ fn values_of(alloc: Global, view: VectorView) -> Result<Vec<Value>, TowerFault>
 }
 
 fn read_parts<'t>(field: &Field<'t>) -> Result<Option<VectorView<'t>>, TowerFault>
-    ensures { (given : Given (Option (List Piece))) → IsGiven AreMembers (seen field.now) given → ShowsOrMemory NamesLeft result (parts_in given) }
+    ensures { (given : Given (Option (List ElementModel))) → IsGiven AreVectorElements (seen field.now) given → ShowsOrMemory NamesLeft result (parts_in given) }
 {
     let element = match field {
         Field::Absent => return Ok(None),

@@ -1,11 +1,11 @@
-//! The text of a tower file, read to its end.
+//! Reads the text of a tower file to its end.
 
 ghost use Rattle.std.specs.Prelude.{◌≡◌, List, IfOk, IfErr};
-ghost use Rattle.edn_reader.specs.Grammar.{Piece};
+ghost use Rattle.edn_reader.specs.Grammar.{ElementModel};
 ghost use Rattle.edn_reader.specs.Text.{IsText};
 ghost use Rattle.edn_reader.specs.Fault.{IsMemory};
 ghost use Rattle.edn_reader.specs.Given.{given, seen};
-ghost use Rattle.tower_file.specs.Located.{text_span, NoneForMemory, place_of as place_that};
+ghost use Rattle.tower_file.specs.Located.{text_span, NoneForMemory, fault_place};
 ghost use Rattle.tower_file.specs.Stated.{IsTextFault};
 
 use crate::fault::TowerFault;
@@ -15,7 +15,7 @@ use std::alloc::Global;
 
 /// What the text is made of: nothing, one element, or more.
 fn read_text(alloc: Global, bytes: &[u8]) -> Result<Field<'_>, TowerFault>
-    ensures text { IfOk result (λ found. (pieces : List Piece) × IsText bytes.now pieces × (seen found ≡ given pieces)) }
+    ensures text { IfOk result (λ found. (pieces : List ElementModel) × IsText bytes.now pieces × (seen found ≡ given pieces)) }
     ensures fault { IfErr result (IsTextFault bytes.now) }
 {
     let mut reader = Reader::new(alloc, bytes);
@@ -29,9 +29,9 @@ fn read_text(alloc: Global, bytes: &[u8]) -> Result<Field<'_>, TowerFault>
     }
 }
 
-/// The same; where there is a fault, with its place.
+/// What the text is made of: nothing, one element, or more; or its fault, with its place.
 pub fn locate_text(alloc: Global, bytes: &[u8]) -> Result<Field<'_>, LocatedFault>
-    ensures text { IfOk result (λ found. (pieces : List Piece) × IsText bytes.now pieces × (seen found ≡ given pieces)) }
+    ensures text { IfOk result (λ found. (pieces : List ElementModel) × IsText bytes.now pieces × (seen found ≡ given pieces)) }
     ensures fault { IfErr result (λ located. IsTextFault bytes.now located.fault) }
     ensures span { IfErr result (λ located. located.span ≡ text_span located.fault) }
     ensures nowhere { IfErr result (λ located. NoneForMemory located) }
@@ -45,7 +45,7 @@ pub fn locate_text(alloc: Global, bytes: &[u8]) -> Result<Field<'_>, LocatedFaul
     }
 }
 
-/// The place of a fault of the text.
+/// The span of a fault of the text: no bytes, at its place; none for any other fault.
 fn span_of(fault: TowerFault) -> Option<(usize, usize)>
     ensures { result ≡ text_span fault }
 {
@@ -59,7 +59,7 @@ fn span_of(fault: TowerFault) -> Option<(usize, usize)>
 }
 
 fn place_of(fault: EdnFault) -> usize
-    ensures { result ≡ place_that fault }
+    ensures { result ≡ fault_place fault }
 {
     match fault {
         EdnFault::Truncated(place) => place,
@@ -72,7 +72,7 @@ fn place_of(fault: EdnFault) -> usize
     }
 }
 
-/// A fault of the text; want of memory is one of its own.
+/// A fault of the text as one of a tower file: V1, or V9 where memory was refused.
 fn fault_of(fault: EdnFault) -> TowerFault
     ensures memory { IsMemory fault → result ≡ TowerFault.Memory }
     ensures text { (IsMemory fault → ⊥) → result ≡ TowerFault.Edn fault }

@@ -4,9 +4,9 @@ ghost use Rattle.std.specs.Prelude.{◌≡◌, ◌≢◌, ◌≤◌, ◌⊎◌, 
 ghost use Rattle.std.specs.Option.{option_map};
 ghost use Rattle.std.specs.List.{slice_get};
 ghost use Rattle.intervals.specs.Terms.{terms_of, IsKnownUnlessAtomic};
-ghost use Rattle.tower_file.specs.Contents.{Contents, number_of};
+ghost use Rattle.tower_file.specs.Contents.{TowerModel, number_of};
 ghost use Rattle.tower_file.specs.Tower.{IsTowerOf, HasTowerFault, MayWantMemory};
-ghost use Rattle.tower_file.specs.Located.{Span, HasFaultAt, fault_alone, NoneForMemory};
+ghost use Rattle.tower_file.specs.Located.{ByteSpan, HasFaultAt, fault_alone, NoneForMemory};
 ghost use Rattle.tower_file.specs.declared.fault.TowerFault.{TowerFault as Fault};
 
 use crate::fault::{TowerFault, TowerField};
@@ -30,20 +30,20 @@ pub struct Tower {
 }
 
 impl Model for Tower {
-    ghost use Rattle.tower_file.specs.Contents.{Contents};
+    ghost use Rattle.tower_file.specs.Contents.{TowerModel};
     ghost use Rattle.tower_file.specs.Views.{contents_with};
 
-    ghost Value = { Contents };
+    ghost Value = { TowerModel };
 
     ghost view = { λ t. contents_with t.levels t.registers };
 }
 
 impl Tower {
-    /// Reads a tower file.
+    /// Reads a tower file: the tower that it says, or its first fault.
     pub fn read(alloc: Global, bytes: &[u8]) -> Result<Tower, TowerFault>
         ensures tower { IfOk result (λ tower. IsTowerOf bytes.now tower) }
         ensures fault { IfErr result (λ fault. fault ≢ TowerFault.Memory → HasTowerFault bytes.now fault) }
-        ensures reads { (tower : Contents) → IsTowerOf bytes.now tower → (result ≡ Ok tower) ⊎ (result ≡ Err TowerFault.Memory) }
+        ensures reads { (tower : TowerModel) → IsTowerOf bytes.now tower → (result ≡ Ok tower) ⊎ (result ≡ Err TowerFault.Memory) }
         ensures refuses { (fault : Fault) → HasTowerFault bytes.now fault → (result ≡ Err fault) ⊎ (result ≡ Err TowerFault.Memory) }
         ensures memory { IfErr result (λ fault. fault ≡ TowerFault.Memory → MayWantMemory bytes.now) }
     {
@@ -53,14 +53,14 @@ impl Tower {
         }
     }
 
-    /// Reads a tower file; where it has a fault, with its place.
+    /// Reads a tower file: the tower that it says, or its first fault and which bytes are wrong.
     pub fn read_located(alloc: Global, bytes: &[u8]) -> Result<Tower, LocatedFault>
         ensures tower { IfOk result (λ tower. IsTowerOf bytes.now tower) }
         ensures fault { IfErr result (λ located. located.fault ≢ TowerFault.Memory → HasTowerFault bytes.now located.fault) }
         ensures span { IfErr result (λ located. located.fault ≢ TowerFault.Memory
-            → (span : Span) × (located.span ≡ Some span) × HasFaultAt bytes.now located.fault span) }
+            → (span : ByteSpan) × (located.span ≡ Some span) × HasFaultAt bytes.now located.fault span) }
         ensures nowhere { IfErr result (λ located. NoneForMemory located) }
-        ensures reads { (tower : Contents) → IsTowerOf bytes.now tower → (fault_alone result ≡ Ok tower) ⊎ (fault_alone result ≡ Err TowerFault.Memory) }
+        ensures reads { (tower : TowerModel) → IsTowerOf bytes.now tower → (fault_alone result ≡ Ok tower) ⊎ (fault_alone result ≡ Err TowerFault.Memory) }
         ensures refuses { (fault : Fault) → HasTowerFault bytes.now fault → (fault_alone result ≡ Err fault) ⊎ (fault_alone result ≡ Err TowerFault.Memory) }
         ensures memory { IfErr result (λ located. located.fault ≡ TowerFault.Memory → MayWantMemory bytes.now) }
     {
@@ -141,7 +141,7 @@ impl Tower {
         }
     }
 
-    /// The register of that name, by its bytes.
+    /// The register whose name has these bytes.
     pub fn find(&self, name: &[u8]) -> Option<RegId>
         ensures { result ≡ number_of self.now.registers name.now }
     {

@@ -1,4 +1,4 @@
--- What the getters give of an argument, by the rows, and what a text says of shards.
+-- What `clap`'s getters give of an argument, by the rows of its matches, and what a text says of shards.
 use Rattle.std.proofs.Common.{◌≡◌, ◌≤◌, ◌<◌, ◌-◌, ◌&&◌, ◌^◌, ℕ, Bool, true, false, List, [], ◌∷◌, length, Option, Some, None, Err, ◌∙◌, refl, sym, ap, arith, nat_lt, lt-ltb, ltb-true}
 use Rattle.std.specs.Prelude.{nat_le, option_map}
 use Rattle.std.specs.List.{list_all}
@@ -11,11 +11,11 @@ use Rattle.clap.specs.declared.ArgMatches.{ArgMatches}
 use Rattle.clap.proofs.WalkLemmas.{both, first_value-rows, raw_values-rows}
 use Rattle.words.specs.Words.{count_in, shards_in}
 
--- what a value that was asked for is among the rows
+-- the value that a getter gives is that among the rows
 pub value_in : (found : ArgMatches) (id : Text) (value : Option Text) → value ≡ first_value (found_of found) id → first_of id (rows_of (found_of found)) ≡ value
 value_in found id value is = sym (first_value-rows (found_of found) id) ∙ sym is
 
--- and all the values
+-- the values that a getter gives are those among the rows
 pub values_in : (found : ArgMatches) (id : Text) (values : Option (List Text)) → values ≡ option_map raw_values (matched_of (found_of found) id) → all_of id (rows_of (found_of found)) ≡ values
 values_in found id values is = sym (raw_values-rows (found_of found) id) ∙ sym is
 

@@ -1,15 +1,15 @@
--- What words ask for: words that are written out, and names that are no options.
+-- What words ask for, of words that are written out and of names that are no options.
 use Rattle.std.proofs.Common.{◌≡◌, ◌==◌, ◌||◌, ℕ, Bool, true, false, not, [], ◌∷◌, ◌++◌, length, Some, None, refl, sym, subst, arith, codes}
 use Rattle.std.proofs.lemmas.Bool.{eqb-true}
 use Rattle.clap.proofs.OnLiterals.{clap_on_literals}
 use Rattle.clap.specs.Words.{Text, takes}
-use Rattle.words.specs.declared.check.Moments.TheVariants.{Index, Time}
-use Rattle.words.specs.declared.check.Form.TheVariants.{Report, Summary}
+use Rattle.words.specs.declared.check.MomentKey.TheVariants.{Index, Time}
+use Rattle.words.specs.declared.check.ReportForm.TheVariants.{Report, Summary}
 use Rattle.words.specs.declared.completion.Shell.TheVariants.{Bash, Zsh, Fish}
 use Rattle.words.specs.declared.lint.LintForm.TheVariants.{Human, Json}
 use Rattle.words.specs.declared.show.Picture.TheVariants as pictures
 use Rattle.words.specs.declared.show.Theme.TheVariants.{Auto, Dark}
-use Rattle.words.specs.Words.{Check, Completion, Explain, Lint, Manual, Safe, Show, Tower, Version, asked, command_line, is_plain}
+use Rattle.words.specs.Words.{Check, Completion, Explain, Lint, Manual, Safe, Show, Tower, Version, asked, command_line, is_no_option}
 
 pub input : (program : Text) → asked (program ∷ codes "safe" ∷ []) ≡ Some (Safe None)
 unfolding clap_on_literals
@@ -275,21 +275,21 @@ tower_empty : (program : Text) → AsksTower program []
 unfolding clap_on_literals
 tower_empty program = refl
 
--- what holds of no word, of the hyphen alone and of words that begin otherwise holds of words that are no options
+-- what holds of the empty word, the hyphen, and words that begin otherwise holds of all words that are no options
 by_first : (P : Text → Type 0) → P (45 ∷ []) → ((byte : ℕ) (bytes : Text) → (byte == 45) ≡ false → P (byte ∷ bytes)) → (byte : ℕ) (bytes : Text) (begins : Bool) → (byte == 45) ≡ begins → (not begins || length bytes == 0) ≡ true → P (byte ∷ bytes)
 by_first P hyphen other byte bytes false e h = other byte bytes e
 by_first P hyphen other byte [] true e h = subst (λ (b : ℕ). P (b ∷ [])) (sym (eqb-true byte 45 e)) hyphen
 by_first P hyphen other byte (next ∷ bytes) true e h = absurd (omega (arith, eqb-true (length (next ∷ bytes)) 0 h))
 
-plain : (P : Text → Type 0) → P [] → P (45 ∷ []) → ((byte : ℕ) (bytes : Text) → (byte == 45) ≡ false → P (byte ∷ bytes)) → (name : Text) → is_plain name ≡ true → P name
+plain : (P : Text → Type 0) → P [] → P (45 ∷ []) → ((byte : ℕ) (bytes : Text) → (byte == 45) ≡ false → P (byte ∷ bytes)) → (name : Text) → is_no_option name ≡ true → P name
 plain P empty hyphen other [] h = empty
 plain P empty hyphen other (byte ∷ bytes) h = by_first P hyphen other byte bytes (byte == 45) refl h
 
-pub trace : (program name : Text) → is_plain name ≡ true → AsksSafe program name
+pub trace : (program name : Text) → is_no_option name ≡ true → AsksSafe program name
 trace program = plain (AsksSafe program) (safe_empty program) (safe_hyphen program) (safe_begins program)
 
-pub tower : (program name : Text) → is_plain name ≡ true → AsksTower program name
+pub tower : (program name : Text) → is_no_option name ≡ true → AsksTower program name
 tower program = plain (AsksTower program) (tower_empty program) (tower_hyphen program) (tower_begins program)
 
-pub code : (program name : Text) → is_plain name ≡ true → AsksCode program name
+pub code : (program name : Text) → is_no_option name ≡ true → AsksCode program name
 code program = plain (AsksCode program) (code_empty program) (code_hyphen program) (code_begins program)

@@ -1,4 +1,4 @@
--- What is found in the words says which command they ask for.
+-- The arguments that are found in the words say which command they ask for.
 use Rattle.std.proofs.Common.{◌≡◌, ◌==◌, ◌&&◌, ℕ, Bool, true, false, List, Option, Some, None, ◌∙◌, length, map, refl, sym, ap, codes}
 use Rattle.std.specs.Prelude.{is_none}
 use Rattle.std.specs.Option.{option_map}
@@ -6,8 +6,8 @@ use Rattle.std.specs.Borrow.{Bor}
 use Rattle.std.proofs.lemmas.List.{length-map}
 use Rattle.clap.specs.Words.{App, HasMatchesOf, Row, Text, first_of, found_of, is_simple, rows_of, subcommand_of, subcommand_rows_of, subcommand_name_of}
 use Rattle.clap.specs.declared.ArgMatches.{ArgMatches}
-use Rattle.words.specs.declared.check.Form.{Form}
-use Rattle.words.specs.declared.check.Moments.{Moments}
+use Rattle.words.specs.declared.check.ReportForm.{ReportForm}
+use Rattle.words.specs.declared.check.MomentKey.{MomentKey}
 use Rattle.words.specs.declared.lint.LintForm.{LintForm}
 use Rattle.words.specs.declared.show.Picture.{Picture}
 use Rattle.words.specs.declared.show.Theme.{Theme}
@@ -35,7 +35,7 @@ pub asks_command : (matches found : ArgMatches) (name : Text) (asked : Option As
 asks_command matches found name asked named has is = rw (entered matches name (rows_of (found_of found)) named has) is
 
 -- a check whose arguments are all there
-pub is_check : (rows : List Row) (tower : Text) (shards : ℕ) (moments : Moments) (order : Option Text) (form : Form) (least least_each : ℕ) (traces : List Text) → first_of (codes "tower") rows ≡ Some tower → Some shards ≡ said_in shards_in (codes "shards") rows
+pub is_check : (rows : List Row) (tower : Text) (shards : ℕ) (moments : MomentKey) (order : Option Text) (form : ReportForm) (least least_each : ℕ) (traces : List Text) → first_of (codes "tower") rows ≡ Some tower → Some shards ≡ said_in shards_in (codes "shards") rows
     → Some moments ≡ said_in moments_in (codes "moment") rows → first_of (codes "order") rows ≡ order → Some form ≡ said_in form_in (codes "as") rows → Some least ≡ said_in count_in (codes "least") rows → Some least_each ≡ said_in count_in (codes "least-each") rows
     → traces ≡ traces_in rows → (length traces == 0) ≡ false
     → ◌≡◌ {A = Option AskedCheck} (Some (record { tower = tower; shards = shards; moments = moments; order = order; form = form; least = least; least_each = least_each; traces = traces })) (check_by rows)
@@ -46,7 +46,7 @@ pub no_tower : (rows : List Row) → first_of (codes "tower") rows ≡ None → 
 no_tower rows none = rw none refl
 
 -- a picture whose arguments are all there
-pub is_show : (rows : List Row) (tower : Text) (moments : Moments) (register : Option Text) (picture : Picture) (around : ℕ) (all : Bool) (width : Option ℕ) (theme : Theme) (traces : List Text) → first_of (codes "tower") rows ≡ Some tower → Some moments ≡ said_in moments_in (codes "moment") rows
+pub is_show : (rows : List Row) (tower : Text) (moments : MomentKey) (register : Option Text) (picture : Picture) (around : ℕ) (all : Bool) (width : Option ℕ) (theme : Theme) (traces : List Text) → first_of (codes "tower") rows ≡ Some tower → Some moments ≡ said_in moments_in (codes "moment") rows
     → first_of (codes "register") rows ≡ register → Some picture ≡ picture_by rows → Some around ≡ said_in count_in (codes "around") rows → all ≡ is_set (codes "all") rows → width ≡ said_in count_in (codes "width") rows → Some theme ≡ said_in theme_in (codes "theme") rows
     → traces ≡ traces_in rows → (length traces == 0) ≡ false
     → ◌≡◌ {A = Option AskedShow} (Some (record { tower = tower; moments = moments; register = register; picture = picture; around = around; all = all; width = width; theme = theme; traces = traces })) (show_by rows)
@@ -56,21 +56,21 @@ is_show rows tower moments register picture around all width theme traces tower_
 pub no_tower_to_show : (rows : List Row) → first_of (codes "tower") rows ≡ None → ◌≡◌ {A = Option AskedShow} None (show_by rows)
 no_tower_to_show rows none = rw none refl
 
--- whether neither is there, of a name and of names, by their texts
+-- neither a name nor one of several names is there, of their texts
 pub emptiness : (tower : Option (Bor (List ℕ))) (lent held : List (Bor (List ℕ))) (found is : Bool) → lent ≡ held → found ≡ (is_none tower && length lent == 0) → found ≡ is
     → (is_none (option_map (λ name. name.now) tower) && length (map (λ name. name.now) held) == 0) ≡ is
 emptiness None lent held found is lent_is found_is is_is = rw (length-map, ← lent_is) (sym found_is ∙ is_is)
 emptiness (Some name) lent held found is lent_is found_is is_is = sym found_is ∙ is_is
 
--- a look through what is there
-pub is_lint : (rows : List Row) (tower : Option Text) (moments : Moments) (form : LintForm) (most : ℕ) (denied : Option Text) (traces : List Text) → first_of (codes "tower") rows ≡ tower → Some moments ≡ said_in moments_in (codes "moment") rows
+-- a look through a tower file or traces
+pub is_lint : (rows : List Row) (tower : Option Text) (moments : MomentKey) (form : LintForm) (most : ℕ) (denied : Option Text) (traces : List Text) → first_of (codes "tower") rows ≡ tower → Some moments ≡ said_in moments_in (codes "moment") rows
     → Some form ≡ said_in lint_form_in (codes "as") rows → Some most ≡ said_in count_in (codes "max") rows → first_of (codes "deny") rows ≡ denied → traces ≡ traces_in rows → (is_none tower && length traces == 0) ≡ false
     → ◌≡◌ {A = Option AskedLint} (Some (record { tower = tower; moments = moments; form = form; most = most; denied = denied; traces = traces })) (lint_by rows)
 is_lint rows tower moments form most denied traces tower_is moments_is form_is most_is denied_is traces_are some =
     rw (← moments_is, ← form_is, ← most_is, ← traces_are, tower_is, some, denied_is) refl
 
--- and where nothing is
-pub is_no_lint : (rows : List Row) (tower : Option Text) (moments : Moments) (form : LintForm) (most : ℕ) (traces : List Text) → first_of (codes "tower") rows ≡ tower → Some moments ≡ said_in moments_in (codes "moment") rows
+-- no look where neither is named
+pub is_no_lint : (rows : List Row) (tower : Option Text) (moments : MomentKey) (form : LintForm) (most : ℕ) (traces : List Text) → first_of (codes "tower") rows ≡ tower → Some moments ≡ said_in moments_in (codes "moment") rows
     → Some form ≡ said_in lint_form_in (codes "as") rows → Some most ≡ said_in count_in (codes "max") rows → traces ≡ traces_in rows → (is_none tower && length traces == 0) ≡ true
     → ◌≡◌ {A = Option AskedLint} None (lint_by rows)
 is_no_lint rows tower moments form most traces tower_is moments_is form_is most_is traces_are none =

@@ -1,2 +1,3 @@
+-- words of the public clauses
 pub mod Completion
 pub mod Words

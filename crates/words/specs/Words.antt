@@ -1,10 +1,11 @@
--- The commands, and what words ask for.
+-- The commands with their arguments, and what words ask for.
 use Rattle.std.specs.Prelude.{◌≡◌, ◌==◌, ◌||◌, ◌&&◌, ◌<◌, ◌≤◌, ◌-◌, ◌^◌, ⊤, ℕ, Bool, true, false, not, List, [], ◌∷◌, length, map, Option, Some, None, is_none, codes, if◌then◌else◌, option_and_then, unwrap_or}
 use Rattle.std.specs.Option.{option_map, option_map_or}
 use Rattle.std.specs.Str.{bytes_eq}
 use Rattle.std.specs.Str.Parse.{digits_value, without_leading_plus}
 use Rattle.clap.specs.Lexer.{usize_max}
 use Rattle.clap.specs.Words.{App, Row, Rule, Text, all_of, app_of, first_of, new_app, new_rule, rule_of, subcommand_of, with_rule, with_subcommand}
+use Rattle.clap.specs.declared.Arg.{Arg as Held}
 use Rattle.clap.specs.declared.builder.command.Command.{Command as Line}
 use Rattle.clap.specs.declared.builder.command.Command.TheViews.{out-Command as fields_of}
 use Rattle.clap.specs.Faults.{fault_of}
@@ -12,11 +13,10 @@ use Rattle.clap.specs.ValueTests.{is_unsigned_in}
 use Rattle.clap.specs.declared.builder.action.ArgAction.TheVariants.{SetTrue}
 use Rattle.clap.specs.declared.builder.value_parser.ValueParser.TheVariants as parsers
 use Rattle.words.specs.declared.check.Check.{Check as HeldCheck}
-use Rattle.words.specs.declared.check.Form.{Form}
-use Rattle.words.specs.declared.check.Form.TheVariants.{Report, Summary}
-use Rattle.words.specs.declared.check.Moments.{Moments}
-use Rattle.words.specs.declared.check.Moments.TheVariants.{Index, Time}
-use Rattle.words.specs.declared.line.Choices.{Choices}
+use Rattle.words.specs.declared.check.ReportForm.{ReportForm}
+use Rattle.words.specs.declared.check.ReportForm.TheVariants.{Report, Summary}
+use Rattle.words.specs.declared.check.MomentKey.{MomentKey}
+use Rattle.words.specs.declared.check.MomentKey.TheVariants.{Index, Time}
 use Rattle.words.specs.declared.lint.Lint.{Lint as HeldLint}
 use Rattle.words.specs.declared.lint.LintForm.{LintForm}
 use Rattle.words.specs.declared.lint.LintForm.TheVariants.{Human, Short, GitHub, Json}
@@ -30,191 +30,167 @@ use Rattle.words.specs.Completion.{shell_named}
 use Rattle.words.specs.declared.words.Command.{Command}
 use Rattle.words.specs.declared.words.Command.TheVariants as commands
 
--- `--tower FILE`
+-- the option `--tower FILE`, which has to be given
 abbrev pub tower_rule : Rule
 tower_rule = record (new_rule (codes "tower")) { long = Some (codes "tower"); value_names = 1; required = true }
 
--- `--shards N`, from 1 to 64, and 1 where it is not given
+-- the option `--shards N`, from 1 to 64; 1 where it is not given
 abbrev pub shards_rule : Rule
 shards_rule = record (new_rule (codes "shards")) { long = Some (codes "shards"); value_names = 1; defaults = codes "1" ∷ []; parser = Some (parsers.Unsigned 1 64) }
 
--- `--moment FIELD`, and `index` where it is not given
+-- the option `--moment FIELD`; `index` where it is not given
 abbrev pub moment_rule : Rule
 moment_rule = record (new_rule (codes "moment")) { long = Some (codes "moment"); value_names = 1; defaults = codes "index" ∷ [] }
 
--- `--order NAME`
+-- the option `--order NAME`
 abbrev pub order_rule : Rule
 order_rule = record (new_rule (codes "order")) { long = Some (codes "order"); value_names = 1 }
 
--- `--as FORM`, and `text` where it is not given
+-- the option `--as FORM` of `check`; `text` where it is not given
 abbrev pub form_rule : Rule
 form_rule = record (new_rule (codes "as")) { long = Some (codes "as"); value_names = 1; defaults = codes "text" ∷ [] }
 
--- `--NAME N`, a number, and this one where it is not given
+-- the option `--NAME N` of this name, a number below 2^64; this default where it is not given
 abbrev pub count_rule : Text → Text → Rule
 count_rule name default = record (new_rule name) { long = Some name; value_names = 1; defaults = default ∷ []; parser = Some (parsers.Unsigned 0 (2 ^ 64 - 1)) }
 
--- `TRACE..`, one or more
+-- the arguments `TRACE..`, one or more
 abbrev pub traces_rule : Rule
 traces_rule = record (new_rule (codes "TRACE")) { range = Some (record { start_inclusive = 1; end_inclusive = usize_max }); required = true }
 
--- a command with the numbers of operations and the traces behind its options
+-- a command, with `--least`, `--least-each` and `TRACE..` added
 abbrev pub with_counts : App → App
 with_counts options = with_rule (with_rule (with_rule options (count_rule (codes "least") (codes "0"))) (count_rule (codes "least-each") (codes "0"))) traces_rule
 
--- `check` with these options and traces, where `--moment` and `--as` have these rules
-abbrev pub check_with : Rule → Rule → App
-check_with moment form = with_counts (with_rule (with_rule (with_rule (with_rule (with_rule (new_app (codes "check")) tower_rule) shards_rule) moment) order_rule) form)
-
 -- `check --tower FILE [--shards N] [--moment FIELD] [--order NAME] [--as FORM] [--least N] [--least-each N] TRACE..`
 abbrev pub check_line : App
-check_line = check_with moment_rule form_rule
+check_line = with_counts (with_rule (with_rule (with_rule (with_rule (with_rule (new_app (codes "check")) tower_rule) shards_rule) moment_rule) order_rule) form_rule)
 
--- `--register NAME`
+-- the option `--register NAME`
 abbrev pub register_rule : Rule
 register_rule = record (new_rule (codes "register")) { long = Some (codes "register"); value_names = 1 }
 
--- `--NAME`, a flag
+-- the flag `--NAME` of this name
 abbrev pub flag_rule : Text → Rule
 flag_rule name = record (new_rule name) { long = Some name; action = Some SetTrue }
 
--- `--width N`, from 20 to 1000000
+-- the option `--width N`, from 20 to 1000000
 abbrev pub width_rule : Rule
 width_rule = record (new_rule (codes "width")) { long = Some (codes "width"); value_names = 1; parser = Some (parsers.Unsigned 20 1000000) }
 
--- `--theme THEME`, and `auto` where it is not given
+-- the option `--theme THEME`; `auto` where it is not given
 abbrev pub theme_rule : Rule
 theme_rule = record (new_rule (codes "theme")) { long = Some (codes "theme"); value_names = 1; defaults = codes "auto" ∷ [] }
 
--- a command with how much is shown, how wide and in which colours, and the traces, where `--theme` has this rule
-abbrev pub with_show_options : App → Rule → App
-with_show_options options theme =
-    with_rule (with_rule (with_rule (with_rule (with_rule options (count_rule (codes "around") (codes "3"))) (flag_rule (codes "all"))) width_rule) theme) traces_rule
+-- a command, with `--svg`, `--html` and `--ascii` added
+abbrev pub with_pictures : App → App
+with_pictures options = with_rule (with_rule (with_rule options (flag_rule (codes "svg"))) (flag_rule (codes "html"))) (flag_rule (codes "ascii"))
 
--- `show` with these options and traces, where `--moment`, the flags of the pictures and `--theme` have these rules
-abbrev pub show_with : Rule → Rule → Rule → Rule → Rule → App
-show_with moment svg html ascii theme =
-    with_show_options (with_rule (with_rule (with_rule (with_rule (with_rule (with_rule (new_app (codes "show")) tower_rule) moment) register_rule) svg) html) ascii) theme
+-- a command, with `--around`, `--all`, `--width`, `--theme` and `TRACE..` added
+abbrev pub with_show_options : App → App
+with_show_options options =
+    with_rule (with_rule (with_rule (with_rule (with_rule options (count_rule (codes "around") (codes "3"))) (flag_rule (codes "all"))) width_rule) theme_rule) traces_rule
 
--- `show --tower FILE [--moment FIELD] [--register NAME] [--svg] [--html] [--ascii] [--around N] [--all] [--width N] [--theme THEME] TRACE..`
+-- `show --tower FILE [--moment FIELD] [--register NAME] [--svg] [--html] [--ascii] [--around N] [--all] [--width N]
+-- [--theme THEME] TRACE..`
 abbrev pub show_line : App
-show_line = show_with moment_rule (flag_rule (codes "svg")) (flag_rule (codes "html")) (flag_rule (codes "ascii")) theme_rule
+show_line = with_show_options (with_pictures (with_rule (with_rule (with_rule (new_app (codes "show")) tower_rule) moment_rule) register_rule))
 
--- `--tower FILE`, which may be left out
+-- the option `--tower FILE`, which may be left out
 abbrev pub any_tower_rule : Rule
 any_tower_rule = record (new_rule (codes "tower")) { long = Some (codes "tower"); value_names = 1 }
 
--- `--as FORM` of what is amiss, and `human` where it is not given
+-- the option `--as FORM` of `lint`; `human` where it is not given
 abbrev pub amiss_rule : Rule
 amiss_rule = record (new_rule (codes "as")) { long = Some (codes "as"); value_names = 1; defaults = codes "human" ∷ [] }
 
--- `--deny CODES`
+-- the option `--deny CODES`
 abbrev pub deny_rule : Rule
 deny_rule = record (new_rule (codes "deny")) { long = Some (codes "deny"); value_names = 1 }
 
--- `TRACE..`, any number
+-- the arguments `TRACE..`, any number of them
 abbrev pub any_traces_rule : Rule
 any_traces_rule = record (new_rule (codes "TRACE")) { range = Some (record { start_inclusive = 1; end_inclusive = usize_max }) }
 
--- a command with how much is shown, what counts as a warning, and the traces
+-- a command, with `--max`, `--deny` and any number of `TRACE..` added
 abbrev pub with_lint_options : App → App
 with_lint_options options = with_rule (with_rule (with_rule options (count_rule (codes "max") (codes "3"))) deny_rule) any_traces_rule
 
--- `lint` with these options and traces, where `--moment` and `--as` have these rules
-abbrev pub lint_with : Rule → Rule → App
-lint_with moment form = with_lint_options (with_rule (with_rule (with_rule (new_app (codes "lint")) any_tower_rule) moment) form)
-
--- `lint [--tower FILE] [--moment FIELD] [--as FORM] [--max N] [--deny CODES] TRACE..`
+-- the command `lint [--tower FILE] [--moment FIELD] [--as FORM] [--max N] [--deny CODES] [TRACE..]`
 abbrev pub lint_line : App
-lint_line = lint_with moment_rule amiss_rule
+lint_line = with_lint_options (with_rule (with_rule (with_rule (new_app (codes "lint")) any_tower_rule) moment_rule) amiss_rule)
 
--- `safe [TRACE]`
+-- the command `safe [TRACE]`
 abbrev pub safe_line : App
 safe_line = with_rule (new_app (codes "safe")) (new_rule (codes "TRACE"))
 
--- `tower FILE`
+-- the command `tower FILE`
 abbrev pub tower_line : App
 tower_line = with_rule (new_app (codes "tower")) (record (new_rule (codes "FILE")) { required = true })
 
--- `explain [CODE]`
+-- the command `explain [CODE]`
 abbrev pub explain_line : App
 explain_line = with_rule (new_app (codes "explain")) (new_rule (codes "CODE"))
 
--- `version`
+-- the command `version`
 abbrev pub version_line : App
 version_line = new_app (codes "version")
 
--- `manual`
+-- the command `manual`
 abbrev pub manual_line : App
 manual_line = new_app (codes "manual")
 
--- `SHELL`
+-- the argument `SHELL`, which has to be given
 abbrev pub shell_rule : Rule
 shell_rule = record (new_rule (codes "SHELL")) { required = true }
 
--- `completion` of a shell, where `SHELL` has this rule
-abbrev pub completion_with : Rule → App
-completion_with shell = with_rule (new_app (codes "completion")) shell
-
--- `completion SHELL`
+-- the command `completion SHELL`
 abbrev pub completion_line : App
-completion_line = completion_with shell_rule
+completion_line = with_rule (new_app (codes "completion")) shell_rule
 
--- the program's name alone, with one of these behind it
+-- the name of the program, `regaudit`, after which there has to be a command
 abbrev pub program_line : App
 program_line = let alone = new_app (codes "regaudit") in record alone { top = record alone.top { subcommand_required = true } }
 
--- a line with the commands that read one file
+-- a line, with the commands `safe` and `tower` added
 abbrev pub with_files : App → App
 with_files line = with_subcommand (with_subcommand line safe_line.top) tower_line.top
 
--- a line with the commands that print a text
+-- a line, with the commands `explain`, `version` and `manual` added
 abbrev pub with_texts : App → App
 with_texts line = with_subcommand (with_subcommand (with_subcommand line explain_line.top) version_line.top) manual_line.top
 
--- the whole line: the program and its commands, of which these are `check`, `show`, `lint` and `completion`
-abbrev pub line_with : App → App → App → App → App
-line_with check show lint completion =
-    with_subcommand (with_texts (with_files (with_subcommand (with_subcommand (with_subcommand program_line check.top) show.top) lint.top))) completion.top
+-- a line, with the commands `check`, `show` and `lint` added
+abbrev pub with_audits : App → App
+with_audits line = with_subcommand (with_subcommand (with_subcommand line check_line.top) show_line.top) lint_line.top
 
--- the whole line, with these arguments
-abbrev pub line_of : Choices → App
-line_of choices = line_with
-    (check_with (rule_of choices.moment) (rule_of choices.form))
-    (show_with (rule_of choices.show_moment) (rule_of choices.svg) (rule_of choices.html) (rule_of choices.ascii) (rule_of choices.theme))
-    (lint_with (rule_of choices.lint_moment) (rule_of choices.lint_form))
-    (completion_with (rule_of choices.shell))
-
--- the whole line: the program and its commands
+-- the whole command line: the program and its commands
 abbrev pub command_line : App
-command_line = line_with check_line show_line lint_line completion_line
+command_line = with_subcommand (with_texts (with_files (with_audits program_line))) completion_line.top
 
--- a command as `clap` holds it: it is this one, and no argument of it goes to commands below it
+-- `clap`'s value of a command is this command, and none of its arguments is global, that is, goes to commands below it
 abbrev pub IsLine : App → Line → Type 0
 IsLine app line = (app_of line ≡ app) × ((fields_of line).has_globals ≡ false)
 
--- none of them goes to the commands below its own
-abbrev pub AreLocal : Choices → Type 0
-AreLocal choices =
-    (choices.moment.global ≡ false) × (choices.form.global ≡ false)
-    × (choices.show_moment.global ≡ false) × (choices.svg.global ≡ false) × (choices.html.global ≡ false) × (choices.ascii.global ≡ false) × (choices.theme.global ≡ false)
-    × (choices.lint_moment.global ≡ false) × (choices.lint_form.global ≡ false) × (choices.shell.global ≡ false)
+-- `clap`'s value of an argument is the flag of this name, and it is not global
+abbrev pub IsFlag : Text → Held → Type 0
+IsFlag name arg = (rule_of arg ≡ flag_rule name) × (arg.global ≡ false)
 
--- what `check` asks for
+-- what the words of `check` ask for
 pub record AskedCheck : Type 0 where
   pub tower : Text
   pub shards : ℕ
-  pub moments : Moments
+  pub moments : MomentKey
   pub order : Option Text
-  pub form : Form
+  pub form : ReportForm
   pub least : ℕ
   pub least_each : ℕ
   pub traces : List Text
 
--- what `show` asks for
+-- what the words of `show` ask for
 pub record AskedShow : Type 0 where
   pub tower : Text
-  pub moments : Moments
+  pub moments : MomentKey
   pub register : Option Text
   pub picture : Picture
   pub around : ℕ
@@ -223,17 +199,17 @@ pub record AskedShow : Type 0 where
   pub theme : Theme
   pub traces : List Text
 
--- what `lint` asks for
+-- what the words of `lint` ask for
 pub record AskedLint : Type 0 where
   pub tower : Option Text
-  pub moments : Moments
+  pub moments : MomentKey
   pub form : LintForm
   pub most : ℕ
   pub denied : Option Text
   pub traces : List Text
 
--- a command: the trace that is named, none for standard input; what is checked, shown or looked through; the tower file that is named; the
--- code that is to be explained, none for a list of all; the program's version; its manual; the completion of a shell
+-- a command with what it asks for; `safe` without a trace judges standard input, `explain` without a code lists all
+-- of them
 pub data Asked : Type 0 where
   Safe : (trace : Option Text) → Asked
   Check : (check : AskedCheck) → Asked
@@ -245,33 +221,33 @@ pub data Asked : Type 0 where
   Manual : Asked
   Completion : (shell : Shell) → Asked
 
--- the number of shards that a text says: digits, behind a plus or none, from 1 to 64
+-- the number of shards that a text gives: digits, after a plus or none, from 1 to 64
 abbrev pub shards_in : Text → Option ℕ
 shards_in text = if is_unsigned_in 1 64 text then Some (digits_value 10 (without_leading_plus text)) else None
 
--- the field that a text names
-abbrev pub moments_in : Text → Option Moments
+-- the field of moments that a text names: `index` or `time`
+abbrev pub moments_in : Text → Option MomentKey
 moments_in text = if bytes_eq text (codes "index") then Some Index else (if bytes_eq text (codes "time") then Some Time else None)
 
--- the form that a text names
-abbrev pub form_in : Text → Option Form
+-- the form of a report that a text names: `text` or `summary`
+abbrev pub form_in : Text → Option ReportForm
 form_in text = if bytes_eq text (codes "text") then Some Report else (if bytes_eq text (codes "summary") then Some Summary else None)
 
--- the picture that these flags ask for; none where they ask for two
+-- the picture that the flags `--svg`, `--html` and `--ascii` ask for: lines of text without any; none where two are set
 abbrev pub picture_in : Bool → Bool → Bool → Option Picture
 picture_in svg html ascii =
     if svg then (if html || ascii then None else Some pictures.Svg)
     else (if html then (if ascii then None else Some pictures.Html)
     else (if ascii then Some pictures.Ascii else Some pictures.Text))
 
--- the colours that a text names
+-- the colours that a text names: `auto`, `light` or `dark`
 abbrev pub theme_in : Text → Option Theme
 theme_in text =
     if bytes_eq text (codes "auto") then Some Auto
     else (if bytes_eq text (codes "light") then Some Light
     else (if bytes_eq text (codes "dark") then Some Dark else None))
 
--- the form of what is amiss that a text names
+-- the form of findings that a text names: `human`, `short`, `github` or `json`
 abbrev pub lint_form_in : Text → Option LintForm
 lint_form_in text =
     if bytes_eq text (codes "human") then Some Human
@@ -279,29 +255,29 @@ lint_form_in text =
     else (if bytes_eq text (codes "github") then Some GitHub
     else (if bytes_eq text (codes "json") then Some Json else None)))
 
--- the number that a text says: digits, behind a plus or none, below 2 to the power of 64
+-- the number that a text gives: digits, after a plus or none, below 2^64
 abbrev pub count_in : Text → Option ℕ
 count_in text = if is_unsigned_in 0 (2 ^ 64 - 1) text then Some (digits_value 10 (without_leading_plus text)) else None
 
--- the traces among the arguments
+-- the traces among the arguments that were found
 abbrev pub traces_in : List Row → List Text
 traces_in rows = unwrap_or (all_of (codes "TRACE") rows) []
 
--- what the value of this name among the arguments says, where it says something
+-- what the value of the argument of this name gives, by this reading; none where it is not there or gives nothing
 abbrev pub said_in : {A : Type 0} → (Text → Option A) → Text → List Row → Option A
 said_in says name rows = option_and_then says (first_of name rows)
 
--- whether the flag of this name is among the arguments: its value is `true` where it is, and `false` where it is not
+-- the flag of this name is among the arguments: its value is `true` where it is, and `false` where it is not
 abbrev pub is_set : Text → List Row → Bool
 is_set name rows = option_map_or (λ value. bytes_eq value (codes "true")) (first_of name rows) false
 
--- a check of this tower, with what is said of it, over the other arguments; none where they name no trace
-abbrev pub check_of : Text → ℕ → Moments → Form → ℕ → ℕ → List Row → Option AskedCheck
+-- what `check` asks for by these values and the other arguments; none where they name no trace
+abbrev pub check_of : Text → ℕ → MomentKey → ReportForm → ℕ → ℕ → List Row → Option AskedCheck
 check_of tower shards moments form least least_each rows =
     if length (traces_in rows) == 0 then None
     else Some (record { tower = tower; shards = shards; moments = moments; order = first_of (codes "order") rows; form = form; least = least; least_each = least_each; traces = traces_in rows })
 
--- the check with these arguments
+-- what `check` asks for by these arguments, or none
 abbrev pub check_by : List Row → Option AskedCheck
 check_by rows =
     option_and_then (λ tower. option_and_then (λ shards. option_and_then (λ moments. option_and_then (λ form.
@@ -313,17 +289,17 @@ check_by rows =
     (said_in shards_in (codes "shards") rows))
     (first_of (codes "tower") rows)
 
--- the picture that the flags among the arguments ask for
+-- the picture that the flags among the arguments ask for; none where two are set
 abbrev pub picture_by : List Row → Option Picture
 picture_by rows = picture_in (is_set (codes "svg") rows) (is_set (codes "html") rows) (is_set (codes "ascii") rows)
 
--- a picture of a register of this tower, with what is said of it, over the other arguments; none where they name no trace
-abbrev pub show_of : Text → Moments → Picture → ℕ → Theme → List Row → Option AskedShow
+-- what `show` asks for by these values and the other arguments; none where they name no trace
+abbrev pub show_of : Text → MomentKey → Picture → ℕ → Theme → List Row → Option AskedShow
 show_of tower moments picture around theme rows =
     if length (traces_in rows) == 0 then None
     else Some (record { tower = tower; moments = moments; register = first_of (codes "register") rows; picture = picture; around = around; all = is_set (codes "all") rows; width = said_in count_in (codes "width") rows; theme = theme; traces = traces_in rows })
 
--- the picture with these arguments
+-- what `show` asks for by these arguments, or none
 abbrev pub show_by : List Row → Option AskedShow
 show_by rows =
     option_and_then (λ tower. option_and_then (λ moments. option_and_then (λ picture. option_and_then (λ around.
@@ -334,13 +310,13 @@ show_by rows =
     (said_in moments_in (codes "moment") rows))
     (first_of (codes "tower") rows)
 
--- a look through these, over the other arguments; none where they name neither a tower file nor a trace
-abbrev pub lint_of : Moments → LintForm → ℕ → List Row → Option AskedLint
+-- what `lint` asks for by these values and the other arguments; none where they name neither a tower file nor a trace
+abbrev pub lint_of : MomentKey → LintForm → ℕ → List Row → Option AskedLint
 lint_of moments form most rows =
     if is_none (first_of (codes "tower") rows) && length (traces_in rows) == 0 then None
     else Some (record { tower = first_of (codes "tower") rows; moments = moments; form = form; most = most; denied = first_of (codes "deny") rows; traces = traces_in rows })
 
--- the look through what these arguments name
+-- what `lint` asks for by these arguments, or none
 abbrev pub lint_by : List Row → Option AskedLint
 lint_by rows =
     option_and_then (λ moments. option_and_then (λ form. option_and_then (λ most. lint_of moments form most rows)
@@ -348,7 +324,7 @@ lint_by rows =
     (said_in lint_form_in (codes "as") rows))
     (said_in moments_in (codes "moment") rows)
 
--- the command of that name, with these arguments
+-- the command of this name with what its arguments ask for, or none
 abbrev pub command_by : Text → List Row → Option Asked
 command_by name rows =
     if bytes_eq name (codes "check") then option_map Check (check_by rows)
@@ -361,29 +337,29 @@ command_by name rows =
     else (if bytes_eq name (codes "manual") then Some Manual
     else option_map Completion (said_in shell_named (codes "SHELL") rows))))))))
 
--- the command that was found, with its arguments
+-- the command that was found in the words, with what its arguments ask for, or none
 abbrev pub asked_by : Option (Text × List Row) → Option Asked
 asked_by None = None
 asked_by (Some entered) = command_by entered.0 entered.1
 
--- the word by which every program is asked for its version
+-- the word is `--version` or `-V`
 abbrev pub is_version_word : Text → Bool
 is_version_word word = bytes_eq word (codes "--version") || bytes_eq word (codes "-V")
 
--- the program's name and that word alone
+-- the words are the program's name and `--version` or `-V`, and no more
 abbrev pub ask_version : List Text → Bool
 ask_version (program ∷ word ∷ []) = is_version_word word
 ask_version _ = false
 
--- what words ask for, the first of which is the program's name: the version, or the command that `clap` finds in them
+-- what words ask for, of which the first is the program's name: the version, or the command that `clap` finds in them
 abbrev pub asked : List Text → Option Asked
 asked words = if ask_version words then Some Version else asked_by (subcommand_of command_line words)
 
--- words that ask for a command have no fault
-abbrev pub IsFaultless : List Text → Type 0
-IsFaultless words = ask_version words ≡ false → fault_of command_line words ≡ []
+-- the words ask for the version, or `clap` finds no fault in them
+abbrev pub IsWellFormed : List Text → Type 0
+IsWellFormed words = ask_version words ≡ false → fault_of command_line words ≡ []
 
--- the program's value of a check
+-- what the program's value of `check` asks for
 abbrev pub asked_check : HeldCheck → AskedCheck
 asked_check check = record {
   tower = check.tower.now;
@@ -396,7 +372,7 @@ asked_check check = record {
   traces = map (λ name. name.now) check.traces.items;
 }
 
--- the program's value of a picture
+-- what the program's value of `show` asks for
 abbrev pub asked_show : HeldShow → AskedShow
 asked_show show = record {
   tower = show.tower.now;
@@ -410,7 +386,7 @@ asked_show show = record {
   traces = map (λ name. name.now) show.traces.items;
 }
 
--- the program's value of a look through traces and a tower file
+-- what the program's value of `lint` asks for
 abbrev pub asked_lint : HeldLint → AskedLint
 asked_lint lint = record {
   tower = option_map (λ name. name.now) lint.tower;
@@ -421,7 +397,7 @@ asked_lint lint = record {
   traces = map (λ name. name.now) lint.traces.items;
 }
 
--- the program's value of a command
+-- what the program's value of a command asks for
 abbrev pub asked_of : Command → Asked
 asked_of (commands.Safe trace) = Safe (option_map (λ name. name.now) trace)
 asked_of (commands.Check check) = Check (asked_check check)
@@ -438,13 +414,13 @@ abbrev pub HasShards : Command → Type 0
 HasShards (commands.Check check) = (1 ≤ check.shards) × (check.shards ≤ 64)
 HasShards _ = ⊤
 
--- a check and a picture have one trace or more
+-- a check or a picture has one trace or more
 abbrev pub HasTraces : Command → Type 0
 HasTraces (commands.Check check) = 0 < length check.traces.items
 HasTraces (commands.Show show) = 0 < length show.traces.items
 HasTraces _ = ⊤
 
--- a word that is no option: it does not begin with a hyphen, or it is the hyphen alone
-abbrev pub is_plain : Text → Bool
-is_plain [] = true
-is_plain (byte ∷ bytes) = not (byte == 45) || length bytes == 0
+-- the word is no option: it does not begin with a hyphen, or is the hyphen alone
+abbrev pub is_no_option : Text → Bool
+is_no_option [] = true
+is_no_option (byte ∷ bytes) = not (byte == 45) || length bytes == 0

@@ -8,16 +8,16 @@ ghost use Rattle.words.specs.Words.{asked_check, check_by, count_in, form_in, mo
 use clap::ArgMatches;
 use std::alloc::{AllocError, Global};
 
-/// The field that an event's moment stands under.
+/// The field that holds an event's moment.
 #[derive(Clone, Copy, Debug, PartialEq, Eq)]
-pub enum Moments {
+pub enum MomentKey {
     Index,
     Time,
 }
 
 /// What is printed of a check.
 #[derive(Clone, Copy, Debug, PartialEq, Eq)]
-pub enum Form {
+pub enum ReportForm {
     /// The report, line by line.
     Report,
     /// Counts, and what fails.
@@ -31,19 +31,19 @@ pub struct Check<'a> {
     pub tower: &'a str,
     /// From 1 to 64.
     pub shards: u32,
-    pub moments: Moments,
+    pub moments: MomentKey,
     /// The name of the register whose order is asked for.
     pub order: Option<&'a str>,
-    pub form: Form,
-    /// How many operations are to stand in all registers together.
+    pub form: ReportForm,
+    /// How many operations have to stand in all registers together, at least.
     pub least: u64,
-    /// How many operations are to stand in each register.
+    /// How many operations have to stand in each register, at least.
     pub least_each: u64,
     /// One or more.
     pub traces: Vec<&'a str>,
 }
 
-/// The check with the arguments that `clap` found, where they make one.
+/// What `check` asks for by the arguments that `clap` found, or none.
 pub(crate) fn check_of<'a>(
     alloc: Global,
     found: &ArgMatches<'a>,
@@ -109,43 +109,43 @@ fn shards_in(text: &str) -> Option<u32>
     }
 }
 
-pub(crate) fn moments_of(found: &ArgMatches<'_>) -> Option<Moments>
+pub(crate) fn moments_of(found: &ArgMatches<'_>) -> Option<MomentKey>
     ensures { result ≡ said_in moments_in (codes "moment") (rows_of (found_of found.now)) }
 {
     moments_in(found.get_str("moment")?)
 }
 
-fn moments_in(text: &str) -> Option<Moments>
+fn moments_in(text: &str) -> Option<MomentKey>
     ensures { result ≡ moments_in text.now }
 {
     if text == "index" {
-        Some(Moments::Index)
+        Some(MomentKey::Index)
     } else if text == "time" {
-        Some(Moments::Time)
+        Some(MomentKey::Time)
     } else {
         None
     }
 }
 
-fn form_of(found: &ArgMatches<'_>) -> Option<Form>
+fn form_of(found: &ArgMatches<'_>) -> Option<ReportForm>
     ensures { result ≡ said_in form_in (codes "as") (rows_of (found_of found.now)) }
 {
     form_in(found.get_str("as")?)
 }
 
-fn form_in(text: &str) -> Option<Form>
+fn form_in(text: &str) -> Option<ReportForm>
     ensures { result ≡ form_in text.now }
 {
     if text == "text" {
-        Some(Form::Report)
+        Some(ReportForm::Report)
     } else if text == "summary" {
-        Some(Form::Summary)
+        Some(ReportForm::Summary)
     } else {
         None
     }
 }
 
-/// The number under that name.
+/// The number of the argument of this name.
 pub(crate) fn count_of(found: &ArgMatches<'_>, name: &str) -> Option<u64>
     ensures { result ≡ said_in count_in name.now (rows_of (found_of found.now)) }
 {

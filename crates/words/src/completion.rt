@@ -1,4 +1,4 @@
-//! What a shell is told, to complete the words of the command line.
+//! The scripts by which shells complete the words of the command line.
 
 ghost use Rattle.std.specs.Prelude.{◌≡◌};
 ghost use Rattle.words.specs.Completion.{script_for, shell_named};
@@ -12,7 +12,7 @@ pub enum Shell {
 }
 
 impl Shell {
-    /// The shell of that name.
+    /// The shell of this name.
     pub fn named(name: &str) -> Option<Shell>
         ensures { result ≡ shell_named name.now }
     {

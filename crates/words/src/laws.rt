@@ -1,25 +1,25 @@
-//! Laws of the words of the command line. Each is proved, and does nothing.
+//! What words ask for, in cases that are written out. Each law is proved, and does nothing when it is called.
 
 ghost use Rattle.std.specs.Prelude.{◌≡◌, ◌++◌, ℕ, true, false, List, [], ◌∷◌, Some, None, codes};
 ghost use Rattle.clap.specs.Words.{Text, takes};
-ghost use Rattle.words.specs.declared.check.Moments.TheVariants.{Index, Time};
-ghost use Rattle.words.specs.declared.check.Form.TheVariants.{Report, Summary};
+ghost use Rattle.words.specs.declared.check.MomentKey.TheVariants.{Index, Time};
+ghost use Rattle.words.specs.declared.check.ReportForm.TheVariants.{Report, Summary};
 ghost use Rattle.words.specs.declared.completion.Shell.TheVariants.{Bash, Zsh, Fish};
 ghost use Rattle.words.specs.declared.lint.LintForm.TheVariants.{Human, Json};
 ghost use Rattle.words.specs.declared.show.Picture.TheVariants as pictures;
 ghost use Rattle.words.specs.declared.show.Theme.TheVariants.{Auto, Dark};
-ghost use Rattle.words.specs.Words.{Check, Completion, Explain, Lint, Manual, Safe, Show, Tower, Version, asked, command_line, is_plain};
+ghost use Rattle.words.specs.Words.{Check, Completion, Explain, Lint, Manual, Safe, Show, Tower, Version, asked, command_line, is_no_option};
 
-/// What words ask for, whatever the program's name: the command is named behind it, and then its
-/// file. A file whose name begins with a hyphen stands behind `--`.
+/// What words ask for, whatever the program's name is: after it comes the command, and then its file. A file whose
+/// name begins with a hyphen comes after `--`.
 pub fn words_in_turn()
     ensures input { (program : Text) → asked (program ∷ codes "safe" ∷ []) ≡ Some (Safe None) }
-    ensures trace { (program name : Text) → is_plain name ≡ true → asked (program ∷ codes "safe" ∷ name ∷ []) ≡ Some (Safe (Some name)) }
-    ensures tower { (program name : Text) → is_plain name ≡ true → asked (program ∷ codes "tower" ∷ name ∷ []) ≡ Some (Tower name) }
+    ensures trace { (program name : Text) → is_no_option name ≡ true → asked (program ∷ codes "safe" ∷ name ∷ []) ≡ Some (Safe (Some name)) }
+    ensures tower { (program name : Text) → is_no_option name ≡ true → asked (program ∷ codes "tower" ∷ name ∷ []) ≡ Some (Tower name) }
     ensures any_trace { (program name : Text) → asked (program ∷ codes "safe" ∷ codes "--" ∷ name ∷ []) ≡ Some (Safe (Some name)) }
     ensures any_tower { (program name : Text) → asked (program ∷ codes "tower" ∷ codes "--" ∷ name ∷ []) ≡ Some (Tower name) }
     ensures list { (program : Text) → asked (program ∷ codes "explain" ∷ []) ≡ Some (Explain None) }
-    ensures code { (program name : Text) → is_plain name ≡ true → asked (program ∷ codes "explain" ∷ name ∷ []) ≡ Some (Explain (Some name)) }
+    ensures code { (program name : Text) → is_no_option name ≡ true → asked (program ∷ codes "explain" ∷ name ∷ []) ≡ Some (Explain (Some name)) }
     ensures version { (program : Text) → asked (program ∷ codes "version" ∷ []) ≡ Some Version }
     ensures version_option { (program : Text) → asked (program ∷ codes "--version" ∷ []) ≡ Some Version }
     ensures version_letter { (program : Text) → asked (program ∷ codes "-V" ∷ []) ≡ Some Version }
@@ -29,8 +29,8 @@ pub fn words_in_turn()
     ensures fish { (program : Text) → asked (program ∷ codes "completion" ∷ codes "fish" ∷ []) ≡ Some (Completion Fish) }
 {}
 
-/// What `check` asks for: one shard and `index` where nothing else is said, and every trace, in
-/// turn, wherever the options stand. Names that begin with a hyphen stand behind `=` and `--`.
+/// What `check` asks for: one shard and `index` where nothing else is said, and every trace, in order, wherever the
+/// options are. Names that begin with a hyphen come after `=` and `--`.
 pub fn checks_in_turn()
     ensures plain { (program : Text) → asked (program ∷ codes "check" ∷ codes "--tower" ∷ codes "t" ∷ codes "a" ∷ [])
         ≡ Some (Check (record { tower = codes "t"; shards = 1; moments = Index; order = None; form = Report; least = 0; least_each = 0; traces = codes "a" ∷ [] })) }
@@ -44,8 +44,9 @@ pub fn checks_in_turn()
         ≡ Some (Check (record { tower = tower; shards = 1; moments = Index; order = Some order; form = Report; least = 0; least_each = 0; traces = trace ∷ [] })) }
 {}
 
-/// What `show` asks for: lines of a terminal, three operations around each that tells why, and the colours of the
-/// reader's machine where nothing else is said. One flag at most asks for another picture, and a trace is named.
+/// What `show` asks for: lines of a terminal, three operations around each one that shows why a register fails, and the
+/// colours of the reader's machine, where nothing else is said. One flag at most asks for another picture, and a trace
+/// is named.
 pub fn shows_in_turn()
     ensures plain { (program : Text) → asked (program ∷ codes "show" ∷ codes "--tower" ∷ codes "t" ∷ codes "a" ∷ [])
         ≡ Some (Show (record { tower = codes "t"; moments = Index; register = None; picture = pictures.Text; around = 3; all = false; width = None; theme = Auto; traces = codes "a" ∷ [] })) }
@@ -71,8 +72,8 @@ pub fn shows_in_turn()
         × (takes command_line (codes "regaudit" ∷ codes "show" ∷ codes "--tower=t" ∷ codes "--width=1000000" ∷ codes "--svg" ∷ codes "--all" ∷ codes "a" ∷ codes "b" ∷ []) ≡ true) }
 {}
 
-/// What `lint` asks for: a tower file, traces, or both; three of each code, for people, and no code denied, where nothing
-/// else is said.
+/// What `lint` asks for: a tower file, traces, or both; three findings of each code, for people, and no code denied,
+/// where nothing else is said.
 pub fn looks_in_turn()
     ensures tower { (program : Text) → asked (program ∷ codes "lint" ∷ codes "--tower" ∷ codes "t" ∷ [])
         ≡ Some (Lint (record { tower = Some (codes "t"); moments = Index; form = Human; most = 3; denied = None; traces = [] })) }
@@ -84,8 +85,8 @@ pub fn looks_in_turn()
     ensures no_form { (program : Text) → asked (program ∷ codes "lint" ∷ codes "--as" ∷ codes "text" ∷ codes "a" ∷ []) ≡ None }
 {}
 
-/// Words that ask for nothing: no command, another one, no file, no tower, no trace or no such form. Words that
-/// `clap` takes only in part are refused by it.
+/// Words that ask for nothing: no command, an unknown one, no file, no tower, no trace or an unknown form. Words that
+/// do not fit the command line are refused by `clap`.
 pub fn words_that_ask_for_nothing()
     ensures alone { (program : Text) → asked (program ∷ []) ≡ None }
     ensures other { (program : Text) → asked (program ∷ codes "list" ∷ []) ≡ None }

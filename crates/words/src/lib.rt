@@ -20,9 +20,9 @@
 //!     Ok(Command::Check(Check {
 //!         tower: "bits.edn",
 //!         shards: 1,
-//!         moments: Moments::Index,
+//!         moments: MomentKey::Index,
 //!         order: None,
-//!         form: Form::Report,
+//!         form: ReportForm::Report,
 //!         least: 0,
 //!         least_each: 0,
 //!         traces: ["a.edn", "b.edn"],
@@ -32,19 +32,19 @@
 //! read_words(alloc, &["regaudit", "tower", "--", "-x"])    Ok(Command::Tower("-x"))
 //! ```
 //!
-//! `specs/Words.antt` says what words ask for, and `laws` what that comes to.
+//! `specs/Words.antt` says what words ask for, and `laws` has cases of it that are written out.
 #![tactic(auto)]
 
 mod check;
+mod cli;
 mod completion;
 pub mod laws;
-mod line;
 mod lint;
 mod manual;
 mod show;
 mod words;
 
-pub use check::{Check, Form, Moments};
+pub use check::{Check, MomentKey, ReportForm};
 pub use completion::Shell;
 pub use lint::{Lint, LintForm};
 pub use manual::help_of_all;

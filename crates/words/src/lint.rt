@@ -5,29 +5,29 @@ ghost use Rattle.std.specs.Option.{option_map};
 ghost use Rattle.clap.specs.Words.{found_of, rows_of};
 ghost use Rattle.words.specs.Words.{asked_lint, lint_by, lint_form_in, said_in};
 
-use crate::check::{Moments, count_of, moments_of, traces_of};
+use crate::check::{MomentKey, count_of, moments_of, traces_of};
 use clap::ArgMatches;
 use std::alloc::{AllocError, Global};
 
-/// How what is amiss is printed.
+/// How findings are printed.
 #[derive(Clone, Copy, Debug, PartialEq, Eq)]
 pub enum LintForm {
-    /// With the lines that it is about.
+    /// With the lines of the file that they are about.
     Human,
-    /// A line each.
+    /// A line for each.
     Short,
-    /// As annotations of GitHub's actions.
+    /// As annotations of GitHub Actions.
     GitHub,
-    /// A record each.
+    /// A JSON record for each.
     Json,
 }
 
 /// What `lint` asks for: a tower file, traces, or both.
 #[derive(Debug, Drop)]
 pub struct Lint<'a> {
-    /// The tower file; the one register of `safe` where there is none.
+    /// The tower file; where there is none, the traces are of the one register of `safe`.
     pub tower: Option<&'a str>,
-    pub moments: Moments,
+    pub moments: MomentKey,
     pub form: LintForm,
     /// How many of each code are shown, or 0 for all.
     pub most: u64,
@@ -36,7 +36,7 @@ pub struct Lint<'a> {
     pub traces: Vec<&'a str>,
 }
 
-/// The look through traces and a tower file with the arguments that `clap` found, where they make one.
+/// What `lint` asks for by the arguments that `clap` found, or none.
 pub(crate) fn lint_of<'a>(
     alloc: Global,
     found: &ArgMatches<'a>,

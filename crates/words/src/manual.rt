@@ -1,6 +1,6 @@
 //! The help of the program and of each of its commands.
 
-use crate::line::{command_line, few_words};
+use crate::cli::{Vocabulary, command_line};
 use std::alloc::{AllocError, Global};
 
 static COMMANDS: [&str; 9] = [
@@ -15,7 +15,7 @@ static COMMANDS: [&str; 9] = [
     "completion",
 ];
 
-/// The long help of the program and of each command, in turn, as `clap` words it.
+/// The long help of the program and of each command, in turn, as `clap` writes it.
 pub fn help_of_all(alloc: Global) -> Result<String, AllocError> {
     let mut text = String::new(alloc);
     push_help(alloc, &mut text, &["regaudit", "--help"])?;
@@ -27,7 +27,7 @@ pub fn help_of_all(alloc: Global) -> Result<String, AllocError> {
 }
 
 fn push_help(alloc: Global, text: &mut String, words: &[&str]) -> Result<(), AllocError> {
-    let mut line = command_line(alloc, few_words(alloc))?;
+    let mut line = command_line(alloc, Vocabulary::Open)?;
     if let Err(help) = line.try_get_matches_from_mut(words) {
         write!(text, "{help}")?;
     }

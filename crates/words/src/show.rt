@@ -5,7 +5,7 @@ ghost use Rattle.std.specs.Option.{option_map};
 ghost use Rattle.clap.specs.Words.{found_of, rows_of};
 ghost use Rattle.words.specs.Words.{asked_show, is_set, picture_by, picture_in, said_in, show_by, theme_in};
 
-use crate::check::{Moments, count_of, moments_of, traces_of};
+use crate::check::{MomentKey, count_of, moments_of, traces_of};
 use clap::ArgMatches;
 use std::alloc::{AllocError, Global};
 
@@ -14,7 +14,7 @@ use std::alloc::{AllocError, Global};
 pub enum Picture {
     /// In lines of a terminal.
     Text,
-    /// In those of ASCII alone.
+    /// In lines of a terminal, of ASCII characters alone.
     Ascii,
     /// One picture as SVG.
     Svg,
@@ -25,7 +25,7 @@ pub enum Picture {
 /// The colours of a picture.
 #[derive(Clone, Copy, Debug, PartialEq, Eq)]
 pub enum Theme {
-    /// Those that the reader's machine asks for.
+    /// Light or dark, as the reader's machine asks for.
     Auto,
     Light,
     Dark,
@@ -36,22 +36,22 @@ pub enum Theme {
 pub struct Show<'a> {
     /// The tower file.
     pub tower: &'a str,
-    pub moments: Moments,
-    /// The register that is drawn, where one is named.
+    pub moments: MomentKey,
+    /// The register that is drawn. Where none is named, a culprit if there is one; as HTML, all registers that fail.
     pub register: Option<&'a str>,
     pub picture: Picture,
-    /// How many operations are shown before and after each that tells why.
+    /// How many operations are shown before and after each one that shows why the register fails.
     pub around: u64,
     /// Whether all operations are shown.
     pub all: bool,
-    /// How wide lines or rows may be, in cells or units; where it is not said, as the form has it.
+    /// How wide lines or rows may be, in characters or units; where none is given, 100 characters or 1000 units.
     pub width: Option<u64>,
     pub theme: Theme,
     /// One or more.
     pub traces: Vec<&'a str>,
 }
 
-/// The picture with the arguments that `clap` found, where they make one.
+/// What `show` asks for by the arguments that `clap` found, or none.
 pub(crate) fn show_of<'a>(
     alloc: Global,
     found: &ArgMatches<'a>,
@@ -113,7 +113,7 @@ fn picture_in(svg: bool, html: bool, ascii: bool) -> Option<Picture>
     }
 }
 
-/// Whether the flag of that name is among the arguments.
+/// Whether the flag of this name is among the arguments.
 fn is_set(found: &ArgMatches<'_>, name: &str) -> bool
     ensures { result ≡ is_set name.now (rows_of (found_of found.now)) }
 {

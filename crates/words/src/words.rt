@@ -1,4 +1,4 @@
-//! The words of the command line.
+//! Reads the words of the command line.
 
 ghost use Rattle.std.specs.Prelude.{◌≡◌, ◌⊎◌, [], true, false, None, Some, IfOk, IfErr, IfSome, codes, map};
 ghost use Rattle.std.specs.Option.{option_map};
@@ -8,11 +8,11 @@ ghost use Rattle.clap.specs.Values.{kind_of};
 ghost use Rattle.clap.specs.Faults.{fault_of};
 ghost use Rattle.clap.specs.declared.error.kind.ErrorKind.TheVariants.{OutOfMemory};
 ghost use Rattle.words.specs.Completion.{shell_named};
-ghost use Rattle.words.specs.Words.{HasShards, HasTraces, IsFaultless, ask_version, asked, asked_of, asked_by, command_by, command_line as line_of_commands, is_version_word, said_in};
+ghost use Rattle.words.specs.Words.{HasShards, HasTraces, IsWellFormed, ask_version, asked, asked_of, asked_by, command_by, command_line, is_version_word, said_in};
 
 use crate::check::{Check, check_of};
+use crate::cli::{Vocabulary, command_line};
 use crate::completion::Shell;
-use crate::line::{Choices, command_line, few_words};
 use crate::lint::{Lint, lint_of};
 use crate::show::{Show, show_of};
 use clap::error::ErrorKind;
@@ -20,33 +20,32 @@ use clap::{ArgMatches, Error};
 use std::alloc::{AllocError, Global};
 use std::convert::AsStr;
 
-/// What is asked for.
+/// A command with what it asks for.
 #[derive(Debug, Drop)]
 pub enum Command<'a> {
-    /// The trace that is named, or standard input.
+    /// Judges the trace that is named, or standard input.
     Safe(Option<&'a str>),
-    /// Traces against a tower.
+    /// Judges traces by a tower.
     Check(Check<'a>),
-    /// A picture of a register.
+    /// Draws a register.
     Show(Show<'a>),
-    /// What is amiss in a tower file and in traces.
+    /// Finds what is amiss in a tower file and in traces.
     Lint(Lint<'a>),
-    /// The tower file that is named.
+    /// Lists the registers of the tower file that is named.
     Tower(&'a str),
-    /// What a code or a word of the report means, or a list of all.
+    /// Says what a code or a word of the report means, or lists all of them.
     Explain(Option<&'a str>),
     Version,
-    /// The help of all commands.
+    /// Prints the help of all commands.
     Manual,
     Completion(Shell),
 }
 
-/// The command that words ask for, of which the first is the program's name. The error's text is
-/// for standard error.
+/// The command that words ask for; the first word is the program's name. The error's text is for standard error.
 pub fn read_words<'a, S: AsStr>(alloc: Global, words: &'a [S]) -> Result<Command<'a>, Error>
     ensures asks { IfOk result (λ command. asked (map S.text words.entry.now) ≡ Some (asked_of command)) }
-    ensures passes { IfErr result (λ error. takes line_of_commands (map S.text words.entry.now) ≡ true → (asked (map S.text words.entry.now) ≡ None) ⊎ (kind_of error ≡ OutOfMemory)) }
-    ensures refuses { IfOk result (λ command. IsFaultless (map S.text words.entry.now)) }
+    ensures passes { IfErr result (λ error. takes command_line (map S.text words.entry.now) ≡ true → (asked (map S.text words.entry.now) ≡ None) ⊎ (kind_of error ≡ OutOfMemory)) }
+    ensures refuses { IfOk result (λ command. IsWellFormed (map S.text words.entry.now)) }
     ensures shards { IfOk result HasShards }
     ensures traces { IfOk result HasTraces }
 {
@@ -56,7 +55,7 @@ pub fn read_words<'a, S: AsStr>(alloc: Global, words: &'a [S]) -> Result<Command
     read_command(alloc, words)
 }
 
-/// Whether the word behind the program's name asks for the version, and is the last.
+/// Whether the one word after the program's name asks for the version.
 fn is_for_version<S: AsStr>(words: &[S]) -> bool
     ensures { result ≡ ask_version (map S.text words.now) }
 {
@@ -74,13 +73,13 @@ fn is_version_word(word: &str) -> bool
 
 /// The command that `clap` finds in words.
 fn read_command<'a, S: AsStr>(alloc: Global, words: &'a [S]) -> Result<Command<'a>, Error>
-    ensures asks { IfOk result (λ command. asked_by (subcommand_of line_of_commands (map S.text words.entry.now)) ≡ Some (asked_of command)) }
-    ensures passes { IfErr result (λ error. takes line_of_commands (map S.text words.entry.now) ≡ true → (asked_by (subcommand_of line_of_commands (map S.text words.entry.now)) ≡ None) ⊎ (kind_of error ≡ OutOfMemory)) }
-    ensures refuses { IfOk result (λ command. fault_of line_of_commands (map S.text words.entry.now) ≡ []) }
+    ensures asks { IfOk result (λ command. asked_by (subcommand_of command_line (map S.text words.entry.now)) ≡ Some (asked_of command)) }
+    ensures passes { IfErr result (λ error. takes command_line (map S.text words.entry.now) ≡ true → (asked_by (subcommand_of command_line (map S.text words.entry.now)) ≡ None) ⊎ (kind_of error ≡ OutOfMemory)) }
+    ensures refuses { IfOk result (λ command. fault_of command_line (map S.text words.entry.now) ≡ []) }
     ensures shards { IfOk result HasShards }
     ensures traces { IfOk result HasTraces }
 {
-    let mut line = command_line(alloc, few_words(alloc))?;
+    let mut line = command_line(alloc, Vocabulary::Open)?;
     let matches = match line.try_get_matches_from_mut(words) {
         Ok(matches) => matches,
         Err(error) => return Err(error),
@@ -91,7 +90,7 @@ fn read_command<'a, S: AsStr>(alloc: Global, words: &'a [S]) -> Result<Command<'
     }
 }
 
-/// The fault of words of which one is not UTF-8.
+/// The fault where a word is not UTF-8.
 pub fn no_text(alloc: Global) -> Error {
     match usage_fault(alloc, "invalid UTF-8 was detected in one or more arguments") {
         Ok(error) => error,
@@ -100,25 +99,15 @@ pub fn no_text(alloc: Global) -> Error {
 }
 
 fn usage_fault(alloc: Global, message: &str) -> Result<Error, AllocError> {
-    command_line(alloc, few_words(alloc))?.error(ErrorKind::InvalidValue, message)
+    command_line(alloc, Vocabulary::Open)?.error(ErrorKind::InvalidValue, message)
 }
 
-static MOMENTS: [&str; 2] = ["index", "time"];
-
-static FORMS: [&str; 2] = ["text", "summary"];
-
-static THEMES: [&str; 3] = ["auto", "light", "dark"];
-
-static LINT_FORMS: [&str; 4] = ["human", "short", "github", "json"];
-
-static SHELLS: [&str; 3] = ["bash", "zsh", "fish"];
-
-/// The fault of words that `clap` takes and that ask for nothing: an argument that has one of a few words has
-/// another, or two flags ask for pictures, which `clap` tells in its own text, on a line that takes these words and
-/// one such flag alone; or `lint` is given nothing to read. That line holds the words as it was lent them, so no
-/// line of `specs/` is equal to it, and words are not read by it.
+/// The fault of words that `clap` takes and that ask for nothing. Where an argument has none of its few words, or two
+/// flags ask for pictures, `clap` reports that in its own text, by a line that takes only these words and one such
+/// flag; else `lint` is given nothing to read. That line holds the words as they were lent to it, so no line of
+/// `specs/` is equal to it, and words are not read by it.
 fn refused<'a, S: AsStr>(alloc: Global, words: &'a [S]) -> Result<Error, AllocError> {
-    let mut line = command_line(alloc, narrow(few_words(alloc))?)?;
+    let mut line = command_line(alloc, Vocabulary::Closed)?;
     match line.try_get_matches_from_mut(words) {
         Err(error) => Ok(error),
         Ok(_) => line.error(
@@ -126,36 +115,6 @@ fn refused<'a, S: AsStr>(alloc: Global, words: &'a [S]) -> Result<Error, AllocEr
             "a tower file or a trace is required",
         ),
     }
-}
-
-/// The arguments, each of which takes its few words alone, and flags of which one alone may be given.
-fn narrow(choices: Choices<'_>) -> Result<Choices<'_>, AllocError> {
-    let Choices {
-        moment,
-        form,
-        show_moment,
-        svg,
-        html,
-        ascii,
-        theme,
-        lint_moment,
-        lint_form,
-        shell,
-    } = choices;
-    let svg = svg.conflicts_with("html")?.conflicts_with("ascii")?;
-    let html = html.conflicts_with("ascii")?;
-    Ok(Choices {
-        moment: moment.value_parser(MOMENTS.as_slice()),
-        form: form.value_parser(FORMS.as_slice()),
-        show_moment: show_moment.value_parser(MOMENTS.as_slice()),
-        svg,
-        html,
-        ascii,
-        theme: theme.value_parser(THEMES.as_slice()),
-        lint_moment: lint_moment.value_parser(MOMENTS.as_slice()),
-        lint_form: lint_form.value_parser(LINT_FORMS.as_slice()),
-        shell: shell.value_parser(SHELLS.as_slice()),
-    })
 }
 
 fn command_of<'a>(
@@ -190,7 +149,7 @@ fn command_of<'a>(
     Ok(other_command(name, found))
 }
 
-/// A command of that name other than `check`, `show` and `lint`.
+/// The command of this name, other than `check`, `show` and `lint`.
 fn other_command<'a>(name: &str, found: &ArgMatches<'a>) -> Option<Command<'a>>
     requires check { bytes_eq name.now (codes "check") ≡ false }
     requires show { bytes_eq name.now (codes "show") ≡ false }

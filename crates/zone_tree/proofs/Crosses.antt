@@ -3,7 +3,7 @@ use denote.Param.Send.{IsSend, IsSync, sendable}
 use Rattle.std.proofs.Crossing.{crosses}
 use Rattle.summary_tree.proofs.Crosses.{tree_send, tree_sync}
 use Rattle.zone_tree.specs.contracts.zone.Zone as zone
-use Rattle.zone_tree.specs.contracts.summary.Summary as summary
+use Rattle.zone_tree.specs.contracts.summary.ZoneSummary as summary
 use Rattle.zone_tree.specs.contracts.tree.ZoneTree.{the_row, the_field}
 
 -- what a node holds beside its sides

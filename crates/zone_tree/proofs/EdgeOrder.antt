@@ -5,9 +5,9 @@ use Rattle.std.proofs.lemmas.Bool.Decides.{Decides-eqb}
 use Rattle.intervals.specs.declared.operation.Moment.{Moment}
 use Rattle.zone_tree.specs.declared.edge.Edge.{Edge}
 use Rattle.zone_tree.specs.declared.edge.Edge.TheVariants.{Before, At, Never}
-use Rattle.summary_tree.specs.Order.{IsOrder, IsExact}
+use Rattle.summary_tree.specs.Order.{IsStrictOrder, IsExact}
 use Rattle.zone_tree.specs.declared.zone.Zone.{Zone}
-use Rattle.zone_tree.specs.Edge.{comes_before, ComesBefore, same_edge}
+use Rattle.zone_tree.specs.Edge.{edge_before, ComesBefore, same_edge}
 
 pub before_irreflexive : (a : Edge) → ¬ ComesBefore a a
 before_irreflexive Before h = absurd (cc)
@@ -57,7 +57,7 @@ not_after_by a b c p n (inl q) = before_transitive a b c p q
 not_after_by a b c p n (inr (inl e)) = subst (λ (x : Edge). ComesBefore a x) e p
 not_after_by a b c p n (inr (inr q)) = absurd (n q)
 
--- what comes before an edge comes before every edge that is not before that one
+-- an edge that comes before another comes before every edge that is not before that other
 pub before_not_after : (a b c : Edge) → ComesBefore a b → ¬ ComesBefore c b → ComesBefore a c
 before_not_after a b c p n = not_after_by a b c p n (before_cases b c)
 
@@ -69,8 +69,8 @@ not_before_by a b c n q (inr (inr p)) = absurd (n p)
 pub not_after_before : (a b c : Edge) → ¬ ComesBefore b a → ComesBefore b c → ComesBefore a c
 not_after_before a b c n q = not_before_by a b c n q (before_cases a b)
 
-pub before-false : (a b : Edge) → ¬ ComesBefore a b → comes_before a b ≡ false
-before-false a b n = false_from_ne_true (comes_before a b) n
+pub before-false : (a b : Edge) → ¬ ComesBefore a b → edge_before a b ≡ false
+before-false a b n = false_from_ne_true (edge_before a b) n
 
 pub Decides-same_edge : (a b : Edge) → Decides (same_edge a b) (a ≡ b)
 Decides-same_edge Before Before = (λ _. refl, λ _. refl)
@@ -83,11 +83,11 @@ Decides-same_edge Never Before = (λ e. absurd (cc), λ e. absurd (cc))
 Decides-same_edge Never (At n) = (λ e. absurd (cc), λ e. absurd (cc))
 Decides-same_edge Never Never = (λ _. refl, λ _. refl)
 
--- so zones are in order by them
+-- zones by their left edges are in this order
 abbrev pub left_of : Zone → Edge
 left_of z = z.left
 
-pub edge_order : IsOrder comes_before
+pub edge_order : IsStrictOrder edge_before
 edge_order = record { irreflexive = before_irreflexive; transitive = before_transitive; total = before_cases }
 
 pub edge_exact : IsExact same_edge

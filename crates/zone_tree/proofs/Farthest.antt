@@ -1,4 +1,4 @@
--- The farthest forward zone of those before decides whether a zone conflicts with one of them.
+-- The forward zone of greatest right edge decides whether a later zone conflicts with a forward one before it.
 use Rattle.std.proofs.Common.{◌≡◌, ◌↔◌, ◌⊎◌, inl, inr, Bool, true, false, List, [], ◌∷◌, ◌++◌, Option, Some, None, sym, ap, subst, arith}
 use Rattle.std.specs.Prelude.{All, Contains, IsSomeAnd, ◌&&◌, if◌then◌else◌, slice_index_or}
 use Rattle.std.proofs.lemmas.Bool.{cases_Bool, and_parts, and_from, both_ways}
@@ -6,7 +6,7 @@ use Rattle.std.proofs.lemmas.List.Elements.{All-head, All-push, All-weaker, All-
 use Rattle.std.proofs.lemmas.List.Quantifiers.{all_pairs_push}
 use Rattle.zone_tree.specs.declared.edge.Edge.{Edge}
 use Rattle.zone_tree.specs.declared.zone.Zone.{Zone}
-use Rattle.zone_tree.specs.Edge.{ComesBefore, comes_before}
+use Rattle.zone_tree.specs.Edge.{ComesBefore, edge_before}
 use Rattle.zone_tree.specs.Zone.{IsForward, HasOrderedEdges, Conflicts}
 use Rattle.zone_tree.specs.Conflict.{IsClean, KeepsClearOfForward, IsFarthestForward, IsFirstConflict}
 use Rattle.zone_tree.specs.Order.{IsByLeft, StandInOrder}
@@ -14,10 +14,10 @@ use Rattle.zone_tree.proofs.EdgeOrder.{before_irreflexive, before_transitive}
 use Rattle.summary_tree.proofs.Pairs.{pairs_front, pairs_across, All-front, All-back}
 use Rattle.zone_tree.proofs.TwoZones.{earlier_is_forward, conflict_farther}
 
--- the zone is forward, and no forward zone was found yet or one of a lesser right edge
+-- the zone is forward, and none was found yet or one of a lesser right edge
 abbrev pub is_farther : Option Zone → Zone → Bool
 is_farther None zone = zone.forward
-is_farther (Some found) zone = zone.forward && comes_before found.right zone.right
+is_farther (Some found) zone = zone.forward && edge_before found.right zone.right
 
 -- the farthest forward zone after one more zone
 abbrev pub farther_of : Option Zone → Zone → Option Zone
@@ -53,11 +53,11 @@ push_first zones z none (inl e) = is_now None z (zones ++ z ∷ []) (Some z) (ta
 push_first zones z none (inr e) = is_now None z (zones ++ z ∷ []) None (kept None z e) (All-push (λ z. ¬ IsForward z) zones z none (both_ways z.forward e))
 
 not_farther : (found z : Zone) → is_farther (Some found) z ≡ false → Ends found.right z
-not_farther found z e f p = both_ways _ e (and_from z.forward (comes_before found.right z.right) f p)
+not_farther found z e f p = both_ways _ e (and_from z.forward (edge_before found.right z.right) f p)
 
 push_next : (zones : List Zone) (found z : Zone) → IsFarthestForward zones found → (is_farther (Some found) z ≡ true) ⊎ (is_farther (Some found) z ≡ false) → IsFarthest (farther_of (Some found) z) (zones ++ z ∷ [])
 push_next zones found z is (inl e) =
-    let parts = and_parts z.forward (comes_before found.right z.right) e in
+    let parts = and_parts z.forward (edge_before found.right z.right) e in
     is_now (Some found) z (zones ++ z ∷ []) (Some z) (taken (Some found) z e) (record {
       stands = Contains-push zones z;
       forward = parts.0;
@@ -79,7 +79,7 @@ farthest_push (Some found) zones z h = push_next zones found z h (cases_Bool (is
 abbrev Left : Zone → Zone → Type 0
 Left a b = ComesBefore a.left b.left
 
--- each zone of the list begins before the one behind them
+-- each zone of the list begins before the one after them
 before_last : (zones : List Zone) (z a : Zone) → IsByLeft (zones ++ z ∷ []) → Contains zones a → ComesBefore a.left z.left
 before_last zones z a by h =
     All-head (Left a) z [] (All-contains (λ x. All (Left x) (z ∷ [])) zones a (pairs_across Left zones (z ∷ []) by) h)
@@ -100,7 +100,7 @@ Clear earlier later = IsForward earlier → ¬ Conflicts earlier later
 pub clear_push : (found : Option Zone) (zones : List Zone) (z : Zone) → StandInOrder (zones ++ z ∷ []) → IsFarthest found zones → ¬ Meets found z → KeepsClearOfForward zones → KeepsClearOfForward (zones ++ z ∷ [])
 clear_push found zones z order is n clear = all_pairs_push Clear zones z clear (apart_from_each found zones z order is n)
 
--- no two zones by left edge conflict exactly where none conflicts with an earlier forward one
+-- in a list in order no two zones conflict exactly where none conflicts with an earlier forward one
 pub clean_where_clear : (zones : List Zone) → StandInOrder zones → IsClean zones ↔ KeepsClearOfForward zones
 clean_where_clear zones order = (
   (λ clean i j d lt within f. clean i j d lt within),

@@ -6,12 +6,12 @@ use Rattle.std.proofs.lemmas.Bool.{cases_Bool, both_ways}
 use Rattle.std.proofs.lemmas.List.Elements.{All-nil, All-cons, All-head, All-tail, All-weaker, All-contains, Contains-append_right}
 use Rattle.zone_tree.specs.declared.edge.Edge.{Edge}
 use Rattle.zone_tree.specs.declared.zone.Zone.{Zone}
-use Rattle.zone_tree.specs.declared.summary.Summary.{Summary}
+use Rattle.zone_tree.specs.declared.summary.ZoneSummary.{ZoneSummary}
 use Rattle.zone_tree.specs.Edge.{ComesBefore}
 use Rattle.zone_tree.specs.Zone.{IsForward, HasOrderedEdges, Conflicts}
 use Rattle.zone_tree.specs.Conflict.{IsClean, KeepsClearOfForward, IsFirstConflict}
 use Rattle.zone_tree.specs.Order.{StandInOrder}
-use Rattle.zone_tree.specs.Summary.{no_zones, one_zone, join, summary_of}
+use Rattle.zone_tree.specs.Summary.{no_zones, one_zone, join_zones, summary_of_zones}
 use Rattle.zone_tree.specs.Look.{begins_before, last_that, IsFirstMeeting, IsMetFirst}
 use Rattle.zone_tree.proofs.EdgeOrder.{before_irreflexive, not_both_ways}
 use Rattle.summary_tree.proofs.Pairs.{pairs_head, pairs_tail}
@@ -39,7 +39,7 @@ last_forward zones = last_that (λ z. z.forward) zones
 contains_first : (z : Zone) (zones : List Zone) → Contains (z ∷ zones) z
 contains_first z zones = (0, omega arith, refl)
 
--- one more zone before those that stand
+-- the farthest forward zone once one more zone comes before the list
 farthest_by : (z : Zone) (zones : List Zone) (found : Option Zone) → StandInOrder (z ∷ zones) → KeepsClearOfForward (z ∷ zones) → IsFarthest found zones → (z.forward ≡ true) ⊎ (z.forward ≡ false) → IsFarthest (option_or found (if z.forward then Some z else None)) (z ∷ zones)
 farthest_by z zones None order clear none (inl f) =
     subst (λ (o : Option Zone). IsFarthest o (z ∷ zones)) (sym (ap (λ (b : Bool). if b then Some z else None) f)) (record {
@@ -63,7 +63,7 @@ farthest_by z zones (Some found) order clear is cases = record {
       is.farthest;
 }
 
--- among zones that keep clear the last forward one is the farthest
+-- among zones that keep clear of earlier forward ones the last forward one is the farthest
 farthest_last : (zones : List Zone) → StandInOrder zones → KeepsClearOfForward zones → IsFarthest (last_forward zones) zones
 unfolding last_that
 farthest_last [] order clear = All-nil (λ z. ¬ IsForward z)
@@ -72,7 +72,7 @@ farthest_last (z ∷ zones) order clear =
     (farthest_last zones (record { by_left = pairs_tail Left z zones order.by_left; edges = All-tail HasOrderedEdges z zones order.edges }) (pairs_tail Clear z zones clear))
     (cases_Bool z.forward)
 
--- a test that says the same of each zone
+-- a test that agrees with another on each zone of a list
 and_true : (b : Bool) → b && true ≡ b
 and_true true = refl
 and_true false = refl
@@ -93,7 +93,7 @@ module _ (zones : List Zone) (second : Zone) (order : StandInOrder zones) (met :
   front = order_front met.earlier (second ∷ met.later) cut
 
   clear : KeepsClearOfForward met.earlier
-  clear = (bit_where_clear met.earlier front).0 (sym (ap (λ (s : Summary). s.conflict) (join_none (summary_of met.earlier))) ∙ met.clear)
+  clear = (bit_where_clear met.earlier front).0 (sym (ap (λ (s : ZoneSummary). s.conflict) (join_none (summary_of_zones met.earlier))) ∙ met.clear)
 
   last_is : last_that (begins_before second.left) zones ≡ last_forward met.earlier
   last_is =
@@ -107,14 +107,14 @@ module _ (zones : List Zone) (second : Zone) (order : StandInOrder zones) (met :
   with_second : StandInOrder (met.earlier ++ second ∷ [])
   with_second = order_front (met.earlier ++ second ∷ []) met.later (subst StandInOrder (sym (append_assoc met.earlier (second ∷ []) met.later)) cut)
 
-  bit : (summary_of (met.earlier ++ second ∷ [])).conflict ≡ true
+  bit : (summary_of_zones (met.earlier ++ second ∷ [])).conflict ≡ true
   bit =
-      ap (λ (s : Summary). s.conflict) (sym (join_none (summary_of (met.earlier ++ second ∷ []))) ∙ seen_around no_zones met.earlier second [] ∙ none_behind (join (join no_zones (summary_of met.earlier)) (one_zone second)))
+      ap (λ (s : ZoneSummary). s.conflict) (sym (join_none (summary_of_zones (met.earlier ++ second ∷ []))) ∙ seen_around no_zones met.earlier second [] ∙ none_behind (join_zones (join_zones no_zones (summary_of_zones met.earlier)) (one_zone second)))
       ∙ met.meets
 
   found_by : (found : Option Zone) → IsFarthest found met.earlier → Meets found second ⊎ (¬ Meets found second) → IsSomeAnd found (λ first. IsFirstConflict zones first second)
   found_by found is (inr n) =
-      absurd (both_ways (summary_of (met.earlier ++ second ∷ [])).conflict
+      absurd (both_ways (summary_of_zones (met.earlier ++ second ∷ [])).conflict
       ((bit_where_clear (met.earlier ++ second ∷ []) with_second).1 (clear_push found met.earlier second with_second is n clear)) bit)
   found_by None is (inl c) = absurd c
   found_by (Some first) is (inl c) = record {
@@ -129,6 +129,6 @@ module _ (zones : List Zone) (second : Zone) (order : StandInOrder zones) (met :
   pub first_from : (found : Option Zone) → found ≡ last_that (begins_before second.left) zones → IsSomeAnd found (λ first. IsFirstConflict zones first second)
   first_from found e = found_by found (farthest found e) (meets found second)
 
--- where nothing conflicts with an earlier forward zone
+-- where no zone conflicts with an earlier forward one
 pub clean_met : (zones : List Zone) → StandInOrder zones → IsMetFirst no_zones zones None → IsClean zones
-clean_met zones order clear = (bit_where_clean zones order).0 (sym (ap (λ (s : Summary). s.conflict) (join_none (summary_of zones))) ∙ clear)
+clean_met zones order clear = (bit_where_clean zones order).0 (sym (ap (λ (s : ZoneSummary). s.conflict) (join_none (summary_of_zones zones))) ∙ clear)

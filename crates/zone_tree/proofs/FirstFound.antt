@@ -5,7 +5,7 @@ use Rattle.std.proofs.lemmas.Bool.{cases_Bool, and_parts, and_from, both_ways}
 use Rattle.std.proofs.lemmas.List.{append-nil, append_assoc}
 use Rattle.std.proofs.lemmas.List.Elements.{All-nil}
 use Rattle.zone_tree.specs.declared.zone.Zone.{Zone}
-use Rattle.zone_tree.specs.Edge.{comes_before}
+use Rattle.zone_tree.specs.Edge.{edge_before}
 use Rattle.zone_tree.specs.Zone.{IsForward, least_end, greatest_begin, Conflicts}
 use Rattle.zone_tree.specs.Conflict.{IsClean, KeepsClearOfForward, IsFirstConflict}
 use Rattle.zone_tree.specs.Order.{StandInOrder}
@@ -13,11 +13,11 @@ use Rattle.summary_tree.proofs.Pairs.{pairs_nil}
 use Rattle.zone_tree.proofs.Farthest.{farther_of, IsFarthest, Meets, farthest_push, clear_push, clean_where_clear, order_front}
 
 abbrev conflict : Zone → Zone → Bool
-conflict a b = comes_before (least_end a) (greatest_begin b) && comes_before (least_end b) (greatest_begin a)
+conflict a b = edge_before (least_end a) (greatest_begin b) && edge_before (least_end b) (greatest_begin a)
 
 meets_by : (found z : Zone) → (conflict found z ≡ true) ⊎ (conflict found z ≡ false) → Meets (Some found) z ⊎ (¬ Meets (Some found) z)
-meets_by found z (inl e) = inl (and_parts (comes_before (least_end found) (greatest_begin z)) (comes_before (least_end z) (greatest_begin found)) e)
-meets_by found z (inr e) = inr (λ c. both_ways (conflict found z) e (and_from (comes_before (least_end found) (greatest_begin z)) (comes_before (least_end z) (greatest_begin found)) c.0 c.1))
+meets_by found z (inl e) = inl (and_parts (edge_before (least_end found) (greatest_begin z)) (edge_before (least_end z) (greatest_begin found)) e)
+meets_by found z (inr e) = inr (λ c. both_ways (conflict found z) e (and_from (edge_before (least_end found) (greatest_begin z)) (edge_before (least_end z) (greatest_begin found)) c.0 c.1))
 
 pub meets : (found : Option Zone) (z : Zone) → Meets found z ⊎ (¬ Meets found z)
 meets None z = inr (λ c. absurd c)
@@ -42,7 +42,7 @@ met (Some found) front back z clear farthest c = (
   },
 )
 
--- the zones behind the first ones, one after another
+-- the other zones of the list, one after another
 look_behind : (found : Option Zone) (front back : List Zone) (z : Zone) → KeepsClearOfForward front → IsFarthest found front → Meets found z ⊎ (¬ Meets found z) → (¬ Meets found z → KeepsClearOfForward (front ++ z ∷ back) ⊎ Found (front ++ z ∷ back)) → KeepsClearOfForward (front ++ z ∷ back) ⊎ Found (front ++ z ∷ back)
 look_behind found front back z clear farthest (inl c) go_on = inr (met found front back z clear farthest c)
 look_behind found front back z clear farthest (inr n) go_on = go_on n

@@ -1,16 +1,16 @@
--- A zone in front of those of a tree.
+-- A zone before those of a tree.
 use Rattle.std.proofs.Common.{◌≡◌, ◌∙◌, ◌↔◌, Bool, true, false, not, List, ◌∷◌, Option, Some, None, ap}
 use Rattle.std.specs.Prelude.{All, IsSomeAnd, IsTrue, if◌then◌else◌}
 use Rattle.std.specs.Option.{option_or}
 use Rattle.std.proofs.lemmas.Bool.{cases_Bool}
 use Rattle.std.proofs.lemmas.List.Elements.{All-cons}
 use Rattle.zone_tree.specs.declared.zone.Zone.{Zone}
-use Rattle.zone_tree.specs.declared.summary.Summary.{Summary}
+use Rattle.zone_tree.specs.declared.summary.ZoneSummary.{ZoneSummary}
 use Rattle.zone_tree.specs.Edge.{ComesBefore}
 use Rattle.zone_tree.specs.Zone.{HasOrderedEdges}
 use Rattle.zone_tree.specs.Conflict.{IsClean, IsFirstConflict}
 use Rattle.zone_tree.specs.Order.{StandInOrder}
-use Rattle.zone_tree.specs.Summary.{no_zones, one_zone, join, summary_of}
+use Rattle.zone_tree.specs.Summary.{no_zones, one_zone, join_zones, summary_of_zones}
 use Rattle.zone_tree.specs.Look.{begins_before, last_that, IsFirstMeeting, IsMetFirst}
 use Rattle.summary_tree.proofs.Pairs.{pairs_cons}
 use Rattle.zone_tree.proofs.Summaries.{join_none}
@@ -30,27 +30,27 @@ module _ (first : Zone) (zones : List Zone) (edges : HasOrderedEdges first) (bef
     edges = All-cons HasOrderedEdges first zones edges order.edges;
   }
 
-  pub clean_in_front : IsTrue (not (join (one_zone first) (summary_of zones)).conflict) ↔ IsClean (first ∷ zones)
-  unfolding summary_of
+  pub clean_in_front : IsTrue (not (join_zones (one_zone first) (summary_of_zones zones)).conflict) ↔ IsClean (first ∷ zones)
+  unfolding summary_of_zones
   clean_in_front = clean_where (first ∷ zones) in_order
 
-  -- where nothing is met behind the zone
+  -- where no zone of the tree is met after that zone
   pub clean_met_in_front : IsMetFirst (one_zone first) zones None → IsClean (first ∷ zones)
-  unfolding summary_of
+  unfolding summary_of_zones
   clean_met_in_front clear = (bit_where_clean (first ∷ zones) in_order).0 clear
 
-  -- what is met behind the zone is met among all of them
+  -- the first zone that is met after that zone is the first of all that is met
   met_in_front : (second : Zone) → IsFirstMeeting (one_zone first) zones second → IsFirstMeeting no_zones (first ∷ zones) second
-  unfolding summary_of
+  unfolding summary_of_zones
   met_in_front second met = record {
     earlier = first ∷ met.earlier;
     later = met.later;
     parts = ap (λ zs. first ∷ zs) met.parts;
-    clear = ap (λ (s : Summary). s.conflict) (join_none (summary_of (first ∷ met.earlier))) ∙ met.clear;
-    meets = ap (λ (s : Summary). (join s (one_zone second)).conflict) (join_none (summary_of (first ∷ met.earlier))) ∙ met.meets;
+    clear = ap (λ (s : ZoneSummary). s.conflict) (join_none (summary_of_zones (first ∷ met.earlier))) ∙ met.clear;
+    meets = ap (λ (s : ZoneSummary). (join_zones s (one_zone second)).conflict) (join_none (summary_of_zones (first ∷ met.earlier))) ∙ met.meets;
   }
 
-  -- the last of them that passes is the zone itself where it is none of the others
+  -- the last zone of all that passes is that zone where none of the others passes
   last_in_front : (p : Zone → Bool) (found : Option Zone) → found ≡ last_that p zones → option_or found (if p first then Some first else None) ≡ last_that p (first ∷ zones)
   unfolding last_that
   last_in_front p found e = ap (λ o. option_or o (if p first then Some first else None)) e

@@ -1,4 +1,4 @@
--- What a look at the sides of a zone finds.
+-- What a look at the sides of a node finds.
 use Rattle.std.proofs.Common.{◌≡◌, ◌∙◌, ◌⊎◌, inl, inr, Bool, true, false, not, cond, List, [], ◌∷◌, ◌++◌, Option, Some, None, refl, sym, ap, subst}
 use Rattle.std.specs.Prelude.{All, ◌||◌, ◌&&◌, if◌then◌else◌}
 use Rattle.std.specs.List.{find}
@@ -9,11 +9,11 @@ use Rattle.std.proofs.lemmas.List.Folds.{find-append}
 use Rattle.zone_tree.specs.declared.edge.Edge.{Edge}
 use Rattle.zone_tree.specs.declared.edge.Edge.TheVariants.{Before, At, Never}
 use Rattle.zone_tree.specs.declared.zone.Zone.{Zone}
-use Rattle.zone_tree.specs.declared.summary.Summary.{Summary}
-use Rattle.zone_tree.specs.Edge.{comes_before, ComesBefore}
+use Rattle.zone_tree.specs.declared.summary.ZoneSummary.{ZoneSummary}
+use Rattle.zone_tree.specs.Edge.{edge_before, ComesBefore}
 use Rattle.zone_tree.specs.Zone.{HasOrderedEdges}
 use Rattle.zone_tree.specs.Order.{IsByLeft, StandInOrder}
-use Rattle.zone_tree.specs.Summary.{one_zone, join, summary_of}
+use Rattle.zone_tree.specs.Summary.{one_zone, join_zones, summary_of_zones}
 use Rattle.zone_tree.specs.Look.{is_behind, begins_before, last_that, has_forward}
 use Rattle.zone_tree.proofs.EdgeOrder.{before_transitive, before-false, not_after_before}
 use Rattle.summary_tree.proofs.Lists.{find_none}
@@ -27,7 +27,7 @@ find_around p xs z ys o e = find-append p xs (z ∷ ys) ∙ ap (λ found. option
 find_in_right : (p : Zone → Bool) (xs : List Zone) (z : Zone) (ys : List Zone) → find p xs ≡ None → p z ≡ false → find p (xs ++ z ∷ ys) ≡ find p ys
 find_in_right p xs z ys e h = find_around p xs z ys None e ∙ ap (λ (b : Bool). cond b (Some z) (find p ys)) h
 
--- the first zone behind an edge
+-- the first zone after an edge
 pub first_here : (after : Option Edge) (xs : List Zone) (z : Zone) (ys : List Zone) → is_behind after z ≡ true → find (is_behind after) (xs ++ z ∷ ys) ≡ option_or (find (is_behind after) xs) (Some z)
 first_here after xs z ys h =
     find-append (is_behind after) xs (z ∷ ys) ∙ ap (λ (b : Bool). option_or (find (is_behind after) xs) (cond b (Some z) (find (is_behind after) ys))) h
@@ -35,8 +35,8 @@ first_here after xs z ys h =
 earlier_not_behind : (after : Option Edge) (xs : List Zone) (z : Zone) (ys : List Zone) → IsByLeft (xs ++ z ∷ ys) → is_behind after z ≡ false → All (λ x. is_behind after x ≡ false) xs
 earlier_not_behind None xs z ys by h = absurd (cc)
 earlier_not_behind (Some edge) xs z ys by h =
-    All-weaker (λ x. ComesBefore x.left z.left) (λ x. comes_before edge x.left ≡ false)
-    (λ x g. before-false edge x.left (λ f. both_ways (comes_before edge z.left) h (before_transitive edge x.left z.left f g)))
+    All-weaker (λ x. ComesBefore x.left z.left) (λ x. edge_before edge x.left ≡ false)
+    (λ x g. before-false edge x.left (λ f. both_ways (edge_before edge z.left) h (before_transitive edge x.left z.left f g)))
     xs (earlier_edges xs z ys by)
 
 pub first_right : (after : Option Edge) (xs : List Zone) (z : Zone) (ys : List Zone) → StandInOrder (xs ++ z ∷ ys) → is_behind after z ≡ false → find (is_behind after) (xs ++ z ∷ ys) ≡ find (is_behind after) ys
@@ -44,9 +44,9 @@ first_right after xs z ys order h =
     find_in_right (is_behind after) xs z ys (find_none (is_behind after) xs (earlier_not_behind after xs z ys order.by_left h)) h
 
 -- where no zone is forward
-first_of_join : (z : Zone) (zones : List Zone) → has_forward (summary_of (z ∷ zones)) ≡ has_forward (one_zone z) || has_forward (summary_of zones)
-unfolding summary_of join
-first_of_join z zones = earliest_before Never (one_zone z).first_forward (summary_of zones).first_forward
+first_of_join : (z : Zone) (zones : List Zone) → has_forward (summary_of_zones (z ∷ zones)) ≡ has_forward (one_zone z) || has_forward (summary_of_zones zones)
+unfolding summary_of_zones join_zones
+first_of_join z zones = earliest_before Never (one_zone z).first_forward (summary_of_zones zones).first_forward
 
 before_never : (a b : Edge) → ComesBefore a b → ComesBefore a Never
 before_never Before b h = refl
@@ -55,13 +55,13 @@ before_never Never b h = absurd (cc)
 
 not_forward_by : (z : Zone) → HasOrderedEdges z → has_forward (one_zone z) ≡ false → (z.forward ≡ true) ⊎ (z.forward ≡ false) → z.forward ≡ false
 not_forward_by z edges none (inl f) =
-    absurd (both_ways (comes_before z.left Never) (sym (ap (λ (s : Summary). comes_before s.first_forward Never) (one_forward z f)) ∙ none) (before_never z.left z.right (edges.0 f)))
+    absurd (both_ways (edge_before z.left Never) (sym (ap (λ (s : ZoneSummary). edge_before s.first_forward Never) (one_forward z f)) ∙ none) (before_never z.left z.right (edges.0 f)))
 not_forward_by z edges none (inr b) = b
 
-no_forward_all : (zones : List Zone) → All HasOrderedEdges zones → has_forward (summary_of zones) ≡ false → All (λ z. z.forward ≡ false) zones
+no_forward_all : (zones : List Zone) → All HasOrderedEdges zones → has_forward (summary_of_zones zones) ≡ false → All (λ z. z.forward ≡ false) zones
 no_forward_all [] edges none = All-nil (λ z. z.forward ≡ false)
 no_forward_all (z ∷ zones) edges none =
-    let parts = (or_clear (has_forward (one_zone z)) (has_forward (summary_of zones))).0 (sym (first_of_join z zones) ∙ none) in
+    let parts = (or_clear (has_forward (one_zone z)) (has_forward (summary_of_zones zones))).0 (sym (first_of_join z zones) ∙ none) in
     All-cons (λ z. z.forward ≡ false) z zones
     (not_forward_by z (All-head HasOrderedEdges z zones edges) parts.0 (cases_Bool z.forward))
     (no_forward_all zones (All-tail HasOrderedEdges z zones edges) parts.1)
@@ -114,19 +114,19 @@ last_none p (z ∷ zones) h =
     ap (λ o. option_or o (if_passes p z)) (last_none p zones (All-tail (λ z. p z ≡ false) z zones h))
     ∙ ap (λ (b : Bool). if b then Some z else None) (All-head (λ z. p z ≡ false) z zones h)
 
-pub none_begins : (edge : Edge) (zones : List Zone) → StandInOrder zones → has_forward (summary_of zones) ≡ false → last_that (begins_before edge) zones ≡ None
+pub none_begins : (edge : Edge) (zones : List Zone) → StandInOrder zones → has_forward (summary_of_zones zones) ≡ false → last_that (begins_before edge) zones ≡ None
 none_begins edge zones order none =
     last_none (begins_before edge) zones
-    (All-weaker (λ z. z.forward ≡ false) (λ z. begins_before edge z ≡ false) (λ z b. ap (λ f. f && comes_before z.left edge) b) zones (no_forward_all zones order.edges none))
+    (All-weaker (λ z. z.forward ≡ false) (λ z. begins_before edge z ≡ false) (λ z b. ap (λ f. f && edge_before z.left edge) b) zones (no_forward_all zones order.edges none))
 
 and_false : (b : Bool) → b && false ≡ false
 and_false true = refl
 and_false false = refl
 
-late_by : (edge : Edge) (z : Zone) → comes_before z.left edge ≡ false → begins_before edge z ≡ false
+late_by : (edge : Edge) (z : Zone) → edge_before z.left edge ≡ false → begins_before edge z ≡ false
 late_by edge z h = ap (λ b. z.forward && b) h ∙ and_false z.forward
 
--- no zone from one that does not begin before the edge
+-- from a zone on that does not begin before the edge no zone does
 pub none_late : (edge : Edge) (xs : List Zone) (z : Zone) (ys : List Zone) → IsByLeft (xs ++ z ∷ ys) → ¬ ComesBefore z.left edge → All (λ y. begins_before edge y ≡ false) (z ∷ ys)
 none_late edge xs z ys by n =
     All-cons (λ y. begins_before edge y ≡ false) z ys (late_by edge z (before-false z.left edge n))

@@ -1,4 +1,4 @@
--- Zones by left edge have one first conflict.
+-- A list in order has one first conflict.
 use Rattle.std.proofs.Common.{◌≡◌, ◌⊎◌, inl, inr, ℕ, ◌<◌, List, ◌∷◌, ◌++◌, length, get_or, refl, sym, ap, subst, ◌∙◌, arith}
 use Rattle.std.proofs.lemmas.Bool.{cases_order}
 use Rattle.std.proofs.lemmas.List.{length-append, get_or_append_left, get_or_at, get_or_default}
@@ -20,7 +20,7 @@ record FirstAt (zones : List Zone) (n k : ℕ) (a b : Zone) : Type 0 where
   forward : IsForward a
   conflict : Conflicts a b
 
--- an element of the front is that of the whole
+-- an element of a prefix is that of the whole list
 in_front : (zones front : List Zone) (y : Zone) (back : List Zone) (i : ℕ) (d : Zone) → zones ≡ front ++ y ∷ back → i < length front → get_or front i d ≡ get_or zones i d
 in_front zones front y back i d e lt = sym (ap (λ zs. get_or zs i d) e ∙ get_or_append_left front (y ∷ back) d i lt)
 
@@ -43,13 +43,13 @@ first_by_places zones a b is =
       conflict = is.conflict;
     }
 
--- an earlier first conflict stands among the zones that are clear before a later one
+-- the second zone of one first conflict cannot be earlier than that of another
 not_earlier : (zones : List Zone) (n k m l : ℕ) (a b c d : Zone) → FirstAt zones n k a b → FirstAt zones m l c d → ¬ n < m
 not_earlier zones n k m l a b c d f g lt =
     g.clear k n a f.earlier lt (subst IsForward (sym (f.first a)) f.forward)
     (subst (λ (z : Zone). Conflicts z (get_or zones n a)) (sym (f.first a)) (subst (Conflicts a) (sym (f.second a)) f.conflict))
 
--- of two forward zones that are clear the later one ends later, so that the earlier is not the farthest
+-- of two forward zones that do not conflict the later one ends later, so the earlier is not the farthest
 not_left : (zones : List Zone) (n k l : ℕ) (a b c d : Zone) → StandInOrder zones → FirstAt zones n k a b → FirstAt zones n l c d → ¬ k < l
 not_left zones n k l a b c d order f g lt =
     let at_k = f.first a in

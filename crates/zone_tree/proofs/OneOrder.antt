@@ -1,4 +1,4 @@
--- Zones stand in order in one way.
+-- Zones can be sorted by their left edges in one way.
 use Rattle.std.proofs.Common.{◌≡◌, ◌↔◌, ◌⊎◌, inl, inr, ℕ, zero, suc, ◌<◌, List, [], ◌∷◌, length, get_or, refl, sym, ap, subst, ◌∙◌, arith}
 use Rattle.std.specs.Prelude.{Contains}
 use Rattle.std.proofs.lemmas.List.Elements.{All-contains}
@@ -37,7 +37,7 @@ in_rest_by : (x : Zone) (xs ys : List Zone) (z : Zone) → IsByLeft (x ∷ xs) �
 in_rest_by x xs ys z by h (inl e) = absurd (before_irreflexive z.left (subst (λ (y : Zone). ComesBefore y.left z.left) e (first_begins x xs z by h)))
 in_rest_by x xs ys z by h (inr g) = g
 
--- the same zones behind the same first one
+-- lists of the same zones with one first zone have the same other zones
 in_rest : (x : Zone) (xs ys : List Zone) (z : Zone) → IsByLeft (x ∷ xs) → (Contains (x ∷ xs) z → Contains (x ∷ ys) z) → Contains xs z → Contains ys z
 in_rest x xs ys z by f h = in_rest_by x xs ys z by h (cases x ys z (f (later x xs z h)))
 

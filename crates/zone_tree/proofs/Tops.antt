@@ -3,13 +3,13 @@ use Rattle.std.proofs.Common.{◌≡◌, List, subst}
 use Rattle.summary_tree.specs.declared.node.Node.{Node}
 use Rattle.summary_tree.specs.Node.{IsTop}
 use Rattle.zone_tree.specs.declared.zone.Zone.{Zone}
-use Rattle.zone_tree.specs.declared.summary.Summary.{Summary}
+use Rattle.zone_tree.specs.declared.summary.ZoneSummary.{ZoneSummary}
 use Rattle.zone_tree.specs.Order.{StandInOrder}
-use Rattle.zone_tree.specs.Summary.{summary_of}
+use Rattle.zone_tree.specs.Summary.{summary_of_zones}
 use Rattle.zone_tree.specs.Node.{IsTopZone}
 use Rattle.zone_tree.proofs.Sides.{sides_in_order}
 
-pub top_of : (n : Node Zone Summary) (zones : List Zone) → IsTop (λ s zs. s ≡ summary_of zs) n zones → IsTopZone n zones
+pub top_of : (n : Node Zone ZoneSummary) (zones : List Zone) → IsTop (λ s zs. s ≡ summary_of_zones zs) n zones → IsTopZone n zones
 top_of n zones top = record {
   all = top.all;
   summary = top.summary;

@@ -5,7 +5,7 @@ use Rattle.std.proofs.lemmas.Bool.{cases_Bool, false_from_ne_true, both_ways}
 use Rattle.zone_tree.specs.declared.edge.Edge.{Edge}
 use Rattle.zone_tree.specs.declared.zone.Zone.{Zone}
 use Rattle.zone_tree.specs.Edge.{ComesBefore}
-use Rattle.zone_tree.specs.Zone.{IsForward, least_end, greatest_begin, HasOrderedEdges, Conflicts, Overlaps, LiesInside}
+use Rattle.zone_tree.specs.Zone.{IsForward, least_end, greatest_begin, HasOrderedEdges, Conflicts, ZonesOverlap, LiesInside}
 use Rattle.zone_tree.proofs.EdgeOrder.{before_transitive, not_both_ways, before_not_after, not_after_before}
 
 least_end-forward : (z : Zone) → IsForward z → least_end z ≡ z.left
@@ -23,14 +23,14 @@ least_end-backward z n = ap (λ (b : Bool). if b then z.left else z.right) (back
 greatest_begin-backward : (z : Zone) → ¬ IsForward z → greatest_begin z ≡ z.left
 greatest_begin-backward z n = ap (λ (b : Bool). if b then z.right else z.left) (backward z n)
 
--- both ways along an equation of all four edges
+-- two zones conflict by their four edges, as these are given
 conflict_at : (a b : Zone) (m M n N : Edge) → least_end a ≡ m → greatest_begin a ≡ M → least_end b ≡ n → greatest_begin b ≡ N → Conflicts a b ↔ (ComesBefore m N × ComesBefore n M)
 conflict_at a b m M n N e f g h = (
   (λ c. (rw (e, h) at c.0, rw (g, f) at c.1)),
   (λ c. (rw (e, h) c.0, rw (g, f) c.1)),
 )
 
-pub forward_zones : (a b : Zone) → IsForward a → IsForward b → Conflicts a b ↔ Overlaps a b
+pub forward_zones : (a b : Zone) → IsForward a → IsForward b → Conflicts a b ↔ ZonesOverlap a b
 forward_zones a b f g =
     conflict_at a b a.left a.right b.left b.right (least_end-forward a f) (greatest_begin-forward a f) (least_end-forward b g) (greatest_begin-forward b g)
 
@@ -57,7 +57,7 @@ earlier_is_forward_by a b s t l c (inr f) (inr g) = absurd (backward_apart a b s
 pub earlier_is_forward : (a b : Zone) → HasOrderedEdges a → HasOrderedEdges b → ComesBefore a.left b.left → Conflicts a b → IsForward a
 earlier_is_forward a b s t l c = earlier_is_forward_by a b s t l c (cases_Bool a.forward) (cases_Bool b.forward)
 
--- a forward zone that begins before another zone and ends no earlier than one that conflicts with it conflicts with it
+-- where a zone conflicts with a forward one, it does with each forward one before it that ends no earlier
 conflict_farther_by : (a f z : Zone) → HasOrderedEdges z → IsForward a → IsForward f → ComesBefore f.left z.left → ¬ ComesBefore f.right a.right → Conflicts a z → (z.forward ≡ true) ⊎ (z.forward ≡ false) → Conflicts f z
 conflict_farther_by a f z t fa ff l far c (inl g) =
     let over = (forward_zones a z fa g).0 c in
@@ -69,7 +69,7 @@ conflict_farther_by a f z t fa ff l far c (inr g) =
 pub conflict_farther : (a f z : Zone) → HasOrderedEdges z → IsForward a → IsForward f → ComesBefore f.left z.left → ¬ ComesBefore f.right a.right → Conflicts a z → Conflicts f z
 conflict_farther a f z t fa ff l far c = conflict_farther_by a f z t fa ff l far c (cases_Bool z.forward)
 
--- forward zones by left edge that do not conflict end one after another
+-- of two forward zones in order that do not conflict the later one ends later
 pub clear_ends_before : (a b : Zone) → HasOrderedEdges a → HasOrderedEdges b → IsForward a → IsForward b → ComesBefore a.left b.left → ¬ Conflicts a b → ComesBefore a.right b.right
 clear_ends_before a b s t fa fb l n =
     not_after_before a.right b.left b.right

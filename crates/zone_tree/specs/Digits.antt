@@ -3,5 +3,5 @@ use Rattle.std.specs.Prelude.{ℕ, max, length}
 use Rattle.std.specs.Int.Digits.{digits_of}
 
 -- how many binary digits a number has; zero has one
-abbrev pub digits : ℕ → ℕ
-digits n = max 1 (length (digits_of 2 n))
+abbrev pub binary_digits : ℕ → ℕ
+binary_digits n = max 1 (length (digits_of 2 n))

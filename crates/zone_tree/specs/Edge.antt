@@ -3,27 +3,27 @@ use Rattle.std.specs.Prelude.{ℕ, Bool, true, false, ◌==◌, nat_lt, IsTrue}
 use Rattle.zone_tree.specs.declared.edge.Edge.{Edge}
 use Rattle.zone_tree.specs.declared.edge.Edge.TheVariants.{Before, At, Never}
 
--- Before, the moments and Never, by number
+-- 0 for `Before`, 1 for each moment, 2 for `Never`
 abbrev pub rank : Edge → ℕ
 rank Before = 0
 rank (At m) = 1
 rank Never = 2
 
--- the order of edges: Before, then the moments one after another, then Never
-abbrev pub comes_before : Edge → Edge → Bool
-comes_before Before Before = false
-comes_before Before (At n) = true
-comes_before Before Never = true
-comes_before (At m) Before = false
-comes_before (At m) (At n) = nat_lt m.0 n.0
-comes_before (At m) Never = true
-comes_before Never b = false
+-- the test for `ComesBefore`
+abbrev pub edge_before : Edge → Edge → Bool
+edge_before Before Before = false
+edge_before Before (At n) = true
+edge_before Before Never = true
+edge_before (At m) Before = false
+edge_before (At m) (At n) = nat_lt m.0 n.0
+edge_before (At m) Never = true
+edge_before Never b = false
 
--- the same as a fact
+-- the first edge comes before the second: `Before`, then the moments one after another, then `Never`
 abbrev pub ComesBefore : Edge → Edge → Type 0
-ComesBefore a b = IsTrue (comes_before a b)
+ComesBefore a b = IsTrue (edge_before a b)
 
--- two edges are one
+-- the test whether two edges are one
 abbrev pub same_edge : Edge → Edge → Bool
 same_edge Before Before = true
 same_edge Before (At n) = false

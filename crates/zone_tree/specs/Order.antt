@@ -3,21 +3,20 @@ use Rattle.std.specs.Prelude.{ℕ, ◌≢◌, not, All, List, ◌∷◌, ◌++�
 use Rattle.std.specs.List.{AllPairs, find}
 use Rattle.zone_tree.specs.declared.edge.Edge.{Edge}
 use Rattle.zone_tree.specs.declared.zone.Zone.{Zone}
-use Rattle.zone_tree.specs.Edge.{ComesBefore, comes_before, same_edge}
+use Rattle.zone_tree.specs.Edge.{ComesBefore, edge_before, same_edge}
 use Rattle.zone_tree.specs.Zone.{HasOrderedEdges}
 
--- what a tree holds: its zones by left edge, how many more it has room for, and how many steps its
--- insertions and removals took
-pub record Contents : Type 0 where
+-- what a tree holds: its zones by left edge, how many more it has room for, and how many levels its edits went down
+pub record ZoneContents : Type 0 where
   pub zones : List Zone
   pub free : ℕ
   pub steps : ℕ
 
--- each left edge comes before those of all later zones
+-- the left edge of each zone comes before those of all later zones
 abbrev pub IsByLeft : List Zone → Type 0
 IsByLeft zones = AllPairs (λ a b. ComesBefore a.left b.left) zones
 
--- the zones stand by their left edges, and each has its edges in order
+-- the left edge of each zone comes before those of all later zones, and each has its edges in order
 pub record StandInOrder (zones : List Zone) : Type 0 where
   pub by_left : IsByLeft zones
   pub edges : All HasOrderedEdges zones
@@ -26,22 +25,22 @@ pub record StandInOrder (zones : List Zone) : Type 0 where
 abbrev pub HasNoZoneAt : Edge → List Zone → Type 0
 HasNoZoneAt left zones = All (λ z. z.left ≢ left) zones
 
--- the zones of a lesser left edge
-abbrev pub below : Edge → List Zone → List Zone
-below left zones = filter (λ z. comes_before z.left left) zones
+-- the zones whose left edge comes before this one
+abbrev pub zones_below : Edge → List Zone → List Zone
+zones_below left zones = filter (λ z. edge_before z.left left) zones
 
--- the zones of a greater left edge
-abbrev pub above : Edge → List Zone → List Zone
-above left zones = filter (λ z. comes_before left z.left) zones
+-- the zones whose left edge comes after this one
+abbrev pub zones_above : Edge → List Zone → List Zone
+zones_above left zones = filter (λ z. edge_before left z.left) zones
 
 -- the zones and one more, in its place by left edge
 abbrev pub with_zone : Zone → List Zone → List Zone
-with_zone zone zones = below zone.left zones ++ zone ∷ above zone.left zones
+with_zone zone zones = zones_below zone.left zones ++ zone ∷ zones_above zone.left zones
 
--- the zone of this left edge
+-- the zone that has this left edge, or none
 abbrev pub zone_at : Edge → List Zone → Option Zone
 zone_at left zones = find (λ z. same_edge z.left left) zones
 
--- the zones of another left edge
+-- the zones that have another left edge than this one
 abbrev pub without_zone_at : Edge → List Zone → List Zone
 without_zone_at left zones = filter (λ z. not (same_edge z.left left)) zones

@@ -3,42 +3,43 @@ use Rattle.std.specs.Prelude.{Bool, false, ◌||◌, List, [], ◌∷◌, if◌t
 use Rattle.zone_tree.specs.declared.edge.Edge.{Edge}
 use Rattle.zone_tree.specs.declared.edge.Edge.TheVariants.{Before, Never}
 use Rattle.zone_tree.specs.declared.zone.Zone.{Zone}
-use Rattle.zone_tree.specs.declared.summary.Summary.{Summary}
-use Rattle.zone_tree.specs.Edge.{comes_before}
+use Rattle.zone_tree.specs.declared.summary.ZoneSummary.{ZoneSummary}
+use Rattle.zone_tree.specs.Edge.{edge_before}
 
--- of two edges the later one
+-- the later of two edges
 abbrev pub latest : Edge → Edge → Edge
-latest a b = if comes_before a b then b else a
+latest a b = if edge_before a b then b else a
 
--- of two edges the earlier one
+-- the earlier of two edges
 abbrev pub earliest : Edge → Edge → Edge
-earliest a b = if comes_before b a then b else a
+earliest a b = if edge_before b a then b else a
 
--- an earlier forward zone ends after a later forward zone begins, or after a later backward one ends
-abbrev pub meets : Summary → Summary → Bool
-meets s t = comes_before t.first_forward s.last_forward || comes_before t.first_backward s.last_forward
+-- a forward zone of the first list ends after a forward zone of the second begins, or after a backward one of the
+-- second ends
+abbrev pub meets : ZoneSummary → ZoneSummary → Bool
+meets s t = edge_before t.first_forward s.last_forward || edge_before t.first_backward s.last_forward
 
--- of no zones: the edges that none meets
-unfoldable pub no_zones : Summary
+-- the summary of no zones: no edge meets another, and nothing conflicts
+unfoldable pub no_zones : ZoneSummary
 no_zones = record { last_forward = Before; first_forward = Never; first_backward = Never; conflict = false }
 
--- of one zone
-unfoldable pub one_zone : Zone → Summary
+-- the summary of one zone
+unfoldable pub one_zone : Zone → ZoneSummary
 one_zone z =
     if z.forward
     then record { last_forward = z.right; first_forward = z.left; first_backward = Never; conflict = false }
     else record { last_forward = Before; first_forward = Never; first_backward = z.right; conflict = false }
 
--- of zones and those behind them
-unfoldable pub join : Summary → Summary → Summary
-join s t = record {
+-- the summary of two lists of zones, one after the other, from the summaries of both
+unfoldable pub join_zones : ZoneSummary → ZoneSummary → ZoneSummary
+join_zones s t = record {
   last_forward = latest s.last_forward t.last_forward;
   first_forward = earliest s.first_forward t.first_forward;
   first_backward = earliest s.first_backward t.first_backward;
   conflict = (s.conflict || t.conflict) || meets s t;
 }
 
--- of all zones of a list
-unfoldable pub summary_of : List Zone → Summary
-summary_of [] = no_zones
-summary_of (z ∷ zones) = join (one_zone z) (summary_of zones)
+-- the summary of a list of zones
+unfoldable pub summary_of_zones : List Zone → ZoneSummary
+summary_of_zones [] = no_zones
+summary_of_zones (z ∷ zones) = join_zones (one_zone z) (summary_of_zones zones)

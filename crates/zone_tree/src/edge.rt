@@ -1,9 +1,11 @@
+//! The edges of zones, and their order.
+
 ghost use Rattle.std.specs.Prelude.{◌≡◌};
-ghost use Rattle.zone_tree.specs.Edge.{comes_before as before, rank as rank_of, same_edge};
+ghost use Rattle.zone_tree.specs.Edge.{edge_before, rank, same_edge};
 
 use intervals::Moment;
 
-/// An end of a zone. A write that ended before all events has its edges at `Before`, a write
+/// The left or the right end of a zone. A write that ended before all events has its edges at `Before`, a write
 /// without an end has its end at `Never`.
 #[derive(Clone, Copy, Debug, PartialEq, Eq, PartialOrd, Ord)]
 pub enum Edge {
@@ -13,9 +15,10 @@ pub enum Edge {
 }
 
 impl Edge {
+    /// Edges are in one order: `Before`, the moments one after another, `Never`.
     #[inline(always)]
     pub fn comes_before(self, other: Edge) -> bool
-        ensures { result ≡ before self other }
+        ensures { result ≡ edge_before self other }
     {
         match (self, other) {
             (Edge::At(earlier), Edge::At(later)) => earlier.0 < later.0,
@@ -25,7 +28,7 @@ impl Edge {
 
     #[inline(always)]
     fn rank(self) -> u8
-        ensures { result ≡ rank_of self }
+        ensures { result ≡ rank self }
     {
         match self {
             Edge::Before => 0,

@@ -1,7 +1,8 @@
 //! The zones of the clusters of one atomic register's history, by their left edges, and whether
 //! two of them conflict (Gibbons and Korach 1997).
 //!
-//! A tree is given places first and then zones, which takes no memory, and names the first conflict:
+//! Places are reserved first, which may take memory; then zones are put in, which takes none. The tree
+//! answers with the first conflict:
 //!
 //!     let mut tree = ZoneTree::new(alloc);
 //!     tree.reserve(2)?;
@@ -12,10 +13,11 @@
 //!     tree.clean()                    // true
 //!     tree.remove(Edge::At(Moment(1)));
 //!
-//! The rows of `tests.rt` run these calls: the zones above stand in the row `4<5 -<- 1>6 =1>5`.
+//! The rows of `zones_in_order.rt` in the crate `judge_tests` run these calls: the zones above are those of the row
+//! `4<5 -<- 1>6 =1>5`.
 //!
 //! Read `specs/Zone.antt` and `specs/Conflict.antt` first: what a zone is and what a conflict;
-//! then the calls in `tree.rt`, and in `laws.rt` what the definitions come to. The zones stand in a
+//! then the calls in `tree.rt`, and in `laws.rt` what the definitions come to. The zones are kept in a
 //! `summary_tree` by their left edges. Inside:
 //!
 //!     tree      the calls
@@ -36,6 +38,3 @@ pub use edge::Edge;
 pub use tree::ZoneTree;
 pub use zone::Zone;
 pub use zones::Zones;
-
-#[cfg(test)]
-mod tests;

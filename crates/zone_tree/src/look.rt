@@ -1,25 +1,25 @@
-//! Looks at the tree, each one way down where the summaries show the way.
+//! Look-ups in the tree, which go down where the summaries lead them.
 
 ghost use Rattle.std.specs.Prelude.{◌≡◌, false, MatchOption};
 ghost use Rattle.std.specs.List.{find};
 ghost use Rattle.zone_tree.specs.Order.{StandInOrder};
 ghost use Rattle.summary_tree.specs.Layers.{no_layers};
-ghost use Rattle.zone_tree.specs.Summary.{join as joined, summary_of};
+ghost use Rattle.zone_tree.specs.Summary.{join_zones, summary_of_zones};
 ghost use Rattle.zone_tree.specs.Node.{IsTopZone};
-ghost use Rattle.zone_tree.specs.Look.{is_behind as behind_edge, begins_before as begins, last_that, has_forward as with_forward, IsMetFirst};
+ghost use Rattle.zone_tree.specs.Look.{is_behind, begins_before, last_that, has_forward, IsMetFirst};
 
-use crate::summary::Summary;
+use crate::summary::ZoneSummary;
 use crate::{Edge, Zone};
 use summary_tree::Summarizes;
 
-/// Zones by left edge, with what decides on their conflicts.
-pub type Tree = summary_tree::Tree<Zone, Summary>;
+/// A tree of zones by left edge, with their summaries.
+pub type Tree = summary_tree::Tree<Zone, ZoneSummary>;
 
-type Node = summary_tree::Node<Zone, Summary>;
+type Node = summary_tree::Node<Zone, ZoneSummary>;
 
 /// A tree, or a side of a node.
 #[derive(Clone, Copy)]
-pub struct Part<'z> {
+pub struct Subtree<'z> {
     pub tree: &'z Tree,
 }
 
@@ -34,7 +34,7 @@ fn top(tree: &Tree) -> Option<&Node>
 /// Whether two zones conflict.
 #[tactic(auto, using(crate::proofs::Seams::no_bit))]
 pub fn conflict(tree: &Tree) -> bool
-    ensures { result ≡ (summary_of tree.now.items).conflict }
+    ensures { result ≡ (summary_of_zones tree.now.items).conflict }
 {
     match top(tree) {
         Some(top) => top.summary.conflict,
@@ -42,10 +42,10 @@ pub fn conflict(tree: &Tree) -> bool
     }
 }
 
-/// The summary of zones and of those of a tree behind them.
+/// The summary of the earlier zones and the tree's zones after them.
 #[tactic(auto, using(crate::proofs::Summaries::none_behind))]
-pub fn behind(tree: &Tree, earlier: Summary) -> Summary
-    ensures { result ≡ joined earlier (summary_of tree.now.items) }
+pub fn behind(tree: &Tree, earlier: ZoneSummary) -> ZoneSummary
+    ensures { result ≡ join_zones earlier (summary_of_zones tree.now.items) }
 {
     match top(tree) {
         Some(top) => earlier.join(&top.summary),
@@ -53,17 +53,17 @@ pub fn behind(tree: &Tree, earlier: Summary) -> Summary
     }
 }
 
-impl Summary {
-    /// Whether a zone is forward.
+impl ZoneSummary {
+    /// Whether some zone is forward.
     fn has_forward(&self) -> bool
-        ensures { result ≡ with_forward self.now }
+        ensures { result ≡ has_forward self.now }
     {
         self.first_forward.comes_before(Edge::Never)
     }
 }
 
 fn is_behind(after: Option<Edge>, zone: &Zone) -> bool
-    ensures { result ≡ behind_edge after zone.now }
+    ensures { result ≡ is_behind after zone.now }
 {
     match after {
         Some(edge) => edge.comes_before(zone.left),
@@ -71,26 +71,26 @@ fn is_behind(after: Option<Edge>, zone: &Zone) -> bool
     }
 }
 
-/// The first zone behind an edge.
+/// The first zone whose left edge comes after the optional edge.
 #[tactic(auto, using(crate::proofs::Looks::first_here, crate::proofs::Looks::first_right))]
-pub fn first_after(part: Part, after: Option<Edge>) -> Option<Zone>
+pub fn first_after(part: Subtree, after: Option<Edge>) -> Option<Zone>
     requires { StandInOrder part.tree.now.items }
-    ensures { result ≡ find (behind_edge after) part.entry.tree.now.items }
+    ensures { result ≡ find (is_behind after) part.entry.tree.now.items }
 {
     let Some(node) = top(part.tree) else {
         return None;
     };
     if !is_behind(after, &node.item) {
-        return first_after(Part { tree: &node.right }, after);
+        return first_after(Subtree { tree: &node.right }, after);
     }
-    first_after(Part { tree: &node.left }, after).or(Some(node.item))
+    first_after(Subtree { tree: &node.left }, after).or(Some(node.item))
 }
 
-/// The last forward zone that begins before an edge.
+/// The last forward zone whose left edge comes before that one.
 #[tactic(auto, using(crate::proofs::Looks::last_empty, crate::proofs::Looks::none_begins, crate::proofs::Looks::last_in_right, crate::proofs::Looks::last_here, crate::proofs::Looks::last_in_left, crate::proofs::Looks::last_left))]
-pub fn last_forward_before(part: Part, edge: Edge) -> Option<Zone>
+pub fn last_forward_before(part: Subtree, edge: Edge) -> Option<Zone>
     requires { StandInOrder part.tree.now.items }
-    ensures { result ≡ last_that (begins edge) part.entry.tree.now.items }
+    ensures { result ≡ last_that (begins_before edge) part.entry.tree.now.items }
 {
     let Some(node) = top(part.tree) else {
         return None;
@@ -99,20 +99,20 @@ pub fn last_forward_before(part: Part, edge: Edge) -> Option<Zone>
         return None;
     }
     if !node.item.left.comes_before(edge) {
-        return last_forward_before(Part { tree: &node.left }, edge);
+        return last_forward_before(Subtree { tree: &node.left }, edge);
     }
-    if let Some(zone) = last_forward_before(Part { tree: &node.right }, edge) {
+    if let Some(zone) = last_forward_before(Subtree { tree: &node.right }, edge) {
         return Some(zone);
     }
     if node.item.forward {
         return Some(node.item);
     }
-    last_forward_before(Part { tree: &node.left }, edge)
+    last_forward_before(Subtree { tree: &node.left }, edge)
 }
 
-/// The first zone that conflicts with an earlier forward one, of this tree or of those seen before it.
+/// The first zone of the tree that conflicts with a forward one before it, in the tree or among those seen before.
 #[tactic(auto, using(crate::proofs::Meetings::met_empty, crate::proofs::Meetings::met_none, crate::proofs::Meetings::met_left, crate::proofs::Meetings::met_here, crate::proofs::Meetings::met_right))]
-pub fn first_meeting(part: Part, seen: Summary) -> Option<Zone>
+pub fn first_meeting(part: Subtree, seen: ZoneSummary) -> Option<Zone>
     requires { seen.conflict ≡ false }
     ensures { IsMetFirst seen part.entry.tree.now.items result }
 {
@@ -124,11 +124,11 @@ pub fn first_meeting(part: Part, seen: Summary) -> Option<Zone>
     }
     let earlier = behind(&node.left, seen);
     if earlier.conflict {
-        return first_meeting(Part { tree: &node.left }, seen);
+        return first_meeting(Subtree { tree: &node.left }, seen);
     }
-    let so_far = earlier.join(&Summary::of_one(&node.item));
+    let so_far = earlier.join(&ZoneSummary::of_one(&node.item));
     if so_far.conflict {
         return Some(node.item);
     }
-    first_meeting(Part { tree: &node.right }, so_far)
+    first_meeting(Subtree { tree: &node.right }, so_far)
 }

@@ -1,31 +1,31 @@
 //! What each node keeps of the zones below it.
 
 ghost use Rattle.std.specs.Prelude.{◌≡◌};
-ghost use Rattle.zone_tree.specs.Summary.{no_zones, one_zone, join as joined, summary_of, meets as meet, latest as later_of, earliest as earlier_of};
+ghost use Rattle.zone_tree.specs.Summary.{no_zones, one_zone, join_zones, summary_of_zones, meets, latest, earliest};
 
 use crate::edge::is_same;
 use crate::{Edge, Zone};
 use summary_tree::Summarizes;
 
-/// The edges that decide whether zones conflict with others, and whether two of them do.
+/// The edges that decide whether zones conflict with zones before or after them, and whether two of them conflict.
 #[derive(Clone, Copy)]
-pub struct Summary {
-    /// The greatest right edge of a forward zone.
+pub struct ZoneSummary {
+    /// The greatest right edge of a forward zone; `Before` where there is none.
     pub last_forward: Edge,
-    /// The least left edge of a forward zone.
+    /// The least left edge of a forward zone; `Never` where there is none.
     pub first_forward: Edge,
-    /// The least right edge of a backward zone.
+    /// The least right edge of a backward zone; `Never` where there is none.
     pub first_backward: Edge,
     /// Whether two zones conflict.
     pub conflict: bool,
 }
 
-impl Summary {
+impl ZoneSummary {
     #[tactic(auto, unfolding(crate::specs::Summary::no_zones))]
     pub fn none() -> Self
         ensures { result ≡ no_zones }
     {
-        Summary {
+        ZoneSummary {
             last_forward: Edge::Before,
             first_forward: Edge::Never,
             first_backward: Edge::Never,
@@ -33,35 +33,35 @@ impl Summary {
         }
     }
 
-    /// Whether an earlier forward zone conflicts with a later zone.
+    /// Whether a forward zone of these conflicts with one of the later zones.
     #[inline(always)]
-    fn meets(&self, later: &Summary) -> bool
-        ensures { result ≡ meet self.now later.now }
+    fn meets(&self, later: &ZoneSummary) -> bool
+        ensures { result ≡ meets self.now later.now }
     {
         later.first_forward.comes_before(self.last_forward)
             || later.first_backward.comes_before(self.last_forward)
     }
 }
 
-impl Summarizes<Zone> for Summary {
+impl Summarizes<Zone> for ZoneSummary {
     ghost one = { one_zone };
 
-    ghost join = { joined };
+    ghost join = { join_zones };
 
-    ghost IsOf = { λ s zones. s ≡ summary_of zones };
+    ghost IsOf = { λ s zones. s ≡ summary_of_zones zones };
 
     #[inline(always)]
     #[tactic(auto, unfolding(crate::specs::Summary::one_zone))]
     fn of_one(zone: &Zone) -> Self {
         if zone.forward {
-            Summary {
+            ZoneSummary {
                 last_forward: zone.right,
                 first_forward: zone.left,
                 first_backward: Edge::Never,
                 conflict: false,
             }
         } else {
-            Summary {
+            ZoneSummary {
                 last_forward: Edge::Before,
                 first_forward: Edge::Never,
                 first_backward: zone.right,
@@ -71,7 +71,7 @@ impl Summarizes<Zone> for Summary {
     }
 
     #[inline(always)]
-    fn is_same(&self, other: &Summary) -> bool {
+    fn is_same(&self, other: &ZoneSummary) -> bool {
         is_same(self.last_forward, other.last_forward)
             && is_same(self.first_forward, other.first_forward)
             && is_same(self.first_backward, other.first_backward)
@@ -79,9 +79,9 @@ impl Summarizes<Zone> for Summary {
     }
 
     #[inline(always)]
-    #[tactic(auto, unfolding(crate::specs::Summary::join))]
-    fn join(&self, later: &Summary) -> Self {
-        Summary {
+    #[tactic(auto, unfolding(crate::specs::Summary::join_zones))]
+    fn join(&self, later: &ZoneSummary) -> Self {
+        ZoneSummary {
             last_forward: latest(self.last_forward, later.last_forward),
             first_forward: earliest(self.first_forward, later.first_forward),
             first_backward: earliest(self.first_backward, later.first_backward),
@@ -89,14 +89,14 @@ impl Summarizes<Zone> for Summary {
         }
     }
 
-    /// A backward zone meets none of those behind it, so only its end counts.
+    /// A backward zone conflicts with no later one, so of it only the right edge counts.
     #[inline(always)]
     #[tactic(auto, using(crate::proofs::Summaries::backward_first))]
     fn with_first(&self, zone: &Zone) -> Self {
         if zone.forward {
-            return Summary::of_one(zone).join(self);
+            return ZoneSummary::of_one(zone).join(self);
         }
-        Summary {
+        ZoneSummary {
             last_forward: self.last_forward,
             first_forward: self.first_forward,
             first_backward: earliest(zone.right, self.first_backward),
@@ -110,14 +110,14 @@ impl Summarizes<Zone> for Summary {
 
 #[inline(always)]
 fn latest(a: Edge, b: Edge) -> Edge
-    ensures { result ≡ later_of a b }
+    ensures { result ≡ latest a b }
 {
     if a.comes_before(b) { b } else { a }
 }
 
 #[inline(always)]
 fn earliest(a: Edge, b: Edge) -> Edge
-    ensures { result ≡ earlier_of a b }
+    ensures { result ≡ earliest a b }
 {
     if b.comes_before(a) { b } else { a }
 }

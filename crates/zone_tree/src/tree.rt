@@ -1,12 +1,14 @@
+//! The calls: a tree of zones, and its reserved places.
+
 ghost use Rattle.std.specs.Prelude.{◌≡◌, ◌+◌, ◌*◌, ◌<◌, ◌≤◌, ◌↔◌, All, [], ◌∷◌, length, is_some, if◌then◌else◌, OnOk, OnErr, IsNone, IsSome, IsTrue, IfSome};
 ghost use Rattle.zone_tree.specs.Edge.{ComesBefore};
 ghost use Rattle.zone_tree.specs.Zone.{HasOrderedEdges};
 ghost use Rattle.zone_tree.specs.Conflict.{IsClean, IsFirstConflict};
 ghost use Rattle.zone_tree.specs.Order.{StandInOrder, HasNoZoneAt, with_zone, without_zone_at, zone_at};
-ghost use Rattle.zone_tree.specs.Digits.{digits};
+ghost use Rattle.zone_tree.specs.Digits.{binary_digits};
 
-use crate::look::{self, Part};
-use crate::summary::Summary;
+use crate::look::{self, Subtree};
+use crate::summary::ZoneSummary;
 use crate::{Edge, Zone, Zones};
 use intervals::Memory;
 use std::alloc::Global;
@@ -16,13 +18,13 @@ use summary_tree::{Summarizes, SummaryTree};
 /// Zones of different left edges, and reserved places for more.
 #[derive(Drop)]
 pub struct ZoneTree {
-    tree: SummaryTree<Zone, Summary>,
+    tree: SummaryTree<Zone, ZoneSummary>,
 }
 
 impl Model for ZoneTree {
-    ghost use Rattle.zone_tree.specs.Order.{Contents, StandInOrder};
+    ghost use Rattle.zone_tree.specs.Order.{ZoneContents, StandInOrder};
 
-    ghost Value = { Contents };
+    ghost Value = { ZoneContents };
 
     ghost view = { λ t. record { zones = t.tree.items; free = t.tree.free; steps = t.tree.steps } };
 
@@ -55,15 +57,16 @@ impl ZoneTree {
         self.tree.free()
     }
 
-    /// How many times insertions, removals and replacements went from a node to one of its sides, up to the
-    /// greatest number.
+    /// How many times insertions, removals and replacements went from a node to one of its sides; the count ends
+    /// at `u64::MAX`.
     pub fn steps(&self) -> u64
         ensures { result ≡ self.now.steps }
     {
         self.tree.steps()
     }
 
-    /// Makes room for that many more zones.
+    /// Makes room for that many more zones. It fails where memory is refused, or where so many places cannot be
+    /// counted.
     pub fn reserve(&mut self, places: usize) -> Result<(), Memory>
         ensures zones { self.new.zones ≡ self.old.zones }
         ensures steps { self.new.steps ≡ self.old.steps }
@@ -83,11 +86,11 @@ impl ZoneTree {
         Zones::over(self.all().tree)
     }
 
-    fn all(&self) -> Part<'_>
+    fn all(&self) -> Subtree<'_>
         ensures zones { result.tree.now.items ≡ self.now.zones }
         ensures order { StandInOrder self.now.zones }
     {
-        Part {
+        Subtree {
             tree: self.tree.tree(),
         }
     }
@@ -99,7 +102,7 @@ impl ZoneTree {
         requires edges { HasOrderedEdges zone }
         ensures zones { self.new.zones ≡ with_zone zone self.old.zones }
         ensures free { self.new.free + 1 ≡ self.old.free }
-        ensures steps { self.new.steps ≤ self.old.steps + (2 * digits (length self.old.zones) + 1) }
+        ensures steps { self.new.steps ≤ self.old.steps + (2 * binary_digits (length self.old.zones) + 1) }
         ensures rises { self.old.steps ≤ self.new.steps }
     {
         self.tree.insert(zone);
@@ -110,19 +113,19 @@ impl ZoneTree {
         ensures zone { result ≡ zone_at left self.old.zones }
         ensures zones { self.new.zones ≡ without_zone_at left self.old.zones }
         ensures free { self.new.free ≡ (if is_some result then self.old.free + 1 else self.old.free) }
-        ensures steps { self.new.steps ≤ self.old.steps + (2 * digits (length self.old.zones) + 1) }
+        ensures steps { self.new.steps ≤ self.old.steps + (2 * binary_digits (length self.old.zones) + 1) }
         ensures rises { self.old.steps ≤ self.new.steps }
     {
         self.tree.remove(left)
     }
 
-    /// Puts a zone in the place of the one of its left edge.
+    /// Puts a zone in the place of the one that has its left edge.
     pub fn replace(&mut self, zone: Zone)
         requires there { IsSome (zone_at zone.left self.old.zones) }
         requires edges { HasOrderedEdges zone }
         ensures zones { self.new.zones ≡ with_zone zone (without_zone_at zone.left self.old.zones) }
         ensures free { self.new.free ≡ self.old.free }
-        ensures steps { self.new.steps ≤ self.old.steps + (2 * digits (length self.old.zones) + 1) }
+        ensures steps { self.new.steps ≤ self.old.steps + (2 * binary_digits (length self.old.zones) + 1) }
         ensures rises { self.old.steps ≤ self.new.steps }
     {
         self.tree.replace(zone);
@@ -142,23 +145,23 @@ impl ZoneTree {
         !look::conflict(self.all().tree)
     }
 
-    /// Whether no two conflict of these zones and one in front of them.
+    /// Whether no two conflict of these zones and `first`, which comes before them.
     pub fn clean_behind(&self, first: &Zone) -> bool
         requires edges { HasOrderedEdges first.now }
         requires before { All (λ z. ComesBefore first.now.left z.left) self.now.zones }
         ensures { IsTrue result ↔ IsClean (first.now ∷ self.now.zones) }
     {
-        !look::behind(self.all().tree, Summary::of_one(first)).conflict
+        !look::behind(self.all().tree, ZoneSummary::of_one(first)).conflict
     }
 
-    /// The earlier forward zone of greatest right edge, and the first zone by left edge that conflicts
-    /// with an earlier forward one.
+    /// The first conflict: the second zone is the first by left edge that conflicts with an earlier forward one,
+    /// the first zone is of the earlier forward ones that of greatest right edge.
     pub fn first_conflict(&self) -> Option<(Zone, Zone)>
         ensures first { IfSome result (λ pair. IsFirstConflict self.now.zones pair.0 pair.1) }
         ensures none { IsNone result ↔ IsClean self.now.zones }
     {
         let all = self.all();
-        let Some(second) = look::first_meeting(all, Summary::none()) else {
+        let Some(second) = look::first_meeting(all, ZoneSummary::none()) else {
             return None;
         };
         let Some(first) = look::last_forward_before(all, second.left) else {
@@ -167,7 +170,7 @@ impl ZoneTree {
         Some((first, second))
     }
 
-    /// The same, of these zones and one in front of them.
+    /// The first conflict of these zones and `first`, which comes before them.
     pub fn first_conflict_behind(&self, first: &Zone) -> Option<(Zone, Zone)>
         requires edges { HasOrderedEdges first.now }
         requires before { All (λ z. ComesBefore first.now.left z.left) self.now.zones }
@@ -175,10 +178,10 @@ impl ZoneTree {
         ensures none { IsNone result ↔ IsClean (first.now ∷ self.now.zones) }
     {
         let all = self.all();
-        let Some(second) = look::first_meeting(all, Summary::of_one(first)) else {
+        let Some(second) = look::first_meeting(all, ZoneSummary::of_one(first)) else {
             return None;
         };
-        // Where none conflicts before, forward zones end one after another.
+        // No two conflict before the second zone, so the last forward one has the greatest right edge.
         match look::last_forward_before(all, second.left) {
             Some(last) => Some((last, second)),
             None => Some((*first, second)),

@@ -1,14 +1,16 @@
+//! A zone, and its key in a tree: its left edge.
+
 ghost use Rattle.std.specs.Prelude.{◌≡◌, ◌↔◌, IsTrue};
-ghost use Rattle.zone_tree.specs.Edge.{comes_before as edge_before, same_edge};
-ghost use Rattle.zone_tree.specs.Zone.{HasOrderedEdges, least_end as least_end_of, greatest_begin as greatest_begin_of};
+ghost use Rattle.zone_tree.specs.Edge.{edge_before, same_edge};
+ghost use Rattle.zone_tree.specs.Zone.{HasOrderedEdges, least_end, greatest_begin};
 
 use crate::Edge;
 use intervals::Value;
 use summary_tree::Keyed;
 
-/// The stretch of the clock between the least end and the greatest beginning in the cluster of a
-/// value: a forward zone runs from the least end to the greatest beginning, a backward zone back
-/// from there.
+/// The part of the clock between the least end and the greatest beginning in the cluster of a value. Where the end
+/// comes first the zone is forward and runs from it to the beginning, else it is backward and runs from the
+/// beginning to the end.
 #[derive(Clone, Copy, Debug, PartialEq, Eq)]
 pub struct Zone {
     pub left: Edge,
@@ -30,13 +32,13 @@ impl Zone {
     }
 
     pub(crate) fn least_end(&self) -> Edge
-        ensures { result ≡ least_end_of self.now }
+        ensures { result ≡ least_end self.now }
     {
         if self.forward { self.left } else { self.right }
     }
 
     pub(crate) fn greatest_begin(&self) -> Edge
-        ensures { result ≡ greatest_begin_of self.now }
+        ensures { result ≡ greatest_begin self.now }
     {
         if self.forward { self.right } else { self.left }
     }

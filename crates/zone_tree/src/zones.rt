@@ -1,12 +1,14 @@
+//! The iterator over the zones of a tree.
+
 ghost use Rattle.std.specs.Prelude.{◌≡◌};
 ghost use Rattle.std.specs.Iterator.{YieldsFirst, item_count};
 ghost use Rattle.zone_tree.specs.Order.{StandInOrder};
 
-use crate::look::{Part, Tree, first_after};
+use crate::look::{Subtree, Tree, first_after};
 use crate::{Edge, Zone};
 use std::marker::Model;
 
-/// The zones of a tree that are still to come, by left edge: those behind the last one that came.
+/// The zones of a tree that are still to come, by left edge: those after the last one that came.
 #[derive(Drop)]
 pub struct Zones<'z> {
     tree: &'z Tree,
@@ -20,9 +22,9 @@ impl<'z> Model for Zones<'z> {
     ghost Value = { List Zone };
 
     ghost use Rattle.zone_tree.specs.Order.{StandInOrder};
-    ghost use Rattle.zone_tree.specs.Look.{behind};
+    ghost use Rattle.zone_tree.specs.Look.{zones_after};
 
-    ghost view = { λ z. behind z.after z.tree.now.items };
+    ghost view = { λ z. zones_after z.after z.tree.now.items };
 
     ghost invariant = { λ z. StandInOrder z.tree.now.items };
 }
@@ -46,7 +48,7 @@ impl<'z> Iterator for Zones<'z> {
 
     #[tactic(auto, using(crate::proofs::Items::next_item, crate::proofs::Items::no_item))]
     fn next(&mut self) -> Option<Zone> {
-        let Some(first) = first_after(Part { tree: self.tree }, self.after) else {
+        let Some(first) = first_after(Subtree { tree: self.tree }, self.after) else {
             return None;
         };
         self.after = Some(first.left);

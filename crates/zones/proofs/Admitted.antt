@@ -1,4 +1,4 @@
--- What the parts of a register's judge are to each other after an edit.
+-- How the parts of a register's judge belong together after an edit.
 use Rattle.std.proofs.Common.{◌≡◌, ℕ, ◌≤◌, ◌+◌, List, [], length, Option, Some, None, Bool, true, false, cond, ◌||◌, refl, sym, ap, ◌∙◌, subst, arith}
 use Rattle.std.specs.Prelude.{IfSome, IsNone, IsSome, is_some}
 use Rattle.std.proofs.lemmas.Bool.{both_ways}
@@ -11,21 +11,21 @@ use Rattle.intervals.specs.Operation.{IsWrite, is_write, value_of, writes}
 use Rattle.intervals.specs.Edit.{new_op, edited, edit_id, found_by}
 use Rattle.intervals.specs.Refusal.{reply_to}
 use Rattle.intervals.specs.declared.claim.Kind.TheVariants.{Atomic}
-use Rattle.intervals.specs.Table.{Tabled, prepared_after}
-use Rattle.intervals.specs.Terms.{Terms}
+use Rattle.intervals.specs.Table.{TableModel, prepared_after}
+use Rattle.intervals.specs.Terms.{ClaimModel}
 use Rattle.zone_tree.specs.declared.zone.Zone.{Zone}
 use Rattle.stretch_tree.specs.declared.stretch.Stretch.{Stretch}
-use Rattle.stretch_tree.specs.Order.{Contents as Stretches}
-use Rattle.zone_tree.specs.Order.{Contents as Zones, StandInOrder}
+use Rattle.stretch_tree.specs.Order.{StretchContents as Stretches}
+use Rattle.zone_tree.specs.Order.{ZoneContents as Zones, StandInOrder}
 use Rattle.zones.specs.declared.index.Members.{Members}
 use Rattle.zones.specs.declared.records.Records.{Records}
 use Rattle.zones.specs.Cluster.{values_from, written_zone, zones_from}
 use Rattle.zones.specs.Faults.{AreStretched, AreStretchesAt, CanStretch, IsStretchAtSome, stretch_shape}
-use Rattle.zones.specs.Index.{AreMembers, HasPlaces, HasPlacesOf, HoldsOnlyFor}
+use Rattle.zones.specs.Index.{AreMembers, HasPlaces, HasPlacesOf, ReservesOnlyForMember}
 use Rattle.zones.specs.Members.{IsChange}
 use Rattle.zones.specs.Records.{AreRecords, room_in}
-use Rattle.zones.specs.Together.{HasRoomFor, HoldTogether}
-use Rattle.zones.specs.Moves.{AreExchanged, Stands}
+use Rattle.zones.specs.Together.{HasRoomInClusters, AreOfOneRegister}
+use Rattle.zones.specs.Moves.{AreExchanged, IsThere}
 use Rattle.zones.specs.Zoned.{AreZoned, AreZonesAt, CanExchange, NeedsNoRoom, AreManyWriters, judged_part, other_value, value_in, zone_shape}
 use Rattle.zones.proofs.Members.{in_none}
 use Rattle.zones.proofs.Edited.{apart_kept, apart_none, change_of_edit}
@@ -34,28 +34,28 @@ use Rattle.zones.proofs.Lengths.{kept_length}
 use Rattle.zones.proofs.Moved.{can_move, keeps_room, moved_zoned, zone_gone}
 use Rattle.zones.proofs.Stretches.{moved_stretched, stretch_stands, stretched_none, stretches_are_new}
 
--- of no operations a tree has no zones
+-- without operations the tree has no zones
 zoned_none : AreZoned [] []
 zoned_none = record { each = λ v (w, is). absurd (in_none w is.stands); only = λ z h. absurd (in_none z h) }
 
 -- a tree of a register has as many zones as there are writes
-pub as_many_writes : (claim : Terms) (ops : List Op) (tree : List Zone) → AreManyWriters claim ops → StandInOrder tree → AreZoned ops tree → length tree ≡ length (writes ops)
+pub as_many_writes : (claim : ClaimModel) (ops : List Op) (tree : List Zone) → AreManyWriters claim ops → StandInOrder tree → AreZoned ops tree → length tree ≡ length (writes ops)
 as_many_writes claim ops tree apart order zoned =
     length_permutation (zones_from None ops) tree (zones_each_once ops tree apart.kept.moments (apart.kept.values apart.atomic).apart order zoned)
     ∙ (length-map (values_from None ops) (written_zone ops) ∙ length-map (writes ops) (λ w. value_of w.act))
 
-pub room_of_none : (members : Members) (records : Records) (zones : Zones) (stretches : Stretches) (prepared : Option Op) → prepared ≡ None → IfSome prepared (HasRoomFor members records zones stretches)
-room_of_none members records zones stretches prepared e = subst (λ (p : Option Op). IfSome p (HasRoomFor members records zones stretches)) (sym e) tt
+pub room_of_none : (members : Members) (records : Records) (zones : Zones) (stretches : Stretches) (prepared : Option Op) → prepared ≡ None → IfSome prepared (HasRoomInClusters members records zones stretches)
+room_of_none members records zones stretches prepared e = subst (λ (p : Option Op). IfSome p (HasRoomInClusters members records zones stretches)) (sym e) tt
 
-pub room_of_one : (members : Members) (records : Records) (zones : Zones) (stretches : Stretches) (prepared : Option Op) (op : Op) → prepared ≡ Some op → HasPlaces op members → 1 ≤ room_in records → 2 ≤ zones.free → length zones.zones + 6 ≤ stretches.free → IfSome prepared (HasRoomFor members records zones stretches)
+pub room_of_one : (members : Members) (records : Records) (zones : Zones) (stretches : Stretches) (prepared : Option Op) (op : Op) → prepared ≡ Some op → HasPlaces op members → 1 ≤ room_in records → 2 ≤ zones.free → length zones.zones + 6 ≤ stretches.free → IfSome prepared (HasRoomInClusters members records zones stretches)
 room_of_one members records zones stretches prepared op e places one more most =
-    subst (λ (p : Option Op). IfSome p (HasRoomFor members records zones stretches)) (sym e) (record { places = places; records_free = one; zones_free = more; stretches_free = most })
+    subst (λ (p : Option Op). IfSome p (HasRoomInClusters members records zones stretches)) (sym e) (record { places = places; records_free = one; zones_free = more; stretches_free = most })
 
--- of no operations
-pub together_at_first : (claim : Terms) → claim.kind ≡ Atomic → (table : Tabled) (members : Members) (records : Records) (zones : Zones) (stretches : Stretches) → table ≡ record { ops = []; prepared = None } → AreMembers [] members → AreRecords [] records → HoldsOnlyFor None members
-    → zones.zones ≡ [] → stretches.stretches ≡ [] → 2 ≤ stretches.free → HoldTogether claim table members records zones stretches
+-- the parts belong together without operations
+pub together_at_first : (claim : ClaimModel) → claim.kind ≡ Atomic → (table : TableModel) (members : Members) (records : Records) (zones : Zones) (stretches : Stretches) → table ≡ record { ops = []; prepared = None } → AreMembers [] members → AreRecords [] records → ReservesOnlyForMember None members
+    → zones.zones ≡ [] → stretches.stretches ≡ [] → 2 ≤ stretches.free → AreOfOneRegister claim table members records zones stretches
 together_at_first claim atomic table members records zones stretches e are recorded only no_zones none enough =
-    subst (λ (t : Tabled). HoldTogether claim t members records zones stretches) (sym e) (record {
+    subst (λ (t : TableModel). AreOfOneRegister claim t members records zones stretches) (sym e) (record {
       apart = apart_none claim atomic;
       members_of = are;
       records_of = recorded;
@@ -66,9 +66,9 @@ together_at_first claim atomic table members records zones stretches e are recor
       only = only;
     })
 
--- of the same operations
-pub together_kept : (claim : Terms) (table other : Tabled) (members changed : Members) (records moved : Records) (zones others : Zones) (stretches rest : Stretches) → HoldTogether claim table members records zones stretches
-    → other.ops ≡ table.ops → AreMembers table.ops changed → AreRecords table.ops moved → others.zones ≡ zones.zones → rest.stretches ≡ stretches.stretches → stretches.free ≤ rest.free → IfSome other.prepared (HasRoomFor changed moved others rest) → HoldsOnlyFor other.prepared changed → HoldTogether claim other changed moved others rest
+-- the parts belong together where the operations stay
+pub together_kept : (claim : ClaimModel) (table other : TableModel) (members changed : Members) (records moved : Records) (zones others : Zones) (stretches rest : Stretches) → AreOfOneRegister claim table members records zones stretches
+    → other.ops ≡ table.ops → AreMembers table.ops changed → AreRecords table.ops moved → others.zones ≡ zones.zones → rest.stretches ≡ stretches.stretches → stretches.free ≤ rest.free → IfSome other.prepared (HasRoomInClusters changed moved others rest) → ReservesOnlyForMember other.prepared changed → AreOfOneRegister claim other changed moved others rest
 together_kept claim table other members changed records moved zones others stretches rest together same are recorded zones_same rest_same more room only = record {
   apart = subst (AreManyWriters claim) (sym same) together.apart;
   members_of = subst (λ (l : List Op). AreMembers l changed) (sym same) are;
@@ -80,7 +80,7 @@ together_kept claim table other members changed records moved zones others stret
   only = only;
 }
 
--- the judged part of what is prepared
+-- the judged part of a new operation that is prepared is prepared
 pub judged_prepared : (new prepared : Option Op) → IfSome new (λ op. prepared ≡ Some op) → IfSome (judged_part new) (λ op. prepared ≡ Some op)
 judged_prepared None prepared h = tt
 judged_prepared (Some op) prepared h = by_cases (is_write op || is_some op.end)
@@ -94,24 +94,24 @@ some_part None some = absurd (cc)
 some_part (Some op) some = (op, refl)
 
 -- the room of the prepared operation
-module _ (members : Members) (records : Records) (zones : Zones) (stretches : Stretches) (prepared : Option Op) (room : IfSome prepared (HasRoomFor members records zones stretches)) where
+module _ (members : Members) (records : Records) (zones : Zones) (stretches : Stretches) (prepared : Option Op) (room : IfSome prepared (HasRoomInClusters members records zones stretches)) where
   pub room_for : (new : Option Op) → IfSome new (λ op. prepared ≡ Some op) → IsSome (judged_part new) → (2 ≤ zones.free) × (length zones.zones + 6 ≤ stretches.free) × (1 ≤ room_in records)
   room_for new is some =
       let (op, e) = some_part new some in
       let at : prepared ≡ Some op = subst (λ (n : Option Op). IfSome n (λ op. prepared ≡ Some op)) e is in
-      let h : HasRoomFor members records zones stretches op = subst (λ (p : Option Op). IfSome p (HasRoomFor members records zones stretches)) at room in
+      let h : HasRoomInClusters members records zones stretches op = subst (λ (p : Option Op). IfSome p (HasRoomInClusters members records zones stretches)) at room in
       (h.zones_free, h.stretches_free, h.records_free)
 
-  -- it stays where there is no new operation
+  -- the room stays where there is no new operation
   module _ (after : Members) (records_after : Records) (zones_after : Zones) (stretches_after : Stretches) (new : Option Op) (places : HasPlacesOf prepared after)
       (records_kept : judged_part new ≡ None → room_in records ≤ room_in records_after)
       (zones_kept : judged_part new ≡ None → zones.free ≤ zones_after.free) (stretches_kept : judged_part new ≡ None → length zones_after.zones + stretches.free ≤ length zones.zones + stretches_after.free) where
-    pub room_after : IfSome (prepared_after new prepared) (HasRoomFor after records_after zones_after stretches_after)
+    pub room_after : IfSome (prepared_after new prepared) (HasRoomInClusters after records_after zones_after stretches_after)
     room_after = by_cases new prepared room places records_kept zones_kept stretches_kept
       where
-        by_cases : (n p : Option Op) → IfSome p (HasRoomFor members records zones stretches) → HasPlacesOf p after → (judged_part n ≡ None → room_in records ≤ room_in records_after) → (judged_part n ≡ None → zones.free ≤ zones_after.free)
+        by_cases : (n p : Option Op) → IfSome p (HasRoomInClusters members records zones stretches) → HasPlacesOf p after → (judged_part n ≡ None → room_in records ≤ room_in records_after) → (judged_part n ≡ None → zones.free ≤ zones_after.free)
             → (judged_part n ≡ None → length zones_after.zones + stretches.free ≤ length zones.zones + stretches_after.free)
-            → IfSome (prepared_after n p) (HasRoomFor after records_after zones_after stretches_after)
+            → IfSome (prepared_after n p) (HasRoomInClusters after records_after zones_after stretches_after)
         by_cases (Some op) p h places one more most = tt
         by_cases None None h places one more most = tt
         by_cases None (Some op) h places one more most = record {
@@ -121,7 +121,7 @@ module _ (members : Members) (records : Records) (zones : Zones) (stretches : St
           stretches_free = (let a = h.stretches_free in let b = most refl in omega arith);
         }
 
-  -- enough places are left
+  -- enough places are left for stretches
   pub spare_after : length zones.zones + 2 ≤ stretches.free → (new : Option Op) → IfSome new (λ op. prepared ≡ Some op) → (zones_after : List Zone) (free : ℕ)
       → (judged_part new ≡ None → length zones_after + stretches.free ≤ length zones.zones + free) → length zones_after ≤ length zones.zones + 2 → stretches.free ≤ free + 2 → length zones_after + 2 ≤ free
   spare_after spare new is zones_after free kept more most = by_cases (judged_part new) refl
@@ -130,7 +130,7 @@ module _ (members : Members) (records : Records) (zones : Zones) (stretches : St
       by_cases None e = omega (arith, spare, kept e)
       by_cases (Some op) e = omega (arith, (room_for new is (ap is_some e)).1, more, most)
 
-module _ (claim : Terms) (ops : List Op) (edit : Edit) (apart : AreManyWriters claim ops) (accepted : reply_to claim ops edit ≡ None)
+module _ (claim : ClaimModel) (ops : List Op) (edit : Edit) (apart : AreManyWriters claim ops) (accepted : reply_to claim ops edit ≡ None)
     (old new : Option Op) (old_is : old ≡ judged_part (found_by ops (edit_id edit))) (new_is : new ≡ judged_part (new_op ops edit))
     (after : List Op) (after_is : after ≡ edited ops edit) where
   pub apart_after : AreManyWriters claim after
@@ -165,7 +165,7 @@ module _ (claim : Terms) (ops : List Op) (edit : Edit) (apart : AreManyWriters c
           (moved_zoned ops old new after change_is apart.kept.moments apart_after.kept.moments tree.zones zoned earlier later is.gone is.come is.changes
           (at_values ops earlier earlier_is) (at_values after later later_is))
 
-      -- where nothing comes there are no more zones, and where a write goes there are fewer
+      -- where nothing comes there are no more zones than before
       pub no_more_zones : new ≡ None → (result : List Zone) → AreExchanged zone_shape earlier later tree.zones result → length result ≤ length tree.zones
       no_more_zones none result is = kept_length is.gone is.come tree.zones result (zones_need_no_room none is.gone is.come is.changes) is.moves
 
@@ -201,17 +201,17 @@ module _ (claim : Terms) (ops : List Op) (edit : Edit) (apart : AreManyWriters c
           second_none (Some u) None e found is = ap is_some is
           second_none (Some u) (Some v) e found is = absurd (cc)
 
-      pub stands_for : new ≡ None → ((op : Op) → old ≡ Some op → ¬ IsWrite op) → IsSome later.0 → Stands tree.stretches earlier.0
+      pub stands_for : new ≡ None → ((op : Op) → old ≡ Some op → ¬ IsWrite op) → IsSome later.0 → IsThere tree.stretches earlier.0
       stands_for none reads =
           stretch_stands claim ops old new after change_is apart.kept.moments apart_after.kept.moments tree.stretches stretched earlier later
           (stretches_at ops earlier earlier_is) (stretches_at after later later_is) none reads
 
-    -- where nothing comes each stretch that comes has the place of one that goes, or of a write's
+    -- where nothing comes each stretch that comes takes the place of one that goes, or that of a write
     pub room_left : new ≡ None
         → (earlier later : Option Zone × Option Zone) (zones : Zones) → AreZoned ops zones.zones → AreZonesAt ops first second earlier → AreZonesAt after first second later
         → (result : List Zone) → AreExchanged zone_shape earlier later zones.zones result
         → (was is : Option Stretch × Option Stretch) (stretches : Stretches) → AreStretched claim ops stretches.stretches → AreStretchesAt claim ops first second was → AreStretchesAt claim after first second is
-        → (free : ℕ) → (IsNone is.1 → stretches.free ≤ free + 1) → (IsNone is.1 → (IsSome is.0 → Stands stretches.stretches was.0) → stretches.free ≤ free)
+        → (free : ℕ) → (IsNone is.1 → stretches.free ≤ free + 1) → (IsNone is.1 → (IsSome is.0 → IsThere stretches.stretches was.0) → stretches.free ≤ free)
         → length result + stretches.free ≤ length zones.zones + free
     room_left none earlier later zones zoned earlier_is later_is result exchanged was is stretches stretched was_is is_is free one kept = by_old old refl
       where

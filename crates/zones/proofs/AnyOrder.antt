@@ -6,16 +6,16 @@ use Rattle.std.proofs.lemmas.Bool.{false_from_ne_true}
 use Rattle.std.proofs.lemmas.Bool.Decides.{Decides-and, Decides-like, not_from_Decides, same_from_decides}
 use Rattle.std.proofs.lemmas.Map.Keys.{IsDistinct-from_apart, IsDistinct-IsPermutation, apart_from_distinct}
 use Rattle.zone_tree.specs.declared.zone.Zone.{Zone}
-use Rattle.zone_tree.specs.Edge.{comes_before}
+use Rattle.zone_tree.specs.Edge.{edge_before}
 use Rattle.zone_tree.specs.Zone.{Conflicts, least_end, greatest_begin}
 use Rattle.zone_tree.specs.Conflict.{IsClean}
 
--- two zones conflict, as a test
+-- the test whether two zones conflict
 abbrev conflict : Zone → Zone → Bool
-conflict a b = comes_before (least_end a) (greatest_begin b) && comes_before (least_end b) (greatest_begin a)
+conflict a b = edge_before (least_end a) (greatest_begin b) && edge_before (least_end b) (greatest_begin a)
 
 Decides-conflict : (a b : Zone) → Decides (conflict a b) (Conflicts a b)
-Decides-conflict a b = Decides-and (comes_before (least_end a) (greatest_begin b)) (comes_before (least_end b) (greatest_begin a)) (λ e. e, λ e. e) (λ e. e, λ e. e)
+Decides-conflict a b = Decides-and (edge_before (least_end a) (greatest_begin b)) (edge_before (least_end b) (greatest_begin a)) (λ e. e, λ e. e) (λ e. e, λ e. e)
 
 conflict-flips : (a b : Zone) → conflict a b ≡ conflict b a
 conflict-flips a b =

@@ -1,5 +1,4 @@
--- The cluster of a value: its least end, its greatest beginning and the left edge of its zone are those
--- of its members; and where two zones conflict, four members cross.
+-- The cluster of a value: its edges are those of its members, and where two zones conflict four members cross.
 use Rattle.std.proofs.Common.{◌≡◌, ◌≢◌, ◌↔◌, ◌⊎◌, inl, inr, true, List, [], ◌∷◌, Option, Some, None, refl, sym, ap, subst, ◌∙◌}
 use Rattle.std.specs.Prelude.{Contains, map}
 use Rattle.std.specs.List.{AllPairs}
@@ -13,70 +12,70 @@ use Rattle.intervals.specs.Standing.{IsMomentOf, ShareNoMoment, HasDistinctMomen
 use Rattle.zone_tree.specs.declared.edge.Edge.{Edge}
 use Rattle.zone_tree.specs.declared.edge.Edge.TheVariants.{Before, At, Never}
 use Rattle.zone_tree.specs.declared.zone.Zone.{Zone}
-use Rattle.zone_tree.specs.Edge.{ComesBefore, comes_before}
+use Rattle.zone_tree.specs.Edge.{ComesBefore, edge_before}
 use Rattle.zone_tree.specs.Zone.{Conflicts, HasOrderedEdges, least_end, greatest_begin}
-use Rattle.zones.specs.Cluster.{Span, edge_of_end, span_of, initial_span, has_value, cluster_of, spans_of, earlier_of, later_of, least_end_in, greatest_begin_in, least_end_of, greatest_begin_of, zone_between, zone_of, written_values, zones_of}
+use Rattle.zones.specs.Cluster.{Interval, edge_of_end, interval_of, initial_span, has_value, cluster_of, spans_of, earlier_edge, later_edge, least_end_in, greatest_begin_in, least_end_of, greatest_begin_of, zone_between, zone_of, written_values, zones_of}
 use Rattle.zones.specs.Crossing.{value_at, StandsJudged, HasEndedBefore, IsCrossing, HasLeastEnd, HasGreatestBegin, AreExtremes}
 use Rattle.zones.proofs.EdgeOrder.{AtMost, at_most_itself, at_most_transitive, at_most_both, before_all, before_not_after, not_after_before, not_both_ways, earlier-left, earlier-right, earlier-cases, later-left, later-right, later-cases}
 use Rattle.zones.proofs.Judged.{is_judged, judged_write}
 use Rattle.zones.proofs.Members.{Decides-same_value, value_cases, here, there, in_none, contains_cases, kept, kept_stands, all_from, mapped, pair_of, pairs_mapped}
 
--- of spans
-pub least-bound : (spans : List Span) (s : Span) → Contains spans s → AtMost (least_end_in spans) s.end
+-- the least end and the greatest beginning of intervals
+pub least-bound : (spans : List Interval) (s : Interval) → Contains spans s → AtMost (least_end_in spans) s.end
 least-bound [] s h = absurd (in_none s h)
 least-bound (a ∷ spans) s h = by_cases (contains_cases a spans s h) (least-bound spans s)
   where
-    by_cases : (a ≡ s) ⊎ Contains spans s → (Contains spans s → AtMost (least_end_in spans) s.end) → AtMost (earlier_of a.end (least_end_in spans)) s.end
-    by_cases (inl e) rest = subst (λ (x : Span). AtMost (earlier_of a.end (least_end_in spans)) x.end) e (earlier-left a.end (least_end_in spans))
-    by_cases (inr h) rest = at_most_transitive (earlier_of a.end (least_end_in spans)) (least_end_in spans) s.end (earlier-right a.end (least_end_in spans)) (rest h)
+    by_cases : (a ≡ s) ⊎ Contains spans s → (Contains spans s → AtMost (least_end_in spans) s.end) → AtMost (earlier_edge a.end (least_end_in spans)) s.end
+    by_cases (inl e) rest = subst (λ (x : Interval). AtMost (earlier_edge a.end (least_end_in spans)) x.end) e (earlier-left a.end (least_end_in spans))
+    by_cases (inr h) rest = at_most_transitive (earlier_edge a.end (least_end_in spans)) (least_end_in spans) s.end (earlier-right a.end (least_end_in spans)) (rest h)
 
-greatest-bound : (spans : List Span) (s : Span) → Contains spans s → AtMost s.begin (greatest_begin_in spans)
+greatest-bound : (spans : List Interval) (s : Interval) → Contains spans s → AtMost s.begin (greatest_begin_in spans)
 greatest-bound [] s h = absurd (in_none s h)
 greatest-bound (a ∷ spans) s h = by_cases (contains_cases a spans s h) (greatest-bound spans s)
   where
-    by_cases : (a ≡ s) ⊎ Contains spans s → (Contains spans s → AtMost s.begin (greatest_begin_in spans)) → AtMost s.begin (later_of a.begin (greatest_begin_in spans))
-    by_cases (inl e) rest = subst (λ (x : Span). AtMost x.begin (later_of a.begin (greatest_begin_in spans))) e (later-left a.begin (greatest_begin_in spans))
-    by_cases (inr h) rest = at_most_transitive s.begin (greatest_begin_in spans) (later_of a.begin (greatest_begin_in spans)) (rest h) (later-right a.begin (greatest_begin_in spans))
+    by_cases : (a ≡ s) ⊎ Contains spans s → (Contains spans s → AtMost s.begin (greatest_begin_in spans)) → AtMost s.begin (later_edge a.begin (greatest_begin_in spans))
+    by_cases (inl e) rest = subst (λ (x : Interval). AtMost x.begin (later_edge a.begin (greatest_begin_in spans))) e (later-left a.begin (greatest_begin_in spans))
+    by_cases (inr h) rest = at_most_transitive s.begin (greatest_begin_in spans) (later_edge a.begin (greatest_begin_in spans)) (rest h) (later-right a.begin (greatest_begin_in spans))
 
-pub least-held : (spans : List Span) → (least_end_in spans ≡ Never) ⊎ ((s : Span) × Contains spans s × (s.end ≡ least_end_in spans))
+pub least-held : (spans : List Interval) → (least_end_in spans ≡ Never) ⊎ ((s : Interval) × Contains spans s × (s.end ≡ least_end_in spans))
 least-held [] = inl refl
 least-held (a ∷ spans) = by_cases (earlier-cases a.end (least_end_in spans)) (least-held spans)
   where
-    by_cases : (a.end ≡ least_end_in (a ∷ spans)) ⊎ (least_end_in spans ≡ least_end_in (a ∷ spans)) → (least_end_in spans ≡ Never) ⊎ ((s : Span) × Contains spans s × (s.end ≡ least_end_in spans)) → (least_end_in (a ∷ spans) ≡ Never) ⊎ ((s : Span) × Contains (a ∷ spans) s × (s.end ≡ least_end_in (a ∷ spans)))
+    by_cases : (a.end ≡ least_end_in (a ∷ spans)) ⊎ (least_end_in spans ≡ least_end_in (a ∷ spans)) → (least_end_in spans ≡ Never) ⊎ ((s : Interval) × Contains spans s × (s.end ≡ least_end_in spans)) → (least_end_in (a ∷ spans) ≡ Never) ⊎ ((s : Interval) × Contains (a ∷ spans) s × (s.end ≡ least_end_in (a ∷ spans)))
     by_cases (inl e) rest = inr (a, here a spans, e)
     by_cases (inr e) (inl n) = inl (sym e ∙ n)
     by_cases (inr e) (inr (s, h, f)) = inr (s, there a spans s h, f ∙ e)
 
-greatest-held : (spans : List Span) → (greatest_begin_in spans ≡ Before) ⊎ ((s : Span) × Contains spans s × (s.begin ≡ greatest_begin_in spans))
+greatest-held : (spans : List Interval) → (greatest_begin_in spans ≡ Before) ⊎ ((s : Interval) × Contains spans s × (s.begin ≡ greatest_begin_in spans))
 greatest-held [] = inl refl
 greatest-held (a ∷ spans) = by_cases (later-cases a.begin (greatest_begin_in spans)) (greatest-held spans)
   where
-    by_cases : (a.begin ≡ greatest_begin_in (a ∷ spans)) ⊎ (greatest_begin_in spans ≡ greatest_begin_in (a ∷ spans)) → (greatest_begin_in spans ≡ Before) ⊎ ((s : Span) × Contains spans s × (s.begin ≡ greatest_begin_in spans)) → (greatest_begin_in (a ∷ spans) ≡ Before) ⊎ ((s : Span) × Contains (a ∷ spans) s × (s.begin ≡ greatest_begin_in (a ∷ spans)))
+    by_cases : (a.begin ≡ greatest_begin_in (a ∷ spans)) ⊎ (greatest_begin_in spans ≡ greatest_begin_in (a ∷ spans)) → (greatest_begin_in spans ≡ Before) ⊎ ((s : Interval) × Contains spans s × (s.begin ≡ greatest_begin_in spans)) → (greatest_begin_in (a ∷ spans) ≡ Before) ⊎ ((s : Interval) × Contains (a ∷ spans) s × (s.begin ≡ greatest_begin_in (a ∷ spans)))
     by_cases (inl e) rest = inr (a, here a spans, e)
     by_cases (inr e) (inl n) = inl (sym e ∙ n)
     by_cases (inr e) (inr (s, h, f)) = inr (s, there a spans s h, f ∙ e)
 
--- of a zone between two edges
+-- the edges of a zone between two edges
 least_end-between : (m M : Edge) (v : Value) → least_end (zone_between m M v) ≡ m
-least_end-between m M v = cond_both (comes_before m M) _ _ (λ (z : Zone). least_end z ≡ m) (λ p. refl) (λ f. refl)
+least_end-between m M v = cond_both (edge_before m M) _ _ (λ (z : Zone). least_end z ≡ m) (λ p. refl) (λ f. refl)
 
 greatest_begin-between : (m M : Edge) (v : Value) → greatest_begin (zone_between m M v) ≡ M
-greatest_begin-between m M v = cond_both (comes_before m M) _ _ (λ (z : Zone). greatest_begin z ≡ M) (λ p. refl) (λ f. refl)
+greatest_begin-between m M v = cond_both (edge_before m M) _ _ (λ (z : Zone). greatest_begin z ≡ M) (λ p. refl) (λ f. refl)
 
 value-between : (m M : Edge) (v : Value) → (zone_between m M v).value ≡ v
-value-between m M v = cond_both (comes_before m M) _ _ (λ (z : Zone). z.value ≡ v) (λ p. refl) (λ f. refl)
+value-between m M v = cond_both (edge_before m M) _ _ (λ (z : Zone). z.value ≡ v) (λ p. refl) (λ f. refl)
 
 left-least : (m M : Edge) (v : Value) → AtMost (zone_between m M v).left m
-left-least m M v = cond_both (comes_before m M) _ _ (λ (z : Zone). AtMost z.left m) (λ p. at_most_itself m) (λ f. both_ways (comes_before m M) f)
+left-least m M v = cond_both (edge_before m M) _ _ (λ (z : Zone). AtMost z.left m) (λ p. at_most_itself m) (λ f. both_ways (edge_before m M) f)
 
 left-greatest : (m M : Edge) (v : Value) → AtMost (zone_between m M v).left M
-left-greatest m M v = cond_both (comes_before m M) _ _ (λ (z : Zone). AtMost z.left M) (λ p. not_both_ways m M p) (λ f. at_most_itself M)
+left-greatest m M v = cond_both (edge_before m M) _ _ (λ (z : Zone). AtMost z.left M) (λ p. not_both_ways m M p) (λ f. at_most_itself M)
 
 left-cases : (m M : Edge) (v : Value) → (((zone_between m M v).left ≡ m) × ComesBefore m M) ⊎ ((zone_between m M v).left ≡ M)
-left-cases m M v = cond_both (comes_before m M) _ _ (λ (z : Zone). ((z.left ≡ m) × ComesBefore m M) ⊎ (z.left ≡ M)) (λ p. inl (refl, p)) (λ f. inr refl)
+left-cases m M v = cond_both (edge_before m M) _ _ (λ (z : Zone). ((z.left ≡ m) × ComesBefore m M) ⊎ (z.left ≡ M)) (λ p. inl (refl, p)) (λ f. inr refl)
 
 ordered-between : (m M : Edge) (v : Value) → HasOrderedEdges (zone_between m M v)
-ordered-between m M v = cond_both (comes_before m M) _ _ HasOrderedEdges (λ p. (λ t. p, λ n. absurd (n refl))) (λ f. (λ t. absurd (cc), λ n. both_ways (comes_before m M) f))
+ordered-between m M v = cond_both (edge_before m M) _ _ HasOrderedEdges (λ p. (λ t. p, λ n. absurd (n refl))) (λ f. (λ t. absurd (cc), λ n. both_ways (edge_before m M) f))
 
 conflict_at : (a b : Zone) (m M n N : Edge) → least_end a ≡ m → greatest_begin a ≡ M → least_end b ≡ n → greatest_begin b ≡ N → (Conflicts a b → ComesBefore m N × ComesBefore n M) × (ComesBefore m N × ComesBefore n M → Conflicts a b)
 conflict_at a b m M n N e f g h = (
@@ -84,7 +83,7 @@ conflict_at a b m M n N e f g h = (
   (λ c. (rw (e, h) c.0, rw (g, f) c.1)),
 )
 
--- the end of an operation before a moment
+-- the end of an operation that ends before a moment
 pub edge_from_end : (end : Option Moment) (m : Moment) → EndsBefore end m → ComesBefore (edge_of_end end) (At m)
 edge_from_end None m h = absurd h
 edge_from_end (Some end) m h = lt-ltb end.0 m.0 h
@@ -110,67 +109,67 @@ module _ (initial : Value) (ops : List Op) where
   in_cluster : (v : Value) (op : Op) → IsMember v op → Contains (cluster_of ops v) op
   in_cluster v op (h, e) = kept (has_value v) (judged ops) op h ((Decides-same_value (value_of op.act) v).1 e)
 
-  span_stands : (v : Value) (op : Op) → IsMember v op → Contains (spans_of initial ops v) (span_of op)
+  span_stands : (v : Value) (op : Op) → IsMember v op → Contains (spans_of initial ops v) (interval_of op)
   span_stands v op h =
-      let k = mapped span_of (cluster_of ops v) op (in_cluster v op h) in
-      cond_both (same_value initial v) _ _ (λ (l : List Span). Contains l (span_of op)) (λ t. there initial_span (map span_of (cluster_of ops v)) (span_of op) k) (λ f. k)
+      let k = mapped interval_of (cluster_of ops v) op (in_cluster v op h) in
+      cond_both (same_value initial v) _ _ (λ (l : List Interval). Contains l (interval_of op)) (λ t. there initial_span (map interval_of (cluster_of ops v)) (interval_of op) k) (λ f. k)
 
   -- the least end is at most each member's end
   pub least_at_most : (v : Value) (op : Op) → IsMember v op → AtMost (least v) (edge_of_end op.end)
-  least_at_most v op h = least-bound (spans_of initial ops v) (span_of op) (span_stands v op h)
+  least_at_most v op h = least-bound (spans_of initial ops v) (interval_of op) (span_stands v op h)
 
   pub greatest_at_least : (v : Value) (op : Op) → IsMember v op → AtMost (At op.begin) (greatest v)
-  greatest_at_least v op h = greatest-bound (spans_of initial ops v) (span_of op) (span_stands v op h)
+  greatest_at_least v op h = greatest-bound (spans_of initial ops v) (interval_of op) (span_stands v op h)
 
-  -- a span of a cluster is the initial write's or a member's
-  abbrev IsSpanOf : Value → Span → Type 0
-  IsSpanOf v s = ((s ≡ initial_span) × (v ≡ initial)) ⊎ ((op : Op) × IsMember v op × (span_of op ≡ s))
+  -- an interval of a cluster is the initial write's or a member's
+  abbrev IsSpanOf : Value → Interval → Type 0
+  IsSpanOf v s = ((s ≡ initial_span) × (v ≡ initial)) ⊎ ((op : Op) × IsMember v op × (interval_of op ≡ s))
 
-  from_map : (v : Value) (members : List Op) (s : Span) → ((op : Op) → Contains members op → IsMember v op) → Contains (map span_of members) s → (op : Op) × IsMember v op × (span_of op ≡ s)
+  from_map : (v : Value) (members : List Op) (s : Interval) → ((op : Op) → Contains members op → IsMember v op) → Contains (map interval_of members) s → (op : Op) × IsMember v op × (interval_of op ≡ s)
   from_map v [] s each h = absurd (in_none s h)
-  from_map v (a ∷ members) s each h = by_cases (contains_cases (span_of a) (map span_of members) s h) (from_map v members s (λ op k. each op (there a members op k)))
+  from_map v (a ∷ members) s each h = by_cases (contains_cases (interval_of a) (map interval_of members) s h) (from_map v members s (λ op k. each op (there a members op k)))
     where
-      by_cases : (span_of a ≡ s) ⊎ Contains (map span_of members) s → (Contains (map span_of members) s → (op : Op) × IsMember v op × (span_of op ≡ s)) → (op : Op) × IsMember v op × (span_of op ≡ s)
+      by_cases : (interval_of a ≡ s) ⊎ Contains (map interval_of members) s → (Contains (map interval_of members) s → (op : Op) × IsMember v op × (interval_of op ≡ s)) → (op : Op) × IsMember v op × (interval_of op ≡ s)
       by_cases (inl e) rest = (a, each a (here a members), e)
       by_cases (inr h) rest = rest h
 
   pub member_of : (v : Value) (op : Op) → Contains (cluster_of ops v) op → IsMember v op
   member_of v op h = let k = kept_stands (has_value v) (judged ops) op h in (k.0, (Decides-same_value (value_of op.act) v).0 k.1)
 
-  span_from : (v : Value) (s : Span) → Contains (spans_of initial ops v) s → IsSpanOf v s
-  span_from v s = cond_both (same_value initial v) _ _ (λ (l : List Span). Contains l s → IsSpanOf v s) with_initial (λ f h. inr (from_map v (cluster_of ops v) s (member_of v) h))
+  span_from : (v : Value) (s : Interval) → Contains (spans_of initial ops v) s → IsSpanOf v s
+  span_from v s = cond_both (same_value initial v) _ _ (λ (l : List Interval). Contains l s → IsSpanOf v s) with_initial (λ f h. inr (from_map v (cluster_of ops v) s (member_of v) h))
     where
-      by_cases : initial ≡ v → (initial_span ≡ s) ⊎ Contains (map span_of (cluster_of ops v)) s → IsSpanOf v s
+      by_cases : initial ≡ v → (initial_span ≡ s) ⊎ Contains (map interval_of (cluster_of ops v)) s → IsSpanOf v s
       by_cases e (inl g) = inl (sym g, sym e)
       by_cases e (inr h) = inr (from_map v (cluster_of ops v) s (member_of v) h)
 
-      with_initial : same_value initial v ≡ true → Contains (initial_span ∷ map span_of (cluster_of ops v)) s → IsSpanOf v s
-      with_initial t h = by_cases ((Decides-same_value initial v).0 t) (contains_cases initial_span (map span_of (cluster_of ops v)) s h)
+      with_initial : same_value initial v ≡ true → Contains (initial_span ∷ map interval_of (cluster_of ops v)) s → IsSpanOf v s
+      with_initial t h = by_cases ((Decides-same_value initial v).0 t) (contains_cases initial_span (map interval_of (cluster_of ops v)) s h)
 
   -- the least end is that of a member or of the initial write, or never comes
   pub least_held : (v : Value) → (least v ≡ Never) ⊎ (((least v ≡ Before) × (v ≡ initial)) ⊎ ((op : Op) × IsMember v op × (edge_of_end op.end ≡ least v)))
   least_held v = by_cases (least-held (spans_of initial ops v))
     where
-      by_span : (s : Span) → s.end ≡ least v → IsSpanOf v s → (least v ≡ Never) ⊎ (((least v ≡ Before) × (v ≡ initial)) ⊎ ((op : Op) × IsMember v op × (edge_of_end op.end ≡ least v)))
-      by_span s e (inl (g, i)) = inr (inl (sym e ∙ ap (λ (x : Span). x.end) g, i))
-      by_span s e (inr (op, h, g)) = inr (inr (op, h, ap (λ (x : Span). x.end) g ∙ e))
+      by_span : (s : Interval) → s.end ≡ least v → IsSpanOf v s → (least v ≡ Never) ⊎ (((least v ≡ Before) × (v ≡ initial)) ⊎ ((op : Op) × IsMember v op × (edge_of_end op.end ≡ least v)))
+      by_span s e (inl (g, i)) = inr (inl (sym e ∙ ap (λ (x : Interval). x.end) g, i))
+      by_span s e (inr (op, h, g)) = inr (inr (op, h, ap (λ (x : Interval). x.end) g ∙ e))
 
-      by_cases : (least v ≡ Never) ⊎ ((s : Span) × Contains (spans_of initial ops v) s × (s.end ≡ least v)) → (least v ≡ Never) ⊎ (((least v ≡ Before) × (v ≡ initial)) ⊎ ((op : Op) × IsMember v op × (edge_of_end op.end ≡ least v)))
+      by_cases : (least v ≡ Never) ⊎ ((s : Interval) × Contains (spans_of initial ops v) s × (s.end ≡ least v)) → (least v ≡ Never) ⊎ (((least v ≡ Before) × (v ≡ initial)) ⊎ ((op : Op) × IsMember v op × (edge_of_end op.end ≡ least v)))
       by_cases (inl e) = inl e
       by_cases (inr (s, h, e)) = by_span s e (span_from v s h)
 
   pub greatest_held : (v : Value) → (greatest v ≡ Before) ⊎ ((op : Op) × IsMember v op × (At op.begin ≡ greatest v))
   greatest_held v = by_cases (greatest-held (spans_of initial ops v))
     where
-      by_span : (s : Span) → s.begin ≡ greatest v → IsSpanOf v s → (greatest v ≡ Before) ⊎ ((op : Op) × IsMember v op × (At op.begin ≡ greatest v))
-      by_span s e (inl (g, i)) = inl (sym e ∙ ap (λ (x : Span). x.begin) g)
-      by_span s e (inr (op, h, g)) = inr (op, h, ap (λ (x : Span). x.begin) g ∙ e)
+      by_span : (s : Interval) → s.begin ≡ greatest v → IsSpanOf v s → (greatest v ≡ Before) ⊎ ((op : Op) × IsMember v op × (At op.begin ≡ greatest v))
+      by_span s e (inl (g, i)) = inl (sym e ∙ ap (λ (x : Interval). x.begin) g)
+      by_span s e (inr (op, h, g)) = inr (op, h, ap (λ (x : Interval). x.begin) g ∙ e)
 
-      by_cases : (greatest v ≡ Before) ⊎ ((s : Span) × Contains (spans_of initial ops v) s × (s.begin ≡ greatest v)) → (greatest v ≡ Before) ⊎ ((op : Op) × IsMember v op × (At op.begin ≡ greatest v))
+      by_cases : (greatest v ≡ Before) ⊎ ((s : Interval) × Contains (spans_of initial ops v) s × (s.begin ≡ greatest v)) → (greatest v ≡ Before) ⊎ ((op : Op) × IsMember v op × (At op.begin ≡ greatest v))
       by_cases (inl e) = inl e
       by_cases (inr (s, h, e)) = by_span s e (span_from v s h)
 
-  -- the same by the cluster itself
+  -- the members by the cluster itself
   pub members_of : (v : Value) (op : Op) → Contains (cluster_of ops v) op ↔ (Contains (judged ops) op × (value_of op.act ≡ v))
   members_of v op = (member_of v op, λ h. in_cluster v op h)
 
@@ -190,7 +189,7 @@ module _ (initial : Value) (ops : List Op) where
       by_cases (inr (op, h, e)) = inr (op, in_cluster v op h, e)
 
   initial_stands : Contains (spans_of initial ops initial) initial_span
-  initial_stands = cond_both (same_value initial initial) _ _ (λ (l : List Span). Contains l initial_span) (λ t. here initial_span _) (λ f. absurd (both_ways (same_value initial initial) f ((Decides-same_value initial initial).1 refl)))
+  initial_stands = cond_both (same_value initial initial) _ _ (λ (l : List Interval). Contains l initial_span) (λ t. here initial_span _) (λ f. absurd (both_ways (same_value initial initial) f ((Decides-same_value initial initial).1 refl)))
 
   -- the initial write ends before every moment
   pub least_initial : least initial ≡ Before
@@ -217,14 +216,14 @@ module _ (initial : Value) (ops : List Op) where
   pub value_is : (v : Value) → (zone_of initial ops v).value ≡ v
   value_is v = value-between (least v) (greatest v) v
 
-  -- when the zones of two values conflict
+  -- when the zones of two values conflict, by their edges
   pub conflict_is : (u v : Value) → (Conflicts (zone_of initial ops u) (zone_of initial ops v) → ComesBefore (least u) (greatest v) × ComesBefore (least v) (greatest u)) × (ComesBefore (least u) (greatest v) × ComesBefore (least v) (greatest u) → Conflicts (zone_of initial ops u) (zone_of initial ops v))
   conflict_is u v =
       conflict_at (zone_of initial ops u) (zone_of initial ops v) (least u) (greatest u) (least v) (greatest v)
       (least_end-between (least u) (greatest u) u) (greatest_begin-between (least u) (greatest u) u)
       (least_end-between (least v) (greatest v) v) (greatest_begin-between (least v) (greatest v) v)
 
-  -- the edge is of the initial write, or one of a member's moments
+  -- the edge is the initial write's, or one of a member's moments
   abbrev pub EdgeIn : Value → Edge → Type 0
   EdgeIn v Before = v ≡ initial
   EdgeIn v (At m) = (op : Op) × IsMember v op × IsMomentOf op m
@@ -251,7 +250,7 @@ module _ (initial : Value) (ops : List Op) where
       by_left (inl (e, p)) = subst (EdgeIn v) (sym e) (by_least p (least_held v))
       by_left (inr e) = subst (EdgeIn v) (sym e) (by_greatest (greatest_held v))
 
-  -- one edge is of one value
+  -- no edge is of two values
   pub settle : HasDistinctMoments ops → (u v : Value) (e : Edge) → EdgeIn u e → EdgeIn v e → u ≡ v
   settle moments u v Before i j = i ∙ sym j
   settle moments u v (At m) (a, (ha, ea), ma) (b, (hb, eb), mb) = by_cases (value_cases u v)
@@ -263,7 +262,7 @@ module _ (initial : Value) (ops : List Op) where
           absurd (pair_of ShareNoMoment (λ x y s m p q. s m q p) ops moments a b (kept_stands _ ops a ha).0 (kept_stands _ ops b hb).0 apart m ma mb)
   settle moments u v Never i j = absurd i
 
-  -- where the least end of one cluster comes before the greatest beginning of another, there are operations that have them
+  -- where the least end of one cluster comes before the greatest beginning of another, operations have these edges
   least_one : (u v : Value) → ComesBefore (least u) (greatest v) → (a : Option Op) × HasLeastEnd initial ops u a
   least_one u v p = by_least (least_held u)
     where
@@ -327,7 +326,7 @@ module _ (initial : Value) (ops : List Op) where
       by_extremes : Extremes u v → Cross u v
       by_extremes (a, b, c, d, x) = (a, b, c, d, extremes_cross u v a b c d n h x, (member_of u d x.d_greatest.0).1, (member_of v b x.b_greatest.0).1)
 
-  -- an operation that has ended before another begins ends its cluster's least end before the other's greatest beginning
+  -- where an operation ends before another begins, its cluster's least end comes before the other's greatest beginning
   least_first : (a : Option Op) (b : Op) → StandsJudged ops a → Contains (judged ops) b → HasEndedBefore a b → ComesBefore (least (value_at initial a)) (greatest (value_of b.act))
   least_first None b h k p =
       before_not_after (least initial) (At b.begin) (greatest (value_of b.act))

@@ -1,4 +1,4 @@
--- Clusters may cross threads, alone and as a field: their trees are found whole, so that a search ends.
+-- Clusters may cross threads, alone and as a field; their trees are given as found, so that the search ends.
 use denote.Ref.{NamedLft}
 use denote.Param.Send.{IsSend, IsSync, sendable}
 use Rattle.std.proofs.Crossing.{crosses}

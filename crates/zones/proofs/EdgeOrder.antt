@@ -3,11 +3,11 @@ use Rattle.std.proofs.Common.{◌≡◌, ◌⊎◌, inl, inr, refl}
 use Rattle.std.proofs.lemmas.Bool.{both_ways, cond_both}
 use Rattle.zone_tree.specs.declared.edge.Edge.{Edge}
 use Rattle.zone_tree.specs.declared.edge.Edge.TheVariants.{Before, At, Never}
-use Rattle.zone_tree.specs.Edge.{comes_before, ComesBefore}
-use Rattle.zones.specs.Cluster.{earlier_of, later_of}
+use Rattle.zone_tree.specs.Edge.{edge_before, ComesBefore}
+use Rattle.zones.specs.Cluster.{earlier_edge, later_edge}
 pub use Rattle.zone_tree.proofs.EdgeOrder.{before_irreflexive, before_transitive, before_cases, not_both_ways, before_not_after, not_after_before}
 
--- one edge does not come after another
+-- the first edge does not come after the second
 abbrev pub AtMost : Edge → Edge → Type 0
 AtMost a b = ¬ ComesBefore b a
 
@@ -30,20 +30,20 @@ before_all Before h = absurd (cc)
 before_all (At n) h = absurd (cc)
 before_all Never h = absurd (cc)
 
-pub earlier-left : (a b : Edge) → AtMost (earlier_of a b) a
-earlier-left a b = cond_both (comes_before b a) b a (λ (e : Edge). AtMost e a) (λ p. not_both_ways b a p) (λ f. before_irreflexive a)
+pub earlier-left : (a b : Edge) → AtMost (earlier_edge a b) a
+earlier-left a b = cond_both (edge_before b a) b a (λ (e : Edge). AtMost e a) (λ p. not_both_ways b a p) (λ f. before_irreflexive a)
 
-pub earlier-right : (a b : Edge) → AtMost (earlier_of a b) b
-earlier-right a b = cond_both (comes_before b a) b a (λ (e : Edge). AtMost e b) (λ p. before_irreflexive b) (λ f. both_ways (comes_before b a) f)
+pub earlier-right : (a b : Edge) → AtMost (earlier_edge a b) b
+earlier-right a b = cond_both (edge_before b a) b a (λ (e : Edge). AtMost e b) (λ p. before_irreflexive b) (λ f. both_ways (edge_before b a) f)
 
-pub earlier-cases : (a b : Edge) → (a ≡ earlier_of a b) ⊎ (b ≡ earlier_of a b)
-earlier-cases a b = cond_both (comes_before b a) b a (λ (e : Edge). (a ≡ e) ⊎ (b ≡ e)) (λ p. inr refl) (λ f. inl refl)
+pub earlier-cases : (a b : Edge) → (a ≡ earlier_edge a b) ⊎ (b ≡ earlier_edge a b)
+earlier-cases a b = cond_both (edge_before b a) b a (λ (e : Edge). (a ≡ e) ⊎ (b ≡ e)) (λ p. inr refl) (λ f. inl refl)
 
-pub later-left : (a b : Edge) → AtMost a (later_of a b)
-later-left a b = cond_both (comes_before a b) b a (λ (e : Edge). AtMost a e) (λ p. not_both_ways a b p) (λ f. before_irreflexive a)
+pub later-left : (a b : Edge) → AtMost a (later_edge a b)
+later-left a b = cond_both (edge_before a b) b a (λ (e : Edge). AtMost a e) (λ p. not_both_ways a b p) (λ f. before_irreflexive a)
 
-pub later-right : (a b : Edge) → AtMost b (later_of a b)
-later-right a b = cond_both (comes_before a b) b a (λ (e : Edge). AtMost b e) (λ p. before_irreflexive b) (λ f. both_ways (comes_before a b) f)
+pub later-right : (a b : Edge) → AtMost b (later_edge a b)
+later-right a b = cond_both (edge_before a b) b a (λ (e : Edge). AtMost b e) (λ p. before_irreflexive b) (λ f. both_ways (edge_before a b) f)
 
-pub later-cases : (a b : Edge) → (a ≡ later_of a b) ⊎ (b ≡ later_of a b)
-later-cases a b = cond_both (comes_before a b) b a (λ (e : Edge). (a ≡ e) ⊎ (b ≡ e)) (λ p. inr refl) (λ f. inl refl)
+pub later-cases : (a b : Edge) → (a ≡ later_edge a b) ⊎ (b ≡ later_edge a b)
+later-cases a b = cond_both (edge_before a b) b a (λ (e : Edge). (a ≡ e) ⊎ (b ≡ e)) (λ p. inr refl) (λ f. inl refl)

@@ -1,4 +1,4 @@
--- The edges of a value: what an edit makes of them, and what its zone and its stretch are by them.
+-- The edges of a value: what an edit makes of them, and the zone and the stretch that they give.
 use Rattle.std.proofs.Common.{◌≡◌, ◌≢◌, ◌↔◌, ◌⊎◌, inl, inr, Bool, true, false, ◌&&◌, List, Option, Some, None, refl, sym, ap, ◌∙◌, subst, cond}
 use Rattle.std.specs.Prelude.{Contains, IfSome, IsSome, IsTrue}
 use Rattle.std.proofs.lemmas.Bool.{both_ways}
@@ -13,13 +13,13 @@ use Rattle.zone_tree.specs.declared.edge.Edge.{Edge}
 use Rattle.zone_tree.specs.declared.edge.Edge.TheVariants.{Before, At, Never}
 use Rattle.zone_tree.specs.Edge.{ComesBefore, same_edge}
 use Rattle.zone_tree.proofs.EdgeOrder.{Decides-same_edge}
-use Rattle.zones.specs.Cluster.{earlier_of, edge_of_end, later_of}
-use Rattle.zones.specs.Edges.{AreEdges, AreReadEdges, AreWriteEdges, NamesWrite, part_of, read_part, write_part}
+use Rattle.zones.specs.Cluster.{earlier_edge, edge_of_end, later_edge}
+use Rattle.zones.specs.Edges.{AreEdges, AreReadEdges, AreWriteEdges, NamesWrite, op_if_of_value, read_part, write_part}
 use Rattle.zone_tree.specs.declared.zone.Zone.{Zone}
 use Rattle.zones.specs.declared.edges.Edges.{Edges}
-use Rattle.zones.specs.Faults.{IsAtFault, IsRead, IsStretchAt, begin_of_write, first_end_of, moment_of, write_of}
+use Rattle.zones.specs.Faults.{IsAtFault, IsRead, IsStretchAt, begin_of_write, first_end_of, edge_moment, write_of}
 use Rattle.intervals.specs.Standing.{IsInitial}
-use Rattle.intervals.specs.Terms.{Terms}
+use Rattle.intervals.specs.Terms.{ClaimModel}
 use Rattle.intervals.specs.Kind.{HasNoWrite}
 use Rattle.zones.specs.Members.{HasWrite, IsChange, IsGreatestBegin, IsLeastEnd, IsTheWriteAt}
 use Rattle.zones.specs.Zoned.{IsZoneAt}
@@ -30,11 +30,11 @@ use Rattle.zones.proofs.Members.{Decides-same_value, all_from, kept_stands}
 use Rattle.zones.proofs.Stretches.{BeginCases, IsHeld, at_write, begin_cases, first_at_most, first_end_is, first_held, first_of_reads, never_written, no_write, no_write_at, written}
 use Rattle.zones.proofs.Written.{never_last}
 
--- what passes a test and has the value
-passes : (test : Op → Bool) (v : Value) (op : Op) → test op ≡ true → value_of op.act ≡ v → part_of test v (Some op) ≡ Some op
+-- an operation that passes the test and has the value is kept
+passes : (test : Op → Bool) (v : Value) (op : Op) → test op ≡ true → value_of op.act ≡ v → op_if_of_value test v (Some op) ≡ Some op
 passes test v op t e = let s : same_value (value_of op.act) v ≡ true = (Decides-same_value (value_of op.act) v).1 e in rw (t, s) refl
 
-passed : (test : Op → Bool) (v : Value) (found : Option Op) (op : Op) → part_of test v found ≡ Some op → (found ≡ Some op) × (test op ≡ true) × (value_of op.act ≡ v)
+passed : (test : Op → Bool) (v : Value) (found : Option Op) (op : Op) → op_if_of_value test v found ≡ Some op → (found ≡ Some op) × (test op ≡ true) × (value_of op.act ≡ v)
 passed test v None op e = absurd (cc)
 passed test v (Some x) op e = by_cases (test x) (same_value (value_of x.act) v) refl refl e
   where
@@ -43,7 +43,7 @@ passed test v (Some x) op e = by_cases (test x) (same_value (value_of x.act) v) 
     by_cases true false p q f = absurd (cc)
     by_cases false s p q f = absurd (cc)
 
--- of the operations that pass a test and have the value, before and after a change
+-- the edges of the operations that pass a test and have the value, before and after a change
 module _ (test : Op → Bool) (before : List Op) (old new : Option Op) (after : List Op) (change : IsChange before old new after) (v : Value)
     (judged_by : (ops : List Op) (op : Op) → Contains ops op → test op ≡ true → Contains (judged ops) op) where
   abbrev Passes : Op → Type 0
@@ -66,27 +66,27 @@ module _ (test : Op → Bool) (before : List Op) (old new : Option Op) (after : 
       by_cases (inl e) = inl e
       by_cases (inr (k, n)) = inr (kept_stands is_judged before op k).0
 
-  not_new : part_of test v new ≡ None → (op : Op) → test op ≡ true → value_of op.act ≡ v → new ≢ Some op
-  not_new none op t e f = absurd (let g : Some op ≡ None = sym (passes test v op t e) ∙ (ap (part_of test v) (sym f) ∙ none) in cc)
+  not_new : op_if_of_value test v new ≡ None → (op : Op) → test op ≡ true → value_of op.act ≡ v → new ≢ Some op
+  not_new none op t e f = absurd (let g : Some op ≡ None = sym (passes test v op t e) ∙ (ap (op_if_of_value test v) (sym f) ∙ none) in cc)
 
-  is_new : (r : Op) → part_of test v new ≡ Some r → (new ≡ Some r) × (test r ≡ true) × (value_of r.act ≡ v)
+  is_new : (r : Op) → op_if_of_value test v new ≡ Some r → (new ≡ Some r) × (test r ≡ true) × (value_of r.act ≡ v)
   is_new r comes = passed test v new r comes
 
-  one_new : (r : Op) → part_of test v new ≡ Some r → (op : Op) → new ≡ Some op → r ≡ op
+  one_new : (r : Op) → op_if_of_value test v new ≡ Some r → (op : Op) → new ≡ Some op → r ≡ op
   one_new r comes op e = let f : Some r ≡ Some op = sym (is_new r comes).0 ∙ e in cc
 
-  -- no edge is of what went, where that passes and has the value
+  -- the edge is not that of what went, where that passes and has the value
   abbrev HoldsNot : (Op → Edge) → Edge → Type 0
-  HoldsNot at edge = IfSome (part_of test v old) (λ op. at op ≢ edge)
+  HoldsNot at edge = IfSome (op_if_of_value test v old) (λ op. at op ≢ edge)
 
   not_gone : (at : Op → Edge) (edge : Edge) → HoldsNot at edge → (op : Op) → test op ≡ true → value_of op.act ≡ v → at op ≡ edge → old ≢ Some op
   not_gone at edge still op t e f g =
-      let is : part_of test v old ≡ Some op = ap (part_of test v) g ∙ passes test v op t e in
+      let is : op_if_of_value test v old ≡ Some op = ap (op_if_of_value test v) g ∙ passes test v op t e in
       let other : at op ≢ edge = subst (λ (o : Option Op). IfSome o (λ op. at op ≢ edge)) is still in
       other f
 
   module _ (edge : Edge) (still : HoldsNot (λ op. edge_of_end op.end) edge) where
-    same_end : part_of test v new ≡ None → IsLeastEnd Passes before v edge → IsLeastEnd Passes after v edge
+    same_end : op_if_of_value test v new ≡ None → IsLeastEnd Passes before v edge → IsLeastEnd Passes after v edge
     same_end none is = record {
       least = all_from (λ op. Passes op → value_of op.act ≡ v → AtMost edge (edge_of_end op.end)) after (λ op h t e. by_place op t e (stood op h t));
       held = by_held is.held;
@@ -100,15 +100,15 @@ module _ (test : Op → Bool) (before : List Op) (old new : Option Op) (after : 
         by_held (inl e) = inl e
         by_held (inr (op, h, t, e, f)) = inr (op, stayed op h t (not_gone (λ op. edge_of_end op.end) edge still op t e f), t, e, f)
 
-    module _ (r : Op) (comes : part_of test v new ≡ Some r) where
-      more_end : IsLeastEnd Passes before v edge → IsLeastEnd Passes after v (earlier_of edge (edge_of_end r.end))
+    module _ (r : Op) (comes : op_if_of_value test v new ≡ Some r) where
+      more_end : IsLeastEnd Passes before v edge → IsLeastEnd Passes after v (earlier_edge edge (edge_of_end r.end))
       more_end is = record {
         least = all_from (λ op. Passes op → value_of op.act ≡ v → AtMost least (edge_of_end op.end)) after (λ op h t e. by_place op t e (stood op h t));
         held = by_cases (earlier-cases edge (edge_of_end r.end)) is.held;
       }
         where
           least : Edge
-          least = earlier_of edge (edge_of_end r.end)
+          least = earlier_edge edge (edge_of_end r.end)
 
           by_place : (op : Op) → test op ≡ true → value_of op.act ≡ v → (new ≡ Some op) ⊎ Contains before op → AtMost least (edge_of_end op.end)
           by_place op t e (inl f) = subst (λ (x : Op). AtMost least (edge_of_end x.end)) (one_new r comes op f) (earlier-right edge (edge_of_end r.end))
@@ -123,7 +123,7 @@ module _ (test : Op → Bool) (before : List Op) (old new : Option Op) (after : 
           by_cases (inr e) held = let is = is_new r comes in inr (r, came r is.0, is.1, is.2, e)
 
   module _ (edge : Edge) (still : HoldsNot (λ op. At op.begin) edge) where
-    same_begin : part_of test v new ≡ None → IsGreatestBegin Passes before v edge → IsGreatestBegin Passes after v edge
+    same_begin : op_if_of_value test v new ≡ None → IsGreatestBegin Passes before v edge → IsGreatestBegin Passes after v edge
     same_begin none is = record {
       greatest = all_from (λ op. Passes op → value_of op.act ≡ v → AtMost (At op.begin) edge) after (λ op h t e. by_place op t e (stood op h t));
       held = by_held is.held;
@@ -137,15 +137,15 @@ module _ (test : Op → Bool) (before : List Op) (old new : Option Op) (after : 
         by_held (inl e) = inl e
         by_held (inr (op, h, t, e, f)) = inr (op, stayed op h t (not_gone (λ op. At op.begin) edge still op t e f), t, e, f)
 
-    module _ (r : Op) (comes : part_of test v new ≡ Some r) where
-      more_begin : IsGreatestBegin Passes before v edge → IsGreatestBegin Passes after v (later_of edge (At r.begin))
+    module _ (r : Op) (comes : op_if_of_value test v new ≡ Some r) where
+      more_begin : IsGreatestBegin Passes before v edge → IsGreatestBegin Passes after v (later_edge edge (At r.begin))
       more_begin is = record {
         greatest = all_from (λ op. Passes op → value_of op.act ≡ v → AtMost (At op.begin) greatest) after (λ op h t e. by_place op t e (stood op h t));
         held = by_cases (later-cases edge (At r.begin)) is.held;
       }
         where
           greatest : Edge
-          greatest = later_of edge (At r.begin)
+          greatest = later_edge edge (At r.begin)
 
           by_place : (op : Op) → test op ≡ true → value_of op.act ≡ v → (new ≡ Some op) ⊎ Contains before op → AtMost (At op.begin) greatest
           by_place op t e (inl f) = subst (λ (x : Op). AtMost (At x.begin) greatest) (one_new r comes op f) (later-right edge (At r.begin))
@@ -160,7 +160,7 @@ module _ (test : Op → Bool) (before : List Op) (old new : Option Op) (after : 
           by_cases (inl e) (inr (op, h, t, s, f)) = inr (op, stayed op h t (not_gone (λ op. At op.begin) edge still op t s f), t, s, f ∙ e)
           by_cases (inr e) held = let is = is_new r comes in inr (r, came r is.0, is.1, is.2, e)
 
--- two edges that the test tells apart
+-- two edges that differ by the test are different
 differ : (a b : Edge) → same_edge a b ≡ false → a ≢ b
 differ a b apart e = both_ways (same_edge a b) apart ((Decides-same_edge a b).1 e)
 
@@ -168,25 +168,25 @@ pub edges_apart : (at : Op → Edge) (edge : Edge) (found : Option Op) → IfSom
 edges_apart at edge None apart = tt
 edges_apart at edge (Some op) apart = differ (at op) edge apart
 
--- nothing that passes and has the value went
-none_held : (test : Op → Bool) (v : Value) (old : Option Op) (at : Op → Edge) (edge : Edge) → part_of test v old ≡ None → IfSome (part_of test v old) (λ op. at op ≢ edge)
+-- nothing went that passes and has the value
+none_held : (test : Op → Bool) (v : Value) (old : Option Op) (at : Op → Edge) (edge : Edge) → op_if_of_value test v old ≡ None → IfSome (op_if_of_value test v old) (λ op. at op ≢ edge)
 none_held test v old at edge none = subst (λ (o : Option Op). IfSome o (λ op. at op ≢ edge)) (sym none) tt
 
--- of the reads
+-- the edges of the reads
 module _ (before : List Op) (old new : Option Op) (after : List Op) (change : IsChange before old new after) (v : Value) where
   pub begin_same : (edge : Edge) → IfSome (read_part v old) (λ op. At op.begin ≢ edge) → read_part v new ≡ None → IsGreatestBegin IsJudgedRead before v edge → IsGreatestBegin IsJudgedRead after v edge
   begin_same edge still none is = same_begin is_judged_read before old new after change v (λ ops. in_judged-read ops v) edge still none is
 
-  pub begin_more : (edge : Edge) → IfSome (read_part v old) (λ op. At op.begin ≢ edge) → (r : Op) → read_part v new ≡ Some r → IsGreatestBegin IsJudgedRead before v edge → IsGreatestBegin IsJudgedRead after v (later_of edge (At r.begin))
+  pub begin_more : (edge : Edge) → IfSome (read_part v old) (λ op. At op.begin ≢ edge) → (r : Op) → read_part v new ≡ Some r → IsGreatestBegin IsJudgedRead before v edge → IsGreatestBegin IsJudgedRead after v (later_edge edge (At r.begin))
   begin_more edge still r comes is = more_begin is_judged_read before old new after change v (λ ops. in_judged-read ops v) edge still r comes is
 
   pub end_same : (edge : Edge) → IfSome (read_part v old) (λ op. edge_of_end op.end ≢ edge) → read_part v new ≡ None → IsLeastEnd IsJudgedRead before v edge → IsLeastEnd IsJudgedRead after v edge
   end_same edge still none is = same_end is_judged_read before old new after change v (λ ops. in_judged-read ops v) edge still none is
 
-  pub end_more : (edge : Edge) → IfSome (read_part v old) (λ op. edge_of_end op.end ≢ edge) → (r : Op) → read_part v new ≡ Some r → IsLeastEnd IsJudgedRead before v edge → IsLeastEnd IsJudgedRead after v (earlier_of edge (edge_of_end r.end))
+  pub end_more : (edge : Edge) → IfSome (read_part v old) (λ op. edge_of_end op.end ≢ edge) → (r : Op) → read_part v new ≡ Some r → IsLeastEnd IsJudgedRead before v edge → IsLeastEnd IsJudgedRead after v (earlier_edge edge (edge_of_end r.end))
   end_more edge still r comes is = more_end is_judged_read before old new after change v (λ ops. in_judged-read ops v) edge still r comes is
 
--- the one write of a value
+-- the edges of a value's one write
 pub edges_of_write : (ops : List Op) (v : Value) (w : Op) → IsTheWriteAt ops v w → ((a b : Op) → IsTheWriteAt ops v a → IsTheWriteAt ops v b → a ≡ b) → AreWriteEdges ops v (At w.begin) (edge_of_end w.end)
 edges_of_write ops v w is one = record {
   begin = record {
@@ -210,14 +210,14 @@ edges_of_none ops v none = record {
   one = λ a b is_a is_b. absurd (All-contains (λ w. IsWrite w → value_of w.act ≢ v) ops a none is_a.stands is_a.write is_a.same);
 }
 
--- an operation that is known to stand is the write of its value
+-- a judged operation that is a write of the value is the write of the value
 pub known_write : (ops : List Op) (known : Option Op) (v : Value) (w : Op) → IfSome known (λ op. Contains (judged ops) op) → write_part v known ≡ Some w → IsTheWriteAt ops v w
 known_write ops known v w stands is =
     let (e, t, s) = passed is_write v known w is in
     let h : IfSome (Some w) (λ op. Contains (judged ops) op) = subst (λ (n : Option Op). IfSome n (λ op. Contains (judged ops) op)) e stands in
     record { stands = (kept_stands is_judged ops w h).0; write = t; same = s }
 
--- of the writes
+-- the edges of the writes
 module _ (before : List Op) (old new : Option Op) (after : List Op) (change : IsChange before old new after) (v : Value) where
   one_after : (a b : Op) → IsTheWriteAt after v a → IsTheWriteAt after v b → a ≡ b
   one_after a b is_a is_b =
@@ -253,7 +253,7 @@ module _ (before : List Op) (old new : Option Op) (after : List Op) (change : Is
   named_same (Some id) none still (w, is, named) = (w, record { stands = stayed is_write before old new after change v (λ ops. in_judged-write ops v) w is.stands is.write other; write = is.write; same = is.same }, named)
     where
       other : old ≢ Some w
-      other e = absurd (let g : Some w ≡ None = sym (passes is_write v w is.write is.same) ∙ (ap (part_of is_write v) (sym e) ∙ still) in cc)
+      other e = absurd (let g : Some w ≡ None = sym (passes is_write v w is.write is.same) ∙ (ap (op_if_of_value is_write v) (sym e) ∙ still) in cc)
 
   pub write_same : (begin end : Edge) → write_part v new ≡ None → write_part v old ≡ None → AreWriteEdges before v begin end → AreWriteEdges after v begin end
   write_same begin end none still are = record {
@@ -262,8 +262,8 @@ module _ (before : List Op) (old new : Option Op) (after : List Op) (change : Is
     one = one_after;
   }
 
--- an operation of another value
-part_of_other : (test : Op → Bool) (v : Value) (found : Option Op) → IfSome found (λ op. value_of op.act ≢ v) → part_of test v found ≡ None
+-- nothing is kept of an operation of another value
+part_of_other : (test : Op → Bool) (v : Value) (found : Option Op) → IfSome found (λ op. value_of op.act ≢ v) → op_if_of_value test v found ≡ None
 part_of_other test v None other = refl
 part_of_other test v (Some op) other = by_cases (test op) (same_value (value_of op.act) v) refl
   where
@@ -285,7 +285,7 @@ edges_elsewhere before old new after change v edges not_old not_new are = record
   };
 }
 
--- something begins where the edge is not Before
+-- an operation begins at the edge where that is not `Before`
 module _ (P : Op → Type 0) (ops : List Op) (v : Value) (edge : Edge) (is : IsGreatestBegin P ops v edge) where
   pub begun : ComesBefore Before edge → (op : Op) × Contains ops op × P op × (value_of op.act ≡ v) × (At op.begin ≡ edge)
   begun h = by_cases is.held
@@ -302,14 +302,14 @@ module _ (P : Op → Type 0) (ops : List Op) (v : Value) (edge : Edge) (is : IsG
       by_edge (At m) k = refl
       by_edge Never k = refl
 
--- a value has a write where one has begun
+-- a value has a write where a write of it has begun
 pub written_by_edge : (ops : List Op) (v : Value) (begin end : Edge) → AreWriteEdges ops v begin end → ComesBefore Before begin ↔ HasWrite ops v
 written_by_edge ops v begin end are = (
   (λ h. let (w, k, t, s, f) = begun IsWrite ops v begin are.begin h in (w, record { stands = k; write = t; same = s })),
   (λ (w, is). has_begun IsWrite ops v begin are.begin w is.stands is.write is.same),
 )
 
--- the first end of the reads
+-- the first end of the reads, by their edges
 pub first_end_by_edge : (ops : List Op) (v : Value) (begin end : Edge) → AreReadEdges ops v begin end → first_end_of ops v ≡ end
 first_end_by_edge ops v begin end are = at_most_both (first_end_of ops v) end (by_edge are.end.held) (by_first (first_held ops v))
   where
@@ -321,7 +321,7 @@ first_end_by_edge ops v begin end are = at_most_both (first_end_of ops v) end (b
     by_first (inl e) = subst (AtMost end) (sym e) (never_last end)
     by_first (inr (r, (h, j, s), f)) = subst (AtMost end) f (All-contains (λ op. IsJudgedRead op → value_of op.act ≡ v → AtMost end (edge_of_end op.end)) ops r are.end.least h j s)
 
--- where the write begins
+-- where the write begins, by its edges
 module _ (ops : List Op) (v : Value) (begin end : Edge) (are : AreWriteEdges ops v begin end) where
   pub begin_by_edge : ComesBefore Before begin → begin ≡ begin_of_write (write_of ops v)
   begin_by_edge h =
@@ -332,12 +332,12 @@ module _ (ops : List Op) (v : Value) (begin end : Edge) (are : AreWriteEdges ops
   pub begin_by_none : ¬ ComesBefore Before begin → Never ≡ begin_of_write (write_of ops v)
   begin_by_none n = sym (never_written ops v (no_write ops v (λ w is. n (has_begun IsWrite ops v begin are.begin w is.stands is.write is.same)))).0
 
--- edges are those of the value that they name
+-- edges are those of the value that they have
 pub at_itself : (ops : List Op) (v : Value) (edges : Edges) → AreEdges ops v edges → AreEdges ops edges.value edges
 at_itself ops v edges are = subst (λ (u : Value). AreEdges ops u edges) (sym are.same) are
 
--- the stretch of a value
-module _ (claim : Terms) (ops : List Op) (v : Value) where
+-- the stretch of a value, by its edges
+module _ (claim : ClaimModel) (ops : List Op) (v : Value) where
   read_by_end : (end : Moment) → first_end_of ops v ≡ At end → IsRead ops v
   read_by_end end is = by_cases (first_held ops v)
     where
@@ -358,8 +358,8 @@ module _ (claim : Terms) (ops : List Op) (v : Value) where
       → (t : Bool) → IsTrue t ↔ HasWrite ops v → IsStretchAt claim ops v (Some (record { end = end; written = t; value = v }))
   stretch_by_edge end first at at_is before not_initial t is = record {
     stretch =
-        ap {B = Stretch} (λ (m : Edge). record { end = moment_of m; written = t; value = v }) (sym first)
-        ∙ ap {B = Stretch} (λ (t : Bool). record { end = moment_of (first_end_of ops v); written = t; value = v }) (written_is t is);
+        ap {B = Stretch} (λ (m : Edge). record { end = edge_moment m; written = t; value = v }) (sym first)
+        ∙ ap {B = Stretch} (λ (t : Bool). record { end = edge_moment (first_end_of ops v); written = t; value = v }) (written_is t is);
     none = λ n. absurd (cc);
     some = λ n. record {
       read = read_by_end end first;

@@ -14,7 +14,7 @@ use Rattle.intervals.specs.Operation.{IsWrite, is_write, same_id, judged, value_
 use Rattle.intervals.specs.Edit.{op_of, found_by, has_id, amended, changed, edited, new_op, edit_id}
 use Rattle.intervals.specs.Refusal.{first_refusal, moments_refusal, reply_to}
 use Rattle.intervals.specs.Standing.{HasDistinctIds, ShareNoMoment}
-use Rattle.intervals.specs.Terms.{Terms}
+use Rattle.intervals.specs.Terms.{ClaimModel}
 use Rattle.intervals.specs.declared.claim.Kind.TheVariants.{Atomic}
 use Rattle.intervals.proofs.Accepted.{edit_accepted}
 use Rattle.intervals.proofs.Found.{find-Some}
@@ -52,7 +52,7 @@ amended_cases id change a = by_cases (same_id a.id id)
     by_cases true = inl (refl, refl)
     by_cases false = inr (refl, refl)
 
--- it is the new operation of the edit, or one of another id
+-- the operation is the new one of the edit, or one of another id
 abbrev pub StandsAfter : List Op → Edit → Op → Type 0
 StandsAfter ops edit x = (new_op ops edit ≡ Some x) ⊎ (Contains ops x × (has_id (edit_id edit) x ≡ false))
 
@@ -88,7 +88,7 @@ in_edited ops (Withdraw id) x (inr (k, s)) = kept (λ op. not (same_id op.id id)
 in_edited ops (Claim kind) x (inl e) = absurd (cc)
 in_edited ops (Claim kind) x (inr (k, s)) = k
 
--- what an option has that is judged
+-- the judged part of an optional operation
 part_is : (o : Option Op) (x : Op) → judged_part o ≡ Some x → (o ≡ Some x) × (is_judged x ≡ true)
 part_is None x e = absurd (cc)
 part_is (Some op) x e = by_cases (is_judged op) refl e
@@ -100,7 +100,7 @@ part_is (Some op) x e = by_cases (is_judged op) refl e
 part_of : (o : Option Op) (x : Op) → o ≡ Some x → is_judged x ≡ true → judged_part o ≡ Some x
 part_of o x e t = ap judged_part e ∙ ap (λ (b : Bool). cond b (Some x) None) t
 
--- two operations of distinct ids are one or not
+-- of operations with distinct ids two are one, or they are not
 module _ (ops : List Op) (d : HasDistinctIds ops) where
   op_cases : (a b : Op) → Contains ops a → Contains ops b → (a ≡ b) ⊎ (a ≢ b)
   op_cases a b h k = by_cases (same_id a.id b.id) refl
@@ -109,7 +109,7 @@ module _ (ops : List Op) (d : HasDistinctIds ops) where
       by_cases true t = inl (let p = found_by_id ops a d h in let q = found_by_id ops b d k in let r = found_alike ops a.id b.id t in cc)
       by_cases false t = inr (λ e. both_ways (same_id a.id b.id) t (subst (λ (o : Op). same_id a.id o.id ≡ true) e (same_id-refl a.id)))
 
-  -- two that are not as each two different ones are, are one
+  -- two operations between which a relation fails that holds of each two different ones are one
   pub one_by : (R : Op → Op → Type 0) → ((a b : Op) → R a b → R b a) → AllPairs R ops → (a b : Op) → Contains ops a → Contains ops b → ¬ R a b → a ≡ b
   one_by R symmetric pairs a b h k n = by_cases (op_cases a b h k)
     where
@@ -121,7 +121,7 @@ write_without_end : (w s : Bool) → (w || s) ≡ true → s ≡ false → w ≡
 write_without_end true s e f = refl
 write_without_end false s e f = absurd (both_ways s f e)
 
-module _ (claim : Terms) (ops : List Op) (apart : AreManyWriters claim ops) where
+module _ (claim : ClaimModel) (ops : List Op) (apart : AreManyWriters claim ops) where
   stands : (a : Op) → Contains (judged ops) a → Contains ops a
   stands a h = (kept_stands is_judged ops a h).0
 
@@ -147,10 +147,10 @@ module _ (claim : Terms) (ops : List Op) (apart : AreManyWriters claim ops) wher
       by_ends a b h k same None (Some n) e f g = absurd (cc)
       by_ends a b h k same None None e f g = one_value a b (stands a h) (stands b k) (writes_without a h e) (writes_without b k f) same
 
-pub apart_none : (claim : Terms) → claim.kind ≡ Atomic → AreManyWriters claim []
+pub apart_none : (claim : ClaimModel) → claim.kind ≡ Atomic → AreManyWriters claim []
 apart_none claim atomic = record { atomic = atomic; kept = nothing_apart claim }
 
-module _ (claim : Terms) (ops : List Op) (edit : Edit) (apart : AreManyWriters claim ops) (accepted : reply_to claim ops edit ≡ None) where
+module _ (claim : ClaimModel) (ops : List Op) (edit : Edit) (apart : AreManyWriters claim ops) (accepted : reply_to claim ops edit ≡ None) where
   pub apart_kept : AreManyWriters claim (edited ops edit)
   apart_kept = record { atomic = apart.atomic; kept = edited_apart claim ops edit apart.kept accepted }
 
@@ -160,7 +160,7 @@ module _ (claim : Terms) (ops : List Op) (edit : Edit) (apart : AreManyWriters c
   abbrev new : Option Op
   new = judged_part (new_op ops edit)
 
-  -- the new operation is judged, or it was and is none of the edit's id
+  -- an operation that is judged after the edit is its new one, or it was judged before and has another id
   from_judged : (x : Op) → Contains (judged (edited ops edit)) x → (new ≡ Some x) ⊎ (Contains (judged ops) x × (has_id (edit_id edit) x ≡ false))
   from_judged x h = let (k, t) = kept_stands is_judged (edited ops edit) x h in by_cases t (from_edited ops edit x apart.kept.ids (edit_accepted claim ops edit accepted) k)
     where

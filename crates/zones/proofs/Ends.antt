@@ -14,12 +14,12 @@ use Rattle.intervals.specs.Standing.{HasDistinctIds}
 use Rattle.intervals.proofs.Ids.{found_by_id}
 use Rattle.zone_tree.specs.declared.edge.Edge.{Edge}
 use Rattle.zone_tree.specs.declared.edge.Edge.TheVariants.{Before, At, Never}
-use Rattle.zone_tree.specs.Edge.{ComesBefore, comes_before}
-use Rattle.zones.specs.Cluster.{cluster_of, earlier_of, edge_of_end, greatest_begin_of, later_of, least_end_of, written_zone, zone_between, zone_of}
+use Rattle.zone_tree.specs.Edge.{ComesBefore, edge_before}
+use Rattle.zones.specs.Cluster.{cluster_of, earlier_edge, edge_of_end, greatest_begin_of, later_edge, least_end_of, written_zone, zone_between, zone_of}
 use Rattle.zones.specs.Crossing.{HasLeastEnd}
 use Rattle.zones.specs.Index.{at_first}
 use Rattle.intervals.specs.Kind.{HasNoWrite}
-use Rattle.zones.specs.Members.{BeginsLastOf, EndsFirstOf, HasNoRead, IsGreatestBegin, IsLastToBegin, IsLeastEnd, IsTheWriteAt, began_last, end_of, ended_first}
+use Rattle.zones.specs.Members.{BeginsLastOf, EndsFirstOf, HasNoRead, IsGreatestBegin, IsLastToBegin, IsLeastEnd, IsTheWriteAt, began_last, end_or_first, ended_first}
 use Rattle.zones.proofs.Cluster.{greatest_at_least, greatest_of_one, least_at_most, least_initial, least_of_one, member_of, members_of}
 use Rattle.zones.proofs.EdgeOrder.{AtMost, at_most_both, at_most_itself, at_most_transitive, before_all, earlier-cases, earlier-left, earlier-right, later-cases, later-left, later-right}
 use Rattle.zones.proofs.Judged.{is_judged, is_judged_by_end, judged_read, judged_write}
@@ -27,7 +27,7 @@ use Rattle.zones.proofs.Lookups.{has_end}
 use Rattle.zones.proofs.Members.{all_from, here, kept, kept_stands}
 use Rattle.zones.proofs.Written.{never_last, other_than, written_zone_is}
 
--- where an operation ends or begins that there may be
+-- where an optional operation ends, and where it begins
 abbrev end_at : Option Op → Edge
 end_at None = Never
 end_at (Some op) = edge_of_end op.end
@@ -36,8 +36,8 @@ abbrev begin_at : Option Op → Edge
 begin_at None = Before
 begin_at (Some op) = At op.begin
 
--- an edge is the earlier of it and Never
-before_never : (a : Edge) → earlier_of Never a ≡ a
+-- the earlier of an edge and `Never` is that edge
+before_never : (a : Edge) → earlier_edge Never a ≡ a
 before_never Before = refl
 before_never (At m) = refl
 before_never Never = refl
@@ -47,7 +47,7 @@ empty_from [] none = refl
 empty_from (x ∷ xs) none = absurd (none x (here x xs))
 
 module _ (ops : List Op) (v : Value) where
-  -- nothing of the kind has the value
+  -- no operation of the kind has the value
   pub none_ends : (P : Op → Type 0) → All (λ op. P op → value_of op.act ≢ v) ops → IsLeastEnd P ops v Never
   none_ends P none = record {
     least = all_from (λ op. P op → value_of op.act ≡ v → ¬ ComesBefore (edge_of_end op.end) Never) ops (λ op h p e. absurd (All-contains (λ op. P op → value_of op.act ≢ v) ops op none h p e));
@@ -61,7 +61,7 @@ module _ (ops : List Op) (v : Value) where
   }
 
   module _ (one : (a b : Op) → IsTheWriteAt ops v a → IsTheWriteAt ops v b → a ≡ b) where
-    -- one write has the value
+    -- the value has one write
     one_write : (w x : Op) → IsTheWriteAt ops v w → Contains ops x → IsWrite x → value_of x.act ≡ v → x ≡ w
     one_write w x is_w h t e = one x w (record { stands = h; write = t; same = e }) is_w
 
@@ -127,22 +127,22 @@ module _ (ops : List Op) (v : Value) where
         by_cases (inl n) = subst (λ (x : Edge). AtMost least x) (sym n) (never_last least)
         by_cases (inr (op, h, p, s, f)) = subst (λ (x : Edge). AtMost least x) f (least_at_most initial ops v op (stands op h p, s))
 
-    pub least_is : v ≢ initial → IsLeastEnd IsWrite ops v a → IsLeastEnd IsJudgedRead ops v b → earlier_of a b ≡ least
-    least_is apart w r = at_most_both (earlier_of a b) least (by_least (least_of_one initial ops v apart)) (by_earlier (earlier-cases a b))
+    pub least_is : v ≢ initial → IsLeastEnd IsWrite ops v a → IsLeastEnd IsJudgedRead ops v b → earlier_edge a b ≡ least
+    least_is apart w r = at_most_both (earlier_edge a b) least (by_least (least_of_one initial ops v apart)) (by_earlier (earlier-cases a b))
       where
-        bound : (op : Op) → Contains ops op × (IsWrite op ⊎ IsJudgedRead op) → value_of op.act ≡ v → AtMost (earlier_of a b) (edge_of_end op.end)
+        bound : (op : Op) → Contains ops op × (IsWrite op ⊎ IsJudgedRead op) → value_of op.act ≡ v → AtMost (earlier_edge a b) (edge_of_end op.end)
         bound op (h, inl t) s =
-            at_most_transitive (earlier_of a b) a (edge_of_end op.end) (earlier-left a b)
+            at_most_transitive (earlier_edge a b) a (edge_of_end op.end) (earlier-left a b)
             (All-contains (λ op. IsWrite op → value_of op.act ≡ v → AtMost a (edge_of_end op.end)) ops op w.least h t s)
         bound op (h, inr j) s =
-            at_most_transitive (earlier_of a b) b (edge_of_end op.end) (earlier-right a b)
+            at_most_transitive (earlier_edge a b) b (edge_of_end op.end) (earlier-right a b)
             (All-contains (λ op. IsJudgedRead op → value_of op.act ≡ v → AtMost b (edge_of_end op.end)) ops op r.least h j s)
 
-        by_least : (least ≡ Never) ⊎ ((op : Op) × Contains (cluster_of ops v) op × (edge_of_end op.end ≡ least)) → AtMost (earlier_of a b) least
-        by_least (inl n) = subst (λ (x : Edge). AtMost (earlier_of a b) x) (sym n) (never_last (earlier_of a b))
-        by_least (inr (op, h, e)) = let (k, s) = member_of initial ops v op h in subst (λ (x : Edge). AtMost (earlier_of a b) x) e (bound op (parts_of op k) s)
+        by_least : (least ≡ Never) ⊎ ((op : Op) × Contains (cluster_of ops v) op × (edge_of_end op.end ≡ least)) → AtMost (earlier_edge a b) least
+        by_least (inl n) = subst (λ (x : Edge). AtMost (earlier_edge a b) x) (sym n) (never_last (earlier_edge a b))
+        by_least (inr (op, h, e)) = let (k, s) = member_of initial ops v op h in subst (λ (x : Edge). AtMost (earlier_edge a b) x) e (bound op (parts_of op k) s)
 
-        by_earlier : (a ≡ earlier_of a b) ⊎ (b ≡ earlier_of a b) → AtMost least (earlier_of a b)
+        by_earlier : (a ≡ earlier_edge a b) ⊎ (b ≡ earlier_edge a b) → AtMost least (earlier_edge a b)
         by_earlier (inl e) = subst (λ (x : Edge). AtMost least x) e (held_least IsWrite in_judged-write a w)
         by_earlier (inr e) = subst (λ (x : Edge). AtMost least x) e (held_least IsJudgedRead in_judged-read b r)
 
@@ -154,29 +154,29 @@ module _ (ops : List Op) (v : Value) where
         by_cases (inr (op, h, p, s, f)) = subst (λ (x : Edge). AtMost x greatest) f (greatest_at_least initial ops v op (stands op h p, s))
 
     module _ (w : IsGreatestBegin IsWrite ops v a) (r : IsGreatestBegin IsJudgedRead ops v b) where
-      greatest_bound : (op : Op) → Contains ops op × (IsWrite op ⊎ IsJudgedRead op) → value_of op.act ≡ v → AtMost (At op.begin) (later_of a b)
+      greatest_bound : (op : Op) → Contains ops op × (IsWrite op ⊎ IsJudgedRead op) → value_of op.act ≡ v → AtMost (At op.begin) (later_edge a b)
       greatest_bound op (h, inl t) s =
-          at_most_transitive (At op.begin) a (later_of a b)
+          at_most_transitive (At op.begin) a (later_edge a b)
           (All-contains (λ op. IsWrite op → value_of op.act ≡ v → AtMost (At op.begin) a) ops op w.greatest h t s)
           (later-left a b)
       greatest_bound op (h, inr j) s =
-          at_most_transitive (At op.begin) b (later_of a b)
+          at_most_transitive (At op.begin) b (later_edge a b)
           (All-contains (λ op. IsJudgedRead op → value_of op.act ≡ v → AtMost (At op.begin) b) ops op r.greatest h j s)
           (later-right a b)
 
-      pub greatest_is : later_of a b ≡ greatest
-      greatest_is = at_most_both (later_of a b) greatest (by_later (later-cases a b)) (by_greatest (greatest_of_one initial ops v))
+      pub greatest_is : later_edge a b ≡ greatest
+      greatest_is = at_most_both (later_edge a b) greatest (by_later (later-cases a b)) (by_greatest (greatest_of_one initial ops v))
         where
-          by_greatest : (greatest ≡ Before) ⊎ ((op : Op) × Contains (cluster_of ops v) op × (At op.begin ≡ greatest)) → AtMost greatest (later_of a b)
-          by_greatest (inl n) = subst (λ (x : Edge). AtMost x (later_of a b)) (sym n) (before_all (later_of a b))
-          by_greatest (inr (op, h, e)) = let (k, s) = member_of initial ops v op h in subst (λ (x : Edge). AtMost x (later_of a b)) e (greatest_bound op (parts_of op k) s)
+          by_greatest : (greatest ≡ Before) ⊎ ((op : Op) × Contains (cluster_of ops v) op × (At op.begin ≡ greatest)) → AtMost greatest (later_edge a b)
+          by_greatest (inl n) = subst (λ (x : Edge). AtMost x (later_edge a b)) (sym n) (before_all (later_edge a b))
+          by_greatest (inr (op, h, e)) = let (k, s) = member_of initial ops v op h in subst (λ (x : Edge). AtMost x (later_edge a b)) e (greatest_bound op (parts_of op k) s)
 
-          by_later : (a ≡ later_of a b) ⊎ (b ≡ later_of a b) → AtMost (later_of a b) greatest
+          by_later : (a ≡ later_edge a b) ⊎ (b ≡ later_edge a b) → AtMost (later_edge a b) greatest
           by_later (inl e) = subst (λ (x : Edge). AtMost x greatest) e (held_greatest IsWrite in_judged-write a w)
           by_later (inr e) = subst (λ (x : Edge). AtMost x greatest) e (held_greatest IsJudgedRead in_judged-read b r)
 
 module _ (ops : List Op) (v : Value) (distinct : HasDistinctIds ops) where
-  -- a read that is found by the id that a look-up gives
+  -- a read that is found by the id that a look-up returns
   same_read : (read : Op) (other : Op) → Contains ops other → other.id ≡ read.id → op_of ops read.id ≡ Some read → other ≡ read
   same_read read other h e found = let f = found_by_id ops other distinct h in let g = ap (op_of ops) e in cc
 
@@ -185,9 +185,9 @@ module _ (ops : List Op) (v : Value) (distinct : HasDistinctIds ops) where
     judged : IsJudgedRead r
     same : value_of r.act ≡ v
 
-  first_read_is : (r : Op) → EndsFirstOf ops v (end_of r) r.id × (op_of ops r.id ≡ Some r) → IsRead r × IsLeastEnd IsJudgedRead ops v (edge_of_end r.end)
+  first_read_is : (r : Op) → EndsFirstOf ops v (end_or_first r) r.id × (op_of ops r.id ≡ Some r) → IsRead r × IsLeastEnd IsJudgedRead ops v (edge_of_end r.end)
   first_read_is r (is, found) = subst (λ (x : Op). IsRead x × IsLeastEnd IsJudgedRead ops v (edge_of_end x.end)) (same_read r is.read is.stands is.named found)
-      (record { stands = is.stands; judged = is.judged; same = is.same }, subst (λ (e : Edge). IsLeastEnd IsJudgedRead ops v e) (sym (ap edge_of_end is.ended)) (read_ends ops v (end_of r) r.id is))
+      (record { stands = is.stands; judged = is.judged; same = is.same }, subst (λ (e : Edge). IsLeastEnd IsJudgedRead ops v e) (sym (ap edge_of_end is.ended)) (read_ends ops v (end_or_first r) r.id is))
 
   last_read_is : (r : Op) → BeginsLastOf ops v r.begin r.id × (op_of ops r.id ≡ Some r) → IsRead r × IsGreatestBegin IsJudgedRead ops v (At r.begin)
   last_read_is r (is, found) =
@@ -197,7 +197,7 @@ module _ (ops : List Op) (v : Value) (distinct : HasDistinctIds ops) where
   FoundWrite found = MatchOption found (HasNoWrite ops v) (IsTheWriteAt ops v)
 
   abbrev FoundFirst : Option Op → Type 0
-  FoundFirst found = MatchOption found (HasNoRead ops v) (λ r. EndsFirstOf ops v (end_of r) r.id × (op_of ops r.id ≡ Some r))
+  FoundFirst found = MatchOption found (HasNoRead ops v) (λ r. EndsFirstOf ops v (end_or_first r) r.id × (op_of ops r.id ≡ Some r))
 
   abbrev FoundLast : Option Op → Type 0
   FoundLast found = MatchOption found (HasNoRead ops v) (λ r. BeginsLastOf ops v r.begin r.id × (op_of ops r.id ≡ Some r))
@@ -218,23 +218,23 @@ module _ (ops : List Op) (v : Value) (distinct : HasDistinctIds ops) where
       read_edge None none = none_ends ops v IsJudgedRead none
       read_edge (Some r) is_r = (first_read_is r is_r).1
 
-      -- the first to end of the write and the first read has the least end
+      -- of the write and the first read the one that ended first has the least end
       pub least_found : v ≢ initial → (write read : Option Op) → FoundWrite write → FoundFirst read → least_end_of initial ops v ≢ Never → HasLeastEnd initial ops v (ended_first write read)
       least_found apart write read w r ends = by_found write read w r (least_is ops v initial (end_at write) (end_at read) apart (write_edge write w) (read_edge read r))
         where
-          by_test : (a b : Op) (t : Bool) → comes_before (edge_of_end b.end) (edge_of_end a.end) ≡ t → Contains (cluster_of ops v) a → Contains (cluster_of ops v) b
+          by_test : (a b : Op) (t : Bool) → edge_before (edge_of_end b.end) (edge_of_end a.end) ≡ t → Contains (cluster_of ops v) a → Contains (cluster_of ops v) b
               → (if t then edge_of_end b.end else edge_of_end a.end) ≡ least_end_of initial ops v → HasLeastEnd initial ops v (if t then Some b else Some a)
           by_test a b true t ha hb e = (hb, e)
           by_test a b false t ha hb e = (ha, e)
 
-          by_found : (write read : Option Op) → FoundWrite write → FoundFirst read → earlier_of (end_at write) (end_at read) ≡ least_end_of initial ops v → HasLeastEnd initial ops v (ended_first write read)
+          by_found : (write read : Option Op) → FoundWrite write → FoundFirst read → earlier_edge (end_at write) (end_at read) ≡ least_end_of initial ops v → HasLeastEnd initial ops v (ended_first write read)
           by_found None None w r e = absurd (ends (sym e))
           by_found None (Some b) w r e =
               let (h, k) = first_read_is b r in
               (in_cluster-read b h, sym (before_never (edge_of_end b.end)) ∙ e)
           by_found (Some a) None w r e = (in_cluster-write a w, e)
           by_found (Some a) (Some b) w r e =
-              by_test a b (comes_before (edge_of_end b.end) (edge_of_end a.end)) refl (in_cluster-write a w) (in_cluster-read b (first_read_is b r).0) e
+              by_test a b (edge_before (edge_of_end b.end) (edge_of_end a.end)) refl (in_cluster-write a w) (in_cluster-read b (first_read_is b r).0) e
 
     begin_write : ((a b : Op) → IsTheWriteAt ops v a → IsTheWriteAt ops v b → a ≡ b) → (found : Option Op) → FoundWrite found → IsGreatestBegin IsWrite ops v (begin_at found)
     begin_write one None none = none_begins ops v IsWrite none
@@ -245,7 +245,7 @@ module _ (ops : List Op) (v : Value) (distinct : HasDistinctIds ops) where
     begin_read (Some r) is_r = (last_read_is r is_r).1
 
     module _ (one : (a b : Op) → IsTheWriteAt ops v a → IsTheWriteAt ops v b → a ≡ b) where
-      -- the last to begin of the write and the last read began last
+      -- of the write and the last read the one that began last began last in the cluster
       pub last_found : (write read : Option Op) → FoundWrite write → FoundLast read → MatchOption (began_last write read) (cluster_of ops v ≡ []) (IsLastToBegin ops v)
       last_found write read w r = by_found write read w r (λ op h. let (k, s) = member_of initial ops v op h in
           greatest_bound ops v initial (begin_at write) (begin_at read) (begin_write one write w) (begin_read read r) op (parts_of ops v op k) s)
@@ -262,20 +262,20 @@ module _ (ops : List Op) (v : Value) (distinct : HasDistinctIds ops) where
           by_test a b true ha hb bound = last_is b (At b.begin) hb refl bound
           by_test a b false ha hb bound = last_is a (At a.begin) ha refl bound
 
-          by_found : (write read : Option Op) → FoundWrite write → FoundLast read → ((op : Op) → Contains (cluster_of ops v) op → AtMost (At op.begin) (later_of (begin_at write) (begin_at read)))
+          by_found : (write read : Option Op) → FoundWrite write → FoundLast read → ((op : Op) → Contains (cluster_of ops v) op → AtMost (At op.begin) (later_edge (begin_at write) (begin_at read)))
               → MatchOption (began_last write read) (cluster_of ops v ≡ []) (IsLastToBegin ops v)
           by_found None None w r bound = empty_from (cluster_of ops v) (λ op h. bound op h refl)
           by_found None (Some b) w r bound = last_is b (At b.begin) (in_cluster-read b (last_read_is b r).0) refl bound
           by_found (Some a) None w r bound = last_is a (At a.begin) (in_cluster-write a w) refl bound
           by_found (Some a) (Some b) w r bound =
-              by_test a b (comes_before (At a.begin) (At b.begin)) (in_cluster-write a w) (in_cluster-read b (last_read_is b r).0) bound
+              by_test a b (edge_before (At a.begin) (At b.begin)) (in_cluster-write a w) (in_cluster-read b (last_read_is b r).0) bound
 
   -- the read that a look-up names is found in the table
   pub first_read_found : (end : Moment) (id : OpId) → EndsFirstOf ops v end id → (found : Option Op) → found ≡ op_of ops id → FoundFirst found
   first_read_found end id is found e =
       let r = is.read in
       let by_id : op_of ops r.id ≡ Some r = found_by_id ops r distinct is.stands in
-      let at_end : end ≡ end_of r = sym (ap (λ (o : Option Moment). unwrap_or o at_first) is.ended) in
+      let at_end : end ≡ end_or_first r = sym (ap (λ (o : Option Moment). unwrap_or o at_first) is.ended) in
       subst FoundFirst (sym (e ∙ (ap (op_of ops) (sym is.named) ∙ by_id))) (
         (record {
           read = r;
@@ -308,10 +308,10 @@ module _ (ops : List Op) (v : Value) (distinct : HasDistinctIds ops) where
 
 -- the zone of a written value by the edges of its write and of its reads
 pub written_zone_by_edges : (ops : List Op) (v : Value) (write_end read_end write_begin read_begin : Edge) → IsLeastEnd IsWrite ops v write_end → IsLeastEnd IsJudgedRead ops v read_end
-    → IsGreatestBegin IsWrite ops v write_begin → IsGreatestBegin IsJudgedRead ops v read_begin → zone_between (earlier_of write_end read_end) (later_of write_begin read_begin) v ≡ written_zone ops v
+    → IsGreatestBegin IsWrite ops v write_begin → IsGreatestBegin IsJudgedRead ops v read_begin → zone_between (earlier_edge write_end read_end) (later_edge write_begin read_begin) v ≡ written_zone ops v
 written_zone_by_edges ops v write_end read_end write_begin read_begin a b c d =
     let (u, n) = other_than v in
-    ap (λ (m : Edge). zone_between m (later_of write_begin read_begin) v) (least_is ops v u write_end read_end n a b)
+    ap (λ (m : Edge). zone_between m (later_edge write_begin read_begin) v) (least_is ops v u write_end read_end n a b)
     ∙ (ap (λ (m : Edge). zone_between (least_end_of u ops v) m v) (greatest_is ops v u write_begin read_begin c d)
     ∙ written_zone_is u ops v n)
 
@@ -322,7 +322,7 @@ initial_zone_by_edge ops initial read_begin none is =
     ∙ ap (λ (m : Edge). zone_between (least_end_of initial ops initial) m initial)
     (sym (later_before read_begin) ∙ greatest_is ops initial initial Before read_begin (none_begins ops initial IsWrite none) is)
   where
-    later_before : (e : Edge) → later_of Before e ≡ e
+    later_before : (e : Edge) → later_edge Before e ≡ e
     later_before Before = refl
     later_before (At m) = refl
     later_before Never = refl

@@ -9,7 +9,7 @@ use Rattle.std.proofs.lemmas.List.Sorted.{IsPermutation-sym, Contains-permutatio
 use Rattle.std.proofs.lemmas.Map.Keys.{IsDistinct-from_apart, IsDistinct-IsPermutation}
 use Rattle.intervals.specs.declared.operation.Op.{Op}
 use Rattle.intervals.specs.declared.operation.Value.{Value}
-use Rattle.intervals.specs.Terms.{Terms}
+use Rattle.intervals.specs.Terms.{ClaimModel}
 use Rattle.intervals.specs.Operation.{Precedes, IsWrite, is_write, value_of, judged, writes}
 use Rattle.intervals.specs.Kind.{Arranges, IsArranged}
 use Rattle.intervals.specs.Standing.{HasDistinctMoments, HasDistinctValues}
@@ -34,7 +34,7 @@ values_apart initial ops values =
     (λ x y p q n. n p q) (writes ops) (filter_passes is_write ops)
     (AllPairs-filter (λ v w. IsWrite v → IsWrite w → value_of v.act ≢ value_of w.act) is_write ops values.apart))
 
-module _ (claim : Terms) (ops : List Op) where
+module _ (claim : ClaimModel) (ops : List Op) where
   module _ (order : List Op) (arranges : Arranges claim ops order) where
     in_order : (x : Op) → Contains (judged ops) x → Contains order x
     in_order x h = Contains-permutation (judged ops) order x arranges.each_once h

@@ -5,7 +5,7 @@ use Rattle.std.proofs.lemmas.Bool.{cases_lt}
 use Rattle.std.proofs.lemmas.List.Sorted.{IsPermutation-sym, Contains-permutation}
 use Rattle.intervals.specs.declared.operation.Op.{Op}
 use Rattle.intervals.specs.declared.operation.Value.{Value}
-use Rattle.intervals.specs.Terms.{Terms}
+use Rattle.intervals.specs.Terms.{ClaimModel}
 use Rattle.intervals.specs.Operation.{is_write, value_of, judged}
 use Rattle.intervals.specs.Kind.{Arranges, IsArranged}
 use Rattle.intervals.specs.Standing.{HasDistinctMoments, HasEndsAfterBeginnings, HasDistinctValues}
@@ -20,11 +20,11 @@ use Rattle.zones.proofs.Sorting.{InOrder, ordered}
 use Rattle.zones.proofs.InTurn.{turn_keeps, turn_reads}
 use Rattle.zones.proofs.Excluded.{arranged_is_faultless}
 
--- writes come before reads
+-- by act: writes come before reads
 abbrev rank : Bool → ℕ
 rank w = cond w 0 1
 
--- by act and then by beginning
+-- by act, and then by beginning
 abbrev ActsFirst : (r s b c : ℕ) → Type 0
 ActsFirst r s b c = (r < s) ⊎ ((r ≡ s) × (b ≤ c))
 
@@ -43,7 +43,7 @@ acts_transitive r s t b c d (inl p) (inr q) = inl (omega (arith, q.0))
 acts_transitive r s t b c d (inr p) (inl q) = inl (omega (arith, p.0))
 acts_transitive r s t b c d (inr p) (inr q) = inr (p.0 ∙ q.0, omega (arith, p.1, q.1))
 
--- by left edge and then by act
+-- by left edge, and then by act
 abbrev LeftFirst : Edge → Edge → Type 0 → Type 0
 LeftFirst a b acts = ComesBefore a b ⊎ ((a ≡ b) × acts)
 
@@ -86,7 +86,7 @@ module _ (initial : Value) (ops : List Op) where
   same_act x y b c (inl h) e = let f : rank x ≡ rank y = ap rank e in absurd (omega arith)
   same_act x y b c (inr h) e = h.1
 
-  -- the order of the key is the turn
+  -- an order by the key is an order in turn
   in_turn : (x y : Op) → ByKey x y → StandInTurn initial ops x y
   in_turn x y (inl p) = record {
     by_zone = not_both_ways (left_of initial ops x) (left_of initial ops y) p;
@@ -113,18 +113,18 @@ module _ (initial : Value) (ops : List Op) where
       by_order : ((order : List Op) × IsPermutation (judged ops) order × InOrder ByKey key_total key_transitive order) → (order : List Op) × IsPermutation (judged ops) order × IsInTurn initial ops order
       by_order (order, moved, s) = (order, moved, all_in_turn order s)
 
-pub turn_arranges : (claim : Terms) (ops order : List Op) → HasDistinctMoments ops → HasEndsAfterBeginnings ops → IsFaultless claim.initial ops → IsPermutation (judged ops) order → IsInTurn claim.initial ops order → Arranges claim ops order
+pub turn_arranges : (claim : ClaimModel) (ops order : List Op) → HasDistinctMoments ops → HasEndsAfterBeginnings ops → IsFaultless claim.initial ops → IsPermutation (judged ops) order → IsInTurn claim.initial ops order → Arranges claim ops order
 turn_arranges claim ops order moments ends faultless moved turn = record {
   each_once = moved;
   keeps = turn_keeps claim.initial ops moments ends faultless order (λ x h. Contains-permutation order (judged ops) x (IsPermutation-sym (judged ops) order moved) h) turn;
   reads = turn_reads claim.initial ops moments ends faultless order moved turn;
 }
 
-pub faultless_is_arranged : (claim : Terms) (ops : List Op) → HasDistinctMoments ops → HasEndsAfterBeginnings ops → IsFaultless claim.initial ops → IsArranged claim ops
+pub faultless_is_arranged : (claim : ClaimModel) (ops : List Op) → HasDistinctMoments ops → HasEndsAfterBeginnings ops → IsFaultless claim.initial ops → IsArranged claim ops
 faultless_is_arranged claim ops moments ends faultless = by_order (turn_exists claim.initial ops)
   where
     by_order : ((order : List Op) × IsPermutation (judged ops) order × IsInTurn claim.initial ops order) → IsArranged claim ops
     by_order (order, moved, turn) = (order, turn_arranges claim ops order moments ends faultless moved turn)
 
-pub faultless_exactly : (claim : Terms) (ops : List Op) → HasDistinctMoments ops → HasEndsAfterBeginnings ops → HasDistinctValues claim.initial ops → IsFaultless claim.initial ops ↔ IsArranged claim ops
+pub faultless_exactly : (claim : ClaimModel) (ops : List Op) → HasDistinctMoments ops → HasEndsAfterBeginnings ops → HasDistinctValues claim.initial ops → IsFaultless claim.initial ops ↔ IsArranged claim ops
 faultless_exactly claim ops moments ends values = (faultless_is_arranged claim ops moments ends, arranged_is_faultless claim ops values)

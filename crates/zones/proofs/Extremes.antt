@@ -1,4 +1,4 @@
--- What the first to end and the last to begin of a cluster say of its zone, and a write of its value.
+-- What the members of a cluster that end first and begin last say of its zone; and the write of a value.
 use Rattle.std.proofs.Common.{◌≡◌, ◌≢◌, ◌⊎◌, inl, inr, true, false, List, Option, Some, None, sym, ◌∙◌, subst}
 use Rattle.std.specs.Prelude.{Contains, IsSomeAnd}
 use Rattle.std.proofs.lemmas.Bool.{both_ways}
@@ -47,7 +47,7 @@ greatest_found initial ops v op is = (is.member, last_has_greatest initial ops v
 pub not_never : (a b : Edge) → ComesBefore a b → a ≢ Never
 not_never a b p e = absurd (let q : ComesBefore Never b = subst (λ (x : Edge). ComesBefore x b) e p in cc)
 
--- the first conflict's extremes are the first crossing
+-- the extremes of the first conflict are the first crossing
 pub first_crossing : (initial : Option Value) (start : Value) (ops : List Op) (first second : Zone) (found : Option Crossing) → HasFirstConflictFrom initial ops first second
     → IsSomeAnd found (λ x. AreExtremes start ops first.value second.value x.a x.b x.c x.d)
     → IsSomeAnd found (λ x. IsFirstCrossingFrom initial start ops x.a x.b x.c x.d)

@@ -1,4 +1,4 @@
--- The first crossing of a register is one, and it is a crossing.
+-- A register has one first crossing, and it is a crossing.
 use Rattle.std.proofs.Common.{◌≡◌, ◌≢◌, ◌↔◌, ◌⊎◌, inl, inr, List, [], ◌∷◌, ◌++◌, Option, Some, None, refl, sym, ap, subst, ◌∙◌}
 use Rattle.std.specs.Prelude.{Contains, IsPermutation, map}
 use Rattle.std.specs.List.{AllPairs}
@@ -24,7 +24,7 @@ use Rattle.zones.proofs.Cluster.{least_initial, value_is, conflict_is, member_of
 use Rattle.zones.proofs.OneTurn.{one_holder}
 use Rattle.zones.proofs.Excluded.{zones_ordered}
 
--- what stands in front is so related to what stands behind
+-- what comes before an element is so related to it
 before_it : (R : Zone → Zone → Type 0) (earlier : List Zone) (z : Zone) (later : List Zone) → AllPairs R (earlier ++ z ∷ later) → (x : Zone) → Contains earlier x → R x z
 before_it R [] z later pairs x h = absurd (in_none x h)
 before_it R (a ∷ earlier) z later pairs x h = by_cases (contains_cases a earlier x h) (before_it R earlier z later (pairs_tail R a (earlier ++ z ∷ later) pairs) x)
@@ -33,7 +33,7 @@ before_it R (a ∷ earlier) z later pairs x h = by_cases (contains_cases a earli
     by_cases (inl e) rest = subst (λ (y : Zone). R y z) e (All-contains (R a) (earlier ++ z ∷ later) z (pairs_head R a (earlier ++ z ∷ later) pairs) (Contains-append_right earlier (z ∷ later) z (here z later)))
     by_cases (inr h) rest = rest h
 
--- four operations and four others are the same
+-- the four operations are the four others
 abbrev Same : Option Op → Op → Option Op → Op → Option Op → Op → Option Op → Op → Type 0
 Same a b c d e f g h = (a ≡ e) × (b ≡ f) × (c ≡ g) × (d ≡ h)
 
@@ -75,7 +75,7 @@ module _ (initial : Value) (ops : List Op) where
       extremes_cross initial ops x.first.value x.second.value a b c d
       (values_apart x.first x.second x.conflict) (of_values x.first x.second x.conflict) x.extremes
 
-  -- the extremes of a cluster are one
+  -- a cluster has one operation of least end, and one of greatest beginning
   module _ (moments : HasDistinctMoments ops) where
     stands : (v : Value) (x : Op) → Contains (cluster_of ops v) x → Contains ops x
     stands v x h = (kept_stands is_judged ops x (member_of initial ops v x h).0).0
@@ -115,7 +115,7 @@ module _ (initial : Value) (ops : List Op) where
           one_greatest u d h x.d_greatest y.d_greatest,
         )
 
-  -- so are the first conflict and its crossing
+  -- a register has one first conflict and one first crossing
   module _ (one_order : (zones others : List Zone) → IsByLeft zones → IsByLeft others → ((z : Zone) → Contains zones z ↔ Contains others z) → zones ≡ others) (one_first : (zones : List Zone) (a b c d : Zone) → StandInOrder zones → IsFirstConflict zones a b → IsFirstConflict zones c d → (a ≡ c) × (b ≡ d)) where
     among : (one other : List Zone) → IsPermutation (zones_of initial ops) one → IsPermutation (zones_of initial ops) other → (z : Zone) → Contains one z → Contains other z
     among one other p q z h = Contains-permutation (zones_of initial ops) other z q (Contains-permutation one (zones_of initial ops) z (IsPermutation-sym (zones_of initial ops) one p) h)

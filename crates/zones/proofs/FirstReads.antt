@@ -1,4 +1,4 @@
--- The computing tests of the first unwritten and the first early read are the relations.
+-- The tests for the first unwritten and the first early read compute what the relations mean.
 use Rattle.std.proofs.Common.{◌≡◌, ◌↔◌, ◌≤◌, ◌⊎◌, inl, inr, Bool, true, false, not, ◌&&◌, List, Option, Some, None, Decides, refl, sym, ap, subst, ◌∙◌, arith}
 use Rattle.std.specs.Prelude.{All, Any, Contains, IsTrue, find, option_map, is_some}
 use Rattle.std.specs.List.{list_any}
@@ -31,7 +31,7 @@ IsWriteFor r w = IsWrite w × (value_of w.act ≡ value_of r.act)
 pub Decides-write_of : (r w : Op) → Decides (is_write_of r w) (IsWriteFor r w)
 Decides-write_of r w = Decides-and (is_write w) (same_value (value_of w.act) (value_of r.act)) (Decides-itself (is_write w)) (Decides-same_value (value_of w.act) (value_of r.act))
 
--- some and none of a list
+-- from not any to none of a list
 pub none_of : (P : Op → Type 0) (ops : List Op) → ¬ Any P ops → All (λ op. ¬ P op) ops
 none_of P ops none = all_from (λ op. ¬ P op) ops (λ op h p. none (h.0, op, h.1, h.2, p))
 
@@ -80,7 +80,7 @@ Decides-early ops r =
     (λ h. let (k, w, lt, e, early) = h in (early.read, (k, w, lt, e, late_of r w early)))
     (Decides-and (is_judged_read r) (list_any (is_late_for r) ops) (Decides-itself (is_judged_read r)) (Decides-list_any (is_late_for r) (IsLate r) (Decides-late r) ops))
 
--- what has an end ended at the moment of its number
+-- an operation that has an end ended at the moment of its number
 pub ended_at : (op : Op) → IsTrue (is_some op.end) → (m : Moment) × (op.end ≡ Some m) × (m.0 ≡ end_number op)
 ended_at op h = by_end op.end refl h
   where
@@ -92,7 +92,7 @@ pub has_end : (w s : Bool) → (not w && s) ≡ true → s ≡ true
 has_end true s e = absurd (cc)
 has_end false s e = e
 
--- of two judged reads that ended at one moment there is one
+-- two judged reads that ended at one moment are one
 one_end : (ops : List Op) → HasDistinctMoments ops → (x y : Op) → Contains ops x → Contains ops y → IsJudgedRead x → IsJudgedRead y → end_number x ≡ end_number y → x ≡ y
 one_end ops moments x y h k p q e =
     let (m, f, a) = ended_at x (has_end (is_write x) (is_some x.end) p) in
@@ -146,7 +146,7 @@ module _ (initial : Value) (ops : List Op) where
     none_least (is_unwritten initial ops) (IsUnwritten initial ops) (Decides-unwritten initial ops) (unwritten_read initial ops) ops,
   )
 
--- the two of a pair that is there
+-- two pairs that are equal have equal parts
 pub same_pair : (x r v w : Op) → ◌≡◌ {A = Option (Op × Op)} (Some (x, v)) (Some (r, w)) → (x ≡ r) × (v ≡ w)
 same_pair x r v w e = (ap read_of e, ap write_of e)
   where

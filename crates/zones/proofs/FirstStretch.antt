@@ -1,4 +1,4 @@
--- The first stretches show the first reads of values without a write, and the first early read.
+-- The first stretches show the first writeless read and the first early read.
 use Rattle.std.proofs.Common.{◌≡◌, ◌≢◌, ◌⊎◌, ◌≤◌, inl, inr, Bool, true, false, not, ◌&&◌, List, [], ◌∷◌, Option, Some, None, refl, sym, ap, ◌∙◌, subst, cond, arith}
 use Rattle.std.specs.Prelude.{All, Contains, IsTrue, MatchOption, find, is_some, option_map}
 use Rattle.std.proofs.lemmas.Bool.{both_ways, false_from_ne_true, ltb-true, not-true}
@@ -12,10 +12,10 @@ use Rattle.intervals.specs.Standing.{IsInitial}
 use Rattle.intervals.specs.Edit.{op_of}
 use Rattle.intervals.specs.Judging.{end_number}
 use Rattle.intervals.proofs.Ids.{found_by_id}
-use Rattle.intervals.specs.Terms.{Terms}
+use Rattle.intervals.specs.Terms.{ClaimModel}
 use Rattle.stretch_tree.specs.declared.stretch.Stretch.{Stretch}
-use Rattle.stretch_tree.specs.Order.{AreByEnd, comes_before}
-use Rattle.stretch_tree.specs.Look.{is_early, is_writeless, is_writeless_but}
+use Rattle.stretch_tree.specs.Order.{AreByEnd, moment_before}
+use Rattle.stretch_tree.specs.Look.{is_read_early, has_no_write, is_writeless_but}
 use Rattle.summary_tree.proofs.Lists.{none_found}
 use Rattle.zone_tree.specs.declared.edge.Edge.{Edge}
 use Rattle.zone_tree.specs.declared.edge.Edge.TheVariants.{At}
@@ -23,9 +23,9 @@ use Rattle.zone_tree.specs.Edge.{ComesBefore}
 use Rattle.zones.specs.Cluster.{edge_of_end}
 use Rattle.zones.specs.AtFirst.{IsWriteless, first_writeless, first_writeless_but, sole_of, with_other}
 use Rattle.zones.specs.Fault.{HasLateWrite, IsEarly, IsFirstOf, first_early}
-use Rattle.zones.specs.Faults.{AreStretched, IsAtFault, IsRead, first_end_of, moment_of, stretch_of}
+use Rattle.zones.specs.Faults.{AreStretched, IsAtFault, IsRead, first_end_of, edge_moment, stretch_of}
 use Rattle.intervals.specs.Kind.{HasNoWrite}
-use Rattle.zones.specs.Members.{EndsFirstOf, HasNoRead, IsTheWriteAt, end_of}
+use Rattle.zones.specs.Members.{EndsFirstOf, HasNoRead, IsTheWriteAt, end_or_first}
 use Rattle.zones.specs.Zoned.{AreManyWriters}
 use Rattle.zones.proofs.Cluster.{edge_from_end, end_from_edge}
 use Rattle.zones.proofs.EdgeOrder.{AtMost, not_after_before}
@@ -35,9 +35,9 @@ use Rattle.zones.proofs.Members.{Decides-same_value, all_from, contains_cases, h
 use Rattle.zones.proofs.Stretches.{BeginCases, at_most_ended, at_write, begin, begin_cases, end_of_read, first_at_most, first_end_is, first_of_reads, never_written, no_write_at, written}
 
 abbrev Before : Stretch → Stretch → Type 0
-Before a b = IsTrue (comes_before a.end b.end)
+Before a b = IsTrue (moment_before a.end b.end)
 
--- of the stretches that pass a test the first by end
+-- the first stretch by end of those that pass a test
 first_found : (test : Stretch → Bool) (stretches : List Stretch) (s : Stretch) → AreByEnd stretches → find test stretches ≡ Some s
     → Contains stretches s × (test s ≡ true) × ((x : Stretch) → Contains stretches x → test x ≡ true → s.end.0 ≤ x.end.0)
 first_found test [] s order e = absurd (cc)
@@ -65,15 +65,15 @@ both : (a b : Bool) → (a && b) ≡ true → (a ≡ true) × (b ≡ true)
 both true b e = (refl, e)
 both false b e = absurd (cc)
 
--- a read of the value that ended first, which the operations have by its id
+-- a read of the value that ended first, and that the operations have by its id
 abbrev pub IsFirstByName : List Op → Value → Op → Type 0
-IsFirstByName ops v read = EndsFirstOf ops v (end_of read) read.id × (op_of ops read.id ≡ Some read)
+IsFirstByName ops v read = EndsFirstOf ops v (end_or_first read) read.id × (op_of ops read.id ≡ Some read)
 
-module _ (claim : Terms) (ops : List Op) (apart : AreManyWriters claim ops) where
+module _ (claim : ClaimModel) (ops : List Op) (apart : AreManyWriters claim ops) where
   one_at : (v : Value) (a b : Op) → IsTheWriteAt ops v a → IsTheWriteAt ops v b → a ≡ b
   one_at v a b p q = one_write ops (apart.kept.values apart.atomic).apart a b p.stands q.stands p.write q.write (p.same ∙ sym q.same)
 
-  -- it is the read that ended first, and the one of its id
+  -- the read that ended first is the one of its id
   same_read : (v : Value) (read : Op) → (is : IsFirstByName ops v read) → (is.0).read ≡ read
   same_read v read (is, named) = let same : Some is.read ≡ Some read = sym (found_by_id ops is.read apart.kept.ids is.stands) ∙ (ap (op_of ops) is.named ∙ named) in cc
 
@@ -96,7 +96,7 @@ module _ (claim : Terms) (ops : List Op) (apart : AreManyWriters claim ops) wher
   writeless_unwritten : (r : Op) → IsWriteless claim ops r → written ops (value_of r.act) ≡ false
   writeless_unwritten r u = (never_written ops (value_of r.act) u.not_written).1
 
-  -- that of an early read is too, and written
+  -- the value of an early read is at fault too, and written
   early_write : (r w : Op) → Contains ops w → IsEarly r w → (begin ops (value_of r.act) ≡ At w.begin) × (written ops (value_of r.act) ≡ true)
   early_write r w h e =
       let is : IsTheWriteAt ops (value_of r.act) w = record { stands = h; write = e.write; same = e.one_value } in
@@ -145,7 +145,7 @@ module _ (claim : Terms) (ops : List Op) (apart : AreManyWriters claim ops) wher
 
   module _ (stretches : List Stretch) (stretched : AreStretched claim ops stretches) where
     end_standing : (s : Stretch) → Contains stretches s → (end : Moment) (id : OpId) → EndsFirstOf ops s.value end id → s.end ≡ end
-    end_standing s h end id is = ap (λ (x : Stretch). x.end) (stretched.only s h).1 ∙ ap moment_of (first_end_is ops s.value end id is)
+    end_standing s h end id is = ap (λ (x : Stretch). x.end) (stretched.only s h).1 ∙ ap edge_moment (first_end_is ops s.value end id is)
 
     written_standing : (s : Stretch) → Contains stretches s → s.written ≡ written ops s.value
     written_standing s h = ap (λ (x : Stretch). x.written) (stretched.only s h).1
@@ -157,7 +157,7 @@ module _ (claim : Terms) (ops : List Op) (apart : AreManyWriters claim ops) wher
     first_of : (s : Stretch) → Contains stretches s → (end : Moment) × (id : OpId) × EndsFirstOf ops s.value end id
     first_of s h = first_of_reads ops s.value (stretched.only s h).0.read
 
-    -- a test on stretches that shows a property of reads
+    -- a test of stretches that shows a property of reads
     module _ (test : Stretch → Bool) (Property : Op → Type 0) (read : (r : Op) → Property r → IsJudgedRead r) (at_fault : (r : Op) → Contains ops r → Property r → IsAtFault claim ops (value_of r.act))
         (passes : (r : Op) → Contains ops r → Property r → test (stretch_of ops (value_of r.act)) ≡ true) where
       none_shown : find test stretches ≡ None → All (λ r. ¬ Property r) ops
@@ -166,7 +166,7 @@ module _ (claim : Terms) (ops : List Op) (apart : AreManyWriters claim ops) wher
           (All-contains (λ s. test s ≡ false) stretches (stretch_of ops (value_of r.act)) (none_found test stretches e) (stretched.each (value_of r.act) (at_fault r h p)))
           (passes r h p))
 
-      -- its first read ended first of all
+      -- the first read of the first such stretch ended first of all reads with the property
       first_shown : AreByEnd stretches → (s : Stretch) → find test stretches ≡ Some s → (end : Moment) (id : OpId) (is : EndsFirstOf ops s.value end id) → Property is.read → IsFirstOf Property ops is.read
       first_shown order s e end id is p =
           let (h, t, least) = first_found test stretches s order e in
@@ -184,7 +184,7 @@ module _ (claim : Terms) (ops : List Op) (apart : AreManyWriters claim ops) wher
               let at_most : s.end.0 ≤ (stretch_of ops v).end.0 = least (stretch_of ops v) (stretched.each v fault) (passes x k q) in
               let begun : s.end ≡ end = end_standing s h end id is in
               let at : first_end_of ops v ≡ At first = first_end_is ops v first name other in
-              let later : (stretch_of ops v).end ≡ first = ap moment_of at in
+              let later : (stretch_of ops v).end ≡ first = ap edge_moment at in
               let number : first.0 ≤ end_number x = at_most_ended first x (read x q) (subst (λ (a : Edge). AtMost a (edge_of_end x.end)) at (ends_at_most x k (read x q))) in
               let (m, g, own) = end_of_read is.read is.judged in
               let same : m ≡ end = let both_are : Some m ≡ Some end = sym g ∙ is.ended in cc in
@@ -194,37 +194,37 @@ module _ (claim : Terms) (ops : List Op) (apart : AreManyWriters claim ops) wher
     read_shown order test s e = no_unread s (first_found test stretches s order e).0
 
     -- the first writeless stretch shows the first writeless read
-    writeless_passes : (r : Op) → Contains ops r → IsWriteless claim ops r → is_writeless (stretch_of ops (value_of r.act)) ≡ true
+    writeless_passes : (r : Op) → Contains ops r → IsWriteless claim ops r → has_no_write (stretch_of ops (value_of r.act)) ≡ true
     writeless_passes r h u = ap not (writeless_unwritten r u)
 
-    writeless_shown : AreByEnd stretches → (s : Stretch) → find is_writeless stretches ≡ Some s → (end : Moment) (id : OpId) (is : EndsFirstOf ops s.value end id) → first_writeless claim ops ≡ Some is.read
+    writeless_shown : AreByEnd stretches → (s : Stretch) → find has_no_write stretches ≡ Some s → (end : Moment) (id : OpId) (is : EndsFirstOf ops s.value end id) → first_writeless claim ops ≡ Some is.read
     writeless_shown order s e end id is =
-        let (h, t, least) = first_found is_writeless stretches s order e in
+        let (h, t, least) = first_found has_no_write stretches s order e in
         by_cases h t (shows s.value (stretched.only s h).0 end id is)
       where
-        by_cases : Contains stretches s → is_writeless s ≡ true → ShowsWriteless s.value is.read ⊎ ShowsEarly s.value is.read → first_writeless claim ops ≡ Some is.read
+        by_cases : Contains stretches s → has_no_write s ≡ true → ShowsWriteless s.value is.read ⊎ ShowsEarly s.value is.read → first_writeless claim ops ≡ Some is.read
         by_cases h t (inl (f, u)) =
             first_is_writeless claim ops apart.kept.moments is.read
-            (first_shown is_writeless (IsWriteless claim ops) (λ r u. u.read) writeless_at_fault writeless_passes order s e end id is u)
+            (first_shown has_no_write (IsWriteless claim ops) (λ r u. u.read) writeless_at_fault writeless_passes order s e end id is u)
         by_cases h t (inr (w, f, at, early)) = absurd (both_ways s.written (not-true s.written t) (written_standing s h ∙ f))
 
-    -- the same of the read that the table has by its id
-    pub first_read_writeless : AreByEnd stretches → (s : Stretch) → find is_writeless stretches ≡ Some s → (found : Option Op) → MatchOption found (HasNoRead ops s.value) (IsFirstByName ops s.value) → found ≡ first_writeless claim ops
-    first_read_writeless order s e None none = absurd (read_shown order is_writeless s e none)
+    -- the first writeless stretch shows the first writeless read, as the table has it by its id
+    pub first_read_writeless : AreByEnd stretches → (s : Stretch) → find has_no_write stretches ≡ Some s → (found : Option Op) → MatchOption found (HasNoRead ops s.value) (IsFirstByName ops s.value) → found ≡ first_writeless claim ops
+    first_read_writeless order s e None none = absurd (read_shown order has_no_write s e none)
     first_read_writeless order s e (Some read) (is, named) =
-        sym (writeless_shown order s e (end_of read) read.id is ∙ ap Some (same_read s.value read (is, named)))
+        sym (writeless_shown order s e (end_or_first read) read.id is ∙ ap Some (same_read s.value read (is, named)))
 
-    pub no_writeless_shown : find is_writeless stretches ≡ None → first_writeless claim ops ≡ None
+    pub no_writeless_shown : find has_no_write stretches ≡ None → first_writeless claim ops ≡ None
     no_writeless_shown e =
-        (writeless_none claim ops).1 (none_shown is_writeless (IsWriteless claim ops) (λ r u. u.read) writeless_at_fault writeless_passes e)
+        (writeless_none claim ops).1 (none_shown has_no_write (IsWriteless claim ops) (λ r u. u.read) writeless_at_fault writeless_passes e)
 
-    -- a writeless read of the value that the first writeless stretch has
-    pub some_writeless : AreByEnd stretches → (s : Stretch) → find is_writeless stretches ≡ Some s → (r : Op) × (first_writeless claim ops ≡ Some r) × (value_of r.act ≡ s.value)
+    -- the first writeless read has the value of the first writeless stretch
+    pub some_writeless : AreByEnd stretches → (s : Stretch) → find has_no_write stretches ≡ Some s → (r : Op) × (first_writeless claim ops ≡ Some r) × (value_of r.act ≡ s.value)
     some_writeless order s e =
-        let (end, id, is) = first_of s (first_found is_writeless stretches s order e).0 in
+        let (end, id, is) = first_of s (first_found has_no_write stretches s order e).0 in
         (is.read, writeless_shown order s e end id is, is.same)
 
-    -- the same of the reads of another value
+    -- the first writeless stretch of another value shows the first writeless read of another value
     module _ (value : Value) where
       abbrev IsOther : Op → Type 0
       IsOther r = IsWriteless claim ops r × (value_of r.act ≢ value)
@@ -250,7 +250,7 @@ module _ (claim : Terms) (ops : List Op) (apart : AreManyWriters claim ops) wher
       pub first_read_other : AreByEnd stretches → (s : Stretch) → find (is_writeless_but value) stretches ≡ Some s → (found : Option Op) → MatchOption found (HasNoRead ops s.value) (IsFirstByName ops s.value) → found ≡ first_writeless_but value claim ops
       first_read_other order s e None none = absurd (read_shown order (is_writeless_but value) s e none)
       first_read_other order s e (Some read) (is, named) =
-          sym (other_shown order s e (end_of read) read.id is ∙ ap Some (same_read s.value read (is, named)))
+          sym (other_shown order s e (end_or_first read) read.id is ∙ ap Some (same_read s.value read (is, named)))
 
       pub no_other_shown : find (is_writeless_but value) stretches ≡ None → first_writeless_but value claim ops ≡ None
       no_other_shown e =
@@ -271,7 +271,7 @@ module _ (claim : Terms) (ops : List Op) (apart : AreManyWriters claim ops) wher
     late_at_fault : (r : Op) → Contains ops r → HasLateWrite ops r → IsAtFault claim ops (value_of r.act)
     late_at_fault r h late = let (w, k, e) = some_stands (IsEarly r) ops late in early_at_fault r w h k e
 
-    late_passes : (r : Op) → Contains ops r → HasLateWrite ops r → is_early (stretch_of ops (value_of r.act)) ≡ true
+    late_passes : (r : Op) → Contains ops r → HasLateWrite ops r → is_read_early (stretch_of ops (value_of r.act)) ≡ true
     late_passes r h late = let (w, k, early) = some_stands (IsEarly r) ops late in (early_write r w k early).1
 
     late_read : (r : Op) → HasLateWrite ops r → IsJudgedRead r
@@ -281,9 +281,9 @@ module _ (claim : Terms) (ops : List Op) (apart : AreManyWriters claim ops) wher
     late_of r w h early = (h.0, w, h.1, h.2, early)
 
     -- the first early stretch shows the first early read
-    early_shown : AreByEnd stretches → (s : Stretch) → find is_early stretches ≡ Some s → (end : Moment) (id : OpId) (is : EndsFirstOf ops s.value end id) → (w : Op) × IsTheWriteAt ops s.value w × (first_early ops ≡ Some (is.read, w))
+    early_shown : AreByEnd stretches → (s : Stretch) → find is_read_early stretches ≡ Some s → (end : Moment) (id : OpId) (is : EndsFirstOf ops s.value end id) → (w : Op) × IsTheWriteAt ops s.value w × (first_early ops ≡ Some (is.read, w))
     early_shown order s e end id is =
-        let (h, t, least) = first_found is_early stretches s order e in
+        let (h, t, least) = first_found is_read_early stretches s order e in
         by_cases h t (shows s.value (stretched.only s h).0 end id is)
       where
         by_cases : Contains stretches s → s.written ≡ true → ShowsWriteless s.value is.read ⊎ ShowsEarly s.value is.read → (w : Op) × IsTheWriteAt ops s.value w × (first_early ops ≡ Some (is.read, w))
@@ -292,47 +292,47 @@ module _ (claim : Terms) (ops : List Op) (apart : AreManyWriters claim ops) wher
           w,
           at,
           first_is_early ops is.read w apart.kept.moments (apart.kept.values apart.atomic).apart
-              (first_shown is_early (HasLateWrite ops) late_read late_at_fault late_passes order s e end id is (late_of is.read w at.stands early)) at.stands early,
+              (first_shown is_read_early (HasLateWrite ops) late_read late_at_fault late_passes order s e end id is (late_of is.read w at.stands early)) at.stands early,
         )
 
-    pub first_read_early : AreByEnd stretches → (s : Stretch) → find is_early stretches ≡ Some s → (read : Op) → IsFirstByName ops s.value read → (w : Op) → IsTheWriteAt ops s.value w → Some (read, w) ≡ first_early ops
+    pub first_read_early : AreByEnd stretches → (s : Stretch) → find is_read_early stretches ≡ Some s → (read : Op) → IsFirstByName ops s.value read → (w : Op) → IsTheWriteAt ops s.value w → Some (read, w) ≡ first_early ops
     first_read_early order s e read (is, named) w at =
-        let (x, is_at, first) = early_shown order s e (end_of read) read.id is in
+        let (x, is_at, first) = early_shown order s e (end_or_first read) read.id is in
         sym (first ∙ (ap (λ (o : Op). Some (is.read, o)) (one_at s.value x w is_at at) ∙ ap (λ (r : Op). Some (r, w)) (same_read s.value read (is, named))))
 
-    pub no_early_shown : find is_early stretches ≡ None → first_early ops ≡ None
+    pub no_early_shown : find is_read_early stretches ≡ None → first_early ops ≡ None
     no_early_shown e =
         (early_none ops).1 (all_from (λ r. All (λ w. ¬ IsEarly r w) ops) ops (λ r h. none_of (IsEarly r) ops (All-contains (λ r. ¬ HasLateWrite ops r) ops r none h)))
       where
         none : All (λ r. ¬ HasLateWrite ops r) ops
-        none = none_shown is_early (HasLateWrite ops) late_read late_at_fault late_passes e
+        none = none_shown is_read_early (HasLateWrite ops) late_read late_at_fault late_passes e
 
-    -- an early stretch's value has a write
-    pub write_shown : AreByEnd stretches → (s : Stretch) → find is_early stretches ≡ Some s → ¬ HasNoWrite ops s.value
+    -- the value of an early stretch has a write
+    pub write_shown : AreByEnd stretches → (s : Stretch) → find is_read_early stretches ≡ Some s → ¬ HasNoWrite ops s.value
     write_shown order s e none =
-        let (end, id, is) = first_of s (first_found is_early stretches s order e).0 in
+        let (end, id, is) = first_of s (first_found is_read_early stretches s order e).0 in
         let (w, at, first) = early_shown order s e end id is in
         no_write_at ops s.value none w at
 
-    pub is_early_shown : AreByEnd stretches → is_some (find is_early stretches) ≡ is_some (first_early ops)
-    is_early_shown order = by_found (find is_early stretches) refl
+    pub is_early_shown : AreByEnd stretches → is_some (find is_read_early stretches) ≡ is_some (first_early ops)
+    is_early_shown order = by_found (find is_read_early stretches) refl
       where
-        by_found : (found : Option Stretch) → find is_early stretches ≡ found → is_some found ≡ is_some (first_early ops)
+        by_found : (found : Option Stretch) → find is_read_early stretches ≡ found → is_some found ≡ is_some (first_early ops)
         by_found None e = ap is_some (sym (no_early_shown e))
         by_found (Some s) e =
-            let (end, id, is) = first_of s (first_found is_early stretches s order e).0 in
+            let (end, id, is) = first_of s (first_found is_read_early stretches s order e).0 in
             let (w, at, first) = early_shown order s e end id is in
             ap is_some (sym first)
 
-    -- what the first writeless stretch, and the one of another value, tell of the writeless reads
-    pub is_writeless_shown : AreByEnd stretches → is_some (find is_writeless stretches) ≡ is_some (first_writeless claim ops)
-    is_writeless_shown order = by_found (find is_writeless stretches) refl
+    -- what the first writeless stretch, and the one of another value, show of the writeless reads
+    pub is_writeless_shown : AreByEnd stretches → is_some (find has_no_write stretches) ≡ is_some (first_writeless claim ops)
+    is_writeless_shown order = by_found (find has_no_write stretches) refl
       where
-        by_found : (found : Option Stretch) → find is_writeless stretches ≡ found → is_some found ≡ is_some (first_writeless claim ops)
+        by_found : (found : Option Stretch) → find has_no_write stretches ≡ found → is_some found ≡ is_some (first_writeless claim ops)
         by_found None e = ap is_some (sym (no_writeless_shown e))
         by_found (Some s) e = let (r, f, same) = some_writeless order s e in ap is_some (sym f)
 
-    module _ (order : AreByEnd stretches) (s : Stretch) (e : find is_writeless stretches ≡ Some s) where
+    module _ (order : AreByEnd stretches) (s : Stretch) (e : find has_no_write stretches ≡ Some s) where
       pub split_shown : (t : Bool) → t ≡ is_some (find (is_writeless_but s.value) stretches) → t ≡ is_some (with_other claim ops (first_writeless claim ops))
       split_shown t is =
           let (r, f, same) = some_writeless order s e in

@@ -1,4 +1,4 @@
--- The zone of the initial value, where there is one, in front of the zones of a tree.
+-- The zone of the initial value, where there is one, before the zones of a tree.
 use Rattle.std.proofs.Common.{◌≡◌, ◌↔◌, ◌⊎◌, inl, inr, true, false, List, ◌∷◌, Option, Some, None, refl, sym, ap, ◌∙◌, subst}
 use Rattle.std.specs.Prelude.{All, Contains, IfSome, IsPermutation, IsSome, map}
 use Rattle.std.proofs.lemmas.Bool.{both_ways}
@@ -6,7 +6,7 @@ use Rattle.intervals.specs.declared.operation.Op.{Op}
 use Rattle.intervals.specs.declared.operation.Value.{Value}
 use Rattle.intervals.specs.Operation.{value_of, same_value, writes}
 use Rattle.intervals.specs.Kind.{HasNoWrite}
-use Rattle.intervals.specs.Terms.{Terms}
+use Rattle.intervals.specs.Terms.{ClaimModel}
 use Rattle.zone_tree.specs.declared.zone.Zone.{Zone}
 use Rattle.zone_tree.specs.Conflict.{IsClean, IsFirstConflict}
 use Rattle.zone_tree.specs.Edge.{ComesBefore}
@@ -27,11 +27,11 @@ use Rattle.zones.proofs.Verdict.{clean_in, conflict_in}
 use Rattle.zones.proofs.Written.{written_zone_is}
 use Rattle.std.proofs.lemmas.List.Elements.{Contains-append_left, Contains-append_right}
 
-module _ (claim : Terms) (ops : List Op) (apart : AreManyWriters claim ops) (tree : List Zone) (order : StandInOrder tree) (zoned : AreZoned ops tree) where
+module _ (claim : ClaimModel) (ops : List Op) (apart : AreManyWriters claim ops) (tree : List Zone) (order : StandInOrder tree) (zoned : AreZoned ops tree) where
   once : IsPermutation (zones_from None ops) tree
   once = zones_each_once ops tree apart.kept.moments (apart.kept.values apart.atomic).apart order zoned
 
-  -- with an initial value
+  -- where there is an initial value
   module _ (v : Value) (is : initial_of claim ops ≡ Some v) (front : Zone) (front_is : front ≡ zone_of v ops v) where
     none_written : HasNoWrite ops v
     none_written = initial_not_written claim ops (apart.kept.values apart.atomic) v is
@@ -54,7 +54,7 @@ module _ (claim : Terms) (ops : List Op) (apart : AreManyWriters claim ops) (tre
         (conflict_in (Some v) ops (front ∷ tree) whole found
         (subst (λ (x : Zone). IsByLeft (x ∷ tree)) (sym front_is) (by_left_behind v ops tree zoned order.by_left)) c)
 
-  -- with none
+  -- where there is none
   module _ (is : initial_of claim ops ≡ None) where
     pub clean_without : (P : Type 0) → P ↔ IsClean tree → P ↔ IsClean (zones_from (initial_of claim ops) ops)
     clean_without P c = subst (λ (i : Option Value). P ↔ IsClean (zones_from i ops)) (sym is) (clean_in None ops tree once P c)
@@ -68,7 +68,7 @@ that_is : (initial : Option Value) (v : Value) → is_that initial v ≡ true �
 that_is None v t = absurd (cc)
 that_is (Some u) v t = ap Some ((Decides-same_value u v).0 t)
 
-module _ (claim : Terms) (ops : List Op) (apart : AreManyWriters claim ops) (v : Value) where
+module _ (claim : ClaimModel) (ops : List Op) (apart : AreManyWriters claim ops) (v : Value) where
   module _ (is : is_that (initial_of claim ops) v ≡ true) where
     pub initial_is : initial_of claim ops ≡ Some v
     initial_is = that_is (initial_of claim ops) v is
@@ -102,8 +102,8 @@ module _ (claim : Terms) (ops : List Op) (apart : AreManyWriters claim ops) (v :
           by_place (inl e) = absurd (both_ways (same_value u v) other ((Decides-same_value u v).1 e))
           by_place (inr k) = has_write ops v k
 
--- the values of which a first conflict speaks are that of the start, or not
-module _ (claim : Terms) (ops : List Op) (apart : AreManyWriters claim ops) (first second : Zone) (h : HasFirstConflictFrom (initial_of claim ops) ops first second) where
+-- the value of each zone of a first conflict is as `MayStart` asks
+module _ (claim : ClaimModel) (ops : List Op) (apart : AreManyWriters claim ops) (first second : Zone) (h : HasFirstConflictFrom (initial_of claim ops) ops first second) where
   may : (z : Zone) → Contains h.zones z → MayStart (initial_of claim ops) (start_of claim ops) z.value
   may z k = by_initial (initial_of claim ops) refl h.zones h.each_once k
     where

@@ -1,27 +1,27 @@
--- The places that are held for an operation that is to come.
+-- The places that are reserved for an operation that is to come.
 use Rattle.std.proofs.Common.{◌≡◌, Bool, true, false, ◌||◌, Option, Some, None, refl, sym, ap, subst, ◌∙◌, cond}
 use Rattle.std.specs.Prelude.{IfSome, is_some}
 use Rattle.intervals.specs.declared.operation.Op.{Op}
 use Rattle.intervals.specs.declared.operation.OpId.{OpId}
 use Rattle.intervals.specs.declared.operation.Moment.{Moment}
-use Rattle.intervals.specs.declared.shelf.Spot.{Spot}
-use Rattle.intervals.specs.declared.shelf.Shelf.{Shelf}
+use Rattle.intervals.specs.declared.ordered_index.Spot.{Spot}
+use Rattle.intervals.specs.declared.ordered_index.OrderedIndex.{OrderedIndex}
 use Rattle.intervals.specs.Operation.{is_write}
-use Rattle.intervals.specs.Shelf.{id_at, is_spot, joined, place_at}
+use Rattle.intervals.specs.OrderedIndex.{id_at, is_spot, id_if_there, place_at}
 use Rattle.intervals.specs.Table.{prepared_after}
 use Rattle.intervals.proofs.SameSpot.{is_spot_one}
-use Rattle.zones.specs.declared.index.Row.{Row}
-use Rattle.zones.specs.declared.index.Row.TheVariants.{Ends, Begins}
+use Rattle.zones.specs.declared.index.IndexKind.{IndexKind}
+use Rattle.zones.specs.declared.index.IndexKind.TheVariants.{Ends, Begins}
 use Rattle.zones.specs.declared.index.Members.{Members}
-use Rattle.zones.specs.Index.{HoldsOnlyFor, IsMade, shelf_of, spot_in, spot_on, taken_at}
+use Rattle.zones.specs.Index.{ReservesOnlyForMember, IsMade, shelf_of, spot_in, spot_on, taken_at}
 use Rattle.zones.specs.Zoned.{judged_part}
 use Rattle.zones.proofs.Rows.{IsChanged, of_rows}
 
--- each place of a row at which no id stands is held for the operation
-abbrev pub IsOnlyFor : Row → Option Op → Shelf → Type 0
+-- each place of the index that has no id is reserved for the operation
+abbrev pub IsOnlyFor : IndexKind → Option Op → OrderedIndex → Type 0
 IsOnlyFor row op shelf = (spot : Spot) → place_at shelf spot ≡ Some None → is_spot (spot_in row op) spot ≡ true
 
--- where the id at one spot is taken out, only the awaited place is held
+-- where the id at one spot is taken out, only the awaited place is reserved
 taken : (gone awaited : Option Spot) (spot : Spot) (found : Option (Option OpId)) → (found ≡ Some None → is_spot awaited spot ≡ true) → taken_at gone awaited spot found ≡ Some None → is_spot awaited spot ≡ true
 taken gone awaited spot found only = by_tests (is_spot gone spot) (is_spot awaited spot) refl
   where
@@ -30,7 +30,7 @@ taken gone awaited spot found only = by_tests (is_spot gone spot) (is_spot await
     by_tests true false e h = absurd (cc)
     by_tests false s e h = only h
 
-changed_row : (row : Row) (old new prepared : Option Op) (from to : Shelf) → IfSome new (λ op. prepared ≡ Some op) → IsChanged row old new prepared from to → IsOnlyFor row prepared from → IsOnlyFor row (prepared_after new prepared) to
+changed_row : (row : IndexKind) (old new prepared : Option Op) (from to : OrderedIndex) → IfSome new (λ op. prepared ≡ Some op) → IsChanged row old new prepared from to → IsOnlyFor row prepared from → IsOnlyFor row (prepared_after new prepared) to
 changed_row row old None prepared from to is changed only spot held =
     taken (spot_in row old) (spot_in row prepared) spot (place_at from spot) (only spot) (sym (changed spot) ∙ held)
 changed_row row old (Some op) prepared from to is changed only spot held = absurd (by_test (is_spot (spot_on row op) spot) refl (sym (changed spot) ∙ held))
@@ -42,8 +42,8 @@ changed_row row old (Some op) prepared from to is changed only spot held = absur
         let same = ap (λ (o : Option Op). is_spot (spot_in row o) spot) is in
         cc
 
--- the place of one operation is held, where none was
-pub held_row : (row : Row) (op : Op) (from to : Shelf) (spot : Option Spot) → spot ≡ spot_on row op
+-- the place of one operation is reserved, where none was
+pub held_row : (row : IndexKind) (op : Op) (from to : OrderedIndex) (spot : Option Spot) → spot ≡ spot_on row op
     → ((other : Spot) → is_spot spot other ≡ false → place_at to other ≡ place_at from other) → IsOnlyFor row None from → IsOnlyFor row (Some op) to
 held_row row op from to spot spot_is others only other held = by_cases (is_spot spot other) refl
   where
@@ -51,14 +51,14 @@ held_row row op from to spot spot_is others only other held = by_cases (is_spot 
     by_cases true t = ap (λ s. is_spot s other) (sym spot_is) ∙ t
     by_cases false f = absurd (let t = only other (sym (others other f) ∙ held) in cc)
 
--- the place that was held for one operation is let go, where no id stands there
-pub released_row : (row : Row) (op : Op) (from to : Shelf) (spot : Option Spot) → spot ≡ spot_on row op
+-- the place that was reserved for one operation is dropped, where it has no id
+pub released_row : (row : IndexKind) (op : Op) (from to : OrderedIndex) (spot : Option Spot) → spot ≡ spot_on row op
     → IfSome spot (λ s. id_at from s ≡ None → place_at to s ≡ None) → ((other : Spot) → id_at to other ≡ id_at from other)
     → ((other : Spot) → is_spot spot other ≡ false → place_at to other ≡ place_at from other) → IsOnlyFor row (Some op) from → IsOnlyFor row None to
 released_row row op from to spot spot_is gone ids others only other held = absurd (by_cases (is_spot spot other) refl)
   where
     none : id_at from other ≡ None
-    none = sym (ids other) ∙ ap joined held
+    none = sym (ids other) ∙ ap id_if_there held
 
     by_cases : (t : Bool) → is_spot spot other ≡ t → ⊥
     by_cases true t =
@@ -71,8 +71,8 @@ released_row row op from to spot spot_is gone ids others only other held = absur
         let e = ap (λ s. is_spot s other) spot_is in
         cc
 
--- a place that was made and let go again leaves what was there
-pub made_and_gone : (from between to : Shelf) (made : Option Spot) → IsMade from between made → ((other : Spot) → id_at between other ≡ id_at from other)
+-- a place that was made and dropped again leaves what was there
+pub made_and_gone : (from between to : OrderedIndex) (made : Option Spot) → IsMade from between made → ((other : Spot) → id_at between other ≡ id_at from other)
     → IfSome made (λ s. id_at between s ≡ None → place_at to s ≡ None) → ((other : Spot) → is_spot made other ≡ false → place_at to other ≡ place_at between other) → (spot : Spot) → place_at to spot ≡ place_at from spot
 made_and_gone from between to made is ids gone others spot = by_cases (is_spot made spot) refl
   where
@@ -81,18 +81,18 @@ made_and_gone from between to made is ids gone others spot = by_cases (is_spot m
         let one : made ≡ Some spot = is_spot_one made spot t in
         let new : place_at from spot ≡ None = subst (λ (x : Option Spot). IfSome x (λ s. place_at from s ≡ None)) one is.new in
         let went = subst (λ (x : Option Spot). IfSome x (λ s. id_at between s ≡ None → place_at to s ≡ None)) one gone in
-        let left : place_at to spot ≡ None = went (ids spot ∙ ap joined new) in
+        let left : place_at to spot ≡ None = went (ids spot ∙ ap id_if_there new) in
         left ∙ sym new
     by_cases false f = others spot f ∙ is.others spot f
 
--- the rows one by one
-abbrev pub by_rows : (op : Option Op) (ends begins : Shelf) → IsOnlyFor Ends op ends → IsOnlyFor Begins op begins → HoldsOnlyFor op (record { ends = ends; begins = begins })
+-- from each of the two indexes to both
+abbrev pub by_rows : (op : Option Op) (ends begins : OrderedIndex) → IsOnlyFor Ends op ends → IsOnlyFor Begins op begins → ReservesOnlyForMember op (record { ends = ends; begins = begins })
 by_rows op ends begins e b = of_rows (λ row. IsOnlyFor row op (shelf_of (record { ends = ends; begins = begins }) row)) e b
 
-module _ (members : Members) (ends begins : Shelf) where
+module _ (members : Members) (ends begins : OrderedIndex) where
   pub changed_only : (old new prepared : Option Op) → IfSome new (λ op. prepared ≡ Some op)
       → IsChanged Ends old new prepared members.ends ends → IsChanged Begins old new prepared members.begins begins
-      → HoldsOnlyFor prepared members → HoldsOnlyFor (prepared_after new prepared) (record { ends = ends; begins = begins })
+      → ReservesOnlyForMember prepared members → ReservesOnlyForMember (prepared_after new prepared) (record { ends = ends; begins = begins })
   changed_only old new prepared is e b only =
       by_rows (prepared_after new prepared) ends begins
       (changed_row Ends old new prepared members.ends ends is e (only Ends))
@@ -107,16 +107,16 @@ no_end : (end : Option Moment) → is_some end ≡ false → end ≡ None
 no_end None e = refl
 no_end (Some end) e = absurd (cc)
 
-no_spot : (op : Op) → (is_write op || is_some op.end) ≡ false → (row : Row) → spot_on row op ≡ None
+no_spot : (op : Op) → (is_write op || is_some op.end) ≡ false → (row : IndexKind) → spot_on row op ≡ None
 no_spot op unjudged Ends = let (read, open_end) = or_false (is_write op) (is_some op.end) unjudged in rw (read, no_end op.end open_end) refl
 no_spot op unjudged Begins = let (read, open_end) = or_false (is_write op) (is_some op.end) unjudged in rw (read, no_end op.end open_end) refl
 
--- what is held for the prepared operation once the judged part of the new one has come
-pub only_after : (new prepared : Option Op) (members : Members) → IfSome new (λ op. prepared ≡ Some op) → HoldsOnlyFor (prepared_after (judged_part new) prepared) members → HoldsOnlyFor (prepared_after new prepared) members
+-- what is reserved for the prepared operation once the judged part of the new one has come
+pub only_after : (new prepared : Option Op) (members : Members) → IfSome new (λ op. prepared ≡ Some op) → ReservesOnlyForMember (prepared_after (judged_part new) prepared) members → ReservesOnlyForMember (prepared_after new prepared) members
 only_after None prepared members is only = only
 only_after (Some op) prepared members is only = by_test (is_write op || is_some op.end) refl only
   where
-    by_test : (t : Bool) → (is_write op || is_some op.end) ≡ t → HoldsOnlyFor (prepared_after (cond t (Some op) None) prepared) members → HoldsOnlyFor None members
+    by_test : (t : Bool) → (is_write op || is_some op.end) ≡ t → ReservesOnlyForMember (prepared_after (cond t (Some op) None) prepared) members → ReservesOnlyForMember None members
     by_test true t only = only
     by_test false f only = λ row spot held.
         let awaited : is_spot (spot_in row (Some op)) spot ≡ true = subst (λ (p : Option Op). is_spot (spot_in row p) spot ≡ true) is (only row spot held) in

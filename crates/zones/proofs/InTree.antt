@@ -18,7 +18,7 @@ use Rattle.zone_tree.specs.Edge.{ComesBefore, same_edge}
 use Rattle.zone_tree.specs.Order.{IsByLeft, StandInOrder, without_zone_at, zone_at}
 use Rattle.zone_tree.proofs.EdgeOrder.{Decides-same_edge, edge_exact, left_of}
 use Rattle.zone_tree.proofs.Places.{members_without, order_left}
-use Rattle.zones.specs.AtFirst.{fresh}
+use Rattle.zones.specs.AtFirst.{unused_value}
 use Rattle.zones.specs.Cluster.{zone_of, written_zone, values_from, zones_from, zones_of}
 use Rattle.zones.specs.Members.{HasWrite}
 use Rattle.zones.specs.Zoned.{AreZoned}
@@ -33,7 +33,7 @@ use Rattle.zones.proofs.Written.{write_member, written_zone_is}
 abbrev Apart : Zone → Zone → Type 0
 Apart a b = a.left ≢ b.left
 
--- the zones of different left edges that stand in a list in order are that list
+-- a list in order has each zone of another list once, where both have the same zones and no two have one left edge
 found_at : (zones : List Zone) (left : Edge) (z : Zone) → zone_at left zones ≡ Some z → Contains zones z × (z.left ≡ left)
 found_at [] left z e = absurd (cc)
 found_at (a ∷ zones) left z e = by_cases (same_edge a.left left) refl e (found_at zones left z)
@@ -78,12 +78,12 @@ each_once (a ∷ zones) tree apart order each only =
         (IsPermutation-cons a zones (without_zone_at a.left tree) (later still stood))
         (IsPermutation-sym tree (a ∷ without_zone_at a.left tree) (members_without a.left tree a order (e ∙ ap Some same)))
 
--- an image of a list by two functions that agree on it
+-- two functions that agree on a list map it to one list
 same_image : {X Y : Type 0} (f g : X → Y) (xs : List X) → ((x : X) → Contains xs x → f x ≡ g x) → map f xs ≡ map g xs
 same_image f g [] same = refl
 same_image f g (x ∷ xs) same = let rest = same_image f g xs (λ y h. same y (there x xs y h)) in let first = same x (here x xs) in λ i. first i ∷ rest i
 
--- what writes carry
+-- a value that a write carries has a write
 pub has_write : (ops : List Op) (v : Value) → Contains (values_from None ops) v → HasWrite ops v
 has_write ops v h =
     let (w, k, e) = from_map (λ w. value_of w.act) (writes ops) v h in
@@ -93,7 +93,7 @@ pub carried : (ops : List Op) (v : Value) → HasWrite ops v → Contains (value
 carried ops v (w, is) =
     subst (Contains (values_from None ops)) is.same (mapped (λ w. value_of w.act) (writes ops) w (kept is_write ops w is.stands is.write))
 
--- where no write has the initial value its zone stands in front of those of the writes
+-- where no write has the initial value its zone comes before those of the writes
 pub zones_behind : (initial : Value) (ops : List Op) → HasNoWrite ops initial → zones_of initial ops ≡ zone_of initial ops initial ∷ zones_from None ops
 zones_behind initial ops none =
     ap (λ (zones : List Zone). zone_of initial ops initial ∷ zones)
@@ -103,7 +103,7 @@ zones_behind initial ops none =
 
 written_apart : (ops : List Op) → HasDistinctMoments ops → HasNoValueTwice ops → AllPairs Apart (zones_from None ops)
 written_apart ops moments apart =
-    let i = fresh ops in
+    let i = unused_value ops in
     pairs_tail Apart (zone_of i ops i) (zones_from None ops)
     (subst (AllPairs Apart) (zones_behind i ops (fresh_not_written ops)) (zones_apart i ops moments (record { apart = apart; new = fresh_not_written ops })))
 
@@ -113,10 +113,10 @@ zones_each_once ops tree moments apart order zoned =
     (λ z h. let (v, k, e) = from_map (written_zone ops) (values_from None ops) z h in subst (Contains tree) e (zoned.each v (has_write ops v k)))
     (λ z h. let (k, e) = zoned.only z h in subst (Contains (zones_from None ops)) (sym e) (mapped (written_zone ops) (values_from None ops) z.value (carried ops z.value k)))
 
--- a value with a write has a zone that begins after the initial write
+-- the zone of a value that has a write begins after the initial write
 pub begins_later : (ops : List Op) (v : Value) → HasWrite ops v → ComesBefore Before (written_zone ops v).left
 begins_later ops v (w, is) =
-    let i = fresh ops in
+    let i = unused_value ops in
     let n : v ≢ i = λ e. fresh_is_new ops w is.stands (is.same ∙ e) in
     subst (λ (z : Zone). ComesBefore Before z.left) (written_zone_is i ops v n)
     (by_edge i n (left i ops v) (left_in i ops v w (write_member i ops v w is)))
@@ -126,7 +126,7 @@ begins_later ops v (w, is) =
     by_edge i n (At m) is = refl
     by_edge i n Never is = absurd is
 
--- the initial zone before those of a tree is each of the register's zones once
+-- the initial zone before those of a tree gives each zone of the register once
 pub behind_once : (initial : Value) (ops : List Op) (tree : List Zone) → HasNoWrite ops initial → IsPermutation (zones_from None ops) tree → IsPermutation (zones_of initial ops) (zone_of initial ops initial ∷ tree)
 behind_once initial ops tree none once =
     subst (λ (zones : List Zone). IsPermutation zones (zone_of initial ops initial ∷ tree)) (sym (zones_behind initial ops none))

@@ -91,7 +91,7 @@ module _ (initial : Value) (ops : List Op) (moments : HasDistinctMoments ops) (e
       (mapped (zone_of initial ops) (written_values initial ops) v (has_zone y k))
       (λ e. n (sym (value_is initial ops u) ∙ (ap (λ z. z.value) e ∙ value_is initial ops v)))
 
-  -- what stands later in turn does not precede what stands earlier: of one value
+  -- what comes later in turn does not precede what comes earlier, where both are of one value
   not_back_same : (x y : Op) → Contains (judged ops) x → Contains (judged ops) y → StandInTurn initial ops x y → value_of x.act ≡ value_of y.act → ¬ Precedes y x
   not_back_same x y h k s e p = by_acts (cases_Bool (is_write x)) (cases_Bool (is_write y))
     where
@@ -107,7 +107,7 @@ module _ (initial : Value) (ops : List Op) (moments : HasDistinctMoments ops) (e
       by_acts (inr f) (inl u) = let x : true ≡ false = sym (s.write_first e u) ∙ f in absurd (cc)
       by_acts (inr f) (inr g) = by_moments (f ∙ sym g)
 
-  -- and of two values
+  -- what comes later in turn does not precede what comes earlier, where they are of two values
   not_back_other : (x y : Op) → Contains (judged ops) x → Contains (judged ops) y → StandInTurn initial ops x y → value_of x.act ≢ value_of y.act → ¬ Precedes y x
   not_back_other x y h k s n p = by_left (left_is initial ops u)
     where
@@ -166,7 +166,7 @@ module _ (initial : Value) (ops : List Op) (moments : HasDistinctMoments ops) (e
   abbrev IsDue : Value → List Op → Op → Type 0
   IsDue held xs r = (value_of r.act ≡ held) ⊎ ((w : Op) × Contains xs w × IsWrite w × (value_of w.act ≡ value_of r.act))
 
-  -- what is left of an order in turn, where a value is held
+  -- the rest of an order in turn, where a value is held
   record IsLeft (held : Value) (xs : List Op) : Type 0 where
     each : (x : Op) → Contains xs x → Contains (judged ops) x
     turn : IsInTurn initial ops xs
@@ -214,7 +214,7 @@ module _ (initial : Value) (ops : List Op) (moments : HasDistinctMoments ops) (e
     due = λ r h g. by_due r h (s.due r (there a later r h) g);
   }
     where
-      -- what reads the held value after a write of another would begin where that one's zone does
+      -- a read of the held value after a write of another would begin where that other's zone begins
       not_held : (r : Op) → Contains later r → value_of r.act ≡ held → value_of r.act ≡ value_of a.act
       not_held r h e =
           let back : AtMost (left initial ops (value_of a.act)) (left initial ops held) = subst (λ (v : Value). AtMost (left initial ops (value_of a.act)) (left initial ops v)) e (stand held a later s r h).by_zone in
@@ -242,7 +242,7 @@ module _ (initial : Value) (ops : List Op) (moments : HasDistinctMoments ops) (e
       (λ f. (finds_held held a later s f, walk held later (left_after_read held a later s f)))
       (λ t. walk (value_of a.act) later (left_after_write held a later s t))
 
-  -- an order in turn, read from the initial value on
+  -- an order in turn reads nearest, with the initial value at first
   pub turn_reads : (order : List Op) → IsPermutation (judged ops) order → IsInTurn initial ops order → ReadsNearest initial order
   turn_reads order moved turn = walk initial order (record {
     each = back;

@@ -19,10 +19,10 @@ use Rattle.zone_tree.specs.declared.edge.Edge.{Edge}
 use Rattle.zone_tree.specs.declared.edge.Edge.TheVariants.{Before, At, Never}
 use Rattle.zone_tree.specs.contracts.edge.EdgeOrd.TheImpl as edge_ord
 use Rattle.zone_tree.specs.Edge.{ComesBefore}
-use Rattle.zones.specs.declared.order.Turn.{Turn}
+use Rattle.zones.specs.declared.order.TurnKey.{TurnKey}
 use Rattle.zones.specs.declared.order.Placed.{Placed}
-use Rattle.zones.specs.contracts.order.TurnOrd.TheImpl as turn_ord
-use Rattle.zones.specs.contracts.order.TurnOrd.TheImpl.Laws.{total-law}
+use Rattle.zones.specs.contracts.order.TurnKeyOrd.TheImpl as turn_ord
+use Rattle.zones.specs.contracts.order.TurnKeyOrd.TheImpl.Laws.{total-law}
 use Rattle.zones.specs.Cluster.{zone_of, written_values}
 use Rattle.zones.specs.Fault.{IsUnwritten, IsFaultless, is_write_of}
 use Rattle.zones.specs.Turn.{left_of, StandInTurn, IsInTurn}
@@ -41,7 +41,7 @@ edge_itself Before = refl
 edge_itself (At m) = tied_itself nat_cmp_total m.0
 edge_itself Never = refl
 
--- what comes before another edge is less in that order
+-- the edge that comes before another is less in that order
 edge_less : (a b : Edge) → ComesBefore a b → edge_cmp a b ≡ Less
 edge_less Before Before h = absurd (cc)
 edge_less Before (At n) h = refl
@@ -80,11 +80,11 @@ module _ (initial : Value) (ops : List Op) where
       by_act (inr f) = of_read op (All-contains (λ r. ¬ IsUnwritten initial ops r) ops op faultless.written h) j f
 
 -- the derived order of the keys
-abbrev turn_cmp : Turn → Turn → Ordering
+abbrev turn_cmp : TurnKey → TurnKey → Ordering
 turn_cmp = (turn_ord.ghosts).cmp
 
 -- the second comes no earlier than the first
-abbrev NotLess : Turn → Turn → Type 0
+abbrev NotLess : TurnKey → TurnKey → Type 0
 NotLess a b = is_lt (turn_cmp b a) ≡ false
 
 at_most : (b c : ℕ) → is_lt (nat_cmp c b) ≡ false → b ≤ c
@@ -95,7 +95,7 @@ at_most b c n = by_cases (cases_lt c b)
     by_cases (inr le) = le
 
 module _ (initial : Value) (ops : List Op) where
-  left_not_after : (a b : Turn) → NotLess a b → ¬ ComesBefore b.left a.left
+  left_not_after : (a b : TurnKey) → NotLess a b → ¬ ComesBefore b.left a.left
   left_not_after a b n p = let less : edge_cmp b.left a.left ≡ Less = edge_less b.left a.left p in absurd (let q : is_lt (turn_cmp b a) ≡ true = rw less refl in cc)
 
   write_before : (x y : Bool) (begin : Ordering) → is_lt (ordering_then (bool_cmp (not y) (not x)) begin) ≡ false → y ≡ true → x ≡ true
@@ -109,7 +109,7 @@ module _ (initial : Value) (ops : List Op) where
   begin_at_most false true b c e n = absurd (cc)
   begin_at_most false false b c e n = at_most b c n
 
-  -- keys of one left edge
+  -- operations of one value, whose keys have one left edge
   alike : (x y : Op) → value_of x.act ≡ value_of y.act → NotLess (turn_of initial ops x) (turn_of initial ops y) → is_lt (ordering_then (bool_cmp (not (is_write y)) (not (is_write x))) (nat_cmp y.begin.0 x.begin.0)) ≡ false
   alike x y e n =
       let left : left_of initial ops x ≡ left_of initial ops y = ap (λ (v : Value). (zone_of initial ops v).left) e in
@@ -151,7 +151,7 @@ module _ (initial : Value) (ops : List Op) where
     sorted_in_turn up =
         in_turn_from (map (λ (p : Placed). p.op) sorted)
         (pairs_mapped (λ (p : Placed). p.op) HasTurn (λ p q. NotLess p.turn q.turn) (StandInTurn initial ops)
-        (λ p q e f n. stand p.op q.op (subst (λ (t : Turn). NotLess t (turn_of initial ops q.op)) e (subst (NotLess p.turn) f n)))
+        (λ p q e f n. stand p.op q.op (subst (λ (t : TurnKey). NotLess t (turn_of initial ops q.op)) e (subst (NotLess p.turn) f n)))
         sorted turns
         (λ i j d lt within. sorted_far (λ (p q : Placed). is_lt (turn_cmp p.turn q.turn)) (ranks_by total-law (λ (p : Placed). p.turn)) sorted up i j d (omega arith) within))
 

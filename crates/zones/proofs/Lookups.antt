@@ -1,4 +1,4 @@
--- What a look-up on the shelves of the members says.
+-- What a look-up in the two indexes says.
 use Rattle.std.proofs.Common.{◌≡◌, ◌≢◌, ◌≤◌, ◌<◌, ◌⊎◌, inl, inr, ℕ, Bool, true, false, not, ◌&&◌, List, Option, Some, None, refl, ap, subst, arith}
 use Rattle.std.specs.Prelude.{Contains, MatchOption, is_some}
 use Rattle.std.proofs.lemmas.Bool.{cases_lt}
@@ -6,13 +6,13 @@ use Rattle.intervals.specs.declared.operation.Op.{Op}
 use Rattle.intervals.specs.declared.operation.OpId.{OpId}
 use Rattle.intervals.specs.declared.operation.Moment.{Moment}
 use Rattle.intervals.specs.declared.operation.Value.{Value}
-use Rattle.intervals.specs.declared.shelf.Shelf.{Shelf}
+use Rattle.intervals.specs.declared.ordered_index.OrderedIndex.{OrderedIndex}
 use Rattle.intervals.specs.Judging.{end_number}
 use Rattle.intervals.specs.Operation.{IsJudgedRead, is_write, value_of}
-use Rattle.intervals.specs.Shelf.{id_at, spot_of}
-use Rattle.zones.specs.declared.index.Row.TheVariants.{Ends, Begins}
+use Rattle.intervals.specs.OrderedIndex.{id_at, spot_of}
+use Rattle.zones.specs.declared.index.IndexKind.TheVariants.{Ends, Begins}
 use Rattle.zones.specs.Members.{BeginsLastOf, EndsFirstOf, HasNoRead}
-use Rattle.zones.specs.Index.{IsRow, at_last}
+use Rattle.zones.specs.Index.{IsShelfOf, at_last}
 use Rattle.zones.proofs.Members.{all_from}
 use Rattle.zones.proofs.Rows.{begun, ended}
 
@@ -35,8 +35,8 @@ not_less a b n = by_cases (cases_lt a b)
     by_cases (inl lt) = absurd (n lt)
     by_cases (inr le) = le
 
-module _ (ops : List Op) (value : Value) (shelf : Shelf) where
-  module _ (row : IsRow Ends ops shelf) where
+module _ (ops : List Op) (value : Value) (shelf : OrderedIndex) where
+  module _ (row : IsShelfOf Ends ops shelf) where
     ends_there : (r : Op) (end : Moment) → Contains ops r → is_write r ≡ false → value_of r.act ≡ value → r.end ≡ Some end → id_at shelf (spot_of value end) ≡ Some r.id
     ends_there r end h w same e = subst (λ (v : Value). id_at shelf (spot_of v end) ≡ Some r.id) same (row.there r (spot_of (value_of r.act) end) h (rw (w, e) refl))
 
@@ -67,7 +67,7 @@ module _ (ops : List Op) (value : Value) (shelf : Shelf) where
         absurd (cc))
     first_found (Some (end, id)) is = first_is end id is.1 is.2
 
-  module _ (row : IsRow Begins ops shelf) where
+  module _ (row : IsShelfOf Begins ops shelf) where
     begins_there : (r : Op) → Contains ops r → IsJudgedRead r → value_of r.act ≡ value → id_at shelf (spot_of value r.begin) ≡ Some r.id
     begins_there r h j same =
         let (m, w, e) = has_end r j in

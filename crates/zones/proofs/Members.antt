@@ -1,4 +1,4 @@
--- What stands in a list, in what a test keeps of it, and in its image; and pairs of elements.
+-- What a list contains, what a filtered or mapped list contains, and pairs of elements.
 use Rattle.std.proofs.Common.{◌≡◌, ◌≢◌, ◌⊎◌, inl, inr, ℕ, zero, suc, ◌<◌, Bool, true, false, List, [], ◌∷◌, length, Decides, refl, ap, subst, cond, arith}
 use Rattle.std.specs.Prelude.{All, Contains, filter, map, slice_index_or}
 use Rattle.std.specs.List.{AllPairs, AllByRecursion}
@@ -43,7 +43,7 @@ module _ {X : Type 0} where
   pub contains_cases : (a : X) (xs : List X) (x : X) → Contains (a ∷ xs) x → (a ≡ x) ⊎ Contains xs x
   contains_cases a xs x h = place_cases a xs x h.0 h.1 h.2
 
-  -- the element at an index stands in the list
+  -- the list contains the element at an index
   pub stands_at : (xs : List X) (k : ℕ) (d : X) → k < length xs → Contains xs (slice_index_or xs k d)
   stands_at [] k d lt = absurd (omega arith)
   stands_at (a ∷ xs) zero d lt = (0, omega arith, refl)
@@ -126,7 +126,7 @@ module _ {X : Type 0} where
       (All-map (S (f a)) f xs (λ k d lt. step a (slice_index_or xs k d) (All-head P a xs all) (All-tail P a xs all k d lt) (pairs_head R a xs pairs k d lt)))
       (pairs_mapped f P R S step xs (All-tail P a xs all) (pairs_tail R a xs pairs))
 
-  -- each element to all later ones
+  -- the relation holds of each element with all later ones
   abbrev pub EachLater : (X → X → Type 0) → List X → Type 0
   EachLater R [] = Unit {0}
   EachLater R (x ∷ later) = AllByRecursion (R x) later × EachLater R later

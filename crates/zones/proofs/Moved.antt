@@ -9,7 +9,7 @@ use Rattle.zone_tree.specs.declared.zone.Zone.{Zone}
 use Rattle.zone_tree.proofs.EdgeOrder.{edge_exact, edge_order}
 use Rattle.zones.specs.Cluster.{written_zone}
 use Rattle.zones.specs.Members.{HasWrite, IsChange}
-use Rattle.zones.specs.Moves.{AreChanges, AreNew, IsChangeAt, KeepsRoom, Stands, moved}
+use Rattle.zones.specs.Moves.{AreChanges, AreNew, IsChangeAt, KeepsRoom, IsThere, moved}
 use Rattle.zones.specs.Zoned.{AreZoned, AreZonesAt, CanMove, IsZoneAt, IsZoneAtSome, other_value, value_in, zone_shape}
 use Rattle.zones.proofs.Judged.{is_judged, judged_write}
 use Rattle.zones.proofs.Lengths.{gone_length}
@@ -28,7 +28,7 @@ zone_for : (ops : List Op) (value : Option Value) (found : Option Zone) → IsZo
 zone_for ops None found is = is
 zone_for ops (Some value) found is = record { item = is.zone; none = is.none; some = is.some }
 
--- an edit's zones are moved
+-- the zones that an edit changes are moved
 module _ (before : List Op) (old new : Option Op) (after : List Op) (change : IsChange before old new after)
     (moments : HasDistinctMoments before) (moments_after : HasDistinctMoments after) (zones : List Zone) (zoned : AreZoned before zones)
     (earlier later gone come : Option Zone × Option Zone) (changes : AreChanges earlier later gone come)
@@ -113,7 +113,7 @@ module _ (before : List Op) (old new : Option Op) (after : List Op) (change : Is
   at_last : IsZoneAt after (value_of w.act) later.0
   at_last = subst (λ (o : Option Op). IsZoneAtSome after (value_in o) later.0) e later_is.one
 
-  stood : (found : Option Zone) → IsZoneAt before (value_of w.act) found → Stands zones found
+  stood : (found : Option Zone) → IsZoneAt before (value_of w.act) found → IsThere zones found
   stood None is = absurd (is.none refl had)
   stood (Some zone) is = subst (Contains zones) (sym is.zone) (zoned.each (value_of w.act) had)
 
@@ -124,11 +124,11 @@ module _ (before : List Op) (old new : Option Op) (after : List Op) (change : Is
   pub zone_gone : (gone come : Option Zone × Option Zone) → AreChanges earlier later gone come → come.1 ≡ None → (result : List Zone) → result ≡ moved zone_shape gone come zones → length result + 1 ≤ length zones
   zone_gone gone come changes second result is = by_cases changes.one
     where
-      there : Stands zones earlier.0
+      there : IsThere zones earlier.0
       there = stood earlier.0 at_first
 
       by_cases : IsChangeAt earlier.0 later.0 (gone.0, come.0) → length result + 1 ≤ length zones
       by_cases (inl f) =
-          gone_length gone come zones result (subst (Stands zones) (sym (ap (λ (p : Option Zone × Option Zone). p.0) f)) there)
+          gone_length gone come zones result (subst (IsThere zones) (sym (ap (λ (p : Option Zone × Option Zone). p.0) f)) there)
           (ap (λ (p : Option Zone × Option Zone). p.1) f ∙ not_there later.0 at_last) second is
-      by_cases (inr (same, f)) = absurd (subst (Stands zones) (same ∙ not_there later.0 at_last) there)
+      by_cases (inr (same, f)) = absurd (subst (IsThere zones) (same ∙ not_there later.0 at_last) there)

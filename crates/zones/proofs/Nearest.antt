@@ -1,4 +1,4 @@
--- What stands before what in a list whose reads each return the value of the nearest write before them.
+-- What comes before what in a list whose reads each return the value of the nearest write before them.
 use Rattle.std.proofs.Common.{◌≡◌, ◌≢◌, ◌⊎◌, inl, inr, Bool, true, false, ◌&&◌, List, [], ◌∷◌, Decides, sym, ap, subst, ◌∙◌}
 use Rattle.std.specs.Prelude.{Contains}
 use Rattle.std.specs.List.{IsDistinct}
@@ -31,7 +31,7 @@ clash-flips a b =
     same_from_decides (clash a b) (clash b a) (Decides-clash a b)
     (Decides-like (clash b a) (λ (h : Clash b a). (h.1, h.0, sym h.2)) (λ (h : Clash a b). (h.1, h.0, sym h.2)) (Decides-clash b a))
 
--- the one stands before the other
+-- the first operation comes before the second in the list
 abbrev pub StandsBefore : List Op → Op → Op → Type 0
 StandsBefore [] y z = ⊥
 StandsBefore (a ∷ later) y z = ((a ≡ y) × Contains later z) ⊎ StandsBefore later y z
@@ -41,7 +41,7 @@ later_stands [] y z s = absurd s
 later_stands (a ∷ later) y z (inl h) = there a later z h.1
 later_stands (a ∷ later) y z (inr s) = there a later z (later_stands later y z s)
 
--- of two different ones one stands before the other
+-- of two different ones one comes before the other
 pub one_way : (xs : List Op) (y z : Op) → Contains xs y → Contains xs z → y ≢ z → StandsBefore xs y z ⊎ StandsBefore xs z y
 one_way [] y z h k n = absurd (in_none y h)
 one_way (a ∷ later) y z h k n = by_cases (contains_cases a later y h) (contains_cases a later z k) (λ h k. one_way later y z h k n)
@@ -61,7 +61,7 @@ kept_apart [] y z keeps s p = absurd s
 kept_apart (a ∷ later) y z keeps (inl (e, k)) p = from_recursion (λ b. ¬ Precedes b a) later keeps.0 z k (subst (λ (x : Op). Precedes z x) (sym e) p)
 kept_apart (a ∷ later) y z keeps (inr s) p = kept_apart later y z keeps.1 s p
 
--- an operation that precedes another stands before it
+-- an operation that precedes another comes before it
 pub stands_first : (xs : List Op) (y z : Op) → KeepsPrecedence xs → Contains xs y → Contains xs z → y ≢ z → Precedes y z → StandsBefore xs y z
 stands_first xs y z keeps h k n p = by_cases (one_way xs y z h k n)
   where
@@ -73,7 +73,7 @@ stands_first xs y z keeps h k n p = by_cases (one_way xs y z h k n)
 abbrev pub IsFree : Value → List Op → Type 0
 IsFree v xs = (w : Op) → Contains xs w → IsWrite w → value_of w.act ≢ v
 
--- reads return the nearest values from the held one on, no value is written twice, nor the held one
+-- reads return the nearest value, the held one at first, and no value is written twice nor the held one once
 pub record IsSound (held : Value) (xs : List Op) : Type 0 where
   pub reads : ReadsNearest held xs
   pub once : IsDistinct clash xs
@@ -90,7 +90,7 @@ put held (Write v) rest h w = h.1
 pub read_found : (held : Value) (a : Op) (later : List Op) → ReadsNearest held (a ∷ later) → is_write a ≡ false → value_of a.act ≡ held
 read_found held a later h r = (found held a.act (λ v. ReadsNearest v later) h r).0
 
--- after an operation its value is held
+-- after an operation the held value is its value
 pub reads_after : (held : Value) (a : Op) (later : List Op) → ReadsNearest held (a ∷ later) → ReadsNearest (value_of a.act) later
 reads_after held a later h = by_cases (cases_Bool (is_write a))
   where
@@ -127,7 +127,7 @@ value_from held (a ∷ later) reads x h = by_place (contains_cases a later x h) 
     by_place (inl e) rest = by_act x (ap (λ (o : Op). value_of o.act) e) (cases_Bool (is_write a))
     by_place (inr k) rest = by_rest (rest k)
 
--- a value that is neither held nor written is gone
+-- a value that is neither held nor written does not come later
 gone : (held : Value) (xs : List Op) (u : Value) → ReadsNearest held xs → u ≢ held → IsFree u xs → (z : Op) → Contains xs z → value_of z.act ≢ u
 gone held xs u reads n free z h e = by_cases (value_from held xs reads z h)
   where
@@ -148,11 +148,11 @@ no_return held (a ∷ later) y z s n e stands = by_act (cases_Bool (is_write a))
     by_act (inr f) (inl h) rest = n (sym (ap (λ (o : Op). value_of o.act) h.0) ∙ read_found held a later s.reads f)
     by_act (inr f) (inr h) rest = rest (read_found held a later s.reads f) h
 
--- none of the one value stands before one of the other
+-- no operation of the first value comes before one of the second
 abbrev pub NoneBefore : List Op → Value → Value → Type 0
 NoneBefore xs u v = (y z : Op) → value_of y.act ≡ u → value_of z.act ≡ v → ¬ StandsBefore xs y z
 
--- of two values all of one stand before all of the other
+-- of two values all operations of one come before all of the other
 pub one_first : (held : Value) (xs : List Op) (u v : Value) → IsSound held xs → u ≢ v → NoneBefore xs u v ⊎ NoneBefore xs v u
 one_first held [] u v s n = inl (λ y z e f stands. stands)
 one_first held (a ∷ later) u v s n = by_cases (value_cases (value_of a.act) u) (value_cases (value_of a.act) v) (one_first (value_of a.act) later u v (sound_after held a later s) n)
@@ -177,7 +177,7 @@ one_first held (a ∷ later) u v s n = by_cases (value_cases (value_of a.act) u)
     by_cases (inr m) (inl e) rest = inl (first_is v u (λ k. n (sym k)) e)
     by_cases (inr m) (inr k) rest = by_rest m k rest
 
--- no read of a value that is not held stands before its write
+-- no read of a value that is not held comes before its write
 pub write_first : (held : Value) (xs : List Op) (r w : Op) → IsSound held xs → value_of r.act ≢ held → is_write r ≡ false → IsWrite w → value_of w.act ≡ value_of r.act → ¬ StandsBefore xs r w
 write_first held [] r w s n f t e stands = stands
 write_first held (a ∷ later) r w s n f t e (inl h) = n (sym (ap (λ (o : Op). value_of o.act) h.0) ∙ read_found held a later s.reads (ap is_write h.0 ∙ f))

@@ -19,7 +19,7 @@ use Rattle.zones.proofs.Judged.{is_judged}
 use Rattle.zones.proofs.Members.{here, there, in_none, contains_cases, kept_stands, from_recursion, pairs_head, pairs_tail}
 use Rattle.zones.proofs.Cluster.{EdgeIn, left_in, settle}
 
--- two that stand in a list are one, or the relation holds of them
+-- two elements of a list are one, or the relation holds of them
 pub one_or_related : (R : Op → Op → Type 0) → ((x y : Op) → R x y → R y x) → (xs : List Op) → AllPairs R xs → (x y : Op) → Contains xs x → Contains xs y → (x ≡ y) ⊎ R x y
 one_or_related R symmetric [] pairs x y hx hy = absurd (in_none x hx)
 one_or_related R symmetric (a ∷ xs) pairs x y hx hy =
@@ -47,7 +47,7 @@ same_act true y p q = sym (q refl)
 same_act false true p q = p refl
 same_act false false p q = refl
 
--- both begin at one moment
+-- the test whether both begin at one moment
 abbrev begin_together : Op → Op → Bool
 begin_together a b = a.begin.0 == b.begin.0
 
@@ -57,7 +57,7 @@ together-flips a b =
     (Decides-like (begin_together b a) (λ e. sym e) (λ e. sym e) (Decides-eqb b.begin.0 a.begin.0))
 
 module _ (initial : Value) (ops : List Op) (moments : HasDistinctMoments ops) where
-  -- two that may each stand before the other are one
+  -- two operations that may each come before the other are one
   one_operation : (x y : Op) → Contains (judged ops) x → Contains (judged ops) y → StandInTurn initial ops x y → StandInTurn initial ops y x → x ≡ y
   one_operation x y h k s t =
       one_holder ops moments x y (kept_stands is_judged ops x h).0 (kept_stands is_judged ops y k).0 x.begin

@@ -7,16 +7,16 @@ use Rattle.std.proofs.lemmas.List.Elements.{All-contains, Contains-append_left, 
 use Rattle.intervals.specs.declared.operation.Op.{Op}
 use Rattle.intervals.specs.declared.operation.Value.{Value}
 use Rattle.intervals.specs.Operation.{same_value, value_of}
-use Rattle.summary_tree.specs.Order.{HasNoneAt, IsExact, IsOrder, above, below, item_at, with_item}
-use Rattle.zones.specs.Moves.{AreChanges, AreNew, IsChangeAt, IsNew, KeepsRoom, Shape, Stands, moved, with, without}
+use Rattle.summary_tree.specs.Order.{HasNoneAt, IsExact, IsStrictOrder, above, below, item_at, with_item}
+use Rattle.zones.specs.Moves.{AreChanges, AreNew, IsChangeAt, IsNew, KeepsRoom, Shape, IsThere, moved, with, without}
 use Rattle.zones.specs.Zoned.{other_value, value_in}
 use Rattle.zones.proofs.Members.{Decides-same_value, in_none, value_cases, here, there, contains_cases, kept, kept_stands, all_from}
 
-module _ {T K : Type 0} (shape : Shape T K) (order : IsOrder shape.before) where
+module _ {T K : Type 0} (shape : Shape T K) (order : IsStrictOrder shape.before) where
   abbrev key : T → K
   key = shape.key
 
-  -- the item that comes, and those that stand at other keys
+  -- with an item of a new key the list has that item, and those at other keys
   stands_with : (item : T) (items : List T) → HasNoneAt key (key item) items → (x : T) → Contains items x → Contains (with_item key shape.before item items) x
   stands_with item items new x h = by_cases (order.total (key x) (key item))
     where
@@ -39,7 +39,7 @@ module _ {T K : Type 0} (shape : Shape T K) (order : IsOrder shape.before) where
       by_cases (inl k) = inr (kept_stands (λ y. shape.before (key y) (key item)) items x k).0
       by_cases (inr k) = by_later (contains_cases item (above key shape.before (key item) items) x k)
 
--- an item that stands is found at its key
+-- an item of the tree is found at its key
 module _ {T K : Type 0} (key : T → K) (same : K → K → Bool) (exact : IsExact same) where
   pub found_standing : (items : List T) (item : T) (k : K) → Contains items item → key item ≡ k → IsSome (item_at key same k items)
   found_standing [] item k h e = absurd (in_none item h)
@@ -50,7 +50,7 @@ module _ {T K : Type 0} (key : T → K) (same : K → K → Bool) (exact : IsExa
       by_cases false t (inl s) later = absurd (both_ways (same (key x) k) t (exact.here (key x) k (ap key s ∙ e)))
       by_cases false t (inr c) later = later c
 
--- it is the value, where there is one
+-- the value is the optional one
 abbrev pub Is : Option Value → Value → Type 0
 Is None v = ⊥
 Is (Some u) v = v ≡ u
@@ -59,7 +59,7 @@ is_cases : (u : Option Value) (v : Value) → Is u v ⊎ ¬ Is u v
 is_cases None v = inr (λ n. n)
 is_cases (Some u) v = value_cases v u
 
--- of two values one is the first or the other one, and not both
+-- a value is the first or the other of two optional values, and not both
 other_apart : (first second : Option Value) (v : Value) → Is first v → ¬ Is (other_value first second) v
 other_apart None second v e = absurd e
 other_apart (Some u) None v e = λ f. f
@@ -81,7 +81,7 @@ other_covers (Some u) (Some w) v e = by_cases (same_value u w) refl
 is_value_in : (op : Option Op) (x : Op) (v : Value) → op ≡ Some x → value_of x.act ≡ v → Is (value_in op) v
 is_value_in op x v e f = subst (λ (o : Option Op). Is (value_in o) v) (sym e) (sym f)
 
--- the items of a set of values: each of its own value and such that it may stand, no two of one key
+-- the items of a set of values: each has its own value and may be in the tree, and no two have one key
 pub record StandForValues {T K : Type 0} (shape : Shape T K) (Has : Value → Type 0) (of : Value → T) : Type 0 where
   pub value : (v : Value) → shape.value (of v) ≡ v
   pub may_stand : (v : Value) → shape.MayStand (of v)
@@ -98,13 +98,13 @@ pub record IsItemFor {T : Type 0} (Has : Value → Type 0) (of : Value → T) (v
   pub none : IsNone found → ¬ Has value
   pub some : IsSome found → Has value
 
--- the same of a value that there may be
+-- the optional item is that of the optional value; none where there is no value
 abbrev pub IsItemForSome : {T : Type 0} → (Has : Value → Type 0) (of : Value → T) → Option Value → Option T → Type 0
 IsItemForSome Has of None found = found ≡ None
 IsItemForSome Has of (Some value) found = IsItemFor Has of value found
 
-module _ {T K : Type 0} (shape : Shape T K) (order : IsOrder shape.before) (exact : IsExact shape.same) (Has : Value → Type 0) (of : Value → T) (stand : StandForValues shape Has of) where
-  -- an item of the tree that has the key of a value's is that
+module _ {T K : Type 0} (shape : Shape T K) (order : IsStrictOrder shape.before) (exact : IsExact shape.same) (Has : Value → Type 0) (of : Value → T) (stand : StandForValues shape Has of) where
+  -- an item of the tree that has the key of a value's item is that item
   same_key : (Out : Value → Type 0) (items : List T) → HasItemsBut shape Has of Out items → (u : Value) → Has u → (x : T) → Contains items x → shape.key x ≡ shape.key (of u) → shape.value x ≡ u
   same_key Out items tree u has x h e =
       let (stands, out, is) = tree.only x h in
@@ -157,7 +157,7 @@ module _ {T K : Type 0} (shape : Shape T K) (order : IsOrder shape.before) (exac
   new_some Out items tree (Some u) found is out = new_one Out items tree u found is (out u refl)
   new_some Out items tree None found is out = subst (IsNew shape items) (sym is) (record { key = tt; may_stand = tt })
 
-  -- fewer values are out: not the one whose item comes
+  -- where fewer values are out: all but that of the item that comes
   module _ (Out Less : Value → Type 0) (items : List T) (tree : HasItemsBut shape Has of Out items) (less : (v : Value) → Less v → Out v) where
     put_one : (u : Value) (found : Option T) → IsItemFor Has of u found → ((v : Value) → v ≡ u → ¬ Less v) → ((v : Value) → Out v → (v ≡ u) ⊎ Less v) → Out u → HasItemsBut shape Has of Less (with shape found items)
     put_one u None is come more out = record {
@@ -269,7 +269,7 @@ module _ {T : Type 0} (Had Has : Value → Type 0) (was is : Value → T) where
   none_comes None found is never = is
   none_comes (Some u) found is never = absurd (never u refl)
 
-  module _ {K : Type 0} (shape : Shape T K) (order : IsOrder shape.before) (exact : IsExact shape.same) (stood_for : StandForValues shape Had was) (stand_for : StandForValues shape Has is)
+  module _ {K : Type 0} (shape : Shape T K) (order : IsStrictOrder shape.before) (exact : IsExact shape.same) (stood_for : StandForValues shape Had was) (stand_for : StandForValues shape Has is)
       (items : List T) (tree : HasItemsBut shape Had was (λ v. ⊥) items) (first second : Option Value) (gone come : Option T × Option T) (moves : AreMoves Had Has was is first second gone come) where
     abbrev Out : Value → Type 0
     Out v = (⊥ ⊎ Is first v) ⊎ Is second v
@@ -285,7 +285,7 @@ module _ {T : Type 0} (Had Has : Value → Type 0) (was is : Value → T) where
     keeps : (v : Value) → ¬ Out v → KeepsItem Had Has was is v
     keeps v out = moves.others v (λ h. out (inl (inr h))) (λ h. out (inr h))
 
-    -- the others are those after the edit
+    -- the other items are those after the edit
     changed : HasItemsBut shape Has is Out left_over
     changed = record {
       each = λ v has out. let k = keeps v out in subst (Contains left_over) (k.same (k.stood has)) (taken.each v (k.stood has) out);
@@ -311,7 +311,7 @@ module _ {T : Type 0} (Had Has : Value → Type 0) (was is : Value → T) where
 
 -- what goes leaves room for what comes, where no value is new
 stands_before : {T K : Type 0} (shape : Shape T K) (Had Has : Value → Type 0) (was is : Value → T) (items : List T) → HasItemsBut shape Had was (λ v. ⊥) items → (u : Option Value) (one other : Option T) → IsItemForSome Had was u one → IsItemForSome Has is u other
-    → ((v : Value) → Has v → Had v) → IsSome other → Stands items one
+    → ((v : Value) → Has v → Had v) → IsSome other → IsThere items one
 stands_before shape Had Has was is items tree None one other before after had some = absurd (let e : is_some other ≡ false = ap is_some after in both_ways (is_some other) e some)
 stands_before shape Had Has was is items tree (Some u) None other before after had some = absurd (before.none refl (had u (after.some some)))
 stands_before shape Had Has was is items tree (Some u) (Some x) other before after had some = subst (Contains items) (sym before.item) (tree.each u (before.some refl) (λ n. n))
@@ -321,7 +321,7 @@ none_other None = refl
 none_other (Some u) = refl
 
 -- the items of the values that an edit touches are moved where they change
-module _ {T K : Type 0} (shape : Shape T K) (order : IsOrder shape.before) (exact : IsExact shape.same) (old new : Option Op) (Had Has : Value → Type 0) (was is : Value → T)
+module _ {T K : Type 0} (shape : Shape T K) (order : IsStrictOrder shape.before) (exact : IsExact shape.same) (old new : Option Op) (Had Has : Value → Type 0) (was is : Value → T)
     (stood_for : StandForValues shape Had was) (stand_for : StandForValues shape Has is) (kept_where : (v : Value) → IsUntouched old new v → KeepsItem Had Has was is v)
     (items : List T) (tree : HasItemsBut shape Had was (λ v. ⊥) items) (before after gone come : Option T × Option T) (changes : AreChanges before after gone come)
     (before_first : IsItemForSome Had was (value_in old) before.0) (before_second : IsItemForSome Had was (other_value (value_in old) (value_in new)) before.1)

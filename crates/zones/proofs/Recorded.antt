@@ -26,7 +26,7 @@ use Rattle.zones.proofs.Ends.{none_begins, none_ends}
 use Rattle.zones.proofs.Judged.{is_judged, is_judged_by_end}
 use Rattle.zones.proofs.Members.{Decides-same_value, all_from, in_none, kept_stands}
 
--- of no operations
+-- the edges of each value without operations
 edges_of_no : (v : Value) → AreEdges [] v (edges_of_nothing v)
 edges_of_no v = record {
   same = refl;
@@ -48,7 +48,7 @@ records_at_first records nil none = record {
     by_value Nil = subst (AreEdges [] Nil) (sym nil) (edges_of_no Nil)
     by_value (Int number) = subst (AreEdges [] (Int number)) (sym (ap (λ (o : Option Edges). unwrap_or o (edges_of_nothing (Int number))) (none number))) (edges_of_no (Int number))
 
--- the same records in another order
+-- records that have the same edges for each value are those of the operations too
 pub records_kept : (ops : List Op) (records changed : Records) → changed.of_nil ≡ records.of_nil → ((number : ℤ) → get int_eq changed.of_numbers number ≡ get int_eq records.of_numbers number)
     → AreRecords ops records → AreRecords ops changed
 records_kept ops records changed nil same are = record {
@@ -60,7 +60,7 @@ records_kept ops records changed nil same are = record {
     by_value Nil = subst (AreEdges ops Nil) (sym nil) (are.edges Nil)
     by_value (Int number) = subst (AreEdges ops (Int number)) (sym (ap (λ (o : Option Edges). unwrap_or o (edges_of_nothing (Int number))) (same number))) (are.edges (Int number))
 
--- a value of some judged operation has a record
+-- the value of a judged operation has a record
 pub has_record : (ops : List Op) (records : Records) → AreRecords ops records → (op : Op) → Contains (judged ops) op → (v : Value) → value_of op.act ≡ v → HasRecord records v
 has_record ops records are op h Nil same = tt
 has_record ops records are op h (Int n) same = by_cases (get int_eq records.of_numbers n) refl
@@ -78,7 +78,7 @@ has_record ops records are op h (Int n) same = by_cases (get int_eq records.of_n
     by_cases None e = absurd (none e)
     by_cases (Some edges) e = refl
 
--- what the edges of two values come to
+-- the edges of two values after a change, put in the records
 module _ (before : List Op) (old new : Option Op) (after : List Op) (change : IsChange before old new after) where
   old_apart : (v : Value) → (o : Option Op) → value_in o ≢ Some v → IfSome o (λ op. value_of op.act ≢ v)
   old_apart v None n = tt
@@ -114,7 +114,7 @@ module _ (before : List Op) (old new : Option Op) (after : List Op) (change : Is
     filled = filled;
   }
 
-  -- there is a record for the first of them
+  -- there is a record for the first of the two values
   pub first_recorded : (records : Records) (edges : Option Edges × Option Edges) → AreRecords before records → AreEdgesAt after (value_in old) (other_value (value_in old) (value_in new)) edges
       → IfSome edges.0 (λ e. HasRecord records e.value)
   first_recorded records edges are is = by_old old edges.0 change.goes is.one
@@ -124,7 +124,7 @@ module _ (before : List Op) (old new : Option Op) (after : List Op) (change : Is
       by_old None (Some f) h k = absurd (cc)
       by_old (Some op) (Some f) h k = has_record before records are op h f.value (sym k.same)
 
-  -- the second is of an operation that came
+  -- without an operation that comes there is no second value
   pub second_none : new ≡ None → (edges : Option Edges × Option Edges) → AreEdgesAt after (value_in old) (other_value (value_in old) (value_in new)) edges → edges.1 ≡ None
   second_none none edges is = by_old old new none edges.1 is.other
     where

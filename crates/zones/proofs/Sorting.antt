@@ -1,4 +1,4 @@
--- By a total and transitive relation each list has an order in which each stands so to all later ones.
+-- By a total and transitive relation each list can be sorted.
 use Rattle.std.proofs.Common.{◌⊎◌, inl, inr, List, [], ◌∷◌}
 use Rattle.std.specs.Prelude.{All, IsPermutation}
 use Rattle.std.specs.List.{AllByRecursion}
@@ -6,7 +6,7 @@ use Rattle.std.proofs.lemmas.List.Elements.{All-cons, All-weaker, All-from_recur
 use Rattle.std.proofs.lemmas.List.Sorted.{IsPermutation-refl, IsPermutation-cons, IsPermutation-middle, IsPermutation-trans, All-permutation}
 
 module _ {X : Type 0} (R : X → X → Type 0) (total : (x y : X) → R x y ⊎ R y x) (transitive : (x y z : X) → R x y → R y z → R x z) where
-  -- each stands so to all later ones
+  -- each element is so related to all later ones
   abbrev pub InOrder : List X → Type 0
   InOrder [] = Unit {0}
   InOrder (x ∷ later) = AllByRecursion (R x) later × InOrder later

@@ -13,7 +13,7 @@ use Rattle.intervals.specs.Kind.{HasNoWrite, IsArranged, IsAtomic, IsAtomicWhere
 use Rattle.intervals.specs.Operation.{IsWrite, value_of, judged}
 use Rattle.intervals.specs.Refusal.{standing}
 use Rattle.intervals.specs.Standing.{HasDistinctMoments, HasEndsAfterBeginnings, HasDistinctValues, HasOwnValues, IsInitial}
-use Rattle.intervals.specs.Terms.{Terms, unedited}
+use Rattle.intervals.specs.Terms.{ClaimModel, unedited}
 use Rattle.intervals.proofs.Standing.{standing_apart}
 use Rattle.zone_tree.specs.declared.edge.Edge.{Edge}
 use Rattle.zone_tree.specs.declared.edge.Edge.TheVariants.{Before, At}
@@ -21,7 +21,7 @@ use Rattle.zone_tree.specs.declared.zone.Zone.{Zone}
 use Rattle.zone_tree.specs.Conflict.{IsClean}
 use Rattle.zone_tree.specs.Edge.{ComesBefore}
 use Rattle.zone_tree.specs.Zone.{Conflicts, IsForward, least_end}
-use Rattle.zones.specs.AtFirst.{IsSplit, IsWriteless, first_split, first_writeless, first_writeless_but, fresh, initial_of, or_fresh, sole_of, start_of, unwritten_of, with_other}
+use Rattle.zones.specs.AtFirst.{IsSplit, IsWriteless, first_split, first_writeless, first_writeless_but, unused_value, initial_of, or_fresh, sole_of, start_of, unwritten_of, with_other}
 use Rattle.zones.specs.Cluster.{cluster_of, greatest_begin_of, values_from, written_values, written_zone, zone_between, zone_of, zones_from, zones_of}
 use Rattle.zones.specs.Crossing.{HasFirstConflict, HasFirstConflictFrom, IsCrossing, IsFirstCrossing, IsFirstCrossingFrom, value_at}
 use Rattle.zones.specs.Fault.{IsEarly, IsFaultless, IsFirstOf, IsUnwritten, first_early, first_unwritten}
@@ -41,48 +41,48 @@ use Rattle.zones.proofs.Written.{written_cases, written_value}
 
 -- the zone of a value that no operation has
 abbrev fresh_zone : List Op → Zone
-fresh_zone ops = record { left = Before; right = Before; forward = false; value = fresh ops }
+fresh_zone ops = record { left = Before; right = Before; forward = false; value = unused_value ops }
 
-fresh_zone_is : (ops : List Op) → zone_of (fresh ops) ops (fresh ops) ≡ fresh_zone ops
+fresh_zone_is : (ops : List Op) → zone_of (unused_value ops) ops (unused_value ops) ≡ fresh_zone ops
 fresh_zone_is ops =
-    let i = fresh ops in
+    let i = unused_value ops in
     ap (λ (m : Edge). zone_between m (greatest_begin_of i ops i) i) (least_initial i ops)
     ∙ ap (λ (m : Edge). zone_between Before m i) (by_cases (greatest_of_one i ops i))
   where
-    by_cases : (greatest_begin_of (fresh ops) ops (fresh ops) ≡ Before) ⊎ ((op : Op) × Contains (cluster_of ops (fresh ops)) op × (At op.begin ≡ greatest_begin_of (fresh ops) ops (fresh ops))) → greatest_begin_of (fresh ops) ops (fresh ops) ≡ Before
+    by_cases : (greatest_begin_of (unused_value ops) ops (unused_value ops) ≡ Before) ⊎ ((op : Op) × Contains (cluster_of ops (unused_value ops)) op × (At op.begin ≡ greatest_begin_of (unused_value ops) ops (unused_value ops))) → greatest_begin_of (unused_value ops) ops (unused_value ops) ≡ Before
     by_cases (inl e) = e
     by_cases (inr (op, h, e)) =
-        let (k, same) = member_of (fresh ops) ops (fresh ops) op h in
+        let (k, same) = member_of (unused_value ops) ops (unused_value ops) op h in
         absurd (fresh_is_new ops op (kept_stands is_judged ops op k).0 same)
 
--- it conflicts with none, and is not forward
-fresh_clear : (ops : List Op) (z : Zone) → ¬ Conflicts (zone_of (fresh ops) ops (fresh ops)) z
+-- the zone of a value that no operation has conflicts with none, and is not forward
+fresh_clear : (ops : List Op) (z : Zone) → ¬ Conflicts (zone_of (unused_value ops) ops (unused_value ops)) z
 fresh_clear ops z c =
     let d : Conflicts (fresh_zone ops) z = subst (λ (x : Zone). Conflicts x z) (fresh_zone_is ops) c in
     before_all (least_end z) d.1
 
-fresh_backward : (ops : List Op) → ¬ IsForward (zone_of (fresh ops) ops (fresh ops))
+fresh_backward : (ops : List Op) → ¬ IsForward (zone_of (unused_value ops) ops (unused_value ops))
 fresh_backward ops f = let d : IsForward (fresh_zone ops) = subst IsForward (fresh_zone_is ops) f in absurd (cc)
 
--- so with it the zones are clean exactly where they are without
+-- with the zone of a value that no operation has the zones are clean exactly where they are without it
 clean_behind : (initial : Value) (ops : List Op) → HasNoWrite ops initial → IsClean (zones_of initial ops) → IsClean (zones_from None ops)
 clean_behind initial ops none clean =
     pairs_tail (λ a b. ¬ Conflicts a b) (zone_of initial ops initial) (zones_from None ops) (subst IsClean (zones_behind initial ops none) clean)
 
-clean_with_fresh : (ops : List Op) → IsClean (zones_from None ops) → IsClean (zones_of (fresh ops) ops)
+clean_with_fresh : (ops : List Op) → IsClean (zones_from None ops) → IsClean (zones_of (unused_value ops) ops)
 clean_with_fresh ops clean =
-    subst IsClean (sym (zones_behind (fresh ops) ops (fresh_not_written ops)))
-    (AllPairs-cons (λ a b. ¬ Conflicts a b) (zone_of (fresh ops) ops (fresh ops)) (zones_from None ops) (all_from (λ z. ¬ Conflicts (zone_of (fresh ops) ops (fresh ops)) z) (zones_from None ops) (λ z h. fresh_clear ops z)) clean)
+    subst IsClean (sym (zones_behind (unused_value ops) ops (fresh_not_written ops)))
+    (AllPairs-cons (λ a b. ¬ Conflicts a b) (zone_of (unused_value ops) ops (unused_value ops)) (zones_from None ops) (all_from (λ z. ¬ Conflicts (zone_of (unused_value ops) ops (unused_value ops)) z) (zones_from None ops) (λ z h. fresh_clear ops z)) clean)
 
 pub clean_from : (initial : Option Value) (ops : List Op) → IsClean (zones_of (or_fresh ops initial) ops) ↔ IsClean (zones_from initial ops)
-clean_from None ops = (clean_behind (fresh ops) ops (fresh_not_written ops), clean_with_fresh ops)
+clean_from None ops = (clean_behind (unused_value ops) ops (fresh_not_written ops), clean_with_fresh ops)
 clean_from (Some initial) ops = ((λ c. c), λ c. c)
 
--- and their first conflict is the same
-conflict_with_fresh : (ops : List Op) (first second : Zone) → HasFirstConflictFrom None ops first second → HasFirstConflict (fresh ops) ops first second
+-- with the zone of a value that no operation has the first conflict is the one without it
+conflict_with_fresh : (ops : List Op) (first second : Zone) → HasFirstConflictFrom None ops first second → HasFirstConflict (unused_value ops) ops first second
 conflict_with_fresh ops first second h = record {
   zones = front ∷ h.zones;
-  each_once = subst (λ (zones : List Zone). IsPermutation zones (front ∷ h.zones)) (sym (zones_behind (fresh ops) ops (fresh_not_written ops))) (IsPermutation-cons front (zones_from None ops) h.zones h.each_once);
+  each_once = subst (λ (zones : List Zone). IsPermutation zones (front ∷ h.zones)) (sym (zones_behind (unused_value ops) ops (fresh_not_written ops))) (IsPermutation-cons front (zones_from None ops) h.zones h.each_once);
   by_left = AllPairs-cons (λ a b. ComesBefore a.left b.left) front h.zones (all_from (λ z. ComesBefore front.left z.left) h.zones later) h.by_left;
   conflict = record {
     earlier = front ∷ h.conflict.earlier;
@@ -99,25 +99,25 @@ conflict_with_fresh ops first second h = record {
 }
   where
     front : Zone
-    front = zone_of (fresh ops) ops (fresh ops)
+    front = zone_of (unused_value ops) ops (unused_value ops)
 
     later : (z : Zone) → Contains h.zones z → ComesBefore front.left z.left
     later z k =
         let (v, has, e) = from_map (written_zone ops) (values_from None ops) z (Contains-permutation h.zones (zones_from None ops) z (IsPermutation-sym (zones_from None ops) h.zones h.each_once) k) in
-        subst (λ (a : Edge). ComesBefore a z.left) (sym (left_initial (fresh ops) ops)) (subst (λ (x : Zone). ComesBefore Before x.left) e (begins_later ops v (has_write ops v has)))
+        subst (λ (a : Edge). ComesBefore a z.left) (sym (left_initial (unused_value ops) ops)) (subst (λ (x : Zone). ComesBefore Before x.left) e (begins_later ops v (has_write ops v has)))
 
 pub conflict_from : (initial : Option Value) (ops : List Op) (first second : Zone) → HasFirstConflictFrom initial ops first second → HasFirstConflict (or_fresh ops initial) ops first second
 conflict_from None ops first second h = conflict_with_fresh ops first second h
 conflict_from (Some initial) ops first second h = h
 
--- the value of a zone of which a first conflict speaks is written, where there is no initial value
+-- the value of each zone is written, where there is no initial value
 pub conflict_written : (ops : List Op) (z : Zone) (zones : List Zone) → IsPermutation (zones_from None ops) zones → Contains zones z → HasWrite ops z.value
 conflict_written ops z zones once h =
     let (v, has, e) = from_map (written_zone ops) (values_from None ops) z (Contains-permutation zones (zones_from None ops) z (IsPermutation-sym (zones_from None ops) zones once) h) in
     subst (HasWrite ops) (sym (written_value ops v) ∙ ap (λ (x : Zone). x.value) e) (has_write ops v has)
 
-module _ (claim : Terms) (ops : List Op) where
-  -- the writeless reads: none, of one value, or two of different values
+module _ (claim : ClaimModel) (ops : List Op) where
+  -- the three cases of writeless reads: none, all of one value, or two of different values
   abbrev NoneReads : Type 0
   NoneReads = first_writeless claim ops ≡ None
 
@@ -168,7 +168,7 @@ module _ (claim : Terms) (ops : List Op) where
   none_writeless : NoneReads → (r : Op) → Contains ops r → ¬ IsWriteless claim ops r
   none_writeless e r h = All-contains (λ r. ¬ IsWriteless claim ops r) ops r ((writeless_none claim ops).0 e) h
 
-  -- all writeless reads are of one value
+  -- where they have one value, all writeless reads are of it
   one_value : (a : Op) → OneValue a → (r : Op) → Contains ops r → IsWriteless claim ops r → value_of r.act ≡ value_of a.act
   one_value a (e, f) r h u = by_cases (value_cases (value_of r.act) (value_of a.act))
     where
@@ -221,7 +221,7 @@ module _ (claim : Terms) (ops : List Op) where
             (law.1 (sym (known_unwritten known) ∙ unwritten, early, subst (λ (i : Option Value). IsClean (zones_from i ops)) (known_initial known) clean))),
       )
 
-  -- a read of neither the value nor a write's is writeless, and the other way round
+  -- a read whose value is neither this one nor written is writeless, and the other way round
   unwritten_is : claim.known ≡ false → (v : Value) (r : Op) → IsUnwritten v ops r → IsWriteless claim ops r
   unwritten_is unknown v r u = record { read = u.read; not_initial = not_known unknown (value_of r.act); not_written = u.not_written }
 
@@ -234,7 +234,7 @@ module _ (claim : Terms) (ops : List Op) where
   clean_back : (i : Option Value) → initial_of claim ops ≡ i → IsClean (zones_from (initial_of claim ops) ops) → IsClean (zones_of (or_fresh ops i) ops)
   clean_back i e clean = (clean_from i ops).1 (subst (λ (o : Option Value). IsClean (zones_from o ops)) e clean)
 
-  -- with no read unwritten from a value
+  -- where from that value no read is unwritten
   from_value : (i : Option Value) → initial_of claim ops ≡ i → ((r : Op) → Contains ops r → ¬ IsUnwritten (or_fresh ops i) ops r) → (first_early ops ≡ None) → IsClean (zones_from (initial_of claim ops) ops) → IsFaultless (start_of claim ops) ops
   from_value i e written early clean =
       subst (λ (o : Option Value). IsFaultless (or_fresh ops o) ops) (sym e) (record {
@@ -261,13 +261,13 @@ module _ (claim : Terms) (ops : List Op) where
       two_faulty : (a b : Op) → TwoValues a b → ¬ IsFaultless (start_of claim ops) ops
       two_faulty a b is f =
           let first = writeless_first claim ops a is.0 in
-          All-contains (λ r. ¬ IsUnwritten (fresh ops) ops r) ops a (at_value None (unknown_initial unknown ∙ two_sole a b is) f).written first.stands
-          (writeless_is (fresh ops) a (fresh_is_new ops a first.stands) first.holds)
+          All-contains (λ r. ¬ IsUnwritten (unused_value ops) ops r) ops a (at_value None (unknown_initial unknown ∙ two_sole a b is) f).written first.stands
+          (writeless_is (unused_value ops) a (fresh_is_new ops a first.stands) first.holds)
 
       by_cases : Cases → IsFaultless (start_of claim ops) ops ↔ Without
       by_cases (inl e) = (
         (λ f. without_at unknown None (from_none e) (none_pair e) (at_value None (from_none e) f)),
-        (λ (unwritten, split, early, clean). from_value None (from_none e) (λ r h u. none_writeless e r h (unwritten_is unknown (fresh ops) r u)) early clean),
+        (λ (unwritten, split, early, clean). from_value None (from_none e) (λ r h u. none_writeless e r h (unwritten_is unknown (unused_value ops) r u)) early clean),
       )
       by_cases (inr (inl (a, is))) = (
         (λ f. without_at unknown (Some (value_of a.act)) (from_one a is) (one_pair a is) (at_value (Some (value_of a.act)) (from_one a is) f)),
@@ -314,10 +314,10 @@ module _ (claim : Terms) (ops : List Op) where
   values_at : HasOwnValues claim ops → (v : Value) → HasNoWrite ops v → HasDistinctValues v ops
   values_at values v none = record { apart = values.apart; new = none }
 
-  abbrev beginning : Value → Terms
+  abbrev beginning : Value → ClaimModel
   beginning v = record claim { initial = v }
 
-  -- with an arrangement from some value that no write carries, it begins with that, or no read tells of one
+  -- with an arrangement from some value that no write carries, the register begins with that, or no read shows a value
   faultless_from : claim.known ≡ false → (v : Value) → HasNoWrite ops v → IsFaultless v ops → IsFaultless (start_of claim ops) ops
   faultless_from unknown v none f = by_cases cases
     where
@@ -367,7 +367,7 @@ module _ (claim : Terms) (ops : List Op) where
             (λ (v, none, arranged). faultless_from unknown v none ((exactly v none).1 arranged)),
           )
 
-  -- what excludes every arrangement
+  -- what excludes every arrangement: an unwritten read, a split, an early read, a crossing
   pub unwritten_excludes_all : claim.known ≡ true → (r : Op) → Contains ops r → IsUnwritten claim.initial ops r → ¬ IsAtomic claim ops
   unwritten_excludes_all known r h u atomic = unwritten_excludes claim ops r h u (subst (λ (t : Bool). IsAtomicWhere t claim ops) known atomic)
 
@@ -475,7 +475,7 @@ module _ (claim : Terms) (ops : List Op) where
       by_cases (inr (inl (r, is))) = split.apart (one_value r is b split.b_stands split.other ∙ sym (one_value r is a split.a_stands split.one))
       by_cases (inr (inr (r, s, is))) = let some : Some (r, s) ≡ None = sym (two_pair r s is) ∙ (sym (unknown_split unknown) ∙ e) in cc
 
-  -- the initial value that nobody knows is that of all writeless reads
+  -- where nobody knows the initial value, it is that of all writeless reads
   pub sole_is : claim.known ≡ false → (v : Value) → initial_of claim ops ≡ Some v → ((r : Op) × Contains ops r × IsWriteless claim ops r × (value_of r.act ≡ v)) × ((r : Op) → Contains ops r → IsWriteless claim ops r → value_of r.act ≡ v)
   sole_is unknown v e = by_cases cases
     where
@@ -487,18 +487,19 @@ module _ (claim : Terms) (ops : List Op) where
           ((a, first.stands, first.holds, same), λ r h u. one_value a is r h u ∙ same)
       by_cases (inr (inr (a, b, is))) = absurd (let some : Some v ≡ None = sym e ∙ (unknown_initial unknown ∙ two_sole a b is) in cc)
 
-  -- a value that an operation has, and that is written from the start, is so from the initial value
+  -- a value of an operation that is among the `written_values` of the start is among the `values_from` of the initial
+  -- value
   pub from_start : (op : Op) → Contains ops op → Contains (written_values (start_of claim ops) ops) (value_of op.act) → Contains (values_from (initial_of claim ops) ops) (value_of op.act)
   from_start op h written = by_initial (initial_of claim ops) refl written
     where
-      by_write : (fresh ops ≡ value_of op.act) ⊎ HasWrite ops (value_of op.act) → Contains (values_from None ops) (value_of op.act)
+      by_write : (unused_value ops ≡ value_of op.act) ⊎ HasWrite ops (value_of op.act) → Contains (values_from None ops) (value_of op.act)
       by_write (inl e) = absurd (fresh_is_new ops op h (sym e))
       by_write (inr has) = carried ops (value_of op.act) has
 
       by_initial : (i : Option Value) → initial_of claim ops ≡ i → Contains (written_values (or_fresh ops (initial_of claim ops)) ops) (value_of op.act) → Contains (values_from (initial_of claim ops) ops) (value_of op.act)
       by_initial None e k =
           subst (λ (o : Option Value). Contains (values_from o ops) (value_of op.act)) (sym e)
-          (by_write (written_cases (fresh ops) ops (value_of op.act) (subst (λ (o : Option Value). Contains (written_values (or_fresh ops o) ops) (value_of op.act)) e k)))
+          (by_write (written_cases (unused_value ops) ops (value_of op.act) (subst (λ (o : Option Value). Contains (written_values (or_fresh ops o) ops) (value_of op.act)) e k)))
       by_initial (Some v) e k =
           subst (λ (o : Option Value). Contains (values_from o ops) (value_of op.act)) (sym e)
           (subst (λ (o : Option Value). Contains (written_values (or_fresh ops o) ops) (value_of op.act)) e k)
@@ -506,8 +507,8 @@ module _ (claim : Terms) (ops : List Op) where
   pub first_crossing_from : (a : Option Op) (b : Op) (c : Option Op) (d : Op) → IsFirstCrossingFrom (initial_of claim ops) (start_of claim ops) ops a b c d → IsFirstCrossing (start_of claim ops) ops a b c d
   first_crossing_from a b c d x = record { first = x.first; second = x.second; conflict = conflict_from (initial_of claim ops) ops x.first x.second x.conflict; extremes = x.extremes }
 
--- after any edits of an atomic register
-pub faultless_after_edits : (claim : Terms) (edits : List Edit) → let held = standing (unedited claim) edits in held.claim.kind ≡ Atomic → IsFaultless (start_of held.claim held.ops) held.ops ↔ Holds held.claim held.ops
+-- after any edits of an atomic register: faultless exactly where it holds
+pub faultless_after_edits : (claim : ClaimModel) (edits : List Edit) → let held = standing (unedited claim) edits in held.claim.kind ≡ Atomic → IsFaultless (start_of held.claim held.ops) held.ops ↔ Holds held.claim held.ops
 faultless_after_edits claim edits atomic =
     let held = standing (unedited claim) edits in
     let apart = standing_apart claim edits in

@@ -1,4 +1,4 @@
--- The values at fault and their stretches: the edges of these, and what an edit makes of them.
+-- Values at fault and their stretches: the edges of these, and what an edit makes of them.
 use Rattle.std.proofs.Common.{◌≡◌, ◌≢◌, ◌⊎◌, ◌≤◌, ◌<◌, inl, inr, Bool, true, false, ◌&&◌, List, [], Option, Some, None, Decides, refl, sym, ap, ◌∙◌, subst, arith}
 use Rattle.std.specs.Prelude.{Contains, IsSome, is_some, filter, map}
 use Rattle.std.proofs.lemmas.Bool.{both_ways, cases_order, lt-ltb, ltb-true}
@@ -11,18 +11,18 @@ use Rattle.intervals.specs.declared.operation.Value.{Value}
 use Rattle.intervals.specs.Operation.{IsJudgedRead, IsWrite, is_judged_read, is_write, judged, same_value, value_of}
 use Rattle.intervals.specs.Standing.{HasDistinctMoments}
 use Rattle.intervals.specs.Judging.{end_number}
-use Rattle.intervals.specs.Terms.{Terms}
+use Rattle.intervals.specs.Terms.{ClaimModel}
 use Rattle.intervals.proofs.Found.{find-None, find-Some}
 use Rattle.stretch_tree.specs.declared.stretch.Stretch.{Stretch}
 use Rattle.stretch_tree.proofs.MomentOrder.{moment_exact, moment_order}
 use Rattle.zone_tree.specs.declared.edge.Edge.{Edge}
 use Rattle.zone_tree.specs.declared.edge.Edge.TheVariants.{At, Never}
 use Rattle.zone_tree.specs.Edge.{ComesBefore}
-use Rattle.zones.specs.Cluster.{Span, edge_of_end, has_value, span_of}
-use Rattle.zones.specs.Faults.{AreStretched, AreStretchesAt, IsAtFault, IsRead, IsStretchAt, IsStretchAtSome, begin_of_write, first_end_of, moment_of, reads_of, stretch_of, stretch_shape, write_of}
+use Rattle.zones.specs.Cluster.{Interval, edge_of_end, has_value, interval_of}
+use Rattle.zones.specs.Faults.{AreStretched, AreStretchesAt, IsAtFault, IsRead, IsStretchAt, IsStretchAtSome, begin_of_write, first_end_of, edge_moment, reads_of, stretch_of, stretch_shape, write_of}
 use Rattle.intervals.specs.Kind.{HasNoWrite}
 use Rattle.zones.specs.Members.{EndsFirstOf, IsChange, IsTheWriteAt}
-use Rattle.zones.specs.Moves.{AreChanges, AreNew, Stands, moved}
+use Rattle.zones.specs.Moves.{AreChanges, AreNew, IsThere, moved}
 use Rattle.zones.specs.Zoned.{other_value, value_in}
 use Rattle.zones.proofs.Cluster.{EdgeIn, least-bound, least-held, settle}
 use Rattle.zones.proofs.EdgeOrder.{AtMost, at_most_both, not_after_before}
@@ -33,7 +33,7 @@ use Rattle.zones.proofs.Members.{Decides-same_value, in_none, kept, kept_stands,
 use Rattle.zones.proofs.PerValue.{StandForValues, HasItemsBut, IsItemForSome, IsUntouched, KeepsItem, moved_tree, tree_is_new}
 use Rattle.zones.proofs.Written.{never_last}
 
--- of two moments
+-- moments are in order where their edges are
 moments_in_order : (m n : Moment) → AtMost (At m) (At n) → m.0 ≤ n.0
 moments_in_order m n h = by_cases (cases_order m.0 n.0)
   where
@@ -59,7 +59,7 @@ at_most_ended m r j h =
 abbrev pub IsReadAt : List Op → Value → Op → Type 0
 IsReadAt ops v r = Contains ops r × IsJudgedRead r × (value_of r.act ≡ v)
 
--- where no write has the value
+-- the value has no write where no operation is its write
 pub no_write : (ops : List Op) (v : Value) → ((w : Op) → ¬ IsTheWriteAt ops v w) → HasNoWrite ops v
 no_write ops v none = all_from (λ w. IsWrite w → value_of w.act ≢ v) ops (λ w h t e. none w (record { stands = h; write = t; same = e }))
 
@@ -78,18 +78,18 @@ module _ (ops : List Op) (v : Value) where
 
   -- the first end is at most the end of each read
   pub first_at_most : (r : Op) → IsReadAt ops v r → AtMost (first_end_of ops v) (edge_of_end r.end)
-  first_at_most r h = least-bound (map span_of (reads_of ops v)) (span_of r) (mapped span_of (reads_of ops v) r (in_reads r h))
+  first_at_most r h = least-bound (map interval_of (reads_of ops v)) (interval_of r) (mapped interval_of (reads_of ops v) r (in_reads r h))
 
-  -- and that of one of them, or never comes
+  -- the first end is the end of some read, or never comes
   abbrev pub IsHeld : Type 0
   IsHeld = (first_end_of ops v ≡ Never) ⊎ ((r : Op) × IsReadAt ops v r × (edge_of_end r.end ≡ first_end_of ops v))
 
   pub first_held : IsHeld
-  first_held = by_cases (least-held (map span_of (reads_of ops v)))
+  first_held = by_cases (least-held (map interval_of (reads_of ops v)))
     where
-      by_cases : (first_end_of ops v ≡ Never) ⊎ ((s : Span) × Contains (map span_of (reads_of ops v)) s × (s.end ≡ first_end_of ops v)) → IsHeld
+      by_cases : (first_end_of ops v ≡ Never) ⊎ ((s : Interval) × Contains (map interval_of (reads_of ops v)) s × (s.end ≡ first_end_of ops v)) → IsHeld
       by_cases (inl e) = inl e
-      by_cases (inr (s, h, e)) = let (r, k, f) = from_map span_of (reads_of ops v) s h in inr (r, from_reads r k, ap (λ (x : Span). x.end) f ∙ e)
+      by_cases (inr (s, h, e)) = let (r, k, f) = from_map interval_of (reads_of ops v) s h in inr (r, from_reads r k, ap (λ (x : Interval). x.end) f ∙ e)
 
   -- the read that ended first ends at the first end
   pub first_end_is : (end : Moment) (id : OpId) → EndsFirstOf ops v end id → first_end_of ops v ≡ At end
@@ -131,7 +131,7 @@ module _ (ops : List Op) (v : Value) where
             },
           )
 
-  -- the write of the value, or that there is none
+  -- the write of the value, or none
   pub write_cases : ((w : Op) × (write_of ops v ≡ Some w) × IsTheWriteAt ops v w) ⊎ ((write_of ops v ≡ None) × HasNoWrite ops v)
   write_cases = by_cases (write_of ops v) refl
     where
@@ -193,10 +193,10 @@ module _ (ops : List Op) (v : Value) where
   pub end_in : (initial : Value) → IsRead ops v → EdgeIn initial ops v (At (stretch_of ops v).end)
   end_in initial read =
       let (end, id, is) = first_of_reads ops v read in
-      let at : end ≡ (stretch_of ops v).end = ap moment_of (sym (first_end_is ops v end id is)) in
+      let at : end ≡ (stretch_of ops v).end = ap edge_moment (sym (first_end_is ops v end id is)) in
       subst (λ (m : Moment). EdgeIn initial ops v (At m)) at (is.read, (kept is_judged ops is.read is.stands (judged_read is.read is.judged).0, is.same), inr is.ended)
 
-pub stretches_stand : (claim : Terms) (ops : List Op) → HasDistinctMoments ops → StandForValues stretch_shape (IsAtFault claim ops) (stretch_of ops)
+pub stretches_stand : (claim : ClaimModel) (ops : List Op) → HasDistinctMoments ops → StandForValues stretch_shape (IsAtFault claim ops) (stretch_of ops)
 stretches_stand claim ops moments = record {
   value = λ v. refl;
   may_stand = λ v. tt;
@@ -205,7 +205,7 @@ stretches_stand claim ops moments = record {
       (subst (λ (m : Moment). EdgeIn claim.initial ops u (At m)) e (end_in ops u claim.initial h.read)) (end_in ops v claim.initial k.read);
 }
 
--- more reads have no later first end
+-- with more reads the first end is no later
 first_of_more : (ops more : List Op) (v : Value) → ((r : Op) → IsReadAt ops v r → IsReadAt more v r) → AtMost (first_end_of more v) (first_end_of ops v)
 first_of_more ops more v each = by_cases (first_held ops v)
   where
@@ -213,7 +213,7 @@ first_of_more ops more v each = by_cases (first_held ops v)
     by_cases (inl e) = subst (λ (x : Edge). AtMost (first_end_of more v) x) (sym e) (never_last (first_end_of more v))
     by_cases (inr (r, h, e)) = subst (λ (x : Edge). AtMost (first_end_of more v) x) e (first_at_most more v r (each r h))
 
--- a change touches the values of what goes and of what comes alone
+-- a change touches only the values of the operations that go and come
 module _ (before : List Op) (old new : Option Op) (after : List Op) (change : IsChange before old new after) (v : Value) where
   stays : (op : Op) → (old ≡ Some op → ⊥) → Contains before op → is_judged op ≡ true → Contains after op
   stays op apart h j = by_cases (change.stay op (kept is_judged before op h j))
@@ -241,7 +241,7 @@ module _ (before : List Op) (old new : Option Op) (after : List Op) (change : Is
       (kept is_judged after x a.stands (judged_write x a.write)) (kept is_judged after w b.stands (judged_write w b.write))
       (a.same ∙ sym b.same) a.write b.write
 
-  -- the write stays where what goes is no write of the value, and it stood where what comes is none
+  -- the write stays where neither what goes nor what comes is a write of the value
   module _ (by_old : (op : Op) → old ≡ Some op → IsWrite op → value_of op.act ≢ v) (by_new : (op : Op) → new ≡ Some op → IsWrite op → value_of op.act ≢ v) where
     write_still : (w : Op) → IsTheWriteAt before v w → IsTheWriteAt after v w
     write_still w is = record { stands = stays w (λ f. by_old w f is.write is.same) is.stands (judged_write w is.write); write = is.write; same = is.same }
@@ -272,10 +272,10 @@ module _ (before : List Op) (old new : Option Op) (after : List Op) (change : Is
 
     stretch_kept : stretch_of before v ≡ stretch_of after v
     stretch_kept =
-        ap {B = Stretch} (λ (m : Edge). record { end = moment_of m; written = written before v; value = v }) first_kept
-        ∙ ap {B = Stretch} (λ (t : Bool). record { end = moment_of (first_end_of after v); written = t; value = v }) wrote.1
+        ap {B = Stretch} (λ (m : Edge). record { end = edge_moment m; written = written before v; value = v }) first_kept
+        ∙ ap {B = Stretch} (λ (t : Bool). record { end = edge_moment (first_end_of after v); written = t; value = v }) wrote.1
 
-    fault_kept : (claim : Terms) → KeepsItem (IsAtFault claim before) (IsAtFault claim after) (stretch_of before) (stretch_of after) v
+    fault_kept : (claim : ClaimModel) → KeepsItem (IsAtFault claim before) (IsAtFault claim after) (stretch_of before) (stretch_of after) v
     fault_kept claim = record {
       still = λ fault. record {
         read = (let (r, h, j, e) = fault.read in let (k, t, f) = read_still untouched.by_old r (h, j, e) in (r, k, t, f));
@@ -290,8 +290,8 @@ module _ (before : List Op) (old new : Option Op) (after : List Op) (change : Is
       same = λ fault. stretch_kept;
     }
 
-  -- where a read goes and nothing comes no value comes to be at fault
-  fault_stood : (claim : Terms) → new ≡ None → ((op : Op) → old ≡ Some op → ¬ IsWrite op) → IsAtFault claim after v → IsAtFault claim before v
+  -- where a read goes and nothing comes, a value at fault was at fault before
+  fault_stood : (claim : ClaimModel) → new ≡ None → ((op : Op) → old ≡ Some op → ¬ IsWrite op) → IsAtFault claim after v → IsAtFault claim before v
   fault_stood claim none reads fault =
       let no_new : (op : Op) → new ≡ Some op → value_of op.act ≢ v = λ op e. absurd (let g : None ≡ Some op = sym none ∙ e in cc) in
       let wrote = write_kept (λ op e t. absurd (reads op e t)) (λ op e _. no_new op e) in
@@ -303,12 +303,12 @@ module _ (before : List Op) (old new : Option Op) (after : List Op) (change : Is
             (subst (λ (x : Edge). ComesBefore (first_end_of after v) x) (sym wrote.0) fault.before);
       }
 
-stretch_for : (claim : Terms) (ops : List Op) (value : Option Value) (found : Option Stretch) → IsStretchAtSome claim ops value found → IsItemForSome (IsAtFault claim ops) (stretch_of ops) value found
+stretch_for : (claim : ClaimModel) (ops : List Op) (value : Option Value) (found : Option Stretch) → IsStretchAtSome claim ops value found → IsItemForSome (IsAtFault claim ops) (stretch_of ops) value found
 stretch_for claim ops None found is = is
 stretch_for claim ops (Some value) found is = record { item = is.stretch; none = is.none; some = is.some }
 
--- an edit's stretches are moved
-module _ (claim : Terms) (before : List Op) (old new : Option Op) (after : List Op) (change : IsChange before old new after)
+-- the stretches that an edit changes are moved
+module _ (claim : ClaimModel) (before : List Op) (old new : Option Op) (after : List Op) (change : IsChange before old new after)
     (moments : HasDistinctMoments before) (moments_after : HasDistinctMoments after) (stretches : List Stretch) (stretched : AreStretched claim before stretches)
     (earlier later : Option Stretch × Option Stretch)
     (earlier_is : AreStretchesAt claim before (value_in old) (other_value (value_in old) (value_in new)) earlier)
@@ -346,19 +346,19 @@ module _ (claim : Terms) (before : List Op) (old new : Option Op) (after : List 
         (stretch_for claim before first earlier.0 earlier_is.one) (stretch_for claim before second earlier.1 earlier_is.other)
         (stretch_for claim after first later.0 later_is.one) (stretch_for claim after second later.1 later_is.other)
 
-  -- where a read goes and nothing comes a stretch comes for one that stands
-  pub stretch_stands : new ≡ None → ((op : Op) → old ≡ Some op → ¬ IsWrite op) → IsSome later.0 → Stands stretches earlier.0
+  -- where a read goes and nothing comes, a stretch comes only in the place of one that is there
+  pub stretch_stands : new ≡ None → ((op : Op) → old ≡ Some op → ¬ IsWrite op) → IsSome later.0 → IsThere stretches earlier.0
   stretch_stands none reads = by_value first earlier_is.one later_is.one
     where
-      by_stretch : (v : Value) (one : Option Stretch) → IsStretchAt claim before v one → IsAtFault claim before v → Stands stretches one
+      by_stretch : (v : Value) (one : Option Stretch) → IsStretchAt claim before v one → IsAtFault claim before v → IsThere stretches one
       by_stretch v None is fault = absurd (is.none refl fault)
       by_stretch v (Some s) is fault = subst (Contains stretches) (sym is.stretch) (stretched.each v fault)
 
-      by_value : (u : Option Value) → IsStretchAtSome claim before u earlier.0 → IsStretchAtSome claim after u later.0 → IsSome later.0 → Stands stretches earlier.0
+      by_value : (u : Option Value) → IsStretchAtSome claim before u earlier.0 → IsStretchAtSome claim after u later.0 → IsSome later.0 → IsThere stretches earlier.0
       by_value None was is some = absurd (let e : is_some later.0 ≡ false = ap is_some is in both_ways (is_some later.0) e some)
       by_value (Some v) was is some = by_stretch v earlier.0 was (fault_stood before old new after change v claim none reads (is.some some))
 
-pub stretched_none : (claim : Terms) → AreStretched claim [] []
+pub stretched_none : (claim : ClaimModel) → AreStretched claim [] []
 stretched_none claim = record {
   each = λ v fault. absurd (in_none fault.read.0 fault.read.1);
   only = λ s h. absurd (in_none s h);

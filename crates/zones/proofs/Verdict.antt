@@ -11,7 +11,7 @@ use Rattle.zones.specs.Cluster.{zones_from}
 use Rattle.zones.specs.Crossing.{HasFirstConflictFrom}
 use Rattle.zones.proofs.AnyOrder.{clean_moved}
 
--- what is found is none exactly where something is so
+-- nothing is found exactly where the condition holds
 abbrev pub NoneWhere : {X : Type 0} → Option X → Type 0 → Type 0
 NoneWhere found P = IsNone found ↔ P
 
@@ -19,7 +19,7 @@ pub if_some_and : {X : Type 0} (P : X → Type 0) (found : Option X) → IsSomeA
 if_some_and P None h = tt
 if_some_and P (Some x) h = h
 
--- two that are there are none at the same time: never
+-- of two that are both there the one is none exactly where the other is, which is never
 pub none_alike : {X Y : Type 0} (P : X → Type 0) (Q : Type 0) (found : Option X) (other : Y) → IsSomeAnd found P → NoneWhere (Some other) Q → NoneWhere found Q
 none_alike P Q None other h is = absurd h
 none_alike P Q (Some x) other h is = ((λ n. absurd (cc)), λ q. absurd (let n = is.1 q in cc))
@@ -36,7 +36,7 @@ module _ (initial : Option Value) (ops : List Op) where
 pub same_as : (P Q R : Type 0) → P ↔ Q → Q ↔ R → P ↔ R
 same_as P Q R f g = ((λ p. g.0 (f.0 p)), λ r. f.1 (g.1 r))
 
--- what there is of three
+-- which of three optional things are there
 module _ {X Y Z : Type 0} where
   none_there : (a : Option X) (b : Option Y) (c : Option Z) → ((is_some a || is_some b) || is_some c) ≡ false → (a ≡ None) × (b ≡ None) × (c ≡ None)
   none_there None None None e = (refl, refl, refl)

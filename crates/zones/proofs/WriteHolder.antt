@@ -11,8 +11,8 @@ use Rattle.intervals.specs.declared.claim.Kind.TheVariants.{Atomic}
 use Rattle.intervals.specs.declared.refusal.Refusal.{Refusal}
 use Rattle.intervals.specs.declared.refusal.Refusal.TheVariants.{NotAWriter, ValueTaken, OutOfDomain}
 use Rattle.intervals.specs.Operation.{IsWrite, is_write, same_id, value_of}
-use Rattle.intervals.specs.Refusal.{first_of, refused_if, as_holder, holder_of, is_holder, is_in_domain, is_initial, kind_refusal, may_write, value_refusal, write_refusal}
-use Rattle.intervals.specs.Terms.{Terms}
+use Rattle.intervals.specs.Refusal.{first_present, refused_if, as_holder, holder_of, is_holder, is_in_domain, is_initial, kind_refusal, may_write, value_refusal, write_refusal}
+use Rattle.intervals.specs.Terms.{ClaimModel}
 use Rattle.intervals.proofs.Found.{find-None, find-none, find-Some}
 use Rattle.intervals.proofs.Holders.{Decides-is_holder}
 use Rattle.intervals.proofs.Ids.{Decides-same_id_is}
@@ -22,7 +22,7 @@ use Rattle.zones.specs.Zoned.{AreManyWriters}
 use Rattle.zones.proofs.Edited.{one_value}
 use Rattle.zones.proofs.Members.{all_from}
 
-module _ (claim : Terms) (ops : List Op) (op : Op) where
+module _ (claim : ClaimModel) (ops : List Op) (op : Op) where
   pub none_holds : All (λ w. IsWrite w → value_of w.act ≢ value_of op.act) ops → find (is_holder op) ops ≡ None
   none_holds none = find-none (is_holder op) ops (all_from (λ x. ¬ IsTrue (is_holder op x)) ops (λ x h t.
       let (n, w, e) = (Decides-is_holder op x).0 t in All-contains (λ w. IsWrite w → value_of w.act ≢ value_of op.act) ops x none h w e))
@@ -51,9 +51,9 @@ module _ (claim : Terms) (ops : List Op) (op : Op) where
       ap (λ (t : Bool). cond t (Some holders.Initial) (option_map as_holder (find (is_holder op) ops))) other
       ∙ ap (option_map as_holder) (sym is)
 
-  -- an atomic register's refusal of a write is that beside the holder of its value
+  -- the refusal of a write by an atomic register is the one beside the holder of its value
   pub beside_is : (holder : Option Holder) → claim.kind ≡ Atomic → holder ≡ holder_of claim ops op → refusal_beside claim op holder ≡ write_refusal claim ops op
   beside_is holder atomic is =
       let kind : kind_refusal claim.kind claim ops op ≡ value_refusal claim ops op = ap (λ (k : Kind). kind_refusal k claim ops op) atomic in
-      ap (λ (r : Option Refusal). cond (is_write op) (first_of (refused_if (not (may_write claim.writers op.process)) NotAWriter ∷ r ∷ refused_if (not (is_in_domain claim.domain (value_of op.act))) OutOfDomain ∷ [])) None)
+      ap (λ (r : Option Refusal). cond (is_write op) (first_present (refused_if (not (may_write claim.writers op.process)) NotAWriter ∷ r ∷ refused_if (not (is_in_domain claim.domain (value_of op.act))) OutOfDomain ∷ [])) None)
       (sym (kind ∙ ap (option_map ValueTaken) (sym is)))

@@ -1,4 +1,4 @@
--- The computing tests of the first reads of values without a write are the relations.
+-- The tests for the first reads of values without a write compute what the relations mean.
 use Rattle.std.proofs.Common.{◌≡◌, ◌≢◌, ◌↔◌, not, ◌&&◌, List, Some, None, Decides}
 use Rattle.std.specs.Prelude.{All}
 use Rattle.std.specs.List.{list_any}
@@ -9,7 +9,7 @@ use Rattle.intervals.specs.declared.operation.Value.{Value}
 use Rattle.intervals.specs.Operation.{IsWrite, is_judged_read, same_value, value_of}
 use Rattle.intervals.specs.Refusal.{is_initial}
 use Rattle.intervals.specs.Standing.{HasDistinctMoments}
-use Rattle.intervals.specs.Terms.{Terms}
+use Rattle.intervals.specs.Terms.{ClaimModel}
 use Rattle.intervals.proofs.Agreement.{Decides-list_any}
 use Rattle.intervals.proofs.Holders.{Decides-is_initial}
 use Rattle.zones.specs.AtFirst.{IsWriteless, is_writeless, first_writeless, first_writeless_but}
@@ -17,7 +17,7 @@ use Rattle.zones.specs.Fault.{IsFirstOf, is_write_of}
 use Rattle.zones.proofs.FirstReads.{Decides-itself, Decides-write_of, IsWriteFor, first_least, least_first, least_none, none_least, none_of, not_some}
 use Rattle.zones.proofs.Members.{Decides-same_value}
 
-module _ (claim : Terms) (ops : List Op) where
+module _ (claim : ClaimModel) (ops : List Op) where
   pub Decides-writeless : (r : Op) → Decides (is_writeless claim ops r) (IsWriteless claim ops r)
   Decides-writeless r =
       Decides-like (is_writeless claim ops r)
@@ -49,7 +49,7 @@ module _ (claim : Terms) (ops : List Op) where
     none_least (is_writeless claim ops) (IsWriteless claim ops) Decides-writeless (λ r u. u.read) ops,
   )
 
-  -- of another value
+  -- the first writeless read of another value
   module _ (value : Value) where
     abbrev pub IsOfAnother : Op → Type 0
     IsOfAnother r = IsWriteless claim ops r × (value_of r.act ≢ value)

@@ -11,8 +11,8 @@ use Rattle.zone_tree.specs.declared.edge.Edge.{Edge}
 use Rattle.zone_tree.specs.declared.edge.Edge.TheVariants.{Before, At, Never}
 use Rattle.zone_tree.specs.declared.zone.Zone.{Zone}
 use Rattle.zone_tree.specs.Zone.{HasOrderedEdges}
-use Rattle.zones.specs.AtFirst.{fresh}
-use Rattle.zones.specs.Cluster.{cluster_of, edge_of_end, greatest_begin_in, initial_span, least_end_in, least_end_of, greatest_begin_of, span_of, zone_between, zone_of, written_values, written_zone}
+use Rattle.zones.specs.AtFirst.{unused_value}
+use Rattle.zones.specs.Cluster.{cluster_of, edge_of_end, greatest_begin_in, initial_span, least_end_in, least_end_of, greatest_begin_of, interval_of, zone_between, zone_of, written_values, written_zone}
 use Rattle.zones.specs.Members.{HasWrite, IsTheWriteAt, IsChange}
 use Rattle.zones.proofs.Fresh.{fresh_is_new}
 use Rattle.zones.proofs.Judged.{is_judged, judged_write}
@@ -21,7 +21,7 @@ use Rattle.zones.proofs.EdgeOrder.{AtMost, at_most_both, before_all}
 use Rattle.zones.proofs.Cluster.{IsMember, EdgeIn, edges_in_order, left, least_held, least_at_most, least_initial, greatest_held, greatest_at_least, left_initial, left_in, settle, value_is}
 use Rattle.zones.proofs.Edited.{from_map}
 
--- a value has a write: it is the initial one, or that of a write that stands
+-- a value has a write: it is the initial one, or that of a write among the operations
 abbrev pub IsWritten : Value → List Op → Value → Type 0
 IsWritten initial ops v = Contains (written_values initial ops) v
 
@@ -62,7 +62,7 @@ left_apart initial ops moments u v h k e =
 pub never_last : (a : Edge) → AtMost a Never
 never_last a h = absurd (cc)
 
--- more members have no later least end, and no earlier greatest beginning
+-- a cluster with more members has no later least end, and no earlier greatest beginning
 module _ (initial : Value) (ops more : List Op) (v : Value) (each : (op : Op) → IsMember initial ops v op → IsMember initial more v op) where
   least_of_more : AtMost (least_end_of initial more v) (least_end_of initial ops v)
   least_of_more = by_cases (least_held initial ops v)
@@ -81,7 +81,8 @@ module _ (initial : Value) (ops more : List Op) (v : Value) (each : (op : Op) �
       by_cases (inl e) = subst (λ (x : Edge). AtMost x (greatest_begin_of initial more v)) (sym e) (before_all (greatest_begin_of initial more v))
       by_cases (inr (op, h, e)) = subst (λ (x : Edge). AtMost x (greatest_begin_of initial more v)) e (greatest_at_least initial more v op (each op h))
 
--- a value that has a write has it still, and had it before, where that is not touched
+-- a value that has a write keeps it where what goes is of another value, and had it before where what comes is of
+-- another value
 module _ (before : List Op) (old new : Option Op) (after : List Op) (change : IsChange before old new after) (v : Value) where
   pub write_still : ((op : Op) → old ≡ Some op → value_of op.act ≢ v) → HasWrite before v → HasWrite after v
   write_still apart (w, is) = by_place (change.stay w (write_member v before v w is).0)
@@ -97,7 +98,7 @@ module _ (before : List Op) (old new : Option Op) (after : List Op) (change : Is
       by_place (inl e) = absurd (apart w e is.same)
       by_place (inr (k, n)) = (w, record { stands = (kept_stands is_judged before w k).0; write = is.write; same = is.same })
 
--- a change touches the values of what goes and of what comes alone
+-- a change touches only the values of the operations that go and come
 module _ (initial : Value) (before : List Op) (old new : Option Op) (after : List Op) (change : IsChange before old new after) (v : Value) where
   module _ (not_old : (op : Op) → old ≡ Some op → value_of op.act ≢ v) (not_new : (op : Op) → new ≡ Some op → value_of op.act ≢ v) where
     still : (op : Op) → IsMember initial before v op → IsMember initial after v op
@@ -124,11 +125,11 @@ module _ (initial : Value) (before : List Op) (old new : Option Op) (after : Lis
 -- the zone of a value that is not the initial one
 pub written_zone_is : (initial : Value) (ops : List Op) (v : Value) → v ≢ initial → zone_of initial ops v ≡ written_zone ops v
 written_zone_is initial ops v n =
-    let own = map span_of (cluster_of ops v) in
+    let own = map interval_of (cluster_of ops v) in
     let other : same_value initial v ≡ false = false_from_ne_true (same_value initial v) (λ t. n (sym ((Decides-same_value initial v).0 t))) in
     ap (λ (t : Bool). zone_between (least_end_in (cond t (initial_span ∷ own) own)) (greatest_begin_in (cond t (initial_span ∷ own) own)) v) other
 
--- there is another value
+-- for each value there is another one
 pub other_than : (v : Value) → (u : Value) × (v ≢ u)
 other_than Nil = (Int (pos 0), λ e. absurd (cc))
 other_than (Int n) = (Nil, λ e. absurd (cc))
@@ -150,7 +151,7 @@ written_zone_kept before old new after change v not_old not_new =
 -- of two values that have a write the left edges are different
 pub one_left : (ops : List Op) → HasDistinctMoments ops → (u v : Value) → HasWrite ops u → HasWrite ops v → (written_zone ops u).left ≡ (written_zone ops v).left → u ≡ v
 one_left ops moments u v (w, is) (x, is_x) e =
-    let i = fresh ops in
+    let i = unused_value ops in
     let new : (v : Value) (w : Op) → IsTheWriteAt ops v w → v ≢ i = λ v w is f. fresh_is_new ops w is.stands (is.same ∙ f) in
     left_apart i ops moments u v (written_by i ops u w is) (written_by i ops v x is_x)
     (ap (λ (z : Zone). z.left) (written_zone_is i ops u (new u w is)) ∙ (e ∙ ap (λ (z : Zone). z.left) (sym (written_zone_is i ops v (new v x is_x)))))

@@ -9,23 +9,24 @@ use Rattle.zone_tree.specs.Order.{IsByLeft}
 use Rattle.zone_tree.specs.Conflict.{IsFirstConflict}
 use Rattle.zones.specs.Cluster.{edge_of_end, cluster_of, least_end_of, greatest_begin_of, zones_from}
 
--- the value of an operation; none stands for the initial write
+-- the value of an optional operation; none is the initial write, whose value is the initial one
 abbrev pub value_at : Value → Option Op → Value
 value_at initial None = initial
 value_at initial (Some op) = value_of op.act
 
--- it is judged; so is the initial write
+-- the optional operation is one of the judged ones; none is the initial write, which counts as one
 abbrev pub StandsJudged : List Op → Option Op → Type 0
 StandsJudged ops None = Unit {0}
 StandsJudged ops (Some op) = Contains (judged ops) op
 
--- it has ended before the operation begins; the initial write precedes every operation
+-- the first, optional operation ends before the second begins; none is the initial write, which ended before every
+-- moment
 abbrev pub HasEndedBefore : Option Op → Op → Type 0
 HasEndedBefore None b = Unit {0}
 HasEndedBefore (Some a) b = Precedes a b
 
--- a and d are of one value, b and c of another, a precedes b and c precedes d; the initial write may
--- be a or c
+-- a crossing: a and d have one value, b and c another, a ends before b begins, and c before d begins; a or c may be
+-- none, the initial write
 pub record IsCrossing (initial : Value) (ops : List Op) (a : Option Op) (b : Op) (c : Option Op) (d : Op) : Type 0 where
   pub a_stands : StandsJudged ops a
   pub b_stands : Contains (judged ops) b
@@ -37,41 +38,45 @@ pub record IsCrossing (initial : Value) (ops : List Op) (a : Option Op) (b : Op)
   pub a_before_b : HasEndedBefore a b
   pub c_before_d : HasEndedBefore c d
 
--- it has the least end in the cluster of the value; in that of the initial value the initial write has it
+-- the optional operation has the least end in the cluster of the value; none is the initial write, which has it in that
+-- of the initial value
 abbrev pub HasLeastEnd : Value → List Op → Value → Option Op → Type 0
 HasLeastEnd initial ops value None = value ≡ initial
 HasLeastEnd initial ops value (Some op) = Contains (cluster_of ops value) op × (edge_of_end op.end ≡ least_end_of initial ops value)
 
--- it has the greatest beginning in the cluster of the value
+-- the operation has the greatest beginning in the cluster of the value
 abbrev pub HasGreatestBegin : Value → List Op → Value → Op → Type 0
 HasGreatestBegin initial ops value op = Contains (cluster_of ops value) op × (At op.begin ≡ greatest_begin_of initial ops value)
 
--- of two clusters a has the least end and d the greatest beginning in the one, b the greatest beginning
--- and c the least end in the other
+-- in the cluster of `one`, a has the least end and d the greatest beginning; in that of `other`, c has the least end
+-- and b the greatest beginning
 pub record AreExtremes (initial : Value) (ops : List Op) (one other : Value) (a : Option Op) (b : Op) (c : Option Op) (d : Op) : Type 0 where
   pub a_least : HasLeastEnd initial ops one a
   pub b_greatest : HasGreatestBegin initial ops other b
   pub c_least : HasLeastEnd initial ops other c
   pub d_greatest : HasGreatestBegin initial ops one d
 
--- the first conflict of the register's zones, by their left edges
+-- the two zones are the first conflict (`IsFirstConflict`) of the register's zones by left edge; the initial value is
+-- optional
 pub record HasFirstConflictFrom (initial : Option Value) (ops : List Op) (first second : Zone) : Type 0 where
   pub zones : List Zone
   pub each_once : IsPermutation (zones_from initial ops) zones
   pub by_left : IsByLeft zones
   pub conflict : IsFirstConflict zones first second
 
--- the same with an initial value
+-- the two zones are the first conflict (`IsFirstConflict`) of the register's zones by left edge, from this initial
+-- value
 abbrev pub HasFirstConflict : Value → List Op → Zone → Zone → Type 0
 HasFirstConflict initial ops first second = HasFirstConflictFrom (Some initial) ops first second
 
--- the extremes of the clusters of the first conflict
+-- a, b, c and d are the extremes of the clusters of the first conflict; the initial value is optional, and `start` is
+-- the value that the register begins with
 pub record IsFirstCrossingFrom (initial : Option Value) (start : Value) (ops : List Op) (a : Option Op) (b : Op) (c : Option Op) (d : Op) : Type 0 where
   pub first : Zone
   pub second : Zone
   pub conflict : HasFirstConflictFrom initial ops first second
   pub extremes : AreExtremes start ops first.value second.value a b c d
 
--- the same with an initial value
+-- a, b, c and d are the extremes of the clusters of the first conflict, from this initial value
 abbrev pub IsFirstCrossing : Value → List Op → Option Op → Op → Option Op → Op → Type 0
 IsFirstCrossing initial ops a b c d = IsFirstCrossingFrom (Some initial) initial ops a b c d

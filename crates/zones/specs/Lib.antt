@@ -1,12 +1,12 @@
--- what the public clauses speak of
+-- words of the public clauses
 pub mod Cluster
 pub mod Fault
 pub mod AtFirst
 pub mod Crossing
 pub mod Turn
--- worked histories
-pub mod Examples
+pub mod Together
 -- words of private clauses
+pub mod Examples
 pub mod Members
 pub mod Edges
 pub mod Records
@@ -14,6 +14,5 @@ pub mod Index
 pub mod Faults
 pub mod Moves
 pub mod Zoned
-pub mod Together
 pub mod Refused
 pub mod Order

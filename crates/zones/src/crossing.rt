@@ -2,8 +2,8 @@
 
 ghost use Rattle.std.specs.Prelude.{◌≡◌, ◌≢◌, List, [], Some, nat_lt, MatchOption, IsSomeAnd};
 ghost use Rattle.intervals.specs.Edit.{op_of};
-ghost use Rattle.zone_tree.specs.Edge.{comes_before};
-ghost use Rattle.zones.specs.Members.{IsLastToBegin, HasNoRead, EndsFirstOf, BeginsLastOf, end_of, ended_first as first_of, began_last as last_of};
+ghost use Rattle.zone_tree.specs.Edge.{edge_before};
+ghost use Rattle.zones.specs.Members.{IsLastToBegin, HasNoRead, EndsFirstOf, BeginsLastOf, end_or_first, ended_first, began_last};
 ghost use Rattle.intervals.specs.declared.operation.Op.{Op};
 ghost use Rattle.zone_tree.specs.declared.edge.Edge.TheVariants.{Never};
 ghost use Rattle.zone_tree.specs.Zone.{Conflicts};
@@ -20,8 +20,8 @@ use crate::index::Members;
 use crate::records::Records;
 use intervals::{Op, OpTable, Value, is_same_value};
 
-/// Four operations that no order has room for: `a` and `d` are of one value, `b` and `c` of another, `a`
-/// precedes `b` and `c` precedes `d`. None is the initial write.
+/// Four operations that no order has room for: `a` and `d` are of one value, `b` and `c` of another, `a` precedes
+/// `b` and `c` precedes `d`. `None` is the initial write.
 #[derive(Clone, Copy, Debug)]
 pub struct Crossing<'t> {
     pub a: Option<Op<'t>>,
@@ -52,7 +52,8 @@ pub fn extremes<'t>(
     })
 }
 
-/// No operation ended before the initial write.
+/// Of the judged operations of the value the one that ended first; of the initial value the initial write, which
+/// is `None`.
 fn first_to_end<'t>(
     members: &Members,
     records: &Records,
@@ -72,7 +73,7 @@ fn first_to_end<'t>(
     )
 }
 
-/// Whether the value is the initial one, where there is one.
+/// Whether the value is the optional initial one.
 pub fn is_initial(initial: Option<Value>, value: Value) -> bool
     ensures { result ≡ is_that initial value }
 {
@@ -101,7 +102,7 @@ fn last_to_begin<'t>(
 /// Of the judged reads of the value the one that ended first.
 pub fn first_read<'t>(members: &Members, table: &OpTable<'t>, value: Value) -> Option<Op<'t>>
     ensures { AreMembers table.now.ops members.now → HasDistinctIds table.now.ops
-        → MatchOption result (HasNoRead table.now.ops value) (λ read. EndsFirstOf table.now.ops value (end_of read) read.id × (op_of table.now.ops read.id ≡ Some read)) }
+        → MatchOption result (HasNoRead table.now.ops value) (λ read. EndsFirstOf table.now.ops value (end_or_first read) read.id × (op_of table.now.ops read.id ≡ Some read)) }
 {
     let (_, id) = members.first_to_end(value)?;
     table.get(id).copied()
@@ -116,9 +117,9 @@ fn last_read<'t>(members: &Members, table: &OpTable<'t>, value: Value) -> Option
     table.get(id).copied()
 }
 
-/// Of two operations the one that ended first; what has no end ends last.
+/// Of two optional operations the one that ended first; one that has no end ends last.
 fn ended_first<'t>(a: Option<Op<'t>>, b: Option<Op<'t>>) -> Option<Op<'t>>
-    ensures { result ≡ first_of a.entry b.entry }
+    ensures { result ≡ ended_first a.entry b.entry }
 {
     match (a, b) {
         (Some(a), Some(b)) if ends_before(&b, &a) => Some(b),
@@ -127,9 +128,9 @@ fn ended_first<'t>(a: Option<Op<'t>>, b: Option<Op<'t>>) -> Option<Op<'t>>
     }
 }
 
-/// Of two operations the one that began last.
+/// Of two optional operations the one that began last.
 fn began_last<'t>(a: Option<Op<'t>>, b: Option<Op<'t>>) -> Option<Op<'t>>
-    ensures { result ≡ last_of a.entry b.entry }
+    ensures { result ≡ began_last a.entry b.entry }
 {
     match (a, b) {
         (Some(a), Some(b)) if begins_before(&a, &b) => Some(b),
@@ -138,9 +139,9 @@ fn began_last<'t>(a: Option<Op<'t>>, b: Option<Op<'t>>) -> Option<Op<'t>>
     }
 }
 
-/// Whether the first ended before the second did; what has no end ends last.
+/// Whether the first ended before the second did; one that has no end ends last.
 fn ends_before(a: &Op, b: &Op) -> bool
-    ensures { result ≡ comes_before (edge_of_end a.now.end) (edge_of_end b.now.end) }
+    ensures { result ≡ edge_before (edge_of_end a.now.end) (edge_of_end b.now.end) }
 {
     edge_of_end(a.end).comes_before(edge_of_end(b.end))
 }

@@ -1,4 +1,4 @@
-//! Where the write of a value begins and ends, where the last of its judged reads begins and where the
+//! The edges of a value: where its write begins and ends, where the last of its judged reads begins and where the
 //! first of them ends.
 
 ghost use Rattle.std.specs.Prelude.{◌≡◌, ◌≢◌, List, Option, IfSome, false, true, option_copied};
@@ -6,8 +6,8 @@ ghost use Rattle.intervals.specs.declared.operation.Op.{Op as AnOp};
 ghost use Rattle.intervals.specs.declared.operation.Value.{Value as AValue};
 ghost use Rattle.intervals.specs.Operation.{IsJudgedRead};
 ghost use Rattle.zone_tree.specs.Edge.{same_edge};
-ghost use Rattle.zones.specs.Cluster.{edge_of_end as edge_of, earlier_of as earlier, later_of as later};
-ghost use Rattle.zones.specs.Edges.{AreEdges, AreEdgesAt, AreEdgesAtSome, AreWriteEdges, NamesWrite, edges_of_nothing, is_of_nothing as are_of_nothing, read_part, write_part};
+ghost use Rattle.zones.specs.Cluster.{edge_of_end, earlier_edge, later_edge};
+ghost use Rattle.zones.specs.Edges.{AreEdges, AreEdgesAt, AreEdgesAtSome, AreWriteEdges, NamesWrite, edges_of_nothing, is_of_nothing, read_part, write_part};
 ghost use Rattle.zones.specs.Index.{AreMembers};
 ghost use Rattle.zones.specs.Members.{IsChange, IsGreatestBegin, IsLeastEnd};
 
@@ -15,8 +15,8 @@ use crate::index::Members;
 use intervals::{Moment, Op, OpId, Value, is_same_value};
 use zone_tree::Edge;
 
-/// The id of a value's write, and what its zone and its stretch are made of. Where it has no write, that begins
-/// at `Before` and ends at `Never`, and so do its reads where it has none.
+/// The id of a value's write, and the edges that make its zone and its stretch. What is not there begins at
+/// `Before` and ends at `Never`.
 #[derive(Clone, Copy)]
 pub struct Edges {
     pub value: Value,
@@ -41,9 +41,9 @@ pub fn of_nothing(value: Value) -> Edges
     }
 }
 
-/// Whether no judged operation has the value.
+/// Whether no judged operation has the value of the edges.
 pub fn is_of_nothing(edges: &Edges) -> bool
-    ensures { result ≡ are_of_nothing edges.now }
+    ensures { result ≡ is_of_nothing edges.now }
 {
     edges.write_id.is_none()
         && is_same_edge(edges.read_begin, Edge::Before)
@@ -52,16 +52,16 @@ pub fn is_of_nothing(edges: &Edges) -> bool
         && is_same_edge(edges.write_end, Edge::Never)
 }
 
-/// What the edges of two values come to once an operation went and one came: the shelves, as they are after
-/// that, are asked only where a read went that an edge was of.
+/// The edges of two values once `old` went and `new` came. The indexes are as they are after that, and are looked
+/// into only where a read went that an edge was of.
 pub fn edges_after(
     before: &(Option<Edges>, Option<Edges>),
     members: &Members,
     old: &Option<Op>,
     new: &Option<Op>,
 ) -> (Option<Edges>, Option<Edges>)
-    ensures { (ops later : List AnOp) (first second : Option AValue) → AreEdgesAt ops first second before.now → IsChange ops old.now new.now later → AreMembers later members.now
-        → AreEdgesAt later first second result }
+    ensures { (ops later_edge : List AnOp) (first second : Option AValue) → AreEdgesAt ops first second before.now → IsChange ops old.now new.now later_edge → AreMembers later_edge members.now
+        → AreEdgesAt later_edge first second result }
 {
     (
         after_in_some(&before.0, members, old, new),
@@ -75,8 +75,8 @@ fn after_in_some(
     old: &Option<Op>,
     new: &Option<Op>,
 ) -> Option<Edges>
-    ensures { (ops later : List AnOp) (value : Option AValue) → AreEdgesAtSome ops value before.now → IsChange ops old.now new.now later → AreMembers later members.now
-        → AreEdgesAtSome later value result }
+    ensures { (ops later_edge : List AnOp) (value : Option AValue) → AreEdgesAtSome ops value before.now → IsChange ops old.now new.now later_edge → AreMembers later_edge members.now
+        → AreEdgesAtSome later_edge value result }
 {
     match before {
         Some(edges) => Some(after(edges, members, old, new)),
@@ -85,8 +85,8 @@ fn after_in_some(
 }
 
 fn after(before: &Edges, members: &Members, old: &Option<Op>, new: &Option<Op>) -> Edges
-    ensures { (ops later : List AnOp) → AreEdges ops before.now.value before.now → IsChange ops old.now new.now later → AreMembers later members.now
-        → AreEdges later before.now.value result }
+    ensures { (ops later_edge : List AnOp) → AreEdges ops before.now.value before.now → IsChange ops old.now new.now later_edge → AreMembers later_edge members.now
+        → AreEdges later_edge before.now.value result }
 {
     let (write_id, write_begin, write_end) = write_after(before, old, new);
     Edges {
@@ -100,8 +100,8 @@ fn after(before: &Edges, members: &Members, old: &Option<Op>, new: &Option<Op>) 
 }
 
 fn write_after(before: &Edges, old: &Option<Op>, new: &Option<Op>) -> (Option<OpId>, Edge, Edge)
-    ensures named { (ops later : List AnOp) → AreEdges ops before.now.value before.now → IsChange ops old.now new.now later → NamesWrite later before.now.value result.0 }
-    ensures edges { (ops later : List AnOp) → AreEdges ops before.now.value before.now → IsChange ops old.now new.now later → AreWriteEdges later before.now.value result.1 result.2 }
+    ensures named { (ops later_edge : List AnOp) → AreEdges ops before.now.value before.now → IsChange ops old.now new.now later_edge → NamesWrite later_edge before.now.value result.0 }
+    ensures edges { (ops later_edge : List AnOp) → AreEdges ops before.now.value before.now → IsChange ops old.now new.now later_edge → AreWriteEdges later_edge before.now.value result.1 result.2 }
 {
     match write_in(new, before.value) {
         Some(write) => (
@@ -116,10 +116,11 @@ fn write_after(before: &Edges, old: &Option<Op>, new: &Option<Op>) -> (Option<Op
     }
 }
 
-/// Where the read went that began last, another did.
+/// Where the last of the judged reads of the value begins after the edit; the index is looked into only where that
+/// read went.
 fn read_begin_after(before: &Edges, members: &Members, old: &Option<Op>, new: &Option<Op>) -> Edge
-    ensures { (ops later : List AnOp) → AreEdges ops before.now.value before.now → IsChange ops old.now new.now later → AreMembers later members.now
-        → IsGreatestBegin IsJudgedRead later before.now.value result }
+    ensures { (ops later_edge : List AnOp) → AreEdges ops before.now.value before.now → IsChange ops old.now new.now later_edge → AreMembers later_edge members.now
+        → IsGreatestBegin IsJudgedRead later_edge before.now.value result }
 {
     if is_begun_by(before, old) {
         return read_begin(members, before.value);
@@ -130,10 +131,11 @@ fn read_begin_after(before: &Edges, members: &Members, old: &Option<Op>, new: &O
     }
 }
 
-/// Where the read went that ended first, another did.
+/// Where the first of the judged reads of the value ends after the edit; the index is looked into only where that
+/// read went.
 fn read_end_after(before: &Edges, members: &Members, old: &Option<Op>, new: &Option<Op>) -> Edge
-    ensures { (ops later : List AnOp) → AreEdges ops before.now.value before.now → IsChange ops old.now new.now later → AreMembers later members.now
-        → IsLeastEnd IsJudgedRead later before.now.value result }
+    ensures { (ops later_edge : List AnOp) → AreEdges ops before.now.value before.now → IsChange ops old.now new.now later_edge → AreMembers later_edge members.now
+        → IsLeastEnd IsJudgedRead later_edge before.now.value result }
 {
     if is_ended_by(before, old) {
         return read_end(members, before.value);
@@ -144,7 +146,7 @@ fn read_end_after(before: &Edges, members: &Members, old: &Option<Op>, new: &Opt
     }
 }
 
-/// Whether it is the read of the value that began last.
+/// Whether the operation is the read of the value that began last.
 fn is_begun_by(edges: &Edges, op: &Option<Op>) -> bool
     ensures { result ≡ false → IfSome (read_part edges.now.value op.now) (λ read. same_edge (Edge.At read.begin) edges.now.read_begin ≡ false) }
 {
@@ -154,9 +156,9 @@ fn is_begun_by(edges: &Edges, op: &Option<Op>) -> bool
     }
 }
 
-/// Whether it is the read of the value that ended first.
+/// Whether the operation is the read of the value that ended first.
 fn is_ended_by(edges: &Edges, op: &Option<Op>) -> bool
-    ensures { result ≡ false → IfSome (read_part edges.now.value op.now) (λ read. same_edge (edge_of read.end) edges.now.read_end ≡ false) }
+    ensures { result ≡ false → IfSome (read_part edges.now.value op.now) (λ read. same_edge (edge_of_end read.end) edges.now.read_end ≡ false) }
 {
     match read_in(op, edges.value) {
         Some(read) => is_same_edge(edge_of_end(read.end), edges.read_end),
@@ -164,6 +166,7 @@ fn is_ended_by(edges: &Edges, op: &Option<Op>) -> bool
     }
 }
 
+/// Where the first of the judged reads of the value ends; `Never` where there is none.
 fn read_end(members: &Members, value: Value) -> Edge
     ensures { (ops : List AnOp) → AreMembers ops members.now → IsLeastEnd IsJudgedRead ops value result }
 {
@@ -204,7 +207,7 @@ fn read_in<'b, 't>(op: &'b Option<Op<'t>>, value: Value) -> Option<&'b Op<'t>>
 }
 
 pub fn edge_of_end(end: Option<Moment>) -> Edge
-    ensures { result ≡ edge_of end }
+    ensures { result ≡ edge_of_end end }
 {
     match end {
         Some(end) => Edge::At(end),
@@ -213,13 +216,13 @@ pub fn edge_of_end(end: Option<Moment>) -> Edge
 }
 
 pub fn earlier_of(a: Edge, b: Edge) -> Edge
-    ensures { result ≡ earlier a b }
+    ensures { result ≡ earlier_edge a b }
 {
     if b.comes_before(a) { b } else { a }
 }
 
 pub fn later_of(a: Edge, b: Edge) -> Edge
-    ensures { result ≡ later a b }
+    ensures { result ≡ later_edge a b }
 {
     if a.comes_before(b) { b } else { a }
 }

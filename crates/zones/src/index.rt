@@ -1,85 +1,86 @@
-//! The judged reads of each value, by their ends and by their beginnings.
+//! The indexes of the judged reads of each value: by their ends, and by their beginnings.
 
 ghost use Rattle.std.specs.Prelude.{◌≡◌, ◌≢◌, ◌≤◌, ◌<◌, [], List, All, Contains, IfSome, IfOk, MatchOption, OnOk, OnErr, None, Some, is_some, true, false};
 ghost use Rattle.intervals.specs.declared.operation.Op.{Op as AnOp};
-ghost use Rattle.intervals.specs.declared.shelf.Spot.{Spot as ASpot};
-ghost use Rattle.intervals.specs.Shelf.{place_at, id_at, is_spot};
+ghost use Rattle.intervals.specs.declared.ordered_index.Spot.{Spot as ASpot};
+ghost use Rattle.intervals.specs.OrderedIndex.{place_at, id_at, is_spot};
 ghost use Rattle.intervals.specs.Table.{prepared_after};
 ghost use Rattle.zones.specs.Members.{IsChange, EndsFirstOf, BeginsLastOf, HasNoRead};
-ghost use Rattle.zones.specs.Index.{AreMembers, HasPlaces, HasPlacesOf, HasPlaceAt, HaveSamePlaces, HoldsOnlyFor, IsInTime, IsMade, IsStill, spot_on as on, spot_in as in_row, taken_at, put_at, come_at};
+ghost use Rattle.zones.specs.Index.{AreMembers, HasPlaces, HasPlacesOf, HasPlaceAt, HaveSamePlaces, ReservesOnlyForMember, IsInTime, IsMade, IsStill, spot_on, spot_in, taken_at, placed_at, come_at};
 
-use intervals::{Memory, Moment, Op, OpId, Shelf, Spot, Value};
+use intervals::{Memory, Moment, Op, OpId, OrderedIndex, Spot, Value};
 use std::alloc::Global;
 
-/// The shelves on which a read may stand.
+/// Which of the two indexes.
 #[derive(Clone, Copy)]
-pub enum Row {
+pub enum IndexKind {
     Ends,
     Begins,
 }
 
-/// The ids of the judged reads by value and end, and by value and beginning.
+/// The ids of the judged reads by value and end, and by value and beginning. An operation has a spot in neither or
+/// in both.
 #[derive(Drop)]
 pub struct Members {
-    ends: Shelf,
-    begins: Shelf,
+    ends: OrderedIndex,
+    begins: OrderedIndex,
 }
 
 impl Members {
     pub fn new(alloc: Global) -> Self
         ensures members { AreMembers [] result }
-        ensures only { HoldsOnlyFor None result }
+        ensures only { ReservesOnlyForMember None result }
     {
         Members {
-            ends: Shelf::new(alloc),
-            begins: Shelf::new(alloc),
+            ends: OrderedIndex::new(alloc),
+            begins: OrderedIndex::new(alloc),
         }
     }
 
-    /// Holds the places at which the operation is to stand, all or none.
+    /// Sees to it that each index has a place at the operation's spot. Where memory is refused neither changes.
     pub fn hold(&mut self, op: &Op) -> Result<(), Memory>
         ensures places { OnOk result (HasPlaces op.now self.new) }
-        ensures only { OnOk result (HoldsOnlyFor None self.old → HoldsOnlyFor (Some op.now) self.new) }
+        ensures only { OnOk result (ReservesOnlyForMember None self.old → ReservesOnlyForMember (Some op.now) self.new) }
         ensures err { OnErr result (HaveSamePlaces self.old self.new) }
         ensures members { (ops : List AnOp) → AreMembers ops self.old → AreMembers ops self.new }
     {
-        let ends = hold(&mut self.ends, spot_on(Row::Ends, op))?;
-        if let Err(memory) = hold(&mut self.begins, spot_on(Row::Begins, op)) {
+        let ends = hold(&mut self.ends, spot_on(IndexKind::Ends, op))?;
+        if let Err(memory) = hold(&mut self.begins, spot_on(IndexKind::Begins, op)) {
             release(&mut self.ends, ends);
             return Err(memory);
         }
         Ok(())
     }
 
-    /// Lets the places go that were held for the operation and are empty.
+    /// Drops the places at the operation's spots that have no id.
     pub fn release(&mut self, op: &Op)
-        ensures only { HoldsOnlyFor (Some op.now) self.old → HoldsOnlyFor None self.new }
+        ensures only { ReservesOnlyForMember (Some op.now) self.old → ReservesOnlyForMember None self.new }
         ensures members { (ops : List AnOp) → AreMembers ops self.old → AreMembers ops self.new }
     {
-        release(&mut self.ends, spot_on(Row::Ends, op));
-        release(&mut self.begins, spot_on(Row::Begins, op));
+        release(&mut self.ends, spot_on(IndexKind::Ends, op));
+        release(&mut self.begins, spot_on(IndexKind::Begins, op));
     }
 
-    /// Takes an operation out, and puts one in whose places are held. The places of a prepared one stay.
+    /// Takes `old` out and puts `new` in, whose places are there. The places of `prepared` stay.
     pub fn change(&mut self, old: &Option<Op>, new: &Option<Op>, prepared: &Option<Op>)
         requires prepared { IfSome new.now (λ op. prepared.now ≡ Some op) }
         requires places { HasPlacesOf prepared.now self.old }
         ensures members { (before after : List AnOp) → AreMembers before self.old → IsChange before old.now new.now after → AreMembers after self.new }
         ensures places { HasPlacesOf prepared.now self.new }
-        ensures only { HoldsOnlyFor prepared.now self.old → HoldsOnlyFor (prepared_after new.now prepared.now) self.new }
+        ensures only { ReservesOnlyForMember prepared.now self.old → ReservesOnlyForMember (prepared_after new.now prepared.now) self.new }
     {
-        change_row(&mut self.ends, Row::Ends, old, new, prepared);
-        change_row(&mut self.begins, Row::Begins, old, new, prepared);
+        change_row(&mut self.ends, IndexKind::Ends, old, new, prepared);
+        change_row(&mut self.begins, IndexKind::Begins, old, new, prepared);
     }
 
-    /// Of the judged reads of the value the end of the one that ended first, and its id.
+    /// The end and the id of the judged read of the value that ended first.
     pub fn first_to_end(&self, value: Value) -> Option<(Moment, OpId)>
         ensures { (ops : List AnOp) → AreMembers ops self.now → MatchOption result (HasNoRead ops value) (λ found. EndsFirstOf ops value found.0 found.1) }
     {
         self.ends.first_from(value, Moment(0))
     }
 
-    /// Of the judged reads of the value the beginning of the one that began last, and its id.
+    /// The beginning and the id of the judged read of the value that began last.
     pub fn last_to_begin(&self, value: Value) -> Option<(Moment, OpId)>
         ensures { (ops : List AnOp) → AreMembers ops self.now → MatchOption result (HasNoRead ops value) (λ found. BeginsLastOf ops value found.0 found.1) }
     {
@@ -87,19 +88,19 @@ impl Members {
     }
 }
 
-/// Where the operation stands on a shelf.
-pub fn spot_on(row: Row, op: &Op) -> Option<Spot>
-    ensures { result ≡ on row op.now }
+/// The spot of the operation in that index; a write and a read that has no end have none.
+pub fn spot_on(row: IndexKind, op: &Op) -> Option<Spot>
+    ensures { result ≡ spot_on row op.now }
 {
     match row {
-        Row::Ends if !op.is_write() => {
+        IndexKind::Ends if !op.is_write() => {
             let end = op.end?;
             Some(Spot {
                 value: op.value(),
                 moment: end,
             })
         }
-        Row::Begins if !op.is_write() => {
+        IndexKind::Begins if !op.is_write() => {
             let _ = op.end?;
             Some(Spot {
                 value: op.value(),
@@ -110,8 +111,9 @@ pub fn spot_on(row: Row, op: &Op) -> Option<Spot>
     }
 }
 
-/// Holds the place at the spot, and gives the spot where the place was made.
-fn hold(shelf: &mut Shelf, spot: Option<Spot>) -> Result<Option<Spot>, Memory>
+/// Sees to it that there is a place at the spot. Returns the spot where the place was made, and none where it was
+/// there.
+fn hold(shelf: &mut OrderedIndex, spot: Option<Spot>) -> Result<Option<Spot>, Memory>
     ensures there { OnOk result (IfSome spot (λ s. is_some (place_at shelf.new s) ≡ true)) }
     ensures ids { (other : ASpot) → id_at shelf.new other ≡ id_at shelf.old other }
     ensures made { IfOk result (IsMade shelf.old shelf.new) }
@@ -128,8 +130,8 @@ fn hold(shelf: &mut Shelf, spot: Option<Spot>) -> Result<Option<Spot>, Memory>
     }
 }
 
-/// Lets the place at the spot go where no id stands there.
-fn release(shelf: &mut Shelf, spot: Option<Spot>)
+/// Drops the place at the spot where it has no id.
+fn release(shelf: &mut OrderedIndex, spot: Option<Spot>)
     ensures gone { IfSome spot (λ s. id_at shelf.old s ≡ None → place_at shelf.new s ≡ None) }
     ensures ids { (other : ASpot) → id_at shelf.new other ≡ id_at shelf.old other }
     ensures others { (other : ASpot) → is_spot spot other ≡ false → place_at shelf.new other ≡ place_at shelf.old other }
@@ -139,20 +141,20 @@ fn release(shelf: &mut Shelf, spot: Option<Spot>)
     }
 }
 
-/// Takes the old operation out and puts the new one in, whose place is held. The place of the prepared
-/// one stays. An operation that keeps its spot is not touched.
+/// Takes `old` out and puts `new` in, whose place is there. The place of `prepared` stays. An id that keeps its
+/// spot is not touched.
 #[inline(always)]
 fn change_row(
-    shelf: &mut Shelf,
-    row: Row,
+    shelf: &mut OrderedIndex,
+    row: IndexKind,
     old: &Option<Op>,
     new: &Option<Op>,
     prepared: &Option<Op>,
 )
     requires prepared { IfSome new.now (λ op. prepared.now ≡ Some op) }
-    requires place { HasPlaceAt shelf.old (in_row row prepared.now) }
-    ensures in_time { IsInTime (in_row row new.now) }
-    ensures places { (other : ASpot) → place_at shelf.new other ≡ come_at row new.now other (taken_at (in_row row old.now) (in_row row prepared.now) other (place_at shelf.old other)) }
+    requires place { HasPlaceAt shelf.old (spot_in row prepared.now) }
+    ensures in_time { IsInTime (spot_in row new.now) }
+    ensures places { (other : ASpot) → place_at shelf.new other ≡ come_at row new.now other (taken_at (spot_in row old.now) (spot_in row prepared.now) other (place_at shelf.old other)) }
 {
     let spot = spot_in(row, old);
     let Some(op) = new else {
@@ -166,8 +168,8 @@ fn change_row(
     }
 }
 
-/// Whether the two are one spot, and the id stands there.
-fn has_at(shelf: &Shelf, spot: Option<Spot>, place: Option<Spot>, id: OpId) -> bool
+/// Whether the two are one spot, and the id is there.
+fn has_at(shelf: &OrderedIndex, spot: Option<Spot>, place: Option<Spot>, id: OpId) -> bool
     ensures { result ≡ true → IsStill shelf.now spot place id }
 {
     match (spot, place) {
@@ -176,9 +178,9 @@ fn has_at(shelf: &Shelf, spot: Option<Spot>, place: Option<Spot>, id: OpId) -> b
     }
 }
 
-/// Where the operation stands on a shelf, if there is one.
-fn spot_in(row: Row, op: &Option<Op>) -> Option<Spot>
-    ensures { result ≡ in_row row op.now }
+/// The spot of the optional operation in that index.
+fn spot_in(row: IndexKind, op: &Option<Op>) -> Option<Spot>
+    ensures { result ≡ spot_in row op.now }
 {
     match op {
         Some(op) => spot_on(row, op),
@@ -186,8 +188,8 @@ fn spot_in(row: Row, op: &Option<Op>) -> Option<Spot>
     }
 }
 
-/// Takes what stands at the spot out. The place goes too, unless it is the one that is held.
-fn take_out(shelf: &mut Shelf, spot: Option<Spot>, held: Option<Spot>)
+/// Takes the id at the spot out. The place is dropped too, unless it is the held one.
+fn take_out(shelf: &mut OrderedIndex, spot: Option<Spot>, held: Option<Spot>)
     requires { HasPlaceAt shelf.old held }
     ensures { (other : ASpot) → place_at shelf.new other ≡ taken_at spot held other (place_at shelf.old other) }
 {
@@ -198,10 +200,10 @@ fn take_out(shelf: &mut Shelf, spot: Option<Spot>, held: Option<Spot>)
     }
 }
 
-fn put_in(shelf: &mut Shelf, spot: Option<Spot>, id: OpId)
+fn put_in(shelf: &mut OrderedIndex, spot: Option<Spot>, id: OpId)
     requires { HasPlaceAt shelf.old spot }
     ensures in_time { IsInTime spot }
-    ensures places { (other : ASpot) → place_at shelf.new other ≡ put_at spot id other (place_at shelf.old other) }
+    ensures places { (other : ASpot) → place_at shelf.new other ≡ placed_at spot id other (place_at shelf.old other) }
 {
     if let Some(spot) = spot {
         shelf.put(spot, id);

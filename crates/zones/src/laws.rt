@@ -7,12 +7,12 @@ ghost use Rattle.intervals.specs.declared.operation.Value.{Value};
 ghost use Rattle.intervals.specs.declared.operation.Value.TheVariants.{Nil};
 ghost use Rattle.intervals.specs.declared.edit.Edit.{Edit};
 ghost use Rattle.intervals.specs.declared.claim.Kind.TheVariants.{Atomic};
-ghost use Rattle.intervals.specs.Terms.{Terms, unedited};
+ghost use Rattle.intervals.specs.Terms.{ClaimModel, unedited};
 ghost use Rattle.intervals.specs.Operation.{value_of, judged};
 ghost use Rattle.intervals.specs.Refusal.{standing};
 ghost use Rattle.intervals.specs.Standing.{HasDistinctMoments, HasEndsAfterBeginnings, HasDistinctValues, HasOwnValues};
 ghost use Rattle.intervals.specs.Kind.{Arranges, HasNoWrite, IsAtomic, Holds};
-ghost use Rattle.intervals.specs.Histories.{number, claim_of, new_before_old, unfinished_write, write_between};
+ghost use Rattle.intervals.specs.Histories.{number, plain_claim, new_before_old, unfinished_write, write_between};
 ghost use Rattle.zone_tree.specs.declared.edge.Edge.TheVariants.{Before, At, Never};
 ghost use Rattle.zone_tree.specs.declared.zone.Zone.{Zone};
 ghost use Rattle.zone_tree.specs.Edge.{ComesBefore};
@@ -27,55 +27,55 @@ ghost use Rattle.zones.specs.Examples.{at, forward, backward, reads_of_nil, writ
 
 use zone_tree::laws::{one_first_conflict, zones_have_one_order};
 
-/// A register of many writers has an arrangement exactly where, from what it begins with, no read is unwritten,
-/// no read is early and no two zones conflict.
+/// A register of many writers has an arrangement exactly where, from the value that it begins with, no read is
+/// unwritten, no read is early and no two zones conflict.
 pub fn faultless_exactly_where_arranged()
-    ensures { (claim : Terms) (ops : List Op) → HasDistinctMoments ops → HasEndsAfterBeginnings ops → HasOwnValues claim ops
+    ensures { (claim : ClaimModel) (ops : List Op) → HasDistinctMoments ops → HasEndsAfterBeginnings ops → HasOwnValues claim ops
         → IsFaultless (start_of claim ops) ops ↔ IsAtomic claim ops }
 {}
 
 /// A register whose initial value is known begins with it. Where nobody knows it, it begins with the value of the
-/// reads of values without a write, where these have one; where they have none or several, with a value that
-/// no operation has.
+/// reads of values without a write, where these have one; where they have none or several, with a value that no
+/// operation has.
 pub fn a_register_begins_with_its_initial_value()
-    ensures known { (claim : Terms) (ops : List Op) → claim.known ≡ true → (initial_of claim ops ≡ Some claim.initial) × (start_of claim ops ≡ claim.initial) }
-    ensures read { (claim : Terms) (ops : List Op) (value : Value) → claim.known ≡ false → initial_of claim ops ≡ Some value
+    ensures known { (claim : ClaimModel) (ops : List Op) → claim.known ≡ true → (initial_of claim ops ≡ Some claim.initial) × (start_of claim ops ≡ claim.initial) }
+    ensures read { (claim : ClaimModel) (ops : List Op) (value : Value) → claim.known ≡ false → initial_of claim ops ≡ Some value
         → (start_of claim ops ≡ value) × ((r : Op) × Contains ops r × IsWriteless claim ops r × (value_of r.act ≡ value)) × ((r : Op) → Contains ops r → IsWriteless claim ops r → value_of r.act ≡ value) }
-    ensures none { (claim : Terms) (ops : List Op) (op : Op) → initial_of claim ops ≡ None → Contains ops op → value_of op.act ≢ start_of claim ops }
-    ensures not_written { (claim : Terms) (ops : List Op) → HasOwnValues claim ops → HasNoWrite ops (start_of claim ops) }
+    ensures none { (claim : ClaimModel) (ops : List Op) (op : Op) → initial_of claim ops ≡ None → Contains ops op → value_of op.act ≢ start_of claim ops }
+    ensures not_written { (claim : ClaimModel) (ops : List Op) → HasOwnValues claim ops → HasNoWrite ops (start_of claim ops) }
 {}
 
-/// The same of what stands after any edits of an atomic register, with nothing asked of the edits.
+/// After any edits of an atomic register its operations are faultless exactly where the register holds, with
+/// nothing asked of the edits.
 pub fn faultless_exactly_after_any_edits()
-    ensures { (claim : Terms) (edits : List Edit) → let held = standing (unedited claim) edits in held.claim.kind ≡ Atomic
+    ensures { (claim : ClaimModel) (edits : List Edit) → let held = standing (unedited claim) edits in held.claim.kind ≡ Atomic
         → IsFaultless (start_of held.claim held.ops) held.ops ↔ Holds held.claim held.ops }
 {}
 
 /// An unwritten read, two reads of different values without a write where nobody knows the initial value, an early
-/// read, or four operations that cross exclude every arrangement, each by itself. The initial write may be the first
-/// or the third of the four.
+/// read, or four operations that cross exclude every arrangement, each by itself. The initial write may be the
+/// first or the third of the four.
 pub fn one_fault_excludes_every_arrangement()
-    ensures unwritten { (claim : Terms) (ops : List Op) (r : Op) → claim.known ≡ true → Contains ops r → IsUnwritten claim.initial ops r → ¬ IsAtomic claim ops }
-    ensures split { (claim : Terms) (ops : List Op) (a b : Op) → claim.known ≡ false → IsSplit claim ops a b → ¬ IsAtomic claim ops }
-    ensures early { (claim : Terms) (ops : List Op) (r w : Op) → HasOwnValues claim ops
+    ensures unwritten { (claim : ClaimModel) (ops : List Op) (r : Op) → claim.known ≡ true → Contains ops r → IsUnwritten claim.initial ops r → ¬ IsAtomic claim ops }
+    ensures split { (claim : ClaimModel) (ops : List Op) (a b : Op) → claim.known ≡ false → IsSplit claim ops a b → ¬ IsAtomic claim ops }
+    ensures early { (claim : ClaimModel) (ops : List Op) (r w : Op) → HasOwnValues claim ops
         → Contains ops r → Contains ops w → IsEarly r w → ¬ IsAtomic claim ops }
-    ensures crossing { (claim : Terms) (ops : List Op) (a : Option Op) (b : Op) (c : Option Op) (d : Op) → HasOwnValues claim ops
+    ensures crossing { (claim : ClaimModel) (ops : List Op) (a : Option Op) (b : Op) (c : Option Op) (d : Op) → HasOwnValues claim ops
         → IsCrossing (start_of claim ops) ops a b c d → ¬ IsAtomic claim ops }
 {}
 
-/// Where a register is faultless each order in turn is an arrangement; and there is such an order, and
-/// no second one.
+/// Where a register is faultless each order in turn is an arrangement; and there is exactly one order in turn.
 pub fn an_order_in_turn_is_an_arrangement()
-    ensures arranges { (claim : Terms) (ops order : List Op) → HasDistinctMoments ops → HasEndsAfterBeginnings ops → IsFaultless claim.initial ops
+    ensures arranges { (claim : ClaimModel) (ops order : List Op) → HasDistinctMoments ops → HasEndsAfterBeginnings ops → IsFaultless claim.initial ops
         → IsPermutation (judged ops) order → IsInTurn claim.initial ops order → Arranges claim ops order }
     ensures exists { (initial : Value) (ops : List Op) → (order : List Op) × IsPermutation (judged ops) order × IsInTurn initial ops order }
     ensures one { (initial : Value) (ops order other : List Op) → HasDistinctMoments ops → IsPermutation (judged ops) order → IsPermutation (judged ops) other
         → IsInTurn initial ops order → IsInTurn initial ops other → order ≡ other }
 {}
 
-/// A cluster holds the judged operations of its value, and its edges are theirs: none ends before the
-/// least end or begins after the greatest beginning, and one of them has it. The initial write is of the
-/// initial value's cluster, so no end there is less than its own.
+/// A cluster holds the judged operations of its value, and its edges are theirs: none ends before the least end or
+/// begins after the greatest beginning, and one of them has it, if there are any. In the cluster of the initial
+/// value the initial write has the least end.
 pub fn edges_are_those_of_the_cluster()
     ensures members { (ops : List Op) (value : Value) (op : Op) → Contains (cluster_of ops value) op ↔ (Contains (judged ops) op × (value_of op.act ≡ value)) }
     ensures least { (initial : Value) (ops : List Op) (value : Value) (op : Op) → Contains (cluster_of ops value) op
@@ -97,8 +97,8 @@ pub fn zones_conflict_where_operations_cross()
         → Conflicts (zone_of initial ops (value_of d.act)) (zone_of initial ops (value_of b.act)) }
 {}
 
-/// Of two zones that conflict the operations of least end and greatest beginning cross, and there are
-/// such operations, the initial write among them where one of the values is the initial one.
+/// Of two zones that conflict the operations of least end and greatest beginning cross, and there are such
+/// operations, the initial write among them where one of the values is the initial one.
 pub fn extremes_of_a_conflict_cross()
     ensures crossing { (initial : Value) (ops : List Op) (u v : Value) (a : Option Op) (b : Op) (c : Option Op) (d : Op) → u ≢ v
         → Conflicts (zone_of initial ops u) (zone_of initial ops v) → AreExtremes initial ops u v a b c d → IsCrossing initial ops a b c d }
@@ -106,14 +106,14 @@ pub fn extremes_of_a_conflict_cross()
         → (a : Option Op) × (b : Op) × (c : Option Op) × (d : Op) × AreExtremes initial ops u v a b c d }
 {}
 
-/// The first unwritten read is the unwritten read of which none ended before.
+/// The first unwritten read is the unwritten read that ended first.
 pub fn first_unwritten_ended_first()
     ensures first { (initial : Value) (ops : List Op) (r : Op) → first_unwritten initial ops ≡ Some r → IsFirstOf (IsUnwritten initial ops) ops r }
     ensures only { (initial : Value) (ops : List Op) (r : Op) → HasDistinctMoments ops → IsFirstOf (IsUnwritten initial ops) ops r → first_unwritten initial ops ≡ Some r }
     ensures none { (initial : Value) (ops : List Op) → (first_unwritten initial ops ≡ None) ↔ All (λ r. ¬ IsUnwritten initial ops r) ops }
 {}
 
-/// The first early read is the early read of which none ended before, with the write of its value.
+/// The first early read is the early read that ended first, and it comes with the write of its value.
 pub fn first_early_ended_first()
     ensures first { (ops : List Op) (r w : Op) → first_early ops ≡ Some (r, w) → IsFirstOf (HasLateWrite ops) ops r × Contains ops w × IsEarly r w }
     ensures only { (initial : Value) (ops : List Op) (r w : Op) → HasDistinctMoments ops → HasDistinctValues initial ops
@@ -121,21 +121,22 @@ pub fn first_early_ended_first()
     ensures none { (ops : List Op) → (first_early ops ≡ None) ↔ All (λ r. All (λ w. ¬ IsEarly r w) ops) ops }
 {}
 
-/// The first of a split is the read that ended first of those of values without a write, and the second the one that
-/// ended first of those of another such value; and there is none exactly where all such reads return one value.
+/// The first read of a split is the one that ended first of the reads of values without a write, and the second
+/// the one that ended first of those of another such value; and there is none exactly where all such reads return
+/// one value.
 pub fn first_split_ended_first()
-    ensures first { (claim : Terms) (ops : List Op) (a b : Op) → first_split claim ops ≡ Some (a, b) → (claim.known ≡ false)
+    ensures first { (claim : ClaimModel) (ops : List Op) (a b : Op) → first_split claim ops ≡ Some (a, b) → (claim.known ≡ false)
         × IsFirstOf (IsWriteless claim ops) ops a × IsFirstOf (λ r. IsWriteless claim ops r × (value_of r.act ≢ value_of a.act)) ops b }
-    ensures split { (claim : Terms) (ops : List Op) (a b : Op) → first_split claim ops ≡ Some (a, b) → IsSplit claim ops a b }
-    ensures none { (claim : Terms) (ops : List Op) → claim.known ≡ false → first_split claim ops ≡ None → (a b : Op) → ¬ IsSplit claim ops a b }
+    ensures split { (claim : ClaimModel) (ops : List Op) (a b : Op) → first_split claim ops ≡ Some (a, b) → IsSplit claim ops a b }
+    ensures none { (claim : ClaimModel) (ops : List Op) → claim.known ≡ false → first_split claim ops ≡ None → (a b : Op) → ¬ IsSplit claim ops a b }
 {}
 
-/// A register is faultless exactly where there is no first unwritten read, no first early read and no
-/// conflict; and from what it begins with exactly where there is no first split either.
+/// From a given value a register is faultless exactly where there is no first unwritten read, no first early read
+/// and no conflict; from the value that it begins with exactly where there is no first split either.
 pub fn faultless_where_no_fault_is_first()
     ensures initial { (initial : Value) (ops : List Op) → IsFaultless initial ops
         ↔ ((first_unwritten initial ops ≡ None) × (first_early ops ≡ None) × IsClean (zones_of initial ops)) }
-    ensures start { (claim : Terms) (ops : List Op) → IsFaultless (start_of claim ops) ops
+    ensures start { (claim : ClaimModel) (ops : List Op) → IsFaultless (start_of claim ops) ops
         ↔ ((unwritten_of claim ops ≡ None) × (first_split claim ops ≡ None) × (first_early ops ≡ None) × IsClean (zones_from (initial_of claim ops) ops)) }
 {}
 
@@ -151,15 +152,15 @@ pub fn clean_in_any_order()
     ensures { (zones others : List Zone) → IsPermutation zones others → IsClean zones ↔ IsClean others }
 {}
 
-/// A register has at most one first conflict and at most one first crossing, and that is a crossing. A first crossing
-/// where there may be no initial value is one from what the register begins with.
+/// A register has at most one first conflict and at most one first crossing, and a first crossing is a crossing.
+/// Where the initial value is optional, a first crossing is one from the value that the register begins with.
 pub fn one_first_crossing()
     ensures one_conflict { (initial : Value) (ops : List Op) (first second third fourth : Zone) → HasFirstConflict initial ops first second
         → HasFirstConflict initial ops third fourth → (first ≡ third) × (second ≡ fourth) }
     ensures one { (initial : Value) (ops : List Op) (a : Option Op) (b : Op) (c : Option Op) (d : Op) (e : Option Op) (f : Op) (g : Option Op) (h : Op) → HasDistinctMoments ops
         → IsFirstCrossing initial ops a b c d → IsFirstCrossing initial ops e f g h → (a ≡ e) × (b ≡ f) × (c ≡ g) × (d ≡ h) }
     ensures crossing { (initial : Value) (ops : List Op) (a : Option Op) (b : Op) (c : Option Op) (d : Op) → IsFirstCrossing initial ops a b c d → IsCrossing initial ops a b c d }
-    ensures start { (claim : Terms) (ops : List Op) (a : Option Op) (b : Op) (c : Option Op) (d : Op)
+    ensures start { (claim : ClaimModel) (ops : List Op) (a : Option Op) (b : Op) (c : Option Op) (d : Op)
         → IsFirstCrossingFrom (initial_of claim ops) (start_of claim ops) ops a b c d → IsFirstCrossing (start_of claim ops) ops a b c d }
 {
     zones_have_one_order();
@@ -179,45 +180,45 @@ pub fn worked_zones()
 
 /// The histories of those zones hold: the operations, as they are listed, are an arrangement.
 pub fn worked_orders()
-    ensures reads_of_nil { Arranges (claim_of Atomic Nil None) reads_of_nil reads_of_nil }
-    ensures write { Arranges (claim_of Atomic Nil None) write_alone write_alone }
-    ensures read_after { Arranges (claim_of Atomic Nil None) read_after read_after }
-    ensures read_within { Arranges (claim_of Atomic Nil None) read_within read_within }
-    ensures never_ended { Arranges (claim_of Atomic Nil None) never_ended never_ended }
-    ensures never_ended_and_read { Arranges (claim_of Atomic Nil None) never_ended_and_read never_ended_and_read }
+    ensures reads_of_nil { Arranges (plain_claim Atomic Nil None) reads_of_nil reads_of_nil }
+    ensures write { Arranges (plain_claim Atomic Nil None) write_alone write_alone }
+    ensures read_after { Arranges (plain_claim Atomic Nil None) read_after read_after }
+    ensures read_within { Arranges (plain_claim Atomic Nil None) read_within read_within }
+    ensures never_ended { Arranges (plain_claim Atomic Nil None) never_ended never_ended }
+    ensures never_ended_and_read { Arranges (plain_claim Atomic Nil None) never_ended_and_read never_ended_and_read }
 {}
 
 /// A history for each way to fail, and none of them has an arrangement.
 pub fn worked_faults()
     ensures unwritten { IsUnwritten Nil read_of_nothing unwritten_read }
-    ensures no_order_with_unwritten { ¬ IsAtomic (claim_of Atomic Nil None) read_of_nothing }
+    ensures no_order_with_unwritten { ¬ IsAtomic (plain_claim Atomic Nil None) read_of_nothing }
     ensures first_unwritten { first_unwritten Nil read_of_nothing ≡ Some unwritten_read }
     ensures early { IsEarly early_read late_write }
     ensures first_early { first_early read_before_write ≡ Some (early_read, late_write) }
-    ensures no_order_with_early { ¬ IsAtomic (claim_of Atomic Nil None) read_before_write }
+    ensures no_order_with_early { ¬ IsAtomic (plain_claim Atomic Nil None) read_before_write }
     ensures zones { zones_of Nil new_before_old ≡ backward Before Before Nil ∷ forward (at 1) (at 6) (number 1) ∷ backward (at 4) (at 5) (number 2) ∷ [] }
     ensures conflict { Conflicts (zone_of Nil new_before_old (number 1)) (zone_of Nil new_before_old (number 2)) }
     ensures crossing { IsCrossing Nil new_before_old (Some first_write) second_read (Some second_read) first_read }
     ensures extremes { AreExtremes Nil new_before_old (number 1) (number 2) (Some first_write) second_read (Some second_read) first_read }
     ensures first_conflict { HasFirstConflict Nil new_before_old (forward (at 1) (at 6) (number 1)) (backward (at 4) (at 5) (number 2)) }
     ensures first_crossing { IsFirstCrossing Nil new_before_old (Some first_write) second_read (Some second_read) first_read }
-    ensures no_order_with_crossing { ¬ IsAtomic (claim_of Atomic Nil None) new_before_old }
+    ensures no_order_with_crossing { ¬ IsAtomic (plain_claim Atomic Nil None) new_before_old }
     ensures initial_first { IsCrossing Nil back_to_nil None first_write (Some first_write) nil_read }
     ensures initial_extreme { AreExtremes Nil back_to_nil Nil (number 1) None first_write (Some first_write) nil_read }
     ensures initial_third { IsCrossing Nil back_to_nil (Some first_write) nil_read None first_write }
-    ensures no_order_back_to_initial { ¬ IsAtomic (claim_of Atomic Nil None) back_to_nil }
+    ensures no_order_back_to_initial { ¬ IsAtomic (plain_claim Atomic Nil None) back_to_nil }
 {}
 
-/// An unfinished write stands in turn after the read of the initial value, though it began before it.
+/// An unfinished write comes in turn after the read of the initial value, though it began before it.
 pub fn worked_turns()
     ensures zones { zones_of Nil unfinished_write ≡ forward Before (at 2) Nil ∷ backward (at 5) (at 6) (number 1) ∷ [] }
     ensures in_turn { IsInTurn Nil unfinished_write write_between }
     ensures by_beginning { ¬ IsInTurn Nil unfinished_write unfinished_write }
 {}
 
-/// Where nobody knows the initial value: reads of 7 and then of 1, which was written between, begin with 7; a read of 8
-/// splits them; a second read of 7 behind the others crosses them; and with a write of 7 behind all the first read is
-/// early.
+/// Where nobody knows the initial value: with a read of 7, a write of 1 and a read of 1 it is 7; with a read of 8
+/// after them there is a split, with a second read of 7 after them a crossing; and with a write of 7 after that
+/// the first read is early.
 pub fn worked_unknown()
     ensures initial { initial_of unknown seven_and_one ≡ Some (number 7) }
     ensures split { first_split unknown (seven_and_one ++ read_of_eight ∷ []) ≡ Some (read_of_seven, read_of_eight) }

@@ -1,9 +1,9 @@
 //! Zones taken out of a tree, and put in.
 
 ghost use Rattle.std.specs.Prelude.{◌≡◌, ◌⊎◌, ◌+◌, ◌*◌, ◌<◌, ◌≤◌, length, true, IsNone, IsSome, IsTrue};
-ghost use Rattle.zone_tree.specs.Digits.{digits};
+ghost use Rattle.zone_tree.specs.Digits.{binary_digits};
 ghost use Rattle.zone_tree.specs.Order.{zone_at};
-ghost use Rattle.zones.specs.Moves.{AreExchanged, IsNew, KeepsRoom, Stands, with, without, moved};
+ghost use Rattle.zones.specs.Moves.{AreExchanged, IsNew, KeepsRoom, IsThere, with, without, moved};
 ghost use Rattle.zones.specs.Zoned.{CanExchange, CanMove, NeedsNoRoom, zone_shape};
 
 use crate::edges::is_same_edge;
@@ -11,7 +11,7 @@ use intervals::is_same_value;
 use zone_tree::laws::digits_are_the_least_that_hold_a_number;
 use zone_tree::{Zone, ZoneTree};
 
-/// Puts two zones in the place of two others. A zone that is the same as before is left where it is.
+/// Puts two optional zones in the place of two others. A zone that does not change is left where it is.
 pub fn exchange(
     tree: &mut ZoneTree,
     before: &(Option<Zone>, Option<Zone>),
@@ -20,7 +20,7 @@ pub fn exchange(
     requires { CanExchange tree.old before.now after.now }
     ensures zones { AreExchanged zone_shape before.now after.now tree.old.zones tree.new.zones }
     ensures room { NeedsNoRoom tree.old.zones before.now after.now → tree.old.free ≤ tree.new.free }
-    ensures steps { tree.new.steps ≤ tree.old.steps + 4 * (2 * digits (length tree.old.zones + 1) + 1) }
+    ensures steps { tree.new.steps ≤ tree.old.steps + 4 * (2 * binary_digits (length tree.old.zones + 1) + 1) }
     ensures rises { tree.old.steps ≤ tree.new.steps }
 {
     match (
@@ -45,13 +45,14 @@ fn is_unchanged(before: &Option<Zone>, after: &Option<Zone>) -> bool
     }
 }
 
-/// One zone for another. Where it keeps its left edge it is replaced.
+/// Puts one optional zone in the place of another. Where the left edge stays the zone is replaced, else it is
+/// taken out and put in.
 fn move_zone(tree: &mut ZoneTree, gone: &Option<Zone>, come: &Option<Zone>)
-    requires room { IsSome come.now → (0 < tree.old.free) ⊎ Stands tree.old.zones gone.now }
+    requires room { IsSome come.now → (0 < tree.old.free) ⊎ IsThere tree.old.zones gone.now }
     requires new { IsNew zone_shape (without zone_shape gone.now tree.old.zones) come.now }
     ensures zones { tree.new.zones ≡ with zone_shape come.now (without zone_shape gone.now tree.old.zones) }
-    ensures room { (IsSome come.now → Stands tree.old.zones gone.now) → tree.old.free ≤ tree.new.free }
-    ensures steps { tree.new.steps ≤ tree.old.steps + 4 * (2 * digits (length tree.old.zones + 1) + 1) }
+    ensures room { (IsSome come.now → IsThere tree.old.zones gone.now) → tree.old.free ≤ tree.new.free }
+    ensures steps { tree.new.steps ≤ tree.old.steps + 4 * (2 * binary_digits (length tree.old.zones + 1) + 1) }
     ensures rises { tree.old.steps ≤ tree.new.steps }
 {
     digits_are_the_least_that_hold_a_number();
@@ -64,14 +65,14 @@ fn move_zone(tree: &mut ZoneTree, gone: &Option<Zone>, come: &Option<Zone>)
     }
 }
 
-/// Whether the two have one left edge, and a zone of it stands.
+/// Whether the two have one left edge, and the tree has a zone there.
 fn keeps_its_edge(tree: &ZoneTree, old: &Zone, new: &Zone) -> bool
     ensures { result ≡ true → (old.now.left ≡ new.now.left) × IsSome (zone_at new.now.left tree.now.zones) }
 {
     is_same_edge(old.left, new.left) && tree.get(new.left).is_some()
 }
 
-/// Two zones for two others, each taken out and put in.
+/// Puts two optional zones in the place of two others, each taken out and put in.
 fn move_both(
     tree: &mut ZoneTree,
     gone: &(Option<Zone>, Option<Zone>),
@@ -80,7 +81,7 @@ fn move_both(
     requires { CanMove tree.old gone.now come.now }
     ensures zones { tree.new.zones ≡ moved zone_shape gone.now come.now tree.old.zones }
     ensures room { KeepsRoom tree.old.zones gone.now come.now → tree.old.free ≤ tree.new.free }
-    ensures steps { tree.new.steps ≤ tree.old.steps + 4 * (2 * digits (length tree.old.zones + 1) + 1) }
+    ensures steps { tree.new.steps ≤ tree.old.steps + 4 * (2 * binary_digits (length tree.old.zones + 1) + 1) }
     ensures rises { tree.old.steps ≤ tree.new.steps }
 {
     digits_are_the_least_that_hold_a_number();
@@ -102,8 +103,8 @@ fn is_same(a: &Zone, b: &Zone) -> bool
 fn take(tree: &mut ZoneTree, zone: &Option<Zone>)
     ensures zones { tree.new.zones ≡ without zone_shape zone.now tree.old.zones }
     ensures kept { tree.old.free ≤ tree.new.free }
-    ensures freed { Stands tree.old.zones zone.now → tree.old.free < tree.new.free }
-    ensures steps { tree.new.steps ≤ tree.old.steps + (2 * digits (length tree.old.zones) + 1) }
+    ensures freed { IsThere tree.old.zones zone.now → tree.old.free < tree.new.free }
+    ensures steps { tree.new.steps ≤ tree.old.steps + (2 * binary_digits (length tree.old.zones) + 1) }
     ensures rises { tree.old.steps ≤ tree.new.steps }
 {
     match zone {
@@ -120,7 +121,7 @@ fn put(tree: &mut ZoneTree, zone: &Option<Zone>)
     ensures zones { tree.new.zones ≡ with zone_shape zone.now tree.old.zones }
     ensures free { tree.old.free ≤ tree.new.free + 1 }
     ensures kept { IsNone zone.now → tree.old.free ≤ tree.new.free }
-    ensures steps { tree.new.steps ≤ tree.old.steps + (2 * digits (length tree.old.zones) + 1) }
+    ensures steps { tree.new.steps ≤ tree.old.steps + (2 * binary_digits (length tree.old.zones) + 1) }
     ensures rises { tree.old.steps ≤ tree.new.steps }
 {
     match zone {

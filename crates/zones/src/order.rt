@@ -1,23 +1,23 @@
 //! The order in which the operations of a faultless register are given.
 
 ghost use Rattle.std.specs.Prelude.{◌≡◌, ◌++◌, ◌∷◌, [], ◌↔◌, Contains, IfOk, IfSome, IsNone, OnOk, OnErr, map, is_some, ◌||◌};
-ghost use Rattle.intervals.specs.Operation.{judged, value_of, is_write as writes};
+ghost use Rattle.intervals.specs.Operation.{judged, value_of, is_write};
 ghost use Rattle.intervals.specs.Kind.{Arranges, IsAtomic};
-ghost use Rattle.intervals.specs.Table.{standing};
+ghost use Rattle.intervals.specs.Table.{ops_in_slots};
 ghost use Rattle.zones.specs.AtFirst.{initial_of, start_of, with_start};
 ghost use Rattle.zones.specs.Cluster.{values_from};
 ghost use Rattle.zones.specs.Fault.{IsFaultless};
 ghost use Rattle.zones.specs.Turn.{IsInTurn, IsOrder};
-ghost use Rattle.zones.specs.Order.{turn_of as turn_in, placed_of};
+ghost use Rattle.zones.specs.Order.{turn_of, placed_of};
 
 use crate::register::Clusters;
 use intervals::{Memory, Moment, Op, OpId};
 use std::alloc::Global;
 use zone_tree::Edge;
 
-/// What an operation stands by: the left edge of the zone of its value, a write before reads, its beginning.
+/// What the operations are sorted by: the left edge of the zone of the value, a write before reads, the beginning.
 #[derive(Clone, Copy, Debug, PartialEq, Eq, PartialOrd, Ord)]
-struct Turn {
+struct TurnKey {
     left: Edge,
     is_read: bool,
     begin: Moment,
@@ -25,14 +25,14 @@ struct Turn {
 
 #[derive(Clone, Copy, Debug)]
 struct Placed<'t> {
-    turn: Turn,
+    turn: TurnKey,
     op: Op<'t>,
 }
 
 impl<'t> Clusters<'t> {
-    /// Where there is an order of the judged operations that keeps precedence and lets every read return
-    /// the latest write before it, one such order, by ids: the clusters by the left edges of their zones, in
-    /// each the write and then its reads by their beginnings.
+    /// The ids of the judged operations in an order that keeps precedence and lets every read return the latest
+    /// write before it, where there is one: the clusters by the left edges of their zones, in each the write and
+    /// then its reads by their beginnings. Takes memory for the ids and, while it sorts, for the operations.
     pub fn order(&self, alloc: Global) -> Result<Option<Vec<OpId>>, Memory>
         ensures order { IfOk result (λ found. IfSome found (λ ids. IsOrder (with_start self.now.claim self.now.ops) self.now.ops ids.items)) }
         ensures none { IfOk result (λ found. IsNone found ↔ ¬ IsAtomic self.now.claim self.now.ops) }
@@ -57,9 +57,9 @@ impl<'t> Clusters<'t> {
         Ok(placed)
     }
 
-    /// The judged operations, each with what it stands by.
+    /// The judged operations, each with its key.
     fn placed(&self, alloc: Global, slots: &[Option<Op<'t>>]) -> Result<Vec<Placed<'t>>, Memory>
-        requires all { standing slots.now ≡ self.now.ops }
+        requires all { ops_in_slots slots.now ≡ self.now.ops }
         requires faultless { IsFaultless (start_of self.now.claim self.now.ops) self.now.ops }
         ensures { IfOk result (λ placed. placed.items ≡ map (placed_of (start_of self.now.claim self.now.ops) self.now.ops) (judged self.now.ops)) }
     {
@@ -70,11 +70,11 @@ impl<'t> Clusters<'t> {
         Ok(placed)
     }
 
-    /// Adds the operation that is there, if any.
+    /// Adds the operation in the slot, if there is one and it is judged.
     fn place_slot(&self, placed: &mut Vec<Placed<'t>>, slot: Option<Op<'t>>) -> Result<(), Memory>
         requires faultless { IsFaultless (start_of self.now.claim self.now.ops) self.now.ops }
         requires stands { IfSome slot (Contains self.now.ops) }
-        ensures { OnOk result (placed.new.items ≡ placed.old.items ++ map (placed_of (start_of self.now.claim self.now.ops) self.now.ops) (judged (standing (slot.entry ∷ [])))) }
+        ensures { OnOk result (placed.new.items ≡ placed.old.items ++ map (placed_of (start_of self.now.claim self.now.ops) self.now.ops) (judged (ops_in_slots (slot.entry ∷ [])))) }
     {
         match slot {
             Some(op) => self.place(placed, &op),
@@ -95,14 +95,14 @@ impl<'t> Clusters<'t> {
         Ok(())
     }
 
-    fn turn_of(&self, op: &Op) -> Turn
+    fn turn_of(&self, op: &Op) -> TurnKey
         requires { Contains (values_from (initial_of self.now.claim self.now.ops) self.now.ops) (value_of op.now.act) }
-        ensures { result ≡ turn_in (start_of self.now.claim self.now.ops) self.now.ops op.now }
+        ensures { result ≡ turn_of (start_of self.now.claim self.now.ops) self.now.ops op.now }
     {
         let Some(zone) = self.zone_of(op.value()) else {
             unreachable!()
         };
-        Turn {
+        TurnKey {
             left: zone.left,
             is_read: !op.is_write(),
             begin: op.begin,
@@ -111,7 +111,7 @@ impl<'t> Clusters<'t> {
 }
 
 fn is_judged(op: &Op) -> bool
-    ensures { result ≡ (writes op.now || is_some op.now.end) }
+    ensures { result ≡ (is_write op.now || is_some op.now.end) }
 {
     op.is_write() || op.end.is_some()
 }

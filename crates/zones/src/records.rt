@@ -1,4 +1,4 @@
-//! The write of each value and its edges, in a record that is kept beside the shelves.
+//! The records of the values, which hold the edges of each.
 
 ghost use Rattle.std.specs.Prelude.{◌≡◌, ◌<◌, ◌≤◌, ℤ, [], List, Option, Some, None, IfSome, IsNone, IsSome, MatchOption, OnOk, if◌then◌else◌};
 ghost use Rattle.std.specs.HashMap.{get, spare};
@@ -9,7 +9,7 @@ ghost use Rattle.intervals.specs.Kind.{HasNoWrite};
 ghost use Rattle.intervals.specs.Standing.{HasDistinctIds};
 ghost use Rattle.zones.specs.Edges.{AreEdgesAt, AreEdgesAtSome};
 ghost use Rattle.zones.specs.Members.{IsChange, IsTheWriteAt};
-ghost use Rattle.zones.specs.Records.{AreRecords, HasNoEmptyRecord, HasRecord, edges_at as edges_of, put_at, record_of, room_in};
+ghost use Rattle.zones.specs.Records.{AreRecords, HasNoEmptyRecord, HasRecord, edges_at, put_at, record_of, room_in};
 ghost use Rattle.zones.specs.Zoned.{other_value, value_in};
 
 use crate::edges::{Edges, is_of_nothing, of_nothing};
@@ -17,7 +17,7 @@ use intervals::{Memory, Op, OpTable, Value};
 use std::alloc::Global;
 use std::collections::HashMap;
 
-/// The edges of each value. One that no judged operation has leaves no record: its edges are those of nothing.
+/// The edges of each value. A value that no judged operation has leaves no record; nil always has one.
 #[derive(Drop)]
 pub struct Records {
     of_nil: Edges,
@@ -34,9 +34,9 @@ impl Records {
         }
     }
 
-    /// The edges of the value.
+    /// The edges of the value, those of nothing where it has no record.
     pub fn edges_at(&self, value: Value) -> Edges
-        ensures { result ≡ edges_of self.now value }
+        ensures { result ≡ edges_at self.now value }
     {
         match value {
             Value::Nil => self.of_nil,
@@ -47,7 +47,7 @@ impl Records {
         }
     }
 
-    /// The write of the value.
+    /// The write of the value, found by the id in its record.
     pub fn write_of<'t>(&self, table: &OpTable<'t>, value: Value) -> Option<Op<'t>>
         ensures { AreRecords table.now.ops self.now → HasDistinctIds table.now.ops
             → MatchOption result (HasNoWrite table.now.ops value) (IsTheWriteAt table.now.ops value) }
@@ -56,7 +56,7 @@ impl Records {
         table.get(id).copied()
     }
 
-    /// The edges of two values.
+    /// The edges of two optional values.
     pub fn edges_in(
         &self,
         first: Option<Value>,
@@ -76,7 +76,7 @@ impl Records {
         }
     }
 
-    /// Makes room for one record more.
+    /// Makes room for one more record.
     pub fn reserve(&mut self) -> Result<(), Memory>
         ensures records { (ops : List AnOp) → AreRecords ops self.old → AreRecords ops self.new }
         ensures ok { OnOk result (1 ≤ room_in self.new) }
@@ -86,8 +86,8 @@ impl Records {
         Ok(())
     }
 
-    /// Puts what the edges of two values come to in their records: the first is of the operation that went, the
-    /// second of one that came.
+    /// Puts the edges of two optional values in their records: that of the operation that went, and that of the
+    /// one that came, where it is another.
     pub fn put_both(&mut self, edges: &(Option<Edges>, Option<Edges>))
         requires first { IfSome edges.now.0 (λ e. HasRecord self.old e.value) }
         requires second { IsSome edges.now.1 → 0 < room_in self.old }
@@ -101,7 +101,7 @@ impl Records {
 
     fn put_in_some(&mut self, edges: &Option<Edges>)
         requires { IfSome edges.now (λ e. ¬ HasRecord self.old e.value → 0 < room_in self.old) }
-        ensures edges { (value : AValue) → edges_of self.new value ≡ put_at edges.now value (edges_of self.old value) }
+        ensures edges { (value : AValue) → edges_at self.new value ≡ put_at edges.now value (edges_at self.old value) }
         ensures filled { HasNoEmptyRecord self.old → HasNoEmptyRecord self.new }
         ensures kept { IfSome edges.now (λ e. HasRecord self.old e.value) → room_in self.old ≤ room_in self.new }
     {
@@ -113,7 +113,7 @@ impl Records {
 
     fn put(&mut self, edges: &Edges)
         requires { ¬ HasRecord self.old edges.now.value → 0 < room_in self.old }
-        ensures edges { (value : AValue) → edges_of self.new value ≡ put_at (Some edges.now) value (edges_of self.old value) }
+        ensures edges { (value : AValue) → edges_at self.new value ≡ put_at (Some edges.now) value (edges_at self.old value) }
         ensures filled { HasNoEmptyRecord self.old → HasNoEmptyRecord self.new }
         ensures kept { HasRecord self.old edges.now.value → room_in self.old ≤ room_in self.new }
     {
@@ -124,7 +124,7 @@ impl Records {
     }
 }
 
-/// Puts the edges of a number in its record. Those of nothing leave none.
+/// Puts the edges of a number in its record. Those that no judged operation has leave no record.
 fn put_number(records: &mut HashMap<i64, Edges>, number: i64, edges: &Edges)
     requires { get int_eq records.old number ≡ None → 0 < spare records.old }
     ensures records { (other : ℤ) → get int_eq records.new other ≡ (if int_eq number other then record_of edges.now else get int_eq records.old other) }

@@ -2,7 +2,7 @@
 
 ghost use Rattle.std.specs.Prelude.{◌≡◌, ◌↔◌, ◌||◌, ◌+◌, ◌*◌, ◌≤◌, All, length, IsOk, ◌++◌, ◌∷◌, [], Contains, IfOk, IfSome, IsSome, IsNone, IsSomeAnd, IsTrue, OnOk, OnErr, None, Some, is_some, option_map};
 ghost use Rattle.intervals.specs.Operation.{IsWrite, writes};
-ghost use Rattle.intervals.specs.Edit.{op_of as op_in, edited};
+ghost use Rattle.intervals.specs.Edit.{op_of, edited};
 ghost use Rattle.intervals.specs.Target.{IsTargetOf};
 ghost use Rattle.intervals.specs.Terms.{terms_of};
 ghost use Rattle.intervals.specs.Kind.{IsAtomic};
@@ -10,14 +10,14 @@ ghost use Rattle.intervals.specs.Refusal.{first_refusal, write_refusal, reply_to
 ghost use Rattle.intervals.specs.Standing.{HasDistinctMoments, HasEndsAfterBeginnings};
 ghost use Rattle.intervals.specs.Table.{prepared_after};
 ghost use Rattle.zone_tree.specs.Conflict.{IsClean};
-ghost use Rattle.zone_tree.specs.Digits.{digits};
-ghost use Rattle.zones.specs.AtFirst.{first_split as split_first, initial_of, start_of, unwritten_of};
-ghost use Rattle.zones.specs.Cluster.{values_from, zone_of as zone_in_list, zones_from};
+ghost use Rattle.zone_tree.specs.Digits.{binary_digits};
+ghost use Rattle.zones.specs.AtFirst.{first_split, initial_of, start_of, unwritten_of};
+ghost use Rattle.zones.specs.Cluster.{values_from, zone_of, zones_from};
 ghost use Rattle.zones.specs.Crossing.{HasFirstConflictFrom, IsFirstCrossingFrom};
-ghost use Rattle.zones.specs.Fault.{IsFaultless, first_early as early_first};
+ghost use Rattle.zones.specs.Fault.{IsFaultless, first_early};
 ghost use Rattle.zones.specs.Index.{AreMembers};
 ghost use Rattle.zones.specs.Members.{IsChange};
-ghost use Rattle.zones.specs.Zoned.{judged_part, value_in as value_of_some, other_value as other};
+ghost use Rattle.zones.specs.Zoned.{judged_part, value_in, other_value};
 
 use crate::crossing::{Crossing, extremes, is_initial};
 use crate::edges::edges_after;
@@ -40,7 +40,7 @@ use std::marker::Model;
 use stretch_tree::StretchTree;
 use zone_tree::{Zone, ZoneTree};
 
-/// The operations of one atomic register, by the clusters of their values.
+/// The operations of one atomic register, with the clusters of their values.
 #[derive(Drop)]
 pub struct Clusters<'t> {
     claim: Claim,
@@ -53,17 +53,17 @@ pub struct Clusters<'t> {
 
 impl<'t> Model for Clusters<'t> {
     ghost use Rattle.intervals.specs.Terms.{terms_of};
-    ghost use Rattle.zones.specs.Together.{Clustered, HoldTogether};
+    ghost use Rattle.zones.specs.Together.{ClustersModel, AreOfOneRegister};
 
-    ghost Value = { Clustered };
+    ghost Value = { ClustersModel };
 
     ghost view = { λ c. record { claim = terms_of c.claim; ops = c.table.ops; prepared = c.table.prepared; steps = c.zones.steps } };
 
-    ghost invariant = { λ c. HoldTogether (terms_of c.claim) c.table c.members c.records c.zones c.stretches };
+    ghost invariant = { λ c. AreOfOneRegister (terms_of c.claim) c.table c.members c.records c.zones c.stretches };
 }
 
 impl<'t> Clusters<'t> {
-    /// Clusters of no operations.
+    /// A judge of no operations. Takes memory for the claim and for two stretches.
     pub fn new(alloc: Global, claim: &Claim) -> Result<Self, Memory>
         requires { claim.now.kind ≡ Kind.Atomic }
         ensures made { IfOk result (λ clusters. clusters ≡ record { claim = terms_of claim.now; ops = []; prepared = None; steps = 0 }) }
@@ -107,8 +107,8 @@ impl<'t> Clusters<'t> {
         self.zones.steps()
     }
 
-    /// The first of `NotAWriter`, `ValueTaken` and `OutOfDomain` that holds of the write. An operation
-    /// of its own id is no other write.
+    /// The first of `NotAWriter`, `ValueTaken` and `OutOfDomain` that holds of the write. A write that has the id
+    /// of `op` does not take its value.
     pub fn check_write(&self, op: &Op) -> Result<(), Refusal>
         ensures { result ≡ ok_unless (write_refusal self.now.claim self.now.ops op.now) }
     {
@@ -130,7 +130,7 @@ impl<'t> Clusters<'t> {
     {
         self.zones.reserve(2)?;
         // Once its write is withdrawn a value that is read is at fault, and a withdrawal takes no memory: so there
-        // is a place for each write, beside those of this edit.
+        // is a place for a stretch of each write, beside those of this edit.
         let places = self.zones.len().checked_add(6).ok_or(Memory)?;
         self.stretches.reserve(places)?;
         self.records.reserve()?;
@@ -142,7 +142,7 @@ impl<'t> Clusters<'t> {
         Ok(())
     }
 
-    /// Lets the room for the prepared operation go.
+    /// Drops the room for the prepared operation.
     pub fn release(&mut self, op: &Op<'t>)
         requires { self.old.prepared ≡ Some op.now }
         ensures { self.new ≡ record self.old { prepared = None } }
@@ -160,7 +160,7 @@ impl<'t> Clusters<'t> {
         ensures ok { OnOk result (self.new ≡ record self.old { ops = edited self.old.ops edit.now; prepared = prepared_after target.now.new self.old.prepared; steps = self.new.steps }) }
         ensures err { OnErr result (self.new ≡ self.old) }
         ensures memory { OnErr result (IsSome target.now.new × (self.old.prepared ≡ None)) }
-        ensures steps { self.new.steps ≤ self.old.steps + 4 * (2 * digits (length (writes self.old.ops) + 1) + 1) }
+        ensures steps { self.new.steps ≤ self.old.steps + 4 * (2 * binary_digits (length (writes self.old.ops) + 1) + 1) }
         ensures rises { self.old.steps ≤ self.new.steps }
     {
         if let Some(op) = &target.new {
@@ -173,13 +173,13 @@ impl<'t> Clusters<'t> {
     }
 
     /// Carries out an edit whose new operation is prepared. Where neither the old operation nor the new one is
-    /// judged, the shelves and the trees stay as they are.
+    /// judged, the indexes and the trees stay as they are.
     fn settle(&mut self, edit: &Edit<'t>, target: &Target<'t>)
         requires accepted { reply_to self.old.claim self.old.ops edit.now ≡ None }
         requires target { IsTargetOf self.old.ops edit.now target.now }
         requires prepared { IfSome target.now.new (λ op. self.old.prepared ≡ Some op) }
         ensures edited { self.new ≡ record self.old { ops = edited self.old.ops edit.now; prepared = prepared_after target.now.new self.old.prepared; steps = self.new.steps } }
-        ensures steps { self.new.steps ≤ self.old.steps + 4 * (2 * digits (length (writes self.old.ops) + 1) + 1) }
+        ensures steps { self.new.steps ≤ self.old.steps + 4 * (2 * binary_digits (length (writes self.old.ops) + 1) + 1) }
         ensures rises { self.old.steps ≤ self.new.steps }
     {
         let none = None;
@@ -192,8 +192,8 @@ impl<'t> Clusters<'t> {
         self.table.admit(edit, target);
     }
 
-    /// Carries out an edit whose new operation is prepared; the judged ones of the old and the new operation are
-    /// lent beside. It stands apart, so that no edges are looked up where neither is judged.
+    /// Carries out an edit whose new operation is prepared. `old` and `new` are the operations of `target` that
+    /// are judged. It is a function of its own, so that no edges are looked up where neither is judged.
     #[inline(never)]
     fn settle_judged(
         &mut self,
@@ -208,10 +208,10 @@ impl<'t> Clusters<'t> {
         requires old { old.now ≡ judged_part target.now.old }
         requires new { new.now ≡ judged_part target.now.new }
         ensures edited { self.new ≡ record self.old { ops = edited self.old.ops edit.now; prepared = prepared_after target.now.new self.old.prepared; steps = self.new.steps } }
-        ensures steps { self.new.steps ≤ self.old.steps + 4 * (2 * digits (length (writes self.old.ops) + 1) + 1) }
+        ensures steps { self.new.steps ≤ self.old.steps + 4 * (2 * binary_digits (length (writes self.old.ops) + 1) + 1) }
         ensures rises { self.old.steps ≤ self.new.steps }
     {
-        // That the zones stand in order is known of what is gone over.
+        // That the zones are in order is known once the tree is iterated.
         let _ = self.zones.iter();
         let first = value_in(old);
         let second = other_value(first, value_in(new));
@@ -228,6 +228,7 @@ impl<'t> Clusters<'t> {
         exchange_stretches(&mut self.stretches, &stretches, &stretches_after);
     }
 
+    /// Appends a write that nothing refuses; where an operation is prepared it takes no memory.
     pub fn admit_write(&mut self, write: &Op<'t>) -> Result<(), Memory>
         requires write { IsWrite write.now }
         requires accepted { reply_to self.old.claim self.old.ops (Edit.Append write.now) ≡ None }
@@ -235,7 +236,7 @@ impl<'t> Clusters<'t> {
         ensures succeeds { IsSome self.old.prepared → IsOk result }
         ensures ok { OnOk result (self.new ≡ record self.old { ops = self.old.ops ++ write.now ∷ []; prepared = None; steps = self.new.steps }) }
         ensures err { OnErr result (self.new ≡ self.old) }
-        ensures steps { self.new.steps ≤ self.old.steps + 4 * (2 * digits (length (writes self.old.ops) + 1) + 1) }
+        ensures steps { self.new.steps ≤ self.old.steps + 4 * (2 * binary_digits (length (writes self.old.ops) + 1) + 1) }
         ensures rises { self.old.steps ≤ self.new.steps }
     {
         let edit = Edit::Append(*write);
@@ -243,7 +244,8 @@ impl<'t> Clusters<'t> {
         self.admit(&edit, &target)
     }
 
-    /// A read that has no end is kept, and judged when it has one.
+    /// Appends a read that nothing refuses; where an operation is prepared it takes no memory. A read that has no
+    /// end is kept, and judged once it has one.
     pub fn admit_read(&mut self, read: &Op<'t>) -> Result<(), Memory>
         requires read { ¬ IsWrite read.now }
         requires accepted { reply_to self.old.claim self.old.ops (Edit.Append read.now) ≡ None }
@@ -251,7 +253,7 @@ impl<'t> Clusters<'t> {
         ensures succeeds { IsSome self.old.prepared → IsOk result }
         ensures ok { OnOk result (self.new ≡ record self.old { ops = self.old.ops ++ read.now ∷ []; prepared = None; steps = self.new.steps }) }
         ensures err { OnErr result (self.new ≡ self.old) }
-        ensures steps { self.new.steps ≤ self.old.steps + 4 * (2 * digits (length (writes self.old.ops) + 1) + 1) }
+        ensures steps { self.new.steps ≤ self.old.steps + 4 * (2 * binary_digits (length (writes self.old.ops) + 1) + 1) }
         ensures rises { self.old.steps ≤ self.new.steps }
     {
         let edit = Edit::Append(*read);
@@ -259,10 +261,11 @@ impl<'t> Clusters<'t> {
         self.admit(&edit, &target)
     }
 
+    /// Withdraws a write. It takes no memory.
     pub fn drop_write(&mut self, id: OpId)
-        requires { IsSomeAnd (op_in self.old.ops id) IsWrite }
+        requires { IsSomeAnd (op_of self.old.ops id) IsWrite }
         ensures dropped { self.new ≡ record self.old { ops = edited self.old.ops (Edit.Withdraw id); steps = self.new.steps } }
-        ensures steps { self.new.steps ≤ self.old.steps + 4 * (2 * digits (length (writes self.old.ops) + 1) + 1) }
+        ensures steps { self.new.steps ≤ self.old.steps + 4 * (2 * binary_digits (length (writes self.old.ops) + 1) + 1) }
         ensures rises { self.old.steps ≤ self.new.steps }
     {
         let edit = Edit::Withdraw(id);
@@ -271,10 +274,11 @@ impl<'t> Clusters<'t> {
         let _ = self.admit(&edit, &target);
     }
 
+    /// Withdraws a read. It takes no memory.
     pub fn drop_read(&mut self, id: OpId)
-        requires { IsSomeAnd (op_in self.old.ops id) (λ op. ¬ IsWrite op) }
+        requires { IsSomeAnd (op_of self.old.ops id) (λ op. ¬ IsWrite op) }
         ensures dropped { self.new ≡ record self.old { ops = edited self.old.ops (Edit.Withdraw id); steps = self.new.steps } }
-        ensures steps { self.new.steps ≤ self.old.steps + 4 * (2 * digits (length (writes self.old.ops) + 1) + 1) }
+        ensures steps { self.new.steps ≤ self.old.steps + 4 * (2 * binary_digits (length (writes self.old.ops) + 1) + 1) }
         ensures rises { self.old.steps ≤ self.new.steps }
     {
         let edit = Edit::Withdraw(id);
@@ -283,7 +287,8 @@ impl<'t> Clusters<'t> {
         let _ = self.admit(&edit, &target);
     }
 
-    /// The initial value: the known one, or the one that all reads of values without a write return.
+    /// The initial value: the known one, or the one that all reads of values without a write return, if they
+    /// agree.
     fn initial(&self) -> Option<Value>
         ensures { result ≡ initial_of self.now.claim self.now.ops }
     {
@@ -293,9 +298,9 @@ impl<'t> Clusters<'t> {
         sole_value(&self.stretches)
     }
 
-    /// The zone of a value that has a write or is the initial one, where there is one.
+    /// The zone of a value that has a write or is the initial one; none of any other value.
     pub fn zone_of(&self, value: Value) -> Option<Zone>
-        ensures zone { IfSome result (λ zone. zone ≡ zone_in_list (start_of self.now.claim self.now.ops) self.now.ops value) }
+        ensures zone { IfSome result (λ zone. zone ≡ zone_of (start_of self.now.claim self.now.ops) self.now.ops value) }
         ensures written { IsSome result ↔ Contains (values_from (initial_of self.now.claim self.now.ops) self.now.ops) value }
     {
         if is_initial(self.initial(), value) {
@@ -315,10 +320,10 @@ impl<'t> Clusters<'t> {
         Some(read.id)
     }
 
-    /// Where nobody knows the initial value, the read that ended first of those of values without a write, and of
-    /// those of another such value the one that ended first.
+    /// Where nobody knows the initial value, two reads of different values without a write: of all such reads the
+    /// one that ended first, and of those of another value the one that ended first.
     pub fn first_split(&self) -> Option<(OpId, OpId)>
-        ensures { result ≡ option_map (λ pair. (pair.0.id, pair.1.id)) (split_first self.now.claim self.now.ops) }
+        ensures { result ≡ option_map (λ pair. (pair.0.id, pair.1.id)) (first_split self.now.claim self.now.ops) }
     {
         if self.claim.has_known_initial() {
             return None;
@@ -329,7 +334,7 @@ impl<'t> Clusters<'t> {
 
     /// The early read that ended first, and the write of its value.
     pub fn first_early(&self) -> Option<(OpId, OpId)>
-        ensures { result ≡ option_map (λ pair. (pair.0.id, pair.1.id)) (early_first self.now.ops) }
+        ensures { result ≡ option_map (λ pair. (pair.0.id, pair.1.id)) (first_early self.now.ops) }
     {
         let (read, write) = first_early(
             &self.stretches,
@@ -344,7 +349,7 @@ impl<'t> Clusters<'t> {
     pub fn clean(&self) -> bool
         ensures { IsTrue result ↔ IsClean (zones_from (initial_of self.now.claim self.now.ops) self.now.ops) }
     {
-        // That the zones stand in order is known of what is gone over.
+        // That the zones are in order is known once the tree is iterated.
         let _ = self.zones.iter();
         match self.initial() {
             Some(initial) => self
@@ -354,13 +359,13 @@ impl<'t> Clusters<'t> {
         }
     }
 
-    /// The earlier forward zone of greatest right edge, and the first zone by left edge that conflicts
-    /// with an earlier forward one.
+    /// The first conflict: the second zone is the first by left edge that conflicts with an earlier forward one,
+    /// the first zone is of the earlier forward ones that of greatest right edge.
     pub fn first_conflict(&self) -> Option<(Zone, Zone)>
         ensures first { IfSome result (λ pair. HasFirstConflictFrom (initial_of self.now.claim self.now.ops) self.now.ops pair.0 pair.1) }
         ensures none { IsNone result ↔ IsClean (zones_from (initial_of self.now.claim self.now.ops) self.now.ops) }
     {
-        // That the zones stand in order is known of what is gone over.
+        // That the zones are in order is known once the tree is iterated.
         let _ = self.zones.iter();
         match self.initial() {
             Some(initial) => self
@@ -370,7 +375,7 @@ impl<'t> Clusters<'t> {
         }
     }
 
-    /// The extremes of the clusters of the first conflict.
+    /// Of the two clusters of the first conflict the operations that end first and those that begin last.
     pub fn crossing(&self) -> Option<Crossing<'t>>
         ensures first { IfSome result (λ x. IsFirstCrossingFrom (initial_of self.now.claim self.now.ops) (start_of self.now.claim self.now.ops) self.now.ops x.a x.b x.c x.d) }
         ensures none { IsNone result ↔ IsClean (zones_from (initial_of self.now.claim self.now.ops) self.now.ops) }
@@ -386,19 +391,19 @@ impl<'t> Clusters<'t> {
         )
     }
 
-    /// Whether some order of the judged operations keeps precedence and lets every read return the
-    /// latest write before it: no read is unwritten or early, they tell of one initial value, and no zones conflict.
+    /// Whether some order of the judged operations keeps precedence and lets every read return the latest write
+    /// before it: no read is unwritten or early, there is no split, and no zones conflict.
     pub fn holds(&self) -> bool
         ensures atomic { IsTrue result ↔ IsAtomic self.now.claim self.now.ops }
         ensures faultless { IsTrue result ↔ IsFaultless (start_of self.now.claim self.now.ops) self.now.ops }
     {
-        // What is asked of the operations is known of the table.
+        // What the law asks of the operations is known of the table.
         let _ = &self.table;
         faultless_exactly_where_arranged();
         self.is_faultless()
     }
 
-    /// Whether it has no fault.
+    /// Whether the register has no fault.
     fn is_faultless(&self) -> bool
         ensures { IsTrue result ↔ IsFaultless (start_of self.now.claim self.now.ops) self.now.ops }
     {
@@ -406,9 +411,9 @@ impl<'t> Clusters<'t> {
         !self.has_faulty_read() && self.clean()
     }
 
-    /// Whether a read is unwritten or early, or two reads tell of different initial values.
+    /// Whether a read is unwritten or early, or there is a split.
     fn has_faulty_read(&self) -> bool
-        ensures { result ≡ (is_some (unwritten_of self.now.claim self.now.ops) || is_some (split_first self.now.claim self.now.ops)) || is_some (early_first self.now.ops) }
+        ensures { result ≡ (is_some (unwritten_of self.now.claim self.now.ops) || is_some (first_split self.now.claim self.now.ops)) || is_some (first_early self.now.ops) }
     {
         let is_unwritten = if self.claim.has_known_initial() {
             has_writeless(&self.stretches)
@@ -419,7 +424,7 @@ impl<'t> Clusters<'t> {
     }
 }
 
-/// The operation, where it is a write or has an end, and else none, which is lent beside.
+/// `op` where it is a write or has an end, else `none`, which is lent for that.
 fn judged<'b, 't>(op: &'b Option<Op<'t>>, none: &'b Option<Op<'t>>) -> &'b Option<Op<'t>>
     requires { none.now ≡ None }
     ensures { result.now ≡ judged_part op.now }
@@ -431,7 +436,7 @@ fn judged<'b, 't>(op: &'b Option<Op<'t>>, none: &'b Option<Op<'t>>) -> &'b Optio
 }
 
 fn value_in(op: &Option<Op>) -> Option<Value>
-    ensures { result ≡ value_of_some op.now }
+    ensures { result ≡ value_in op.now }
 {
     match op {
         Some(op) => Some(op.value()),
@@ -441,7 +446,7 @@ fn value_in(op: &Option<Op>) -> Option<Value>
 
 /// The second value, where it is not the first.
 fn other_value(first: Option<Value>, second: Option<Value>) -> Option<Value>
-    ensures { result ≡ other first second }
+    ensures { result ≡ other_value first second }
 {
     match (first, second) {
         (Some(first), Some(second)) if is_same_value(first, second) => None,

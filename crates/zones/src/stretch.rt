@@ -3,10 +3,10 @@
 ghost use Rattle.std.specs.Prelude.{◌≡◌, List, Option, is_some};
 ghost use Rattle.intervals.specs.declared.operation.Op.{Op as AnOp};
 ghost use Rattle.intervals.specs.declared.operation.Value.{Value as AValue};
-ghost use Rattle.intervals.specs.Terms.{Terms, terms_of};
-ghost use Rattle.zones.specs.AtFirst.{first_writeless as writeless_first, first_writeless_but as writeless_first_but, sole_of, with_other};
+ghost use Rattle.intervals.specs.Terms.{ClaimModel, terms_of};
+ghost use Rattle.zones.specs.AtFirst.{first_writeless, first_writeless_but, sole_of, with_other};
 ghost use Rattle.zones.specs.Edges.{AreEdges, AreEdgesAt, AreEdgesAtSome};
-ghost use Rattle.zones.specs.Fault.{first_early as early_first};
+ghost use Rattle.zones.specs.Fault.{first_early};
 ghost use Rattle.zones.specs.Faults.{AreStretched, IsStretchAt, IsStretchAtSome, AreStretchesAt, begin_of_write, write_of};
 ghost use Rattle.zones.specs.Index.{AreMembers};
 ghost use Rattle.zones.specs.Records.{AreRecords};
@@ -21,8 +21,8 @@ use intervals::{Claim, Op, OpTable, Value};
 use stretch_tree::{Stretch, StretchTree};
 use zone_tree::Edge;
 
-/// The stretch of the value, where that is at fault: some judged read has it that ended before its write
-/// begins, and it is not known to be the initial one.
+/// The stretch of the value, where that is at fault: some judged read of it ended before its write begins, or it
+/// has no write, and it is not known to be the initial one.
 pub fn stretch_in(edges: &Edges, claim: &Claim) -> Option<Stretch>
     ensures { (ops : List AnOp) (value : AValue) → AreEdges ops value edges.now → IsStretchAt (terms_of claim.now) ops value result }
 {
@@ -42,6 +42,7 @@ pub fn stretch_in(edges: &Edges, claim: &Claim) -> Option<Stretch>
     })
 }
 
+/// Where the write of the value begins; `Never` where there is none.
 fn begin_of(edges: &Edges) -> Edge
     ensures { (ops : List AnOp) (value : AValue) → AreEdges ops value edges.now → result ≡ begin_of_write (write_of ops value) }
 {
@@ -52,7 +53,7 @@ fn begin_of(edges: &Edges) -> Edge
     }
 }
 
-/// The stretches of two values.
+/// The stretches of two optional values.
 pub fn stretches_in(
     edges: &(Option<Edges>, Option<Edges>),
     claim: &Claim,
@@ -65,14 +66,15 @@ pub fn stretches_in(
     )
 }
 
-/// The writeless read that ended first: nothing wrote its value.
+/// The writeless read that ended first: of the judged reads of values that no write carries, and that are not
+/// known to be the initial one.
 pub fn first_writeless<'t>(
     stretches: &StretchTree,
     members: &Members,
     table: &OpTable<'t>,
 ) -> Option<Op<'t>>
-    ensures { (claim : Terms) → AreMembers table.now.ops members.now → AreManyWriters claim table.now.ops → AreStretched claim table.now.ops stretches.now.stretches
-        → result ≡ writeless_first claim table.now.ops }
+    ensures { (claim : ClaimModel) → AreMembers table.now.ops members.now → AreManyWriters claim table.now.ops → AreStretched claim table.now.ops stretches.now.stretches
+        → result ≡ first_writeless claim table.now.ops }
 {
     let stretch = stretches.first_writeless()?;
     first_read(members, table, stretch.value)
@@ -84,8 +86,8 @@ pub fn first_split<'t>(
     members: &Members,
     table: &OpTable<'t>,
 ) -> Option<(Op<'t>, Op<'t>)>
-    ensures { (claim : Terms) → AreMembers table.now.ops members.now → AreManyWriters claim table.now.ops → AreStretched claim table.now.ops stretches.now.stretches
-        → result ≡ with_other claim table.now.ops (writeless_first claim table.now.ops) }
+    ensures { (claim : ClaimModel) → AreMembers table.now.ops members.now → AreManyWriters claim table.now.ops → AreStretched claim table.now.ops stretches.now.stretches
+        → result ≡ with_other claim table.now.ops (first_writeless claim table.now.ops) }
 {
     let first = first_writeless(stretches, members, table)?;
     let other = first_writeless_but(stretches, members, table, first.value())?;
@@ -99,8 +101,8 @@ fn first_writeless_but<'t>(
     table: &OpTable<'t>,
     value: Value,
 ) -> Option<Op<'t>>
-    ensures { (claim : Terms) → AreMembers table.now.ops members.now → AreManyWriters claim table.now.ops → AreStretched claim table.now.ops stretches.now.stretches
-        → result ≡ writeless_first_but value claim table.now.ops }
+    ensures { (claim : ClaimModel) → AreMembers table.now.ops members.now → AreManyWriters claim table.now.ops → AreStretched claim table.now.ops stretches.now.stretches
+        → result ≡ first_writeless_but value claim table.now.ops }
 {
     let stretch = stretches.first_writeless_but(value)?;
     first_read(members, table, stretch.value)
@@ -113,8 +115,8 @@ pub fn first_early<'t>(
     records: &Records,
     table: &OpTable<'t>,
 ) -> Option<(Op<'t>, Op<'t>)>
-    ensures { (claim : Terms) → AreMembers table.now.ops members.now → AreRecords table.now.ops records.now → AreManyWriters claim table.now.ops → AreStretched claim table.now.ops stretches.now.stretches
-        → result ≡ early_first table.now.ops }
+    ensures { (claim : ClaimModel) → AreMembers table.now.ops members.now → AreRecords table.now.ops records.now → AreManyWriters claim table.now.ops → AreStretched claim table.now.ops stretches.now.stretches
+        → result ≡ first_early table.now.ops }
 {
     let stretch = stretches.first_early()?;
     let read = first_read(members, table, stretch.value)?;
@@ -122,10 +124,10 @@ pub fn first_early<'t>(
     Some((read, write))
 }
 
-/// The value of the writeless reads, where they have just one.
+/// The value of the writeless reads, where there are some and they have just one.
 pub fn sole_value(stretches: &StretchTree) -> Option<Value>
-    ensures { (claim : Terms) (ops : List AnOp) → AreManyWriters claim ops → AreStretched claim ops stretches.now.stretches
-        → result ≡ sole_of claim ops (writeless_first claim ops) }
+    ensures { (claim : ClaimModel) (ops : List AnOp) → AreManyWriters claim ops → AreStretched claim ops stretches.now.stretches
+        → result ≡ sole_of claim ops (first_writeless claim ops) }
 {
     let first = stretches.first_writeless()?;
     match stretches.first_writeless_but(first.value) {
@@ -136,16 +138,16 @@ pub fn sole_value(stretches: &StretchTree) -> Option<Value>
 
 /// Whether some read is writeless.
 pub fn has_writeless(stretches: &StretchTree) -> bool
-    ensures { (claim : Terms) (ops : List AnOp) → AreManyWriters claim ops → AreStretched claim ops stretches.now.stretches
-        → result ≡ is_some (writeless_first claim ops) }
+    ensures { (claim : ClaimModel) (ops : List AnOp) → AreManyWriters claim ops → AreStretched claim ops stretches.now.stretches
+        → result ≡ is_some (first_writeless claim ops) }
 {
     stretches.first_writeless().is_some()
 }
 
 /// Whether writeless reads have several values.
 pub fn has_split(stretches: &StretchTree) -> bool
-    ensures { (claim : Terms) (ops : List AnOp) → AreManyWriters claim ops → AreStretched claim ops stretches.now.stretches
-        → result ≡ is_some (with_other claim ops (writeless_first claim ops)) }
+    ensures { (claim : ClaimModel) (ops : List AnOp) → AreManyWriters claim ops → AreStretched claim ops stretches.now.stretches
+        → result ≡ is_some (with_other claim ops (first_writeless claim ops)) }
 {
     match stretches.first_writeless() {
         Some(first) => stretches.first_writeless_but(first.value).is_some(),
@@ -155,8 +157,8 @@ pub fn has_split(stretches: &StretchTree) -> bool
 
 /// Whether some read is early.
 pub fn has_early(stretches: &StretchTree) -> bool
-    ensures { (claim : Terms) (ops : List AnOp) → AreManyWriters claim ops → AreStretched claim ops stretches.now.stretches
-        → result ≡ is_some (early_first ops) }
+    ensures { (claim : ClaimModel) (ops : List AnOp) → AreManyWriters claim ops → AreStretched claim ops stretches.now.stretches
+        → result ≡ is_some (first_early ops) }
 {
     stretches.first_early().is_some()
 }

@@ -2,12 +2,12 @@
 
 ghost use Rattle.std.specs.Prelude.{◌≡◌, ◌+◌, ◌<◌, ◌≤◌, true, IsNone, IsSome};
 ghost use Rattle.zones.specs.Faults.{CanStretch, stretch_shape};
-ghost use Rattle.zones.specs.Moves.{AreExchanged, IsChangeAt, IsNew, Stands, with, without};
+ghost use Rattle.zones.specs.Moves.{AreExchanged, IsChangeAt, IsNew, IsThere, with, without};
 
 use intervals::is_same_value;
 use stretch_tree::{Stretch, StretchTree};
 
-/// Puts two stretches in the place of two others. One that is the same as before is left where it is.
+/// Puts two optional stretches in the place of two others. A stretch that does not change is left where it is.
 pub fn exchange_stretches(
     tree: &mut StretchTree,
     before: &(Option<Stretch>, Option<Stretch>),
@@ -18,7 +18,7 @@ pub fn exchange_stretches(
     ensures stretches { AreExchanged stretch_shape before.now after.now tree.old.stretches tree.new.stretches }
     ensures room { tree.old.free ≤ tree.new.free + 2 }
     ensures one { IsNone after.now.1 → tree.old.free ≤ tree.new.free + 1 }
-    ensures kept { IsNone after.now.1 → (IsSome after.now.0 → Stands tree.old.stretches before.now.0) → tree.old.free ≤ tree.new.free }
+    ensures kept { IsNone after.now.1 → (IsSome after.now.0 → IsThere tree.old.stretches before.now.0) → tree.old.free ≤ tree.new.free }
 {
     let (gone, come) = change(&before.0, &after.0);
     let (other_gone, other_come) = change(&before.1, &after.1);
@@ -28,7 +28,7 @@ pub fn exchange_stretches(
     put(tree, &other_come);
 }
 
-/// What is to go and to come: nothing where both are one stretch.
+/// What goes and what comes: both, or nothing where they are one stretch.
 fn change(before: &Option<Stretch>, after: &Option<Stretch>) -> (Option<Stretch>, Option<Stretch>)
     ensures { IsChangeAt before.now after.now result }
 {
@@ -59,7 +59,7 @@ fn is_same(a: &Stretch, b: &Stretch) -> bool
 fn take(tree: &mut StretchTree, stretch: &Option<Stretch>)
     ensures stretches { tree.new.stretches ≡ without stretch_shape stretch.now tree.old.stretches }
     ensures kept { tree.old.free ≤ tree.new.free }
-    ensures freed { Stands tree.old.stretches stretch.now → tree.old.free < tree.new.free }
+    ensures freed { IsThere tree.old.stretches stretch.now → tree.old.free < tree.new.free }
 {
     match stretch {
         Some(stretch) => {

@@ -1,9 +1,9 @@
-//! Which writes a claim allows beside those that stand.
+//! Which writes a claim allows beside the operations that stand.
 
 ghost use Rattle.std.specs.Prelude.{◌≡◌, List, find};
 ghost use Rattle.intervals.specs.declared.operation.Op.{Op};
-ghost use Rattle.intervals.specs.Refusal.{write_refusal, holder_of as held_by, ok_unless, is_holder};
-ghost use Rattle.intervals.specs.Terms.{Terms, terms_of};
+ghost use Rattle.intervals.specs.Refusal.{write_refusal, holder_of, ok_unless, is_holder};
+ghost use Rattle.intervals.specs.Terms.{ClaimModel, terms_of};
 ghost use Rattle.intervals.specs.Standing.{HasDistinctIds};
 ghost use Rattle.zones.specs.Records.{AreRecords};
 ghost use Rattle.zones.specs.Refused.{refusal_beside};
@@ -12,6 +12,7 @@ ghost use Rattle.zones.specs.Zoned.{AreManyWriters};
 use crate::records::Records;
 use intervals::{Claim, Holder, Op, OpTable, Refusal};
 
+/// The first of `NotAWriter`, `ValueTaken` and `OutOfDomain` that holds of the operation, if it is a write.
 pub fn check_write(
     claim: &Claim,
     records: &Records,
@@ -24,6 +25,7 @@ pub fn check_write(
     check_beside(claim, op, holder_of(claim, records, table, op))
 }
 
+/// The refusal of the operation, where `holder` has its value.
 fn check_beside(claim: &Claim, op: &Op, holder: Option<Holder>) -> Result<(), Refusal>
     ensures { result ≡ ok_unless (refusal_beside (terms_of claim.now) op.now holder) }
 {
@@ -42,10 +44,10 @@ fn check_beside(claim: &Claim, op: &Op, holder: Option<Holder>) -> Result<(), Re
     Ok(())
 }
 
-/// Who has the value of the operation already.
+/// Who has the value of the operation already: the initial write, or the write of another operation.
 fn holder_of(claim: &Claim, records: &Records, table: &OpTable, op: &Op) -> Option<Holder>
     ensures { AreRecords table.now.ops records.now → HasDistinctIds table.now.ops → AreManyWriters (terms_of claim.now) table.now.ops
-        → result ≡ held_by (terms_of claim.now) table.now.ops op.now }
+        → result ≡ holder_of (terms_of claim.now) table.now.ops op.now }
 {
     if claim.is_initial(op.value()) {
         return Some(Holder::Initial);
@@ -54,9 +56,9 @@ fn holder_of(claim: &Claim, records: &Records, table: &OpTable, op: &Op) -> Opti
     Some(Holder::Op(write.id))
 }
 
-/// The write of its value, where that is another operation.
+/// The write of the operation's value, where that is another operation.
 fn other_write<'t>(records: &Records, table: &OpTable<'t>, op: &Op) -> Option<Op<'t>>
-    ensures { (claim : Terms) → AreRecords table.now.ops records.now → HasDistinctIds table.now.ops → AreManyWriters claim table.now.ops → result ≡ find (is_holder op.now) table.now.ops }
+    ensures { (claim : ClaimModel) → AreRecords table.now.ops records.now → HasDistinctIds table.now.ops → AreManyWriters claim table.now.ops → result ≡ find (is_holder op.now) table.now.ops }
 {
     let write = records.write_of(table, op.value())?;
     if write.has_id(op.id) {

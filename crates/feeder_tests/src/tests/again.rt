@@ -1,8 +1,8 @@
-//! A feeder that goes on where a call of it was refused.
+//! A feeder that goes on after one of its calls was refused.
 
 ghost use Rattle.std.specs.Prelude.{◌≡◌, ◌≢◌, ◌⊎◌, ◌+◌, ◌<◌, ◌^◌, length, OnOk};
 ghost use Rattle.shards.specs.Plan.{plan_of};
-ghost use Rattle.feeders.specs.declared.feeder.Course.TheVariants.{Broke, Open};
+ghost use Rattle.feeders.specs.declared.feeder.FeedState.TheVariants.{Broke, Open};
 
 use super::tell_log;
 use feeders::{Feeder, Pages, RunFault};
@@ -15,7 +15,8 @@ use std::sync::Wait;
 use std::test::Fail;
 use tower_file::Tower;
 
-/// Feeds a piece to the first auditor. Where it is refused it says why, and feeds the rest to the other one.
+/// Feeds a chunk to the auditor `first`. Where that refuses, it writes why, unless memory was refused, and feeds
+/// the rest to the auditor `other`.
 fn feed_on<'t, O: Opening, R: Wait>(
     rt: &R,
     alloc: Global,
@@ -27,10 +28,10 @@ fn feed_on<'t, O: Opening, R: Wait>(
     told: &mut String,
 ) -> Result<(), RunFault>
     requires some { 0 < O.plan.shards }
-    requires open { feeder.old.course ≡ Open }
+    requires open { feeder.old.state ≡ Open }
     requires fits { feeder.old.intake.splitter.taken + length piece.now < 2 ^ 64 }
-    ensures goes { OnOk result ((feeder.new.course ≡ Open) ⊎ (feeder.new.course ≡ Broke)) }
-    ensures taken { OnOk result (feeder.new.course ≡ Open → feeder.new.intake.splitter.taken ≡ feeder.old.intake.splitter.taken + length piece.now) }
+    ensures goes { OnOk result ((feeder.new.state ≡ Open) ⊎ (feeder.new.state ≡ Broke)) }
+    ensures taken { OnOk result (feeder.new.state ≡ Open → feeder.new.intake.splitter.taken ≡ feeder.old.intake.splitter.taken + length piece.now) }
 {
     if let Err(failed) = feeder.feed(rt, alloc, first, &NoGate, pass, piece) {
         if failed.fault != RunFault::Memory {
@@ -42,7 +43,8 @@ fn feed_on<'t, O: Opening, R: Wait>(
     Ok(())
 }
 
-/// What is noted of a trace of two pieces. The second one comes first to an auditor that does not know of the other.
+/// What is noted of a trace in two chunks. The second is first fed to another auditor, whose journal has no entry
+/// of the first.
 fn told_of<O: Opening, R: Wait>(
     rt: &R,
     alloc: Global,
@@ -92,7 +94,7 @@ fn told_of<O: Opening, R: Wait>(
     Ok(told)
 }
 
-/// The same of a trace that asks in its second piece.
+/// What is noted of a trace with questions and an amendment, which is cut within a question.
 fn told<R: Wait + AllocGlobal>(rt: &R) -> Result<String, RunFault> {
     let alloc = rt.alloc();
     let text = "{:levels [{:name top :registers [{:name x :kind :atomic :writers :any}]}]}";
@@ -105,7 +107,7 @@ fn told<R: Wait + AllocGlobal>(rt: &R) -> Result<String, RunFault> {
     told_of::<Brand, R>(rt, alloc, &tower, front.as_bytes(), back.as_bytes())
 }
 
-/// To be run with each allocation refused in turn too: then what is noted is the same.
+/// To be run with each allocation refused in turn too, which changes nothing of what is noted.
 #[test]
 fn a_refused_piece_is_fed_on(rt: HostRuntime) -> Result<(), Fail> {
     let found = match told(&rt) {

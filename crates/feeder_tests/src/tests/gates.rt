@@ -5,7 +5,7 @@ use std::sync::atomic::AtomicU64;
 use std::sync::atomic::Ordering::SeqCst;
 use std::thread::yield_now;
 
-/// What the gate does is its word: nothing at `open`, else what the function says that is called for it.
+/// A gate that does what its word says: nothing at `open`, else what is said at `stay`, `linger` and `wait`.
 #[derive(Drop)]
 pub struct Watch {
     pub word: &'static str,
@@ -28,8 +28,8 @@ impl Watch {
         }
     }
 
-    /// At `alone`: stays inside for a hundred turns, and notes where another is there. Refuses feeders whose calls
-    /// come outside the lock, and shards without one.
+    /// At `alone`, inside: stays for a hundred turns, and notes a failure where another feeder is inside too. This
+    /// finds calls that come outside the lock, and shards without one.
     fn stay(&self) {
         if self.calls.fetch_add(1, SeqCst) != 0 {
             self.failures.fetch_add(1, SeqCst);
@@ -40,8 +40,8 @@ impl Watch {
         self.calls.fetch_sub(1, SeqCst);
     }
 
-    /// At `yields`: after call `k` of feeder `f` it stays outside for `(3 * k + 5 * f) mod 8` turns. It counts for
-    /// two feeders.
+    /// At `yields`, outside: stays for `(3 * k + 5 * f) mod 8` turns after call `k` of feeder `f`. It counts the
+    /// calls of two feeders.
     fn linger(&self, feeder: u32) {
         let count = if feeder & 1 == 0 {
             &self.even
@@ -55,10 +55,11 @@ impl Watch {
         }
     }
 
-    /// At `meet`, inside: goes on when each feeder is inside a shard of its own. Refuses traces that are fed one
-    /// after the other, and one lock for all shards. At `gather`, outside: the same after each feeder's first call,
-    /// then it lets the feeders make their next calls in the turns behind that word. Refuses traces that are fed one
-    /// after the other. Where the others do not come in ten million turns, it notes a failure and holds no one.
+    /// At `meet`, inside: waits until each feeder is inside a shard of its own. This finds traces that are fed one
+    /// after the other, and one lock for all shards. At `gather`, outside: waits until each feeder has made its
+    /// first call, then lets the feeders make their next calls in the order of the digits after that word. This
+    /// finds traces that are fed one after the other. Where the others do not come in ten million turns, it notes
+    /// a failure and holds no one.
     fn wait(&self, turns: &str, feeder: u32) {
         self.calls.fetch_add(1, SeqCst);
         for _ in 0..10_000_000 {

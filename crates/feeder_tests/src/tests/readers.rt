@@ -2,8 +2,8 @@
 
 use std::io::{self, Error, ErrorKind, Read};
 
-/// How the traces of a row are given: whole and without a reader, cut before a byte, or byte by byte; and the same where the
-/// reading fails in place of a byte, or is interrupted at each second call.
+/// How the traces of a row are given: whole and without a reader; cut in two before the byte at a place; byte by
+/// byte; so with a failure in place of the byte at a place; or so with each second call interrupted.
 #[derive(Clone, Copy, Debug, PartialEq, Eq)]
 pub enum Given {
     Whole,
@@ -14,7 +14,7 @@ pub enum Given {
 }
 
 impl Given {
-    /// How many bytes come in one call, of those that are left behind so many.
+    /// How many of the `left` bytes come in the next call, after the `given` bytes that came before.
     fn piece(self, given: usize, left: usize) -> usize {
         match self {
             Given::Whole => left,

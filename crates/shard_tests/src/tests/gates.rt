@@ -5,7 +5,7 @@ use std::sync::atomic::AtomicU64;
 use std::sync::atomic::Ordering::SeqCst;
 use std::thread::yield_now;
 
-/// Waits for a count, ten million turns at most.
+/// Waits until a count is reached, for at most ten million yields.
 pub fn is_reached(count: &AtomicU64, wanted: u64) -> bool {
     for _ in 0..10_000_000 {
         if count.load(SeqCst) >= wanted {
@@ -16,8 +16,7 @@ pub fn is_reached(count: &AtomicU64, wanted: u64) -> bool {
     false
 }
 
-/// Counts the calls, and notes the shard and the feeder of the last one inside and the feeder of the last one
-/// outside.
+/// Counts the calls, and notes the shard and the feeder of the last one inside and the feeder of the last one outside.
 #[derive(Drop)]
 pub struct Counting {
     pub inside: AtomicU64,
@@ -52,7 +51,7 @@ impl Gate for Counting {
     }
 }
 
-/// Holds feeder 0 inside until feeder 1 has made a thousand calls, and feeder 1 until feeder 0 is there.
+/// Holds feeder 0 inside until feeder 1 has made a thousand calls, and feeder 1 until feeder 0 is inside.
 #[derive(Drop)]
 pub struct Holding {
     pub begun: AtomicU64,
@@ -82,7 +81,7 @@ impl Gate for Holding {
     }
 }
 
-/// Holds feeder 0 outside after each of its calls until feeder 1 was inside once more.
+/// Holds feeder 0 outside after each of its calls, until feeder 1 has been inside as often as feeder 0 was outside.
 #[derive(Drop)]
 pub struct Leaving {
     pub begun: AtomicU64,
@@ -110,7 +109,7 @@ impl Gate for Leaving {
     }
 }
 
-/// Notes where two feeders are inside at once. Each stays for a hundred turns.
+/// Counts when two feeders are inside at once. Each stays for a hundred yields.
 #[derive(Drop)]
 pub struct Alone {
     pub inside: AtomicU64,

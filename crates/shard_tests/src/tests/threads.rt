@@ -18,7 +18,7 @@ struct Fed {
     fault: Option<ShardFault>,
 }
 
-/// A write of a value and of moments that are no other's.
+/// A write whose value and moments no other write has.
 fn written(feeder: u32, at: u32) -> Edit<'static> {
     let place = u64::from(feeder).wrapping_add(u64::from(at).wrapping_mul(4));
     let begin = place.wrapping_mul(2);
@@ -39,7 +39,7 @@ fn written(feeder: u32, at: u32) -> Edit<'static> {
     })
 }
 
-/// An edit of a register, and a question.
+/// Submits an edit of a register, and asks a question of it.
 fn edit_and_ask<O: Opening, R: Wait + Abort, G: Gate>(
     rt: &R,
     auditor: &Auditor<'static, O>,
@@ -108,7 +108,7 @@ fn hold<O: Opening + Send + Sync, R: Threads + Wait + Abort + Sync>(
     (a, b, gate.missed.load(SeqCst))
 }
 
-/// Two feeders in one shard.
+/// Two feeders with one register, in one shard.
 fn alone<O: Opening + Send + Sync, R: Threads + Wait + Abort + Sync>(
     rt: &R,
     auditor: &Auditor<'static, O>,
@@ -122,7 +122,7 @@ fn alone<O: Opening + Send + Sync, R: Threads + Wait + Abort + Sync>(
     (a, b, gate.overlaps.load(SeqCst))
 }
 
-/// An edit and a question, each once feeder 0 has begun its own.
+/// Submits an edit and asks a question, each after feeder 0 has begun its own.
 fn follow<O: Opening, R: Wait + Abort>(
     rt: &R,
     auditor: &Auditor<'static, O>,
@@ -170,7 +170,7 @@ fn leave<O: Opening + Send + Sync, R: Threads + Wait + Abort + Sync>(
     (a, b, gate.missed.load(SeqCst))
 }
 
-/// Where feeders lay what they have seen.
+/// Where feeders put what they have seen, for others to take.
 #[derive(Drop)]
 struct Mails {
     even: Mutex<Option<Seen<'static>>>,
@@ -184,7 +184,7 @@ fn no_mails() -> Mails {
     }
 }
 
-/// Hands over what a pass has seen. What lay there is let go.
+/// Hands over what a pass has seen. What was there before is dropped.
 fn hand_over<R: Wait>(
     rt: &R,
     alloc: Global,
@@ -199,7 +199,7 @@ fn hand_over<R: Wait>(
     Ok(())
 }
 
-/// Learns what lies there, if anything does.
+/// Learns what was handed over, if anything was. Says whether.
 fn take_over<R: Wait>(
     rt: &R,
     mail: &Mutex<Option<Seen<'static>>>,
@@ -215,7 +215,7 @@ fn take_over<R: Wait>(
     }
 }
 
-/// Waits for what is handed over, ten million turns at most.
+/// Waits for what is handed over, for at most ten million yields, and learns it.
 fn wait_over<R: Wait>(
     rt: &R,
     mail: &Mutex<Option<Seen<'static>>>,
@@ -230,7 +230,7 @@ fn wait_over<R: Wait>(
     Ok(false)
 }
 
-/// A pass, and what its feeder was told.
+/// A pass, and what its feeder's calls returned.
 #[derive(Drop)]
 struct Half {
     pass: Pass<'static>,
@@ -252,7 +252,7 @@ fn first_half<O: Opening, R: Wait + Abort>(
     Ok(told)
 }
 
-/// Waits until it knows of the write, asks, and submits a read of another value.
+/// Waits until it knows of the write, asks a question, and submits a read of another value.
 fn second_half<O: Opening, R: Wait + Abort>(
     rt: &R,
     alloc: Global,
@@ -286,7 +286,7 @@ fn in_half<O: Opening, R: Wait + Abort>(
     Half { pass, told }
 }
 
-/// One feeder hands over to the other, each in a thread of its own.
+/// One feeder hands what it has seen over to the other, each in a thread of its own.
 fn hand_on<O: Opening + Send + Sync, R: Threads + Wait + Abort + Sync>(
     rt: &R,
     alloc: Global,
@@ -303,7 +303,8 @@ fn hand_on<O: Opening + Send + Sync, R: Threads + Wait + Abort + Sync>(
     )
 }
 
-/// An edit and a question; after each tenth one something is taken over and something handed over.
+/// Submits an edit and asks a question. After each tenth edit it learns what another feeder handed over, and hands
+/// its own over.
 fn mingle<O: Opening, R: Wait + Abort>(
     rt: &R,
     alloc: Global,
@@ -379,7 +380,7 @@ fn crowd<O: Opening + Send + Sync, R: Threads + Wait + Abort + Sync>(
     )
 }
 
-/// The last two passes.
+/// Takes out the last two passes.
 fn two_of(passes: &mut Vec<Pass<'static>>) -> Result<(Pass<'static>, Pass<'static>), ShardFault> {
     match (passes.pop(), passes.pop()) {
         (Some(b), Some(a)) => Ok((a, b)),
@@ -441,7 +442,7 @@ fn tell_gate(
     Ok(())
 }
 
-/// Carries out with feeders in threads what a word names.
+/// Carries out what a word names, with feeders in threads.
 pub fn tell_threads<O: Opening + Send + Sync, R: Threads + Wait + Abort + Sync>(
     rt: &R,
     told: &mut String,

@@ -1,7 +1,7 @@
 use Rattle.std.proofs.Common.{◌≡◌, ℕ, List, Option, [], ◌∷◌, map, subst, rules}
 use Rattle.jepsen_form.specs.declared.item.MomentField.TheVariants.{Index}
 use Rattle.tower_file.specs.Alone.{alone_tower}
-use Rattle.tower_file.specs.Contents.{Contents}
+use Rattle.tower_file.specs.Contents.{TowerModel}
 use Rattle.feeders.specs.Readers.{AreReadOf}
 use Rattle.feeders.specs.Run.{IsRun}
 use Rattle.commands.proofs.Alone.{Says, audited_as_read}
@@ -23,5 +23,5 @@ returns-clause-audit g c =
     let tower_is : c.in-Some.tower ≡ alone_tower = search rules in
     let alone : map g.S.Read.remaining c.push_reserved.new.self.items ≡ left ∷ [] = search rules in
     let read : AreReadOf (left ∷ []) logs fed.0 = subst (λ (l : List (Option (List ℕ))). AreReadOf l logs fed.0) alone fed.1 in
-    let run : IsRun alone_tower Index 1 fed.0 closed logs = subst (λ (t : Contents). IsRun t Index 1 fed.0 closed logs) tower_is fed.2 in
+    let run : IsRun alone_tower Index 1 fed.0 closed logs = subst (λ (t : TowerModel). IsRun t Index 1 fed.0 closed logs) tower_is fed.2 in
     audited_as_read c.what_stands_is_after_all_edits.ensures c.texts_decide_nothing.ensures.reply c.texts_decide_nothing.ensures.standing c.texts_decide_nothing.ensures.alike left fed.0 closed logs c.verdict_of-audit.result read run says

@@ -2,11 +2,11 @@ use Rattle.std.proofs.Common.{◌≡◌, ◌⊎◌, ℕ, List, Result, Ok, Err, 
 use Rattle.tower_file.specs.declared.fault.TowerFault.{TowerFault}
 use Rattle.tower_file.specs.declared.fault.TowerFault.TheVariants.{Memory}
 use Rattle.tower_file.specs.Alone.{alone_tower}
-use Rattle.tower_file.specs.Contents.{Contents}
+use Rattle.tower_file.specs.Contents.{TowerModel}
 use Rattle.tower_file.specs.Tower.{IsTowerOf}
 use Rattle.commands.proofs.safe.the_tower.Goals as goal
 
-only_tower : (tower : Contents) (result : Result Contents TowerFault) → result ≡ Ok tower → (result ≡ Ok alone_tower) ⊎ (result ≡ Err Memory) → tower ≡ alone_tower
+only_tower : (tower : TowerModel) (result : Result TowerModel TowerFault) → result ≡ Ok tower → (result ≡ Ok alone_tower) ⊎ (result ≡ Err Memory) → tower ≡ alone_tower
 only_tower tower result is (inl e) = cc
 only_tower tower result is (inr e) = cc
 

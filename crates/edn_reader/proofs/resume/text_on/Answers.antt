@@ -10,7 +10,7 @@ use Rattle.edn_reader.proofs.resume.text_on.Goals as goal
 abbrev Found : List ℕ → ℕ → Type 0
 Found bytes n = NoneBefore (Passes (is_byte2 34 92) bytes) 0 (length bytes) n × Passes (is_byte2 34 92) bytes n
 
--- A byte that was found and is no quote is a backslash.
+-- a byte that was found and is no quote is a backslash
 is_backslash : (bytes : List ℕ) (n : ℕ) → Passes (is_byte2 34 92) bytes n → get_or bytes n 0 ≢ 34 → get_or bytes n 0 ≡ 92
 is_backslash bytes n found u = grind (arith, nat_tests)
 

@@ -33,9 +33,9 @@ returns-clause-fed g t c =
     let parts = c.split_at.result in
     let first = c.join-first.result.0 in
     let second = c.join-first.result.1 in
-    let front : IfOk first (λ feds. AreFed plan site.tower.now site.field c.passes_from.new.passes.items parts.0.now feds.items) = search rules in
-    let back : IfOk second (λ feds. AreFed plan site.tower.now site.field c.in_ok-rest.rest.items parts.1.now feds.items) = search rules in
-    joined_ok (λ feds. feds.items) Memory first second c.joined.result c.joined.ensures.both c.joined.ensures.first c.joined.ensures.second front back
+    let front : IfOk first (λ outcomes. AreFed plan site.tower.now site.field c.passes_from.new.passes.items parts.0.now outcomes.items) = search rules in
+    let back : IfOk second (λ outcomes. AreFed plan site.tower.now site.field c.in_ok-rest.rest.items parts.1.now outcomes.items) = search rules in
+    joined_ok (λ outcomes. outcomes.items) Memory first second c.joined.result c.joined.ensures.both c.joined.ensures.first c.joined.ensures.second front back
     (λ one other all is fed others.
     fed_parts (λ feeder trace fed. IsFed (setting_of plan site.tower.now site.field (first_start feeder)) trace.now fed) (length traces / 2) passes c.passes_from.new.passes.items c.in_ok-rest.rest.items traces
     parts.0.now parts.1.now one.items other.items all.items c.in_ok-rest.ensures.front c.in_ok-rest.ensures.rest c.split_at.ensures.front_len c.split_at.ensures.front c.split_at.ensures.back is fed others)
@@ -44,9 +44,9 @@ pub returns-clause-by_text : goal.returns-clause-by_text
 returns-clause-by_text g t c =
     let first = c.join-first.result.0 in
     let second = c.join-first.result.1 in
-    let front : IfOk first (λ feds. All (λ fed. IsNotOfReading fed.log) feds.items) = search rules in
-    let back : IfOk second (λ feds. All (λ fed. IsNotOfReading fed.log) feds.items) = search rules in
-    joined_ok (λ feds. feds.items) Memory first second c.joined.result c.joined.ensures.both c.joined.ensures.first c.joined.ensures.second front back
+    let front : IfOk first (λ outcomes. All (λ fed. IsNotOfReading fed.log) outcomes.items) = search rules in
+    let back : IfOk second (λ outcomes. All (λ fed. IsNotOfReading fed.log) outcomes.items) = search rules in
+    joined_ok (λ outcomes. outcomes.items) Memory first second c.joined.result c.joined.ensures.both c.joined.ensures.first c.joined.ensures.second front back
     (λ one other all is fed others. All-same (λ fed. IsNotOfReading fed.log) all.items (one.items ++ other.items) is (All-append (λ fed. IsNotOfReading fed.log) one.items other.items fed others))
 
 pub join-first-requires-send-F : goal.join-first-requires-send-F

@@ -40,12 +40,12 @@ returns-clause-fed g t c =
     let remaining = g.S.Read.remaining in
     let first = c.join-first.result.0 in
     let second = c.join-first.result.1 in
-    let front : IfOk first (λ feds. AreReadAndFed plan c.args.tower.now c.args.field c.passes_from.new.passes.items (map remaining front_readers) feds.items) = search rules in
-    let back : IfOk second (λ feds. AreReadAndFed plan c.args.tower.now c.args.field c.in_ok-rest.rest.items (map remaining back_readers) feds.items) = search rules in
+    let front : IfOk first (λ outcomes. AreReadAndFed plan c.args.tower.now c.args.field c.passes_from.new.passes.items (map remaining front_readers) outcomes.items) = search rules in
+    let back : IfOk second (λ outcomes. AreReadAndFed plan c.args.tower.now c.args.field c.in_ok-rest.rest.items (map remaining back_readers) outcomes.items) = search rules in
     let is_front = ap (map remaining) c.in_ok-back.ensures.items ∙ sym (take-map remaining half readers) in
     let is_back = ap (map remaining) c.in_ok-back.ensures.tail ∙ sym (drop-map remaining half readers) in
     let long : length (map remaining front_readers) ≡ half = length-map front_readers remaining ∙ ap length c.in_ok-back.ensures.items ∙ length-take-le half readers (omega (arith, c.len-half.ensures)) in
-    joined_ok (λ feds. feds.items) Memory first second c.joined.result c.joined.ensures.both c.joined.ensures.first c.joined.ensures.second front back
+    joined_ok (λ outcomes. outcomes.items) Memory first second c.joined.result c.joined.ensures.both c.joined.ensures.first c.joined.ensures.second front back
     (λ one other all is fed others.
     fed_parts (λ feeder left fed. IsReadAndFed (setting_of plan c.args.tower.now c.args.field (first_start feeder)) left fed) half passes c.passes_from.new.passes.items c.in_ok-rest.rest.items (map remaining readers)
     (map remaining front_readers) (map remaining back_readers) one.items other.items all.items (c.in_ok-rest.ensures.front ∙ ap (λ n. take n passes) (sym long))

@@ -22,7 +22,7 @@ returns-clause-fed g t c =
     let is_front = ap (map remaining) c.in_ok-back.ensures.items ∙ sym (take-map remaining half readers) in
     let is_back = ap (map remaining) c.in_ok-back.ensures.tail ∙ sym (drop-map remaining half readers) in
     let long : length (map remaining front_readers) ≡ half = length-map front_readers remaining ∙ ap length c.in_ok-back.ensures.items ∙ length-take-le half readers (omega (arith, c.len-half.ensures)) in
-    joined_ok (λ feds. feds.items) Memory first second c.joined.result c.joined.ensures.both c.joined.ensures.first c.joined.ensures.second c.read_in_turn-first.ensures.fed c.read_in_turn-second.ensures.fed
+    joined_ok (λ outcomes. outcomes.items) Memory first second c.joined.result c.joined.ensures.both c.joined.ensures.first c.joined.ensures.second c.read_in_turn-first.ensures.fed c.read_in_turn-second.ensures.fed
     (λ one other all is fed others.
     fed_parts (λ feeder left fed. IsReadAndFed (setting_of plan site.tower.now site.field (first_start feeder)) left fed) half passes c.passes_from.new.passes.items c.in_ok-rest.rest.items (map remaining readers)
     (map remaining front_readers) (map remaining back_readers) one.items other.items all.items (c.in_ok-rest.ensures.front ∙ ap (λ n. take n passes) (sym long))

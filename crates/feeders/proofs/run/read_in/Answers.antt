@@ -3,7 +3,7 @@ use Rattle.std.specs.List.{range_with_len}
 use Rattle.std.proofs.lemmas.List.{length-map, map-id}
 use Rattle.std.proofs.lemmas.List.FromFn.{length-map-range_with_len}
 use Rattle.shards.specs.Plan.{Plan, plan_of}
-use Rattle.shards.specs.Pass.{fresh}
+use Rattle.shards.specs.Pass.{new_pass}
 use Rattle.feeders.specs.Ending.{MayEnd}
 use Rattle.feeders.specs.Progress.{AreFresh}
 use Rattle.feeders.specs.Readers.{AreReadOf}
@@ -17,20 +17,20 @@ pub read_all-requires-clause-fresh : goal.read_all-requires-clause-fresh
 read_all-requires-clause-fresh g c κs within = subst (AreFresh g.O.Opening.plan) (sym c.in_ok-auditor.ensures.passes) (fresh_all g.O.Opening.plan 0 _ (omega (arith, c.len.ensures, ap (λ (plan : Plan). plan.feeders) c.requires.opening)))
 
 pub read_all-requires-clause-each : goal.read_all-requires-clause-each
-read_all-requires-clause-each g c κs within = c.in_ok-auditor.passes.ok.0 ∙ ap length c.in_ok-auditor.ensures.passes ∙ length-map-range_with_len (fresh g.O.Opening.plan) 0 _ ∙ c.len.ensures
+read_all-requires-clause-each g c κs within = c.in_ok-auditor.passes.ok.0 ∙ ap length c.in_ok-auditor.ensures.passes ∙ length-map-range_with_len (new_pass g.O.Opening.plan) 0 _ ∙ c.len.ensures
 
 pub returns-in-Ok-clause-run : goal.returns-in-Ok-clause-run
 returns-in-Ok-clause-run g c =
     let plan = g.O.Opening.plan in
     let tower = c.args.tower.now in
     let lefts = map g.S.Read.remaining c.args.readers.items in
-    let feds = c.in_ok-feds.feds.items in
+    let outcomes = c.in_ok-outcomes.outcomes.items in
     let logs = c.in_ok-passes.logs.items in
-    let read = read_of plan tower c.args.field c.in_ok-auditor.passes.items lefts feds c.in_ok-feds.ensures.fed in
+    let read = read_of plan tower c.args.field c.in_ok-auditor.passes.items lefts outcomes c.in_ok-outcomes.ensures.fed in
     let many = c.args.readers.ok.0 ∙ sym (length-map c.args.readers.items g.S.Read.remaining) ∙ sym read.many in
     let run : IsRun tower c.args.field c.args.shards (map (λ (trace : List ℕ). trace) read.traces) c.in-Ok.closed logs =
-    run_of (λ (trace : List ℕ). trace) plan tower c.args.field c.args.shards read.traces c.in_ok-auditor.passes.items feds c.in_ok-passes.passes.items logs c.in-Ok.closed
-    (c.requires.opening ∙ ap (plan_of 0 tower c.args.shards) many) (c.in_ok-auditor.ensures.passes ∙ ap (λ (n : ℕ). map (fresh plan) (range_with_len 0 n)) (c.len.ensures ∙ many))
+    run_of (λ (trace : List ℕ). trace) plan tower c.args.field c.args.shards read.traces c.in_ok-auditor.passes.items outcomes c.in_ok-passes.passes.items logs c.in-Ok.closed
+    (c.requires.opening ∙ ap (plan_of 0 tower c.args.shards) many) (c.in_ok-auditor.ensures.passes ∙ ap (λ (n : ℕ). map (new_pass plan) (range_with_len 0 n)) (c.len.ensures ∙ many))
     read.are_fed c.in_ok-passes.ensures.passes c.in_ok-passes.ensures.logs c.in-Ok.ensures.closed in (
       read.traces,
       subst (λ (ls : List Log). AreReadOf lefts ls read.traces) (sym c.in_ok-passes.ensures.logs) read.are_read,
@@ -41,10 +41,10 @@ pub returns-clause-fault : goal.returns-clause-fault
 returns-clause-fault g c =
     let plan = g.O.Opening.plan in
     let lefts = map g.S.Read.remaining c.args.readers.items in
-    let feds = c.in_ok-feds.feds.items in
-    let read = read_of plan c.args.tower.now c.args.field c.in_ok-auditor.passes.items lefts feds c.in_ok-feds.ensures.fed in
+    let outcomes = c.in_ok-outcomes.outcomes.items in
+    let read = read_of plan c.args.tower.now c.args.field c.in_ok-auditor.passes.items lefts outcomes c.in_ok-outcomes.ensures.fed in
     let many = c.args.readers.ok.0 ∙ sym (length-map c.args.readers.items g.S.Read.remaining) ∙ sym read.many in
     subst MayEnd (sym c.from.ensures)
-    (may_end (λ (trace : List ℕ). trace) plan c.args.tower.now c.args.field read.traces c.in_ok-auditor.passes.items feds c.in_ok-passes.passes.items c.in-Err.unfinished.fault
-    (ap (λ (plan : Plan). plan.feeders) c.requires.opening ∙ many) (c.in_ok-auditor.ensures.passes ∙ ap (λ (n : ℕ). map (fresh plan) (range_with_len 0 n)) (c.len.ensures ∙ many))
+    (may_end (λ (trace : List ℕ). trace) plan c.args.tower.now c.args.field read.traces c.in_ok-auditor.passes.items outcomes c.in_ok-passes.passes.items c.in-Err.unfinished.fault
+    (ap (λ (plan : Plan). plan.feeders) c.requires.opening ∙ many) (c.in_ok-auditor.ensures.passes ∙ ap (λ (n : ℕ). map (new_pass plan) (range_with_len 0 n)) (c.len.ensures ∙ many))
     read.are_fed c.in_ok-passes.ensures.passes c.in-Err.ensures.unfinished)

@@ -1,8 +1,8 @@
 use Rattle.std.proofs.Common.{◌∙◌, ◌++◌, [], Ok, take, ap, refl, sym, subst, rules}
-use Rattle.tower_file.specs.Contents.{Contents}
+use Rattle.tower_file.specs.Contents.{TowerModel}
 use Rattle.jepsen_form.specs.declared.item.MomentField.{MomentField}
 use Rattle.shards.specs.Plan.{claims_of}
-use Rattle.feeders.specs.declared.feeder.Course.TheVariants.{Broke}
+use Rattle.feeders.specs.declared.feeder.FeedState.TheVariants.{Broke}
 use Rattle.feeders.specs.Progress.{IsReadAndFed}
 use Rattle.feeders.specs.Setting.{first_start, setting_of}
 use Rattle.feeders.proofs.Doing.{first_is_start}
@@ -46,7 +46,7 @@ returns-then-count-eq0-clause-fed g c =
     let state = c.loop-count.invariant in
     let so_far = state.so_far in
     let left = g.S.Read.remaining c.args.reader in
-    subst (λ (tower : Contents). IsReadAndFed (setting_of plan tower c.args.site.field start) left c.into_fed.result) state.tower
+    subst (λ (tower : TowerModel). IsReadAndFed (setting_of plan tower c.args.site.field start) left c.into_fed.result) state.tower
     (subst (λ (chosen : MomentField). IsReadAndFed (setting_of plan old.tower chosen start) left c.into_fed.result) state.chosen
     (read_whole (setting_of plan old.tower old.chosen start) left so_far.bytes c.end.new.self.intake c.end.new.pass c.into_fed.result
     (c.in-Ok.ensures.end (ap Ok c.if-count-eq0.true) left so_far.bytes so_far.given)
@@ -63,7 +63,7 @@ returns-then-has_broken-clause-fed g c =
     let piece = take c.in-Ok.count c.next.new.buffer in
     let bytes = so_far.bytes ++ piece in
     let fed = c.in_default.ensures.fed start so_far.bytes (open_next plan start so_far.bytes piece c.loop-count.feeder c.loop-count.pass state.going so_far.fed) in
-    subst (λ (tower : Contents). IsReadAndFed (setting_of plan tower c.args.site.field start) left c.into_fed-then-has_broken.result) (c.in_default.ensures.read.1 ∙ state.tower)
+    subst (λ (tower : TowerModel). IsReadAndFed (setting_of plan tower c.args.site.field start) left c.into_fed-then-has_broken.result) (c.in_default.ensures.read.1 ∙ state.tower)
     (subst (λ (chosen : MomentField). IsReadAndFed (setting_of plan old.tower chosen start) left c.into_fed-then-has_broken.result) (c.in_default.ensures.read.0 ∙ state.chosen)
     (broke_within (setting_of plan old.tower old.chosen start) left (g.S.Read.remaining c.next.new.self.reader) c.next.new.self.past bytes old.intake c.feed.new.pass c.into_fed-then-has_broken.result
     (c.in-Ok.ensures.given left so_far.bytes so_far.given)
@@ -78,7 +78,7 @@ returns-in-Err-clause-fed g c =
     let state = c.loop-count.invariant in
     let so_far = state.so_far in
     let left = g.S.Read.remaining c.args.reader in
-    subst (λ (tower : Contents). IsReadAndFed (setting_of plan tower c.args.site.field start) left c.into_fed-in-Err.result) state.tower
+    subst (λ (tower : TowerModel). IsReadAndFed (setting_of plan tower c.args.site.field start) left c.into_fed-in-Err.result) state.tower
     (subst (λ (chosen : MomentField). IsReadAndFed (setting_of plan old.tower chosen start) left c.into_fed-in-Err.result) state.chosen
     (read_up_to (setting_of plan old.tower old.chosen start) left (g.S.Read.remaining c.next.new.self.reader) c.next.new.self.past so_far.bytes
     (record { code = c.in-Err.code; place = old.intake.splitter.taken }) c.break_off.new.self.intake c.loop-count.pass c.into_fed-in-Err.result

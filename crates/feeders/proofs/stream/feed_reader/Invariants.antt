@@ -1,6 +1,6 @@
 -- what the source gave is fed
 use Rattle.std.proofs.Common.{◌≡◌, ◌-◌, ◌≤◌, length}
-use Rattle.feeders.specs.declared.feeder.Course.TheVariants.{Open}
+use Rattle.feeders.specs.declared.feeder.FeedState.TheVariants.{Open}
 use Rattle.feeders.specs.declared.source.TheConstants.{CALL_LIMIT}
 use Rattle.feeders.specs.Setting.{first_start}
 use Rattle.feeders.proofs.Streaming.{HasStreamed}
@@ -9,7 +9,7 @@ use Rattle.feeders.proofs.stream.feed_reader.Given as goal
 abbrev pub invariant-loop-count : goal.invariant-loop-count
 invariant-loop-count g l = record {
   room : length l.buffer ≡ 65536;
-  going : l.feeder.course ≡ Open;
+  going : l.feeder.state ≡ Open;
   chosen : l.feeder.chosen ≡ l.fn.site.field;
   tower : l.feeder.tower ≡ l.fn.site.tower.now;
   counted : l.feeder.intake.splitter.taken ≡ l.source.given;

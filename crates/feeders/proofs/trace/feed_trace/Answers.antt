@@ -1,8 +1,8 @@
 use Rattle.std.proofs.Common.{◌≡◌, ℕ, [], List, Some, None, refl, sym, ap, subst, ◌∙◌, arith}
-use Rattle.edn_reader.specs.Grammar.{Piece}
+use Rattle.edn_reader.specs.Grammar.{ElementModel}
 use Rattle.edn_reader.specs.Lent.{piece_of}
 use Rattle.edn_reader.specs.Text.{IsFront}
-use Rattle.edn_reader.specs.Reading.{Reading}
+use Rattle.edn_reader.specs.Reading.{ReaderModel}
 use Rattle.feeders.specs.Broken.{AreElements}
 use Rattle.feeders.specs.Progress.{IsAt}
 use Rattle.feeders.specs.Setting.{first_start, setting_of}
@@ -16,11 +16,11 @@ loop-element-init g c =
     let setting = setting_of plan c.args.site.tower.now c.args.site.field (first_start c.args.pass.feeder) in
     let state = c.new-reader.ensures.state in
     let progress = c.new-progress.result in
-    let start : c.new-reader.result.at ≡ 0 = ap (λ (r : Reading). r.at) state in
+    let start : c.new-reader.result.at ≡ 0 = ap (λ (r : ReaderModel). r.at) state in
     let is_at : IsAt plan (first_start c.args.pass.feeder) [] progress c.args.pass =
     c.new-progress.ensures.at plan (first_start c.args.pass.feeder) c.args.pass (first_is_start plan c.args.pass c.requires.fresh c.requires.known (c.what_was_told_stays.ensures.fresh plan c.args.pass.feeder)) (sym c.feeder.ensures) in
     record {
-      input = ap (λ (r : Reading). r.input) state;
+      input = ap (λ (r : ReaderModel). r.input) state;
       within = omega (arith, start);
       place = omega (arith, start, c.new-progress.ensures.place);
       ahead = c.new-progress.ensures.ahead;
@@ -53,7 +53,7 @@ returns-in-Err-clause-fed g c =
     let same = c.loop-element.invariant.input in
     let broken = c.in-Some.broken in
     ends setting c.args.trace.now c.loop-element.reader.at c.loop-element.progress c.loop-element.pass (Some broken) c.end-in-Err.result c.loop-element.invariant.so_far
-    (subst (λ (trace : List ℕ). (pieces : List Piece) → IsFront trace pieces c.loop-element.reader.at → AreElements trace (Some broken) pieces) same
+    (subst (λ (trace : List ℕ). (pieces : List ElementModel) → IsFront trace pieces c.loop-element.reader.at → AreElements trace (Some broken) pieces) same
     (broken_at c.loop-element.reader.input c.loop-element.reader.at c.in-Err.fault broken (sym c.broken_by.ensures ∙ c.in-Some.is) c.in-Err.ensures.fault))
     c.end-in-Err.ensures.pass c.end-in-Err.ensures.lines c.end-in-Err.ensures.broken
 

@@ -1,4 +1,4 @@
--- of the writes before the place that begin behind the moment it begins first
+-- of the writes before the place that begin after the moment the one found so far begins first
 use Rattle.intervals.specs.InTurn.{IsNextWrite}
 use Rattle.intervals.proofs.Fronts.{front_of}
 use Rattle.intervals.proofs.overlap.next_among.Given as goal

@@ -1,4 +1,4 @@
--- none repeats before the place
+-- no operation before the place is a repeat
 use Rattle.intervals.specs.Terms.{terms_of}
 use Rattle.intervals.proofs.Repeats.{Walked}
 use Rattle.intervals.proofs.repeat.repeat_by_pairs.Given as goal

@@ -1,5 +1,5 @@
 use Rattle.std.proofs.Common.{◌≡◌, ◌+◌, Some, None, Ok, sym, subst, ◌∙◌, rules, ap}
-use Rattle.intervals.specs.declared.shelf.Shelf.{Shelf}
+use Rattle.intervals.specs.declared.ordered_index.OrderedIndex.{OrderedIndex}
 use Rattle.intervals.specs.FirstWrites.{AreFirst}
 use Rattle.intervals.specs.Table.{slot_at}
 use Rattle.intervals.specs.Terms.{terms_of}
@@ -32,13 +32,13 @@ loop-slot-preserved c =
           record {
             walked = walked_on claim slots k w.in-Some.op held.walked at
                 (sym (w.in_ok-repeat.ensures.repeat (front_of slots k) held.first (new_at slots k w.in-Some.op c.requires at)) ∙ none);
-            first = subst (λ (shelf : Shelf). AreFirst shelf (front_of slots (k + 1))) (sym w.first-is)
+            first = subst (λ (shelf : OrderedIndex). AreFirst shelf (front_of slots (k + 1))) (sym w.first-is)
                 (first_on w.repeat_of.new.first slots k w.in-Some.op at (w.in_ok-repeat.ensures.first (front_of slots k) held.first (ap Ok none)));
           }
       | in_default w ↦
           let at : slot_at slots k ≡ None = search rules in
           record {
             walked = walked_over claim slots k held.walked at;
-            first = subst (λ (shelf : Shelf). AreFirst shelf (front_of slots (k + 1))) (sym w.first-is) (first_over c.loop-slot.first slots k at held.first);
+            first = subst (λ (shelf : OrderedIndex). AreFirst shelf (front_of slots (k + 1))) (sym w.first-is) (first_over c.loop-slot.first slots k at held.first);
           }
     ]

@@ -1,4 +1,4 @@
--- none repeats before the place, and the shelf has the first writes of the values before it
+-- no operation before the place is a repeat, and the index has the first writes of the values before it
 use Rattle.intervals.specs.FirstWrites.{AreFirst}
 use Rattle.intervals.specs.Terms.{terms_of}
 use Rattle.intervals.proofs.Fronts.{front_of}

@@ -5,7 +5,7 @@ use Rattle.intervals.specs.declared.operation.OpId.{OpId}
 use Rattle.intervals.specs.declared.operation.Value.{Value}
 use Rattle.intervals.specs.Operation.{value_of}
 use Rattle.intervals.specs.Refusal.{id_with, is_initial}
-use Rattle.intervals.specs.Shelf.{id_at}
+use Rattle.intervals.specs.OrderedIndex.{id_at}
 use Rattle.intervals.specs.Terms.{terms_of}
 use Rattle.intervals.proofs.Repeats.{at_first, repeat_by, first_with_read, first_with_write}
 use Rattle.intervals.proofs.repeat.repeat_of.Goals as goal

@@ -1,4 +1,4 @@
--- the width is never nothing
+-- the width is never 0
 use Rattle.std.proofs.Common.{length, ◌-◌, ◌<◌}
 use Rattle.intervals.proofs.rising.start_for.Given as goal
 

@@ -1,5 +1,5 @@
 use Rattle.std.proofs.Common.{◌≡◌, ℕ, List, Option, Some, None, sym, ap, ◌∙◌}
-use Rattle.edn_reader.specs.Grammar.{Piece}
+use Rattle.edn_reader.specs.Grammar.{ElementModel}
 use Rattle.edn_reader.specs.Lent.{piece_of}
 use Rattle.edn_reader.specs.Pairs.{keyword_of}
 use Rattle.jepsen_form.specs.declared.fault.FormField.{FormField}
@@ -9,7 +9,7 @@ use Rattle.jepsen_form.specs.Form.{seen_all, noted, field_of, with_more}
 use Rattle.jepsen_form.proofs.Keys.{noted_under}
 use Rattle.jepsen_form.proofs.form.note.Goals as goal
 
-by_field : (chosen : MomentField) (found : Fields) (word : List ℕ) (key : Option (List ℕ)) (value : Piece) (field : Option FormField) → Some word ≡ key → field ≡ field_of chosen word
+by_field : (chosen : MomentField) (found : Fields) (word : List ℕ) (key : Option (List ℕ)) (value : ElementModel) (field : Option FormField) → Some word ≡ key → field ≡ field_of chosen word
     → with_more field found value ≡ noted chosen found key value
 by_field chosen found word key value field is_word is_field =
     ap (λ (f : Option FormField). with_more f found value) is_field ∙ sym (noted_under chosen found word value)

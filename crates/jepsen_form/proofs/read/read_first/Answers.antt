@@ -1,5 +1,5 @@
 use Rattle.std.proofs.Common.{◌≡◌, ℕ, List, Result, sym, ap, subst, ◌∙◌}
-use Rattle.edn_reader.specs.Flat.{IsFirst}
+use Rattle.edn_reader.specs.Flat.{BeginsWithElement}
 use Rattle.edn_reader.specs.Lent.{piece_of}
 use Rattle.jepsen_form.specs.declared.item.Item.{Item}
 use Rattle.jepsen_form.specs.declared.fault.FormFault.{FormFault}
@@ -25,7 +25,7 @@ returns-in-End-clause-first c =
     let of = c.loop-key.invariant.of in
     let piece = piece_of c.in-End.element in
     let said = c.in-End.ensures.part so_far.pairs so_far.read in
-    subst (λ (bytes : List ℕ). IsFirst bytes c.args.place piece) of.0 (subst (λ (place : ℕ). IsFirst c.loop-key.map.bytes.now place piece) of.1 said.0)
+    subst (λ (bytes : List ℕ). BeginsWithElement bytes c.args.place piece) of.0 (subst (λ (place : ℕ). BeginsWithElement c.loop-key.map.bytes.now place piece) of.1 said.0)
 
 pub returns-in-End-clause-item : goal.returns-in-End-clause-item
 returns-in-End-clause-item c =

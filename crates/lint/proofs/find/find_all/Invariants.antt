@@ -1,4 +1,4 @@
--- what is found so far, with what will be found in the rest
+-- what is found so far, with what will be found in the rest, is found in all
 use Rattle.lint.proofs.Found.{GoesOn}
 use Rattle.lint.proofs.find.find_all.Given as goal
 

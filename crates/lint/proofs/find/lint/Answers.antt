@@ -6,7 +6,7 @@ use Rattle.std.proofs.lemmas.Slice.Zip.{AllZip-long}
 use Rattle.feeders.specs.declared.log.Log.{Log}
 use Rattle.feeders.specs.Readers.{AreReadOf}
 use Rattle.feeders.specs.Run.{plan_of_run}
-use Rattle.lint.specs.Found.{AreFound, NamesElements}
+use Rattle.lint.specs.Found.{AreFoundIn, NamesElements}
 use Rattle.lint.proofs.Named.{each_names}
 use Rattle.lint.proofs.find.lint.Goals as goal
 
@@ -33,5 +33,5 @@ returns-clause-found g c =
       read,
       subst (λ (all : List (Bor (List ℕ))). AreReadOf (map (λ text. Some text.now) all) logs read) c.in_ok-readers.ensures.items c.in_ok-run.ensures.run.1,
       c.in_ok-run.ensures.run.2,
-      subst (λ (ls : List Log). AreFound (map (λ text. text.now) texts) ls c.in_ok-traces.traces.items) c.as_slice.ensures.value c.in_ok-traces.ensures.found,
+      subst (λ (ls : List Log). AreFoundIn (map (λ text. text.now) texts) ls c.in_ok-traces.traces.items) c.as_slice.ensures.value c.in_ok-traces.ensures.found,
     )

@@ -1,4 +1,4 @@
--- the findings so far and those of the lines that are left
+-- the findings so far and those of the lines that are left are all findings
 use Rattle.std.proofs.Common.{◌≡◌, ◌++◌, drop}
 use Rattle.std.specs.List.{flat_map}
 use Rattle.lint.specs.Found.{found_of_line}

@@ -1,4 +1,4 @@
--- the lines so far and those of the findings that are left
+-- the lines so far and those of the findings that are left are all lines
 use Rattle.std.proofs.Common.{◌≡◌, ◌++◌, drop, string_bytes}
 use Rattle.lint.specs.Short.{short_lines}
 use Rattle.lint.proofs.short.push_lines.Given as goal

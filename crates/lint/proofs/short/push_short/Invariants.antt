@@ -1,4 +1,4 @@
--- the lines so far and those of the files that are left
+-- the lines so far and those of the files that are left are all lines
 use Rattle.std.proofs.Common.{◌≡◌, ◌≤◌, ◌++◌, drop, length, string_bytes}
 use Rattle.lint.specs.Short.{short_text}
 use Rattle.lint.proofs.short.push_short.Given as goal

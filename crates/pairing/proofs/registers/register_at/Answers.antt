@@ -3,7 +3,7 @@ use Rattle.std.proofs.lemmas.List.Sorted.{answers_always}
 use Rattle.pairing.proofs.Rows.{found_row, no_row_found}
 use Rattle.pairing.proofs.registers.register_at.Goals as goal
 
--- the closure gives a row's place, and the row that was read is the place's
+-- the closure gives the place of a row, and the row that was found is that of the place
 pub returns-in-Ok : goal.returns-in-Ok
 returns-in-Ok c =
     let facts = c.in-Ok.ensures in

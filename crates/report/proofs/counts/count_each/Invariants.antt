@@ -1,4 +1,4 @@
--- each so far
+-- the counts so far are those of the registers so far
 use Rattle.std.proofs.Common.{◌≡◌, ◌≤◌, length, map}
 use Rattle.std.specs.List.{range_with_len}
 use Rattle.report.specs.Counts.{standing_in}

@@ -1,4 +1,4 @@
--- all that are so far hold
+-- all parts so far hold
 use Rattle.std.proofs.Common.{◌≡◌, drop}
 use Rattle.std.specs.List.{list_all}
 use Rattle.report.specs.Finding.{holds_in}

@@ -1,4 +1,4 @@
--- those so far are of the registers so far
+-- the findings so far are those of the registers so far
 use Rattle.std.proofs.Common.{◌≡◌, ◌≤◌, length}
 use Rattle.report.specs.Finding.{AreFindings}
 use Rattle.report.proofs.finding.find_all.Given as goal

@@ -1,4 +1,4 @@
-use Rattle.register_book.specs.Kept.{claimed_of}
+use Rattle.register_book.specs.BookModel.{claimed_of}
 use Rattle.report.proofs.Orders.{order_is}
 use Rattle.report.proofs.order.order_in.Goals as goal
 

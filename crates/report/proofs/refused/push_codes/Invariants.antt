@@ -1,4 +1,4 @@
--- what is told so far and of the codes that are left is what is told of all
+-- the text so far and that of the codes that are left is the text of all codes
 use Rattle.std.proofs.Common.{◌≡◌, ◌++◌, drop, string_bytes}
 use Rattle.std.specs.List.{flat_map}
 use Rattle.report.specs.Refused.{code_text}

@@ -1,4 +1,4 @@
--- what is looked at next is the last write that was not passed
+-- the write looked at next is the last one that was not passed
 use Rattle.std.proofs.Common.{Contains}
 use Rattle.intervals.specs.Operation.{IsJudgedRead}
 use Rattle.intervals.specs.Terms.{terms_of}

@@ -1,7 +1,7 @@
 use Rattle.std.proofs.Common.{◌∙◌, List, refl, sym, subst}
 use Rattle.std.proofs.lemmas.Bool.{false≢true}
 use Rattle.std.proofs.lemmas.List.{take_all}
-use Rattle.shards.specs.Pass.{Passed}
+use Rattle.shards.specs.Pass.{PassModel}
 use Rattle.shards.specs.Closing.{AreItsPasses}
 use Rattle.shards.proofs.Passes.{has_found, its_more, not_its}
 use Rattle.shards.proofs.fitting.are_its_passes.Goals as goal
@@ -22,4 +22,4 @@ loop-i-preserved g c =
     (λ has. c.pass_of.ensures.none (sym c.is_some.ensures ∙ c.if-is_some.false) (rw c.feeder.ensures has))
 
 pub returns : goal.returns
-returns g c = (λ _. subst (λ (some : List Passed). AreItsPasses g.O.Opening.plan some) (take_all c.loop-i.i c.args.passes.now c.loop-i-test.false) c.loop-i.invariant, λ _. refl)
+returns g c = (λ _. subst (λ (some : List PassModel). AreItsPasses g.O.Opening.plan some) (take_all c.loop-i.i c.args.passes.now c.loop-i-test.false) c.loop-i.invariant, λ _. refl)

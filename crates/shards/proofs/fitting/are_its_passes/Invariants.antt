@@ -1,4 +1,4 @@
--- those so far are its passes
+-- the passes so far are the plan's, and no two of one feeder
 use Rattle.std.proofs.Common.{take}
 use Rattle.shards.specs.Closing.{AreItsPasses}
 use Rattle.shards.proofs.fitting.are_its_passes.Given as goal

@@ -1,4 +1,4 @@
--- with the farther entries of the shards to come, it is the farther entries of all
+-- with the later entries of the shards to come, this is the later entries of all shards
 use Rattle.std.proofs.Common.{◌≡◌, ◌++◌, take, drop, length}
 use Rattle.shards.specs.Pass.{farther_each}
 use Rattle.shards.proofs.seen.take_farther.Given as goal

@@ -1,5 +1,5 @@
 use Rattle.std.specs.Prelude.{map}
-use Rattle.register_book.specs.Kept.{claimed_of}
+use Rattle.register_book.specs.BookModel.{claimed_of}
 use Rattle.std.proofs.Common.{ap, length, ◌<◌, ◌≤◌, arith}
 use Rattle.std.proofs.lemmas.List.{length-map}
 use Rattle.shards.specs.Plan.{plan_of, claims_of}

@@ -1,6 +1,6 @@
 use Rattle.std.proofs.Common.{◌-◌, length}
 use Rattle.std.specs.Prelude.{map}
-use Rattle.register_book.specs.Kept.{claimed_of}
+use Rattle.register_book.specs.BookModel.{claimed_of}
 use Rattle.shards.specs.Plan.{claims_of}
 use Rattle.shards.proofs.Opened.{AreOpenedTo}
 use Rattle.shards.proofs.shard.open_books.Given as goal

@@ -1,4 +1,4 @@
--- one for each mark so far, and those behind the first are positive
+-- there is a step for each mark so far, and those after the first are positive
 use Rattle.std.specs.Prelude.{All}
 use Rattle.std.proofs.Common.{◌≡◌, ◌≤◌, ◌<◌, ℕ, drop, length}
 use Rattle.show.proofs.measure.steps_of.Given as goal

@@ -1,4 +1,4 @@
--- all so far are between marks
+-- all wants so far are between marks
 use Rattle.std.specs.Prelude.{All}
 use Rattle.std.proofs.Common.{length}
 use Rattle.show.specs.Measure.{IsWanted}

@@ -1,4 +1,4 @@
--- those of the ids that are done have their places
+-- the ids that are done have their places
 use Rattle.std.proofs.Common.{◌≡◌, ◌≤◌, ◌+◌, drop, length}
 use Rattle.std.specs.List.{position_from}
 use Rattle.std.specs.HashMap.{get}

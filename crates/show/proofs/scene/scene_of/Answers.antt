@@ -2,16 +2,16 @@ use Rattle.std.proofs.Common.{◌∙◌, ap, arith, refl}
 use Rattle.std.specs.HashMap.{get}
 use Rattle.intervals.specs.declared.operation.Op.{Op}
 use Rattle.intervals.specs.Operation.{same_id}
-use Rattle.intervals.specs.Table.{standing}
+use Rattle.intervals.specs.Table.{ops_in_slots}
 use Rattle.show.specs.Label.{label_by}
 use Rattle.show.specs.Rank.{rank_of}
-use Rattle.show.specs.Scene.{asked_of, extent_of}
+use Rattle.show.specs.Scene.{asked_ids, extent_of}
 use Rattle.show.proofs.Scenes.{map_alike, shown_and_hidden}
 use Rattle.show.proofs.scene.scene_of.Goals as goal
 
 pub returns : goal.returns
 returns c =
-    let ops = standing c.args.subject.now.slots.now in
+    let ops = ops_in_slots c.args.subject.now.slots.now in
     let order = c.args.subject.now.order.now in
     let letters = c.in_ok-letters.letters.items in
     let places = c.in_ok-places.places in
@@ -32,5 +32,5 @@ returns c =
       spans = rw (c.deref-4.ensures.value, c.deref-5.ensures.value) at c.in_ok-spans.ensures;
       folded = rw (c.deref-6.ensures.value, c.deref-7.ensures.value) at c.in_ok-folded.ensures;
       seats = rw c.deref-8.ensures.value at c.in_ok-seats.ensures;
-      all = let both = shown_and_hidden ops (asked_of ops story letters) (extent_of story c.args.extent) chosen choice in omega (arith, c.len.ensures, c.len-2.ensures, both);
+      all = let both = shown_and_hidden ops (asked_ids ops story letters) (extent_of story c.args.extent) chosen choice in omega (arith, c.len.ensures, c.len-2.ensures, both);
     }

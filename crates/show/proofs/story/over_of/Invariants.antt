@@ -1,4 +1,4 @@
--- those so far and those among the writes left are all
+-- the overlapping writes so far and those among the writes left are all
 use Rattle.std.proofs.Common.{◌≡◌, ◌++◌, drop}
 use Rattle.std.specs.Prelude.{filter}
 use Rattle.intervals.specs.declared.operation.Op.{Op}

@@ -1,8 +1,8 @@
 -- the writes so far and those in the slots left are all
 use Rattle.std.proofs.Common.{◌≡◌, ◌++◌, drop}
 use Rattle.intervals.specs.Operation.{writes}
-use Rattle.intervals.specs.Table.{standing}
+use Rattle.intervals.specs.Table.{ops_in_slots}
 use Rattle.show.proofs.story.writes_in.Given as goal
 
 abbrev pub invariant-loop-slot : goal.invariant-loop-slot
-invariant-loop-slot l = l.writes.items ++ writes (standing (drop l.slot-index l.slots)) ≡ writes (standing l.slots)
+invariant-loop-slot l = l.writes.items ++ writes (ops_in_slots (drop l.slot-index l.slots)) ≡ writes (ops_in_slots l.slots)

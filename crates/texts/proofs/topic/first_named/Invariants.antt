@@ -1,4 +1,4 @@
--- the topic among those that are left is the one among all
+-- the topic found among those that are left is the one found among all
 use Rattle.std.proofs.Common.{◌≡◌}
 use Rattle.std.specs.Array.Iter.{array_into_iter_items}
 use Rattle.texts.specs.Topics.{topic_among}

@@ -1,4 +1,4 @@
--- what is said of lines of the topics that are left is so of the lines of all, behind the text so far
+-- lines of the topics that are left, after the text so far, are lines of all topics after the text at first
 use Rattle.std.proofs.Common.{◌≡◌, ◌++◌, ℕ, List, string_bytes}
 use Rattle.std.specs.Array.Iter.{array_into_iter_items}
 use Rattle.texts.specs.Printing.{AreLines}

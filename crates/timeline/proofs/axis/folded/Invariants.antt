@@ -1,4 +1,4 @@
--- those counted so far and those that the marks left give are all
+-- the counts so far and those for the marks left are all counts
 use Rattle.std.proofs.Common.{◌≡◌, ◌++◌, drop}
 use Rattle.timeline.specs.Axis.{folded_of}
 use Rattle.timeline.proofs.axis.folded.Given as goal

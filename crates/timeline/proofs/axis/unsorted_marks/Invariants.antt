@@ -1,4 +1,4 @@
--- the marks so far and those of the operations left are all
+-- the marks so far and those of the operations left are all marks
 use Rattle.std.proofs.Common.{◌≡◌, ◌≤◌, ◌++◌, drop, length}
 use Rattle.timeline.specs.Axis.{marks_from}
 use Rattle.timeline.proofs.axis.unsorted_marks.Given as goal

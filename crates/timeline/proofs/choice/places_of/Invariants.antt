@@ -1,4 +1,4 @@
--- the places so far and those among the operations left are all
+-- the places so far and those among the operations left are all places
 use Rattle.std.proofs.Common.{◌≡◌, ◌≤◌, ◌++◌, drop, length}
 use Rattle.timeline.specs.Choice.{places_of}
 use Rattle.timeline.proofs.choice.places_of.Given as goal

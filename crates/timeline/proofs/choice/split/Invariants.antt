@@ -1,4 +1,4 @@
--- those so far and those among the operations left are all
+-- the operations shown and hidden so far and those among the operations left are all shown and hidden ones
 use Rattle.std.proofs.Common.{◌≡◌, ◌≤◌, ◌++◌, drop, length, map, not}
 use Rattle.intervals.specs.declared.operation.Op.{Op}
 use Rattle.timeline.specs.Choice.{is_shown, picked}

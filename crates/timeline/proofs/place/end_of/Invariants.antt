@@ -1,4 +1,4 @@
--- all so far are for the mark
+-- all wants so far are for the mark
 use Rattle.std.proofs.Common.{◌≡◌, ◌-◌, ◌≤◌, length}
 use Rattle.std.specs.List.{AllWithin}
 use Rattle.timeline.specs.declared.place.Want.{Want}

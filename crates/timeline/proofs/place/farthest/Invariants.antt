@@ -1,4 +1,4 @@
--- the greatest so far
+-- the place is the greatest of those so far
 use Rattle.std.proofs.Common.{◌≡◌, ◌≤◌, ◌⊎◌, length}
 use Rattle.std.specs.List.{AllWithin}
 use Rattle.timeline.specs.Place.{IsBounded, IsPutBefore, IsPutBy}

@@ -1,4 +1,4 @@
--- the marks so far stand where they are to, and the wants left are for later ones
+-- the marks so far have their places, and the wants left are for later ones
 use Rattle.std.proofs.Common.{◌≤◌, length}
 use Rattle.timeline.proofs.Placing.{ArePlaced}
 use Rattle.timeline.proofs.place.place_all.Given as goal

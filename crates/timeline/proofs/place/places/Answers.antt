@@ -2,7 +2,7 @@ use Rattle.std.proofs.Common.{List, rules, subst}
 use Rattle.std.proofs.lemmas.List.Sorted.{All-permutation, IsNonDecreasingBy-from_sort_by_key, IsPermutation-sym}
 use Rattle.std.specs.Prelude.{All}
 use Rattle.timeline.specs.declared.place.Want.{Want}
-use Rattle.timeline.specs.Place.{AreTight, IsKept, IsWithin}
+use Rattle.timeline.specs.Place.{AreTight, IsDistanceKept, IsWithin}
 use Rattle.timeline.proofs.Placing.{places_rise, tight_moved}
 use Rattle.timeline.proofs.place.places.Goals as goal
 
@@ -16,8 +16,8 @@ pub returns-clause-kept : goal.returns-clause-kept
 returns-clause-kept c =
     let places = c.in_ok-places.places.items in
     let sorted = c.sort_unstable_by_key.new.self.items in
-    All-permutation (IsKept places) sorted c.args.wants.items (IsPermutation-sym c.args.wants.items sorted c.sort_unstable_by_key.ensures.permutation)
-    (subst (λ (wants : List Want). All (IsKept places) wants) c.deref.ensures.value c.in_ok-places.ensures.kept)
+    All-permutation (IsDistanceKept places) sorted c.args.wants.items (IsPermutation-sym c.args.wants.items sorted c.sort_unstable_by_key.ensures.permutation)
+    (subst (λ (wants : List Want). All (IsDistanceKept places) wants) c.deref.ensures.value c.in_ok-places.ensures.kept)
 
 pub returns-clause-tight : goal.returns-clause-tight
 returns-clause-tight c =

@@ -1,4 +1,4 @@
--- the best so far is one of the ends
+-- the best end so far is after the beginning, and not past the last one
 use Rattle.std.proofs.Common.{◌≤◌, ◌<◌}
 use Rattle.timeline.proofs.row.best_end.Given as goal
 

@@ -1,4 +1,4 @@
--- no mark so far stands further right
+-- no mark so far is further right than the limit
 use Rattle.std.proofs.Common.{◌≡◌, ◌+◌, ◌-◌, ◌≤◌, ◌<◌, ◌⊎◌}
 use Rattle.std.specs.Prelude.{slice_index}
 use Rattle.timeline.proofs.row.end_within.Given as goal

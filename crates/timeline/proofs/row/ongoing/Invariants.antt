@@ -1,4 +1,4 @@
--- those so far and those of the marks left are all
+-- the counts so far and those for the marks left are all counts
 use Rattle.std.proofs.Common.{◌≡◌, ◌≤◌, ◌++◌, drop, length}
 use Rattle.timeline.specs.Axis.{ongoing_before}
 use Rattle.timeline.proofs.row.ongoing.Given as goal

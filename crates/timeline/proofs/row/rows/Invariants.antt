@@ -1,4 +1,4 @@
--- the rows so far go on up to the next
+-- the rows so far fit, and the last ends where the next begins
 use Rattle.std.proofs.Common.{◌-◌, ◌≤◌, length}
 use Rattle.timeline.specs.Row.{AreRowsUpTo}
 use Rattle.timeline.proofs.row.rows.Given as goal

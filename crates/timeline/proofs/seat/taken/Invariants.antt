@@ -1,4 +1,4 @@
--- the lanes before the next operation
+-- the seats and tails after the operations so far have taken theirs
 use Rattle.std.proofs.Common.{◌≤◌, length}
 use Rattle.timeline.proofs.Seating.{AreSoFar}
 use Rattle.timeline.proofs.seat.taken.Given as goal

@@ -2,7 +2,7 @@ use Rattle.std.proofs.Common.{◌≡◌, Ok, Err, refl, inl, sym, subst, ◌∙�
 use Rattle.std.specs.Prelude.{codes}
 use Rattle.std.proofs.lemmas.Result.{err_from_is_err_and}
 use Rattle.edn_reader.specs.Lent.{piece_of}
-use Rattle.tower_file.specs.Contents.{Contents}
+use Rattle.tower_file.specs.Contents.{TowerModel}
 use Rattle.tower_file.specs.Keeping.{ReachesKept}
 use Rattle.tower_file.specs.Reading.{levels_after}
 use Rattle.tower_file.specs.Views.{contents_with}
@@ -27,7 +27,7 @@ returns-in_err-read_levels-clause-says c form h =
     let f = map_form AreFileFields (piece_of c.args.element.now) c.in-Some.map c.in-Some.ensures.pairs.0 c.in-Some.ensures.pairs.1 form h in
     let v = c.in_ok-view.ensures.levels f.1 f.0.levels f.3 f.4.levels in
     to_levels form f.0 v.0 f.2 v.1
-    ∙ subst (λ (tower : Contents). levels_after tower v.0 ≡ Err c.in_err-read_levels.field-0.0.fault) (begins_empty c.new-levels.result c.new-registers.result c.new-levels.ensures.items c.new-registers.ensures)
+    ∙ subst (λ (tower : TowerModel). levels_after tower v.0 ≡ Err c.in_err-read_levels.field-0.0.fault) (begins_empty c.new-levels.result c.new-registers.result c.new-levels.ensures.items c.new-registers.ensures)
     (c.in_err-read_levels.ensures.err other v.0 v.2))
 
 pub returns-in_default-clause-span : goal.returns-in_default-clause-span
@@ -51,7 +51,7 @@ returns-in_err-read_levels-clause-span c =
     let fault = c.in_err-read_levels.field-0.0.fault in
     let f = map_form AreFileFields (piece_of c.args.element.now) c.in-Some.map c.in-Some.ensures.pairs.0 c.in-Some.ensures.pairs.1 form h in
     let v = c.in_ok-view.ensures.levels f.1 f.0.levels f.3 f.4.levels in
-    let s = subst (λ (tower : Contents). IsSpanned (IsAmongLevels tower fault v.2.0) c.in_err-read_levels.field-0.0.span) (begins_empty c.new-levels.result c.new-registers.result c.new-levels.ensures.items c.new-registers.ensures)
+    let s = subst (λ (tower : TowerModel). IsSpanned (IsAmongLevels tower fault v.2.0) c.in_err-read_levels.field-0.0.span) (begins_empty c.new-levels.result c.new-registers.result c.new-levels.ensures.items c.new-registers.ensures)
     (c.in_err-read_levels.ensures.span other v.0 v.2) in
     (s.0, in_levels fault (piece_of c.args.element.now) f.1 f.5 c.in_ok-view.view v.2.0 s.0 (c.in_ok-view.ensures.vector f.1 f.3) v.2.1 s.1, s.2))
 
@@ -60,7 +60,7 @@ returns-clause-says c form h =
     let f = map_form AreFileFields (piece_of c.args.element.now) c.in-Some.map c.in-Some.ensures.pairs.0 c.in-Some.ensures.pairs.1 form h in
     let v = c.in_ok-view.ensures.levels f.1 f.0.levels f.3 f.4.levels in
     to_levels form f.0 v.0 f.2 v.1
-    ∙ subst (λ (tower : Contents). levels_after tower v.0 ≡ Ok (contents_with c.read_levels.new.levels c.read_levels.new.registers)) (begins_empty c.new-levels.result c.new-registers.result c.new-levels.ensures.items c.new-registers.ensures)
+    ∙ subst (λ (tower : TowerModel). levels_after tower v.0 ≡ Ok (contents_with c.read_levels.new.levels c.read_levels.new.registers)) (begins_empty c.new-levels.result c.new-registers.result c.new-levels.ensures.items c.new-registers.ensures)
     (c.in_ok-read_levels.ensures.ok v.0 v.2)
 
 pub returns-in_err-read_levels-clause-memory : goal.returns-in_err-read_levels-clause-memory
@@ -74,7 +74,7 @@ returns-in_err-read_levels-clause-memory c =
       levels = v.0;
       is_map = f.2;
       has_levels = v.1;
-      reaches = subst (λ (tower : Contents). ReachesKept tower v.0) (begins_empty c.new-levels.result c.new-registers.result c.new-levels.ensures.items c.new-registers.ensures)
+      reaches = subst (λ (tower : TowerModel). ReachesKept tower v.0) (begins_empty c.new-levels.result c.new-registers.result c.new-levels.ensures.items c.new-registers.ensures)
           (c.in_err-read_levels.ensures.memory wanted v.0 v.2);
     })
 

@@ -2,7 +2,7 @@ use Rattle.std.proofs.lemmas.Result.{err_from_is_err_and}
 use Rattle.tower_file.specs.Form.{IsLevel}
 use Rattle.tower_file.specs.Reading.{level_after}
 use Rattle.tower_file.specs.Views.{contents_with}
-use Rattle.tower_file.specs.Keeping.{IsKept}
+use Rattle.tower_file.specs.Keeping.{IsLevelKept}
 use Rattle.edn_reader.specs.Lent.{piece_of}
 use Rattle.tower_file.proofs.Loops.{after_begins, after_on, after_fails, after_stops, after_reaches, after_ends}
 use Rattle.tower_file.proofs.Levels.{reached_kept}
@@ -43,7 +43,7 @@ returns-in_err-read_level-clause-memory c =
     let p = err_from_is_err_and c.from_residual.result c.from_residual.ensures.1 in
     rw (p.1, p.2) (λ wanted forms h.
     reached_kept (contents_with c.args.levels.now c.args.registers.now) forms
-    (after_reaches IsLevel level_after IsKept c.args.view c.loop-element.left c.next.new.self c.in-Some.element (contents_with c.args.levels.now c.args.registers.now)
+    (after_reaches IsLevel level_after IsLevelKept c.args.view c.loop-element.left c.next.new.self c.in-Some.element (contents_with c.args.levels.now c.args.registers.now)
     (contents_with c.loop-element.levels c.loop-element.registers) c.loop-element.invariant c.in-Some.ensures.member (c.in_err-read_level.ensures.memory wanted) forms h))
 
 pub returns-in_err-read_level-clause-nowhere : goal.returns-in_err-read_level-clause-nowhere

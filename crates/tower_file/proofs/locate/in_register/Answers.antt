@@ -1,5 +1,5 @@
 use Rattle.std.proofs.Common.{List, ℕ, inr, sym, subst}
-use Rattle.edn_reader.specs.Grammar.{Piece}
+use Rattle.edn_reader.specs.Grammar.{ElementModel}
 use Rattle.edn_reader.specs.Lent.{piece_of}
 use Rattle.tower_file.specs.Located.{pairs_under, IsAtKey, IsInValue}
 use Rattle.tower_file.proofs.Locating.{at_once, at_other}
@@ -26,5 +26,5 @@ returns-in-Absent c =
       m.0,
       m.1,
       subst (λ (key : List ℕ). IsAtKey IsIn whole (pairs_under key m.0) (piece_of c.at_key.result)) c.key_of-key.ensures
-          (subst (λ (wrong : Piece). IsAtKey IsIn whole (pairs_under c.key_of-key.result.now m.0) wrong) (sym (c.at_key.ensures m.0 m.2)) found),
+          (subst (λ (wrong : ElementModel). IsAtKey IsIn whole (pairs_under c.key_of-key.result.now m.0) wrong) (sym (c.at_key.ensures m.0 m.2)) found),
     )

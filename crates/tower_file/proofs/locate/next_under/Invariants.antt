@@ -1,4 +1,4 @@
--- none of the pairs gone over stands under the key
+-- none of the pairs that were gone over is under the key
 use Rattle.edn_reader.specs.Lent.{bytes_left}
 use Rattle.tower_file.proofs.Locating.{Passed}
 use Rattle.tower_file.proofs.locate.next_under.Given as goal

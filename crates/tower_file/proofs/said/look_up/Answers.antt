@@ -1,7 +1,7 @@
 use Rattle.std.proofs.Common.{sym, subst, ◌∙◌}
-use Rattle.edn_reader.specs.Grammar.{Piece}
+use Rattle.edn_reader.specs.Grammar.{ElementModel}
 use Rattle.edn_reader.specs.Given.{Given}
-use Rattle.tower_file.specs.Form.{IsGiven, IsSequence, AreMembers}
+use Rattle.tower_file.specs.Form.{IsGiven, IsSequence, AreVectorElements}
 use Rattle.tower_file.proofs.said.look_up.Goals as goal
 
 pub returns : goal.returns
@@ -16,9 +16,9 @@ returns c pairs form h k =
     record {
       name = k.name ∙ sym name;
       kind = k.kind ∙ sym kind;
-      writers = subst (λ (given : Given Piece). IsGiven IsSequence given form.writers) (sym writers) k.writers;
+      writers = subst (λ (given : Given ElementModel). IsGiven IsSequence given form.writers) (sym writers) k.writers;
       initial = k.initial ∙ sym initial;
-      domain = subst (λ (given : Given Piece). IsGiven AreMembers given form.domain) (sym domain) k.domain;
-      parts = subst (λ (given : Given Piece). IsGiven AreMembers given form.parts) (sym parts) k.parts;
+      domain = subst (λ (given : Given ElementModel). IsGiven AreVectorElements given form.domain) (sym domain) k.domain;
+      parts = subst (λ (given : Given ElementModel). IsGiven AreVectorElements given form.parts) (sym parts) k.parts;
       fixed = k.fixed ∙ sym fixed;
     }

@@ -1,4 +1,4 @@
--- what was found stands for the elements up to the reader's place
+-- what was found says whether no element, one or more are before the reader's place
 use Rattle.std.proofs.Common.{◌≡◌, ◌≤◌, ◌-◌, length}
 use Rattle.tower_file.proofs.Texts.{IsFoundUpTo}
 use Rattle.tower_file.proofs.text.read_text.Given as goal

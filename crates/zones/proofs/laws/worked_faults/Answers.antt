@@ -4,7 +4,7 @@ use Rattle.intervals.specs.declared.operation.Op.{Op}
 use Rattle.intervals.specs.declared.operation.Value.TheVariants.{Nil}
 use Rattle.intervals.specs.declared.claim.Kind.TheVariants.{Atomic}
 use Rattle.intervals.specs.Operation.{IsWrite, value_of}
-use Rattle.intervals.specs.Histories.{number, claim_of, new_before_old}
+use Rattle.intervals.specs.Histories.{number, plain_claim, new_before_old}
 use Rattle.zone_tree.specs.declared.edge.Edge.TheVariants.{Before}
 use Rattle.zone_tree.specs.declared.zone.Zone.{Zone}
 use Rattle.zone_tree.specs.Edge.{ComesBefore}
@@ -26,23 +26,23 @@ abbrev AreApart : Op → Op → Type 0
 AreApart v w = IsWrite v → IsWrite w → value_of v.act ≢ value_of w.act
 
 pub returns-clause-no_order_with_unwritten : goal.returns-clause-no_order_with_unwritten
-returns-clause-no_order_with_unwritten c = unwritten_excludes (claim_of Atomic Nil None) read_of_nothing unwritten_read (1, omega arith, refl) (search rules)
+returns-clause-no_order_with_unwritten c = unwritten_excludes (plain_claim Atomic Nil None) read_of_nothing unwritten_read (1, omega arith, refl) (search rules)
 
 pub returns-clause-no_order_with_early : goal.returns-clause-no_order_with_early
 returns-clause-no_order_with_early c =
-    early_excludes (claim_of Atomic Nil None) read_before_write early_read late_write
+    early_excludes (plain_claim Atomic Nil None) read_before_write early_read late_write
     (record { apart = pairs_from_each AreApart read_before_write (search rules); new = search rules })
     (0, omega arith, refl) (1, omega arith, refl) (search rules)
 
 pub returns-clause-no_order_with_crossing : goal.returns-clause-no_order_with_crossing
 returns-clause-no_order_with_crossing c =
-    crossing_excludes (claim_of Atomic Nil None) new_before_old (Some first_write) second_read (Some second_read) first_read
+    crossing_excludes (plain_claim Atomic Nil None) new_before_old (Some first_write) second_read (Some second_read) first_read
     (record { apart = pairs_from_each AreApart new_before_old (search rules); new = search rules })
     (search rules)
 
 pub returns-clause-no_order_back_to_initial : goal.returns-clause-no_order_back_to_initial
 returns-clause-no_order_back_to_initial c =
-    crossing_excludes (claim_of Atomic Nil None) back_to_nil None first_write (Some first_write) nil_read
+    crossing_excludes (plain_claim Atomic Nil None) back_to_nil None first_write (Some first_write) nil_read
     (record { apart = pairs_from_each AreApart back_to_nil (search rules); new = search rules })
     (search rules)
 

@@ -1,5 +1,5 @@
 use Rattle.std.proofs.Common.{◌∙◌, sym}
-use Rattle.stretch_tree.specs.Look.{is_early}
+use Rattle.stretch_tree.specs.Look.{is_read_early}
 use Rattle.zones.proofs.FirstStretch.{first_read_early, no_early_shown, read_shown, write_shown}
 use Rattle.zones.proofs.stretch.first_early.Goals as goal
 
@@ -9,7 +9,7 @@ returns-in_err-stretch c claim members recorded apart stretched =
 
 pub returns-in_err-read : goal.returns-in_err-read
 returns-in_err-read c claim members recorded apart stretched = absurd (
-    read_shown claim c.args.table.now.ops apart c.args.stretches.now.stretches stretched c.in_ok-stretch.ensures.order is_early c.in_ok-stretch.stretch (sym c.in_ok-stretch.ensures.first)
+    read_shown claim c.args.table.now.ops apart c.args.stretches.now.stretches stretched c.in_ok-stretch.ensures.order is_read_early c.in_ok-stretch.stretch (sym c.in_ok-stretch.ensures.first)
     (c.in_err-read.ensures members apart.kept.ids))
 
 pub returns-in_err-write : goal.returns-in_err-write

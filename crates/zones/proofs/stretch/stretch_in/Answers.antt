@@ -8,7 +8,7 @@ use Rattle.intervals.specs.Terms.{terms_of}
 use Rattle.intervals.proofs.Holders.{Decides-is_initial}
 use Rattle.zone_tree.specs.declared.edge.Edge.{Edge}
 use Rattle.zone_tree.specs.declared.edge.Edge.TheVariants.{At}
-use Rattle.zone_tree.specs.Edge.{ComesBefore, comes_before}
+use Rattle.zone_tree.specs.Edge.{ComesBefore, edge_before}
 use Rattle.zones.specs.Faults.{IsStretchAt, begin_of_write, first_end_of, write_of}
 use Rattle.zones.proofs.EdgesOf.{first_end_by_edge, no_stretch, stretch_by_edge}
 use Rattle.zones.proofs.stretch.stretch_in.Goals as goal
@@ -18,9 +18,9 @@ returns-then-not-comes_before c ops value are =
     let edges = c.args.edges.now in
     let begin_is : c.begin_of.result ≡ begin_of_write (write_of ops value) = c.begin_of.ensures ops value are in
     let first : first_end_of ops value ≡ edges.read_end = first_end_by_edge ops value edges.read_begin edges.read_end are.read in
-    let late : comes_before edges.read_end c.begin_of.result ≡ false = search rules in
+    let late : edge_before edges.read_end c.begin_of.result ≡ false = search rules in
     no_stretch (terms_of c.args.claim.now) ops value (λ fault.
-    both_ways (comes_before edges.read_end c.begin_of.result) late
+    both_ways (edge_before edges.read_end c.begin_of.result) late
     (subst (λ (x : Edge). ComesBefore edges.read_end x) (sym begin_is) (subst (λ (x : Edge). ComesBefore x (begin_of_write (write_of ops value))) first fault.before)))
 
 pub returns-then-is_initial : goal.returns-then-is_initial
@@ -34,7 +34,7 @@ pub returns : goal.returns
 returns c ops value are =
     let claim = terms_of c.args.claim.now in
     let edges = c.args.edges.now in
-    let early : comes_before edges.read_end c.begin_of.result ≡ true = search rules in
+    let early : edge_before edges.read_end c.begin_of.result ≡ true = search rules in
     let later : is_initial claim edges.value ≡ false = search rules in
     let first : first_end_of ops value ≡ At c.in-At.end = first_end_by_edge ops value edges.read_begin edges.read_end are.read ∙ c.in-At.is in
     subst (λ (v : Value). IsStretchAt claim ops value (Some (record { end = c.in-At.end; written = c.is_written.result; value = v }))) (sym are.same)

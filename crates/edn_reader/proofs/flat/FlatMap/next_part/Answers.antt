@@ -1,6 +1,6 @@
 use Rattle.std.proofs.Common.{◌++◌, [], ◌∷◌, subst, sym, arith}
 use Rattle.edn_reader.specs.Flat.{HasRead, piece_at}
-use Rattle.edn_reader.specs.Grammar.{Piece}
+use Rattle.edn_reader.specs.Grammar.{ElementModel}
 use Rattle.edn_reader.specs.Lent.{piece_of}
 use Rattle.edn_reader.proofs.FlatMaps.{gap_white, value_of_word, map_next, read_to}
 use Rattle.edn_reader.proofs.flat.FlatMap.next_part.Goals as goal
@@ -24,5 +24,5 @@ returns-clause-part c pairs read =
     let end = c.in-Some-value_end.value_end in
     let made = map_next map pairs c.white_end-key_at.result c.in-Some.key_end c.white_end-value_at.result end c.in-Some-value_end.kind read
     c.white_end-key_at.ensures.end c.in-Some.ensures c.white_end-value_at.ensures.end c.in-Some-value_end.ensures in
-    subst (λ (value : Piece). HasRead (read_to map end) (pairs ++ (piece_of c.element_between.result, value) ∷ [])) (sym c.element_between-2.ensures)
-    (subst (λ (key : Piece). HasRead (read_to map end) (pairs ++ (key, piece_at map.bytes.now map.base c.in-Some-value_end.kind c.white_end-value_at.result end) ∷ [])) (sym c.element_between.ensures) made)
+    subst (λ (value : ElementModel). HasRead (read_to map end) (pairs ++ (piece_of c.element_between.result, value) ∷ [])) (sym c.element_between-2.ensures)
+    (subst (λ (key : ElementModel). HasRead (read_to map end) (pairs ++ (key, piece_at map.bytes.now map.base c.in-Some-value_end.kind c.white_end-value_at.result end) ∷ [])) (sym c.element_between.ensures) made)

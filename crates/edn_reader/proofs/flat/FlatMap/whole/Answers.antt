@@ -1,6 +1,6 @@
 use Rattle.std.proofs.Common.{◌+◌, subst, sym, ◌∙◌, arith}
-use Rattle.edn_reader.specs.Grammar.{Piece, IsElement}
-use Rattle.edn_reader.specs.Flat.{IsFirst}
+use Rattle.edn_reader.specs.Grammar.{ElementModel, IsElement}
+use Rattle.edn_reader.specs.Flat.{BeginsWithElement}
 use Rattle.edn_reader.specs.Pairs.{HasPairs}
 use Rattle.edn_reader.proofs.FlatMaps.{made_piece, map_is_element, map_is_first, map_has_pairs}
 use Rattle.edn_reader.proofs.flat.FlatMap.whole.Goals as goal
@@ -16,6 +16,6 @@ pub returns : goal.returns
 returns c pairs read =
     let map = c.args.self.now in
     let brace = c.args.brace in
-    subst (λ (piece : Piece). IsFirst map.bytes.now map.base piece × HasPairs piece pairs)
+    subst (λ (piece : ElementModel). BeginsWithElement map.bytes.now map.base piece × HasPairs piece pairs)
     (sym (c.new.ensures ∙ made_piece map brace (brace + 1) c.kind_with.result c.kind_with.ensures (omega arith)))
     (map_is_first map pairs brace read c.requires.brace, map_has_pairs map pairs brace read c.requires.brace)

@@ -1,8 +1,8 @@
 use Rattle.std.proofs.Common.{◌-◌, Ok, Some, subst}
 use Rattle.edn_reader.specs.declared.resume.Part.TheVariants.{Nothing}
-use Rattle.edn_reader.specs.Flat.{IsFirst}
+use Rattle.edn_reader.specs.Flat.{BeginsWithElement}
 use Rattle.edn_reader.specs.Lent.{piece_of}
-use Rattle.edn_reader.specs.Splitting.{Splitting, IsBetweenElements, TakesOn}
+use Rattle.edn_reader.specs.Splitting.{SplitterModel, IsBetweenElements, TakesOn}
 use Rattle.edn_reader.proofs.Known.{takes_known}
 use Rattle.edn_reader.proofs.splitter.Splitter.take_known.Goals as goal
 
@@ -11,7 +11,7 @@ returns-clause-takes c piece first =
     let inside = c.self.inside in
     let found = piece_of c.args.element.now in
     let span = c.as_span-span.result in
-    let old : Splitting = record { taken = inside.taken; begun = inside.begun; opens = inside.nesting; fault = inside.fault; ended = inside.ended } in
-    let new : Splitting = record { taken = span.end; begun = record { start = span.end; part = Nothing }; opens = inside.nesting; fault = inside.fault; ended = span } in
-    subst (λ (s : Splitting). IsBetweenElements s → IsFirst piece s.taken found → TakesOn piece s (Ok (record { used = span.end - inside.taken; whole = Some (span.start, span.end) })) new) c.self.view_is
+    let old : SplitterModel = record { taken = inside.taken; begun = inside.begun; opens = inside.nesting; fault = inside.fault; ended = inside.ended } in
+    let new : SplitterModel = record { taken = span.end; begun = record { start = span.end; part = Nothing }; opens = inside.nesting; fault = inside.fault; ended = span } in
+    subst (λ (s : SplitterModel). IsBetweenElements s → BeginsWithElement piece s.taken found → TakesOn piece s (Ok (record { used = span.end - inside.taken; whole = Some (span.start, span.end) })) new) c.self.view_is
     (λ between here. takes_known piece old found span c.as_span-span.ensures between here) c.requires.between first

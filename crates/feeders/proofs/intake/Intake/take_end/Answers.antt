@@ -1,5 +1,5 @@
 use Rattle.std.proofs.Common.{◌≡◌, ◌∙◌, ℕ, [], Option, Some, Ok, refl, sym, subst, ap, arith}
-use Rattle.edn_reader.specs.Splitting.{EndsOn, Splitting}
+use Rattle.edn_reader.specs.Splitting.{EndsOn, SplitterModel}
 use Rattle.feeders.specs.declared.intake.Intake.{Intake}
 use Rattle.feeders.specs.declared.pending.Pending.TheVariants.{Whole}
 use Rattle.feeders.specs.Intake.{CanGoOn, HasFed}
@@ -15,7 +15,7 @@ returns-in-Err-clause-still g c =
     let old = c.args.self.now in
     let e = c.in-Err.ensures in
     let can = c.requires.can in
-    (can_beside [] old c.settle.new.self e.beside (omega (arith, e.refused.0, can.place)) (omega (arith, e.refused.0, can.counted)) e.can can, ap (λ (s : Splitting). s.taken) e.beside.splitter)
+    (can_beside [] old c.settle.new.self e.beside (omega (arith, e.refused.0, can.place)) (omega (arith, e.refused.0, can.counted)) e.can can, ap (λ (s : SplitterModel). s.taken) e.beside.splitter)
 
 pub returns-in-Err-clause-open : goal.returns-in-Err-clause-open
 returns-in-Err-clause-open g c none = let one : count_of c.args.self.now.pending ≡ 1 = c.in-Err.ensures.refused.1 in absurd (omega (arith, one, ap count_of none))
@@ -102,7 +102,7 @@ returns-in_default-broken_by-clause-still g c =
     let can = can_beside [] old mid e.beside place.0 place.1 e.can c.requires.can in
     let same : c.end.new.self ≡ mid.splitter =
     wants_at_end c.in-Err-end.fault mid.splitter c.end.new.self (sym c.broken_by.ensures ∙ c.in_default-broken_by.is) c.in-Err-end.ensures.ends can.bytes can.pieces can.stands in
-    (subst (λ (s : Splitting). CanGoOn [] (record mid { splitter = s })) (sym same) can, ap (λ (s : Splitting). s.taken) same ∙ ap (λ (s : Splitting). s.taken) e.beside.splitter)
+    (subst (λ (s : SplitterModel). CanGoOn [] (record mid { splitter = s })) (sym same) can, ap (λ (s : SplitterModel). s.taken) same ∙ ap (λ (s : SplitterModel). s.taken) e.beside.splitter)
 
 pub returns-in_default-broken_by-clause-waits : goal.returns-in_default-broken_by-clause-waits
 returns-in_default-broken_by-clause-waits g c start bytes fed =
@@ -114,5 +114,5 @@ returns-in_default-broken_by-clause-waits g c start bytes fed =
     let same : c.end.new.self ≡ mid.splitter =
     wants_at_end c.in-Err-end.fault mid.splitter c.end.new.self (sym c.broken_by.ensures ∙ c.in_default-broken_by.is) c.in-Err-end.ensures.ends can.bytes can.pieces can.stands in
     let setting = setting_of g.O.Opening.plan c.args.site.tower.now c.args.site.field start in
-    subst (λ (s : Splitting). HasFed setting bytes [] (record mid { splitter = s }) c.settle.new.pass) (sym same)
+    subst (λ (s : SplitterModel). HasFed setting bytes [] (record mid { splitter = s }) c.settle.new.pass) (sym same)
     (fed_settled setting bytes [] old mid c.args.pass.now c.settle.new.pass fed (e.done start fed.items fed.waiting fed.pending) e.beside place.0 e.settled)

@@ -1,5 +1,5 @@
 use Rattle.std.proofs.Common.{◌≤◌, ◌∙◌, ◌++◌, ◌-◌, ℕ, List, [], Option, Some, None, length, take, drop, append-nil, refl, sym, subst, ap, arith, length-take-le}
-use Rattle.edn_reader.specs.Grammar.{Piece}
+use Rattle.edn_reader.specs.Grammar.{ElementModel}
 use Rattle.edn_reader.specs.Splitting.{StandsAfter, TakesUpTo}
 use Rattle.feeders.specs.declared.intake.Intake.{Intake}
 use Rattle.feeders.specs.Intake.{HasFed}
@@ -105,7 +105,7 @@ returns-in_default-whole-clause-used g c =
     let old = c.args.self.now in
     let used = c.in-Ok.next.taken.used in
     let new : Intake = record { splitter = c.take_element.new.splitter; kept = c.take-in_default-whole.new.self; progress = old.progress; pending = old.pending } in
-    let takes : (bytes next : List ℕ) (pieces : List Piece) → StandsAfter bytes (piece ++ next) pieces old.splitter → TakesUpTo bytes piece next pieces old.splitter used None new.splitter =
+    let takes : (bytes next : List ℕ) (pieces : List ElementModel) → StandsAfter bytes (piece ++ next) pieces old.splitter → TakesUpTo bytes piece next pieces old.splitter used None new.splitter =
     λ bytes next pieces stands. subst (λ (w : Option (ℕ × ℕ)). TakesUpTo bytes piece next pieces old.splitter used w new.splitter) c.in_default-whole.is (c.in-Ok.ensures.takes bytes next pieces stands) in
     let on : TookNone piece used old new =
     takes_all piece used old new c.in-Ok.ensures.counted takes can
@@ -122,7 +122,7 @@ returns-in_default-whole-clause-goes g c start bytes next fed =
     let old = c.args.self.now in
     let used = c.in-Ok.next.taken.used in
     let new : Intake = record { splitter = c.take_element.new.splitter; kept = c.take-in_default-whole.new.self; progress = old.progress; pending = old.pending } in
-    let takes : (bytes next : List ℕ) (pieces : List Piece) → StandsAfter bytes (piece ++ next) pieces old.splitter → TakesUpTo bytes piece next pieces old.splitter used None new.splitter =
+    let takes : (bytes next : List ℕ) (pieces : List ElementModel) → StandsAfter bytes (piece ++ next) pieces old.splitter → TakesUpTo bytes piece next pieces old.splitter used None new.splitter =
     λ bytes next pieces stands. subst (λ (w : Option (ℕ × ℕ)). TakesUpTo bytes piece next pieces old.splitter used w new.splitter) c.in_default-whole.is (c.in-Ok.ensures.takes bytes next pieces stands) in
     let on : TookNone piece used old new =
     takes_all piece used old new c.in-Ok.ensures.counted takes can

@@ -1,6 +1,6 @@
 use Rattle.std.proofs.Common.{◌≡◌, ◌<◌, ◌+◌, ◌-◌, ◌++◌, ℕ, List, [], Option, Some, None, length, take, drop, append-nil, refl, sym, subst, ap, arith}
 use Rattle.std.specs.Prelude.{IfSome}
-use Rattle.edn_reader.specs.Splitting.{Splitting}
+use Rattle.edn_reader.specs.Splitting.{SplitterModel}
 use Rattle.feeders.specs.declared.pending.Pending.TheVariants.{Nothing}
 use Rattle.feeders.specs.Intake.{GoesTo, HasFed, HasUsed}
 use Rattle.feeders.specs.Setting.{Start, setting_of}
@@ -19,7 +19,7 @@ loop-at-init g c =
       within = omega arith;
       none = e.settled;
       can = can_beside piece old new e.beside place.0 place.1 e.can c.requires.can;
-      taken = omega (arith, ap (λ (s : Splitting). s.taken) e.beside.splitter);
+      taken = omega (arith, ap (λ (s : SplitterModel). s.taken) e.beside.splitter);
       so_far = λ start bytes fed.
           let setting = setting_of g.O.Opening.plan c.args.site.tower.now c.args.site.field start in
           fed_along setting bytes (bytes ++ take 0 piece) piece (drop 0 piece) new c.settle.new.pass (sym (append-nil bytes)) refl

@@ -1,4 +1,4 @@
--- the piece is fed up to here
+-- the chunk is fed up to here
 use Rattle.std.proofs.Common.{length, take, drop, ◌-◌, ◌≡◌, ◌+◌, ◌≤◌, ◌++◌, ℕ, List}
 use Rattle.feeders.specs.declared.pending.Pending.TheVariants.{Nothing}
 use Rattle.feeders.specs.Intake.{CanGoOn, HasFed}

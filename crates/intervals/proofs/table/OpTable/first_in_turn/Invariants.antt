@@ -1,4 +1,4 @@
--- the write stands, and none that begins before it overlaps another
+-- the write stands, and no write that begins before it overlaps another
 use Rattle.std.proofs.Common.{◌-◌, ◌^◌}
 use Rattle.intervals.proofs.Overlapping.{IsReached}
 use Rattle.intervals.proofs.table.OpTable.first_in_turn.Given as goal

@@ -1,6 +1,6 @@
 use Rattle.std.proofs.Common.{◌∙◌, ap}
-use Rattle.read_tree.specs.Items.{Contents, with_item}
+use Rattle.read_tree.specs.Items.{ReadContents, with_read_item}
 use Rattle.read_tree.proofs.reads.ReadTree.insert.Goals as goal
 
 pub returns-clause-items : goal.returns-clause-items
-returns-clause-items c = c.insert.ensures.items ∙ ap (λ (t : Contents). with_item c.args.item t.items) c.self.view_is
+returns-clause-items c = c.insert.ensures.items ∙ ap (λ (t : ReadContents). with_read_item c.args.item t.items) c.self.view_is

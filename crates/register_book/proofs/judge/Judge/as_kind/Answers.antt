@@ -1,12 +1,12 @@
 use Rattle.std.proofs.Common.{rules, ◌≡◌, ◌≤◌, ◌+◌, ◌∙◌, List, [], ◌∷◌, ◌++◌, Option, Some, None, length, ap, subst, sym, arith}
 use Rattle.intervals.specs.declared.operation.Op.{Op}
 use Rattle.intervals.specs.Standing.{StandApart}
-use Rattle.intervals.specs.Table.{standing, slot_at}
-use Rattle.intervals.specs.Terms.{Terms}
+use Rattle.intervals.specs.Table.{ops_in_slots, slot_at}
+use Rattle.intervals.specs.Terms.{ClaimModel}
 use Rattle.intervals.proofs.Claimed.{claimed_apart}
 use Rattle.register_book.specs.declared.judge.Judge.{Judge}
 use Rattle.register_book.specs.Judge.{held_by, IsOfItsKind, HasNonePrepared}
-use Rattle.register_book.specs.Kept.{claimed_of}
+use Rattle.register_book.specs.BookModel.{claimed_of}
 use Rattle.register_book.proofs.Again.{HeldAgain, accepted_next, held_all, held_on, held_over}
 use Rattle.register_book.proofs.judge.Judge.as_kind.Goals.{in-Some+in_ok-admit, in_default}
 use Rattle.register_book.proofs.judge.Judge.as_kind.Goals as goal
@@ -17,9 +17,9 @@ loop-slot-init c = search rules
 pub admit-requires-clause-accepted : goal.admit-requires-clause-accepted
 admit-requires-clause-accepted c =
     let before = held_by c.args.self.now in
-    let claim : Terms = record before.claim { kind = c.args.kind } in
+    let claim : ClaimModel = record before.claim { kind = c.args.kind } in
     let slots = c.slots-slot-items.result.now in
-    let stands : standing slots ≡ before.ops = search rules in
+    let stands : ops_in_slots slots ≡ before.ops = search rules in
     let at : slot_at slots c.loop-slot.slot-index ≡ Some c.in-Some.op = search rules in
     let apart = subst (StandApart claim) (sym stands) (claimed_apart c.args.kind before.claim before.ops c.requires.apart c.requires.accepted) in
     accepted_next claim slots c.loop-slot.slot-index c.in-Some.op (held_by c.loop-slot.judge) apart at c.loop-slot.invariant.held
@@ -29,7 +29,7 @@ admit-requires-clause-none_prepared c = c.loop-slot.invariant.none_prepared
 
 pub loop-slot-preserved : goal.loop-slot-preserved
 loop-slot-preserved c =
-    let claim : Terms = record (held_by c.args.self.now).claim { kind = c.args.kind } in
+    let claim : ClaimModel = record (held_by c.args.self.now).claim { kind = c.args.kind } in
     let slots = c.slots-slot-items.result.now in
     let k = c.loop-slot.slot-index in
     let held = c.loop-slot.invariant in
@@ -58,10 +58,10 @@ loop-slot-preserved c =
 pub returns-clause-held : goal.returns-clause-held
 returns-clause-held c =
     let before = held_by c.args.self.now in
-    let claim : Terms = record before.claim { kind = c.args.kind } in
+    let claim : ClaimModel = record before.claim { kind = c.args.kind } in
     let slots = c.slots-slot-items.result.now in
     let k = c.loop-slot.slot-index in
-    let stands : standing slots ≡ before.ops = search rules in
+    let stands : ops_in_slots slots ≡ before.ops = search rules in
     let le : length slots ≤ k = search rules in
     held_all claim slots k (held_by c.loop-slot.judge) le c.loop-slot.invariant.held ∙ ap (λ (ops : List Op). record { claim = claim; ops = ops }) stands
 

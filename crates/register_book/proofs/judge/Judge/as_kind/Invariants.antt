@@ -1,4 +1,4 @@
-use Rattle.intervals.specs.Terms.{Terms}
+use Rattle.intervals.specs.Terms.{ClaimModel}
 use Rattle.register_book.specs.Judge.{held_by, IsOfItsKind, HasNonePrepared}
 use Rattle.register_book.proofs.Again.{HeldAgain}
 use Rattle.register_book.proofs.judge.Judge.as_kind.Given as goal

@@ -1,7 +1,7 @@
 -- nothing was submitted in the shards so far, and there is room for the others
 use Rattle.std.proofs.Common.{◌≡◌, ◌≤◌, [], map, replicate, vec_capacity}
 use Rattle.shards.specs.declared.submitted.Submitted.{Submitted}
-use Rattle.shards.specs.Rows.{entries_by}
+use Rattle.shards.specs.Compact.{entries_by}
 use Rattle.shards.proofs.pass.Pass.new.Given as goal
 
 abbrev pub invariant-loop : goal.invariant-loop

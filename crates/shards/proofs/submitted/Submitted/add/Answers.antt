@@ -1,5 +1,5 @@
 use Rattle.std.proofs.Common.{◌∙◌, [], ◌∷◌, ◌++◌, ap}
-use Rattle.shards.specs.declared.row.Row.TheVariants.{Whole}
+use Rattle.shards.specs.declared.compact.CompactEntry.TheVariants.{Whole}
 use Rattle.shards.proofs.Rows.{same_entries, whole_push}
 use Rattle.shards.proofs.submitted.Submitted.add.Goals as goal
 

@@ -3,7 +3,7 @@ use Rattle.std.proofs.lemmas.Result.{err_from_is_err_and}
 use Rattle.tower_file.specs.declared.fault.TowerField.TheVariants.{File}
 use Rattle.tower_file.specs.declared.fault.TowerFault.{TowerFault}
 use Rattle.tower_file.specs.declared.fault.TowerFault.TheVariants.{Shape}
-use Rattle.tower_file.specs.Contents.{Contents}
+use Rattle.tower_file.specs.Contents.{TowerModel}
 use Rattle.tower_file.specs.Views.{contents_with}
 use Rattle.tower_file.proofs.Forms.{file_some}
 use Rattle.tower_file.proofs.Towers.{refused_text_reads, refused_text_refuses, answered_tower, answered_fault, answered_reads, answered_refuses, one_found, other_found, kept_file}
@@ -80,7 +80,7 @@ returns-in_ok-levels-in-Once-clause-refuses c =
 pub returns-in-Absent : goal.returns-in-Absent
 returns-in-Absent c =
     let answered = other_found c.args.bytes.now c.in_ok-element.field-0 (c.one_division.ensures c.args.bytes.now) c.in_ok-element.ensures.text c.in-Absent.is in
-    let refused : Result Contents TowerFault = Err (Shape File) in
+    let refused : Result TowerModel TowerFault = Err (Shape File) in
     record {
       tower = answered_tower c.args.bytes.now refused answered;
       fault = answered_fault c.args.bytes.now refused answered;

@@ -1,6 +1,6 @@
 use Rattle.std.proofs.Common.{◌≡◌, ◌∙◌, List, Option, Some, None, refl, sym, ap, subst}
 use Rattle.zone_tree.specs.declared.zone.Zone.{Zone}
-use Rattle.zone_tree.specs.declared.summary.Summary.{Summary}
+use Rattle.zone_tree.specs.declared.summary.ZoneSummary.{ZoneSummary}
 use Rattle.zone_tree.specs.Conflict.{IsClean, IsFirstConflict}
 use Rattle.zone_tree.specs.Order.{StandInOrder}
 use Rattle.zone_tree.specs.Summary.{no_zones}
@@ -11,11 +11,11 @@ use Rattle.zone_tree.proofs.FirstConflicts.{first_from, clean_met}
 use Rattle.zone_tree.proofs.tree.ZoneTree.first_conflict.Goals as goal
 
 pub first_meeting-requires : goal.first_meeting-requires
-first_meeting-requires c = ap (λ (s : Summary). s.conflict) c.none.ensures ∙ none_clear
+first_meeting-requires c = ap (λ (s : ZoneSummary). s.conflict) c.none.ensures ∙ none_clear
 
--- what is found first, behind no zones
-met : (seen : Summary) (zones : List Zone) (result found : Option Zone) → seen ≡ no_zones → result ≡ found → IsMetFirst seen zones result → IsMetFirst no_zones zones found
-met seen zones result found e f is = subst (λ (s : Summary). IsMetFirst s zones found) e (subst (IsMetFirst seen zones) f is)
+-- the zone that is met first, with no zones seen before
+met : (seen : ZoneSummary) (zones : List Zone) (result found : Option Zone) → seen ≡ no_zones → result ≡ found → IsMetFirst seen zones result → IsMetFirst no_zones zones found
+met seen zones result found e f is = subst (λ (s : ZoneSummary). IsMetFirst s zones found) e (subst (IsMetFirst seen zones) f is)
 
 pub returns-in_default-clause-none : goal.returns-in_default-clause-none
 returns-in_default-clause-none c =

@@ -1,7 +1,7 @@
 use Rattle.std.proofs.Common.{◌≡◌, ◌∙◌, List, ◌∷◌, Option, Some, None, refl, sym, ap, subst}
 use Rattle.std.specs.Prelude.{All}
 use Rattle.zone_tree.specs.declared.zone.Zone.{Zone}
-use Rattle.zone_tree.specs.declared.summary.Summary.{Summary}
+use Rattle.zone_tree.specs.declared.summary.ZoneSummary.{ZoneSummary}
 use Rattle.zone_tree.specs.Edge.{ComesBefore}
 use Rattle.zone_tree.specs.Conflict.{IsClean, IsFirstConflict}
 use Rattle.zone_tree.specs.Order.{StandInOrder}
@@ -12,13 +12,13 @@ use Rattle.zone_tree.proofs.InFront.{one_clear, clean_met_in_front, first_in_fro
 use Rattle.zone_tree.proofs.tree.ZoneTree.first_conflict_behind.Goals as goal
 
 pub first_meeting-requires : goal.first_meeting-requires
-first_meeting-requires c = ap (λ (s : Summary). s.conflict) c.of_one.ensures ∙ one_clear c.args.first.now
+first_meeting-requires c = ap (λ (s : ZoneSummary). s.conflict) c.of_one.ensures ∙ one_clear c.args.first.now
 
--- what is found first, behind the zone in front
-met : (first : Zone) (seen : Summary) (zones : List Zone) (result found : Option Zone) → seen ≡ one_zone first → result ≡ found → IsMetFirst seen zones result → IsMetFirst (one_zone first) zones found
-met first seen zones result found e f is = subst (λ (s : Summary). IsMetFirst s zones found) e (subst (IsMetFirst seen zones) f is)
+-- the zone that is met first, with `first` seen before
+met : (first : Zone) (seen : ZoneSummary) (zones : List Zone) (result found : Option Zone) → seen ≡ one_zone first → result ≡ found → IsMetFirst seen zones result → IsMetFirst (one_zone first) zones found
+met first seen zones result found e f is = subst (λ (s : ZoneSummary). IsMetFirst s zones found) e (subst (IsMetFirst seen zones) f is)
 
--- what the tree's zones are known to stand behind
+-- `first` comes before the tree's zones
 behind : (first : Zone) (zones others : List Zone) → zones ≡ others → All (λ z. ComesBefore first.left z.left) others → All (λ z. ComesBefore first.left z.left) zones
 behind first zones others e h = subst (All (λ z. ComesBefore first.left z.left)) (sym e) h
 

@@ -1,4 +1,4 @@
-use Rattle.zones.specs.declared.index.Row.TheVariants.{Ends, Begins}
+use Rattle.zones.specs.declared.index.IndexKind.TheVariants.{Ends, Begins}
 use Rattle.zones.proofs.Held.{changed_only}
 use Rattle.zones.proofs.Rows.{place_of, changed_rows, changed_places, of_rows}
 use Rattle.zones.specs.Index.{IsInTime, spot_in}

@@ -1,4 +1,4 @@
-use Rattle.zones.specs.declared.index.Row.TheVariants.{Ends}
+use Rattle.zones.specs.declared.index.IndexKind.TheVariants.{Ends}
 use Rattle.zones.proofs.Lookups.{first_found}
 use Rattle.zones.proofs.index.Members.first_to_end.Goals as goal
 

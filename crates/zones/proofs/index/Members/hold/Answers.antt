@@ -1,8 +1,8 @@
 use Rattle.std.proofs.Common.{◌≡◌, Some, refl, ◌∙◌}
-use Rattle.intervals.specs.declared.shelf.Spot.{Spot}
-use Rattle.intervals.specs.Shelf.{place_at}
+use Rattle.intervals.specs.declared.ordered_index.Spot.{Spot}
+use Rattle.intervals.specs.OrderedIndex.{place_at}
 use Rattle.zones.specs.Index.{shelf_of}
-use Rattle.zones.specs.declared.index.Row.TheVariants.{Ends, Begins}
+use Rattle.zones.specs.declared.index.IndexKind.TheVariants.{Ends, Begins}
 use Rattle.zones.proofs.Held.{by_rows, held_row, made_and_gone}
 use Rattle.zones.proofs.Rows.{of_rows, same_rows}
 use Rattle.zones.proofs.index.Members.hold.Goals as goal

@@ -1,4 +1,4 @@
-use Rattle.zones.specs.declared.index.Row.TheVariants.{Begins}
+use Rattle.zones.specs.declared.index.IndexKind.TheVariants.{Begins}
 use Rattle.zones.proofs.Lookups.{last_found}
 use Rattle.zones.proofs.index.Members.last_to_begin.Goals as goal
 

@@ -1,4 +1,4 @@
-use Rattle.zones.specs.declared.index.Row.TheVariants.{Ends, Begins}
+use Rattle.zones.specs.declared.index.IndexKind.TheVariants.{Ends, Begins}
 use Rattle.std.proofs.Common.{None}
 use Rattle.zones.proofs.Held.{by_rows, released_row}
 use Rattle.zones.proofs.Rows.{same_rows}

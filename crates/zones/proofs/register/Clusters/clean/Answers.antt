@@ -4,7 +4,7 @@ use Rattle.intervals.specs.Terms.{terms_of}
 use Rattle.zone_tree.specs.Conflict.{IsClean}
 use Rattle.zones.specs.AtFirst.{initial_of}
 use Rattle.zones.specs.Cluster.{zone_of, zones_from}
-use Rattle.zones.specs.Together.{Clustered}
+use Rattle.zones.specs.Together.{ClustersModel}
 use Rattle.zones.proofs.Start.{initial_not_written}
 use Rattle.zones.proofs.Front.{clean_with, clean_without, front_before, front_in_order}
 use Rattle.zones.proofs.register.Clusters.clean.Goals as goal
@@ -14,7 +14,7 @@ clean_behind-requires-clause-edges c =
     let apart = c.self.invariant.apart in
     let claim = terms_of c.self.inside.claim in
     let ops = c.self.inside.table.ops in
-    let is : initial_of claim ops ≡ Some c.in-Some.initial = sym (subst (λ (x : Clustered). c.initial.result ≡ initial_of x.claim x.ops) (sym c.self.view_is) c.initial.ensures) ∙ c.in-Some.is in
+    let is : initial_of claim ops ≡ Some c.in-Some.initial = sym (subst (λ (x : ClustersModel). c.initial.result ≡ initial_of x.claim x.ops) (sym c.self.view_is) c.initial.ensures) ∙ c.in-Some.is in
     let zone : c.initial_zone.result ≡ zone_of c.in-Some.initial ops c.in-Some.initial = c.initial_zone.ensures ops c.self.invariant.records_of (initial_not_written claim ops (apart.kept.values apart.atomic) c.in-Some.initial is) in
     front_in_order (terms_of c.self.inside.claim) c.self.inside.table.ops c.self.invariant.apart c.self.inside.zones.zones c.iter.ensures.order c.self.invariant.zoned
     c.in-Some.initial is c.initial_zone.result zone
@@ -24,7 +24,7 @@ clean_behind-requires-clause-before c =
     let apart = c.self.invariant.apart in
     let claim = terms_of c.self.inside.claim in
     let ops = c.self.inside.table.ops in
-    let is : initial_of claim ops ≡ Some c.in-Some.initial = sym (subst (λ (x : Clustered). c.initial.result ≡ initial_of x.claim x.ops) (sym c.self.view_is) c.initial.ensures) ∙ c.in-Some.is in
+    let is : initial_of claim ops ≡ Some c.in-Some.initial = sym (subst (λ (x : ClustersModel). c.initial.result ≡ initial_of x.claim x.ops) (sym c.self.view_is) c.initial.ensures) ∙ c.in-Some.is in
     let zone : c.initial_zone.result ≡ zone_of c.in-Some.initial ops c.in-Some.initial = c.initial_zone.ensures ops c.self.invariant.records_of (initial_not_written claim ops (apart.kept.values apart.atomic) c.in-Some.initial is) in
     front_before (terms_of c.self.inside.claim) c.self.inside.table.ops c.self.invariant.apart c.self.inside.zones.zones c.iter.ensures.order c.self.invariant.zoned
     c.in-Some.initial is c.initial_zone.result zone
@@ -34,15 +34,15 @@ returns-in-Some c =
     let apart = c.self.invariant.apart in
     let claim = terms_of c.self.inside.claim in
     let ops = c.self.inside.table.ops in
-    let is : initial_of claim ops ≡ Some c.in-Some.initial = sym (subst (λ (x : Clustered). c.initial.result ≡ initial_of x.claim x.ops) (sym c.self.view_is) c.initial.ensures) ∙ c.in-Some.is in
+    let is : initial_of claim ops ≡ Some c.in-Some.initial = sym (subst (λ (x : ClustersModel). c.initial.result ≡ initial_of x.claim x.ops) (sym c.self.view_is) c.initial.ensures) ∙ c.in-Some.is in
     let zone : c.initial_zone.result ≡ zone_of c.in-Some.initial ops c.in-Some.initial = c.initial_zone.ensures ops c.self.invariant.records_of (initial_not_written claim ops (apart.kept.values apart.atomic) c.in-Some.initial is) in
-    subst (λ (x : Clustered). IsTrue c.clean_behind.result ↔ IsClean (zones_from (initial_of x.claim x.ops) x.ops)) c.self.view_is
+    subst (λ (x : ClustersModel). IsTrue c.clean_behind.result ↔ IsClean (zones_from (initial_of x.claim x.ops) x.ops)) c.self.view_is
     (clean_with (terms_of c.self.inside.claim) c.self.inside.table.ops c.self.invariant.apart c.self.inside.zones.zones c.iter.ensures.order c.self.invariant.zoned
     c.in-Some.initial is c.initial_zone.result zone (IsTrue c.clean_behind.result) c.clean_behind.ensures)
 
 pub returns-in-None : goal.returns-in-None
 returns-in-None c =
-    let none = sym (subst (λ (x : Clustered). c.initial.result ≡ initial_of x.claim x.ops) (sym c.self.view_is) c.initial.ensures) ∙ c.in-None.is in
-    subst (λ (x : Clustered). IsTrue c.clean.result ↔ IsClean (zones_from (initial_of x.claim x.ops) x.ops)) c.self.view_is
+    let none = sym (subst (λ (x : ClustersModel). c.initial.result ≡ initial_of x.claim x.ops) (sym c.self.view_is) c.initial.ensures) ∙ c.in-None.is in
+    subst (λ (x : ClustersModel). IsTrue c.clean.result ↔ IsClean (zones_from (initial_of x.claim x.ops) x.ops)) c.self.view_is
     (clean_without (terms_of c.self.inside.claim) c.self.inside.table.ops c.self.invariant.apart c.self.inside.zones.zones c.iter.ensures.order c.self.invariant.zoned
     none (IsTrue c.clean.result) c.clean.ensures)

@@ -8,7 +8,7 @@ use Rattle.zones.specs.declared.crossing.Crossing.{Crossing}
 use Rattle.zones.specs.AtFirst.{initial_of, start_of}
 use Rattle.zones.specs.Cluster.{zones_from}
 use Rattle.zones.specs.Crossing.{AreExtremes, HasFirstConflictFrom, IsFirstCrossingFrom}
-use Rattle.zones.specs.Together.{Clustered}
+use Rattle.zones.specs.Together.{ClustersModel}
 use Rattle.zones.specs.Zoned.{MayStart}
 use Rattle.zones.proofs.Extremes.{first_crossing}
 use Rattle.zones.proofs.FirstCrossing.{of_values}
@@ -28,15 +28,15 @@ found c =
     let start = start_of claim ops in
     let first = c.in_ok-first.first in
     let second = c.in_ok-first.second in
-    let h : HasFirstConflictFrom (initial_of claim ops) ops first second = subst (λ (x : Clustered). HasFirstConflictFrom (initial_of x.claim x.ops) x.ops first second) (sym c.self.view_is) c.in_ok-first.ensures.first in
-    let is : c.initial.result ≡ initial_of claim ops = subst (λ (x : Clustered). c.initial.result ≡ initial_of x.claim x.ops) (sym c.self.view_is) c.initial.ensures in
+    let h : HasFirstConflictFrom (initial_of claim ops) ops first second = subst (λ (x : ClustersModel). HasFirstConflictFrom (initial_of x.claim x.ops) x.ops first second) (sym c.self.view_is) c.in_ok-first.ensures.first in
+    let is : c.initial.result ≡ initial_of claim ops = subst (λ (x : ClustersModel). c.initial.result ≡ initial_of x.claim x.ops) (sym c.self.view_is) c.initial.ensures in
     let one : MayStart c.initial.result start first.value = subst (λ (i : Option Value). MayStart i start first.value) (sym is) (first_may claim ops c.self.invariant.apart first second h) in
     let other : MayStart c.initial.result start second.value = subst (λ (i : Option Value). MayStart i start second.value) (sym is) (second_may claim ops c.self.invariant.apart first second h) in
     let conflict = of_values start ops first second (conflict_from (initial_of claim ops) ops first second h) in
     let extremes : IsSomeAnd c.extremes.result (λ x. AreExtremes start ops first.value second.value x.a x.b x.c x.d) =
     c.extremes.ensures start one other c.self.invariant.members_of c.self.invariant.records_of c.self.invariant.apart.kept.ids conflict
     in
-    subst (λ (x : Clustered). IsSomeAnd c.extremes.result (λ y. IsFirstCrossingFrom (initial_of x.claim x.ops) (start_of x.claim x.ops) x.ops y.a y.b y.c y.d)) c.self.view_is
+    subst (λ (x : ClustersModel). IsSomeAnd c.extremes.result (λ y. IsFirstCrossingFrom (initial_of x.claim x.ops) (start_of x.claim x.ops) x.ops y.a y.b y.c y.d)) c.self.view_is
     (first_crossing (initial_of claim ops) start ops first second c.extremes.result h extremes)
 
 pub returns-clause-first : goal.returns-clause-first

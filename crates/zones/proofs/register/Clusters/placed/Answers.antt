@@ -1,21 +1,21 @@
 use Rattle.std.proofs.Common.{ℕ, zero, suc, List, [], ◌∷◌, Option, Some, None, subst}
 use Rattle.std.specs.Prelude.{Contains, IfSome}
 use Rattle.intervals.specs.declared.operation.Op.{Op}
-use Rattle.intervals.specs.Table.{slot_at, standing}
+use Rattle.intervals.specs.Table.{slot_at, ops_in_slots}
 use Rattle.zones.proofs.Members.{here, there}
 use Rattle.zones.proofs.register.Clusters.placed.Goals as goal
 
-slot_stands : (slots : List (Option Op)) (i : ℕ) → IfSome (slot_at slots i) (Contains (standing slots))
+slot_stands : (slots : List (Option Op)) (i : ℕ) → IfSome (slot_at slots i) (Contains (ops_in_slots slots))
 slot_stands [] zero = tt
 slot_stands [] (suc i) = tt
 slot_stands (None ∷ slots) zero = tt
-slot_stands (Some a ∷ slots) zero = here a (standing slots)
+slot_stands (Some a ∷ slots) zero = here a (ops_in_slots slots)
 slot_stands (None ∷ slots) (suc i) = slot_stands slots i
 slot_stands (Some a ∷ slots) (suc i) = later (slot_at slots i) (slot_stands slots i)
   where
-    later : (slot : Option Op) → IfSome slot (Contains (standing slots)) → IfSome slot (Contains (a ∷ standing slots))
+    later : (slot : Option Op) → IfSome slot (Contains (ops_in_slots slots)) → IfSome slot (Contains (a ∷ ops_in_slots slots))
     later None h = tt
-    later (Some op) h = there a (standing slots) op h
+    later (Some op) h = there a (ops_in_slots slots) op h
 
 pub place_slot-requires-clause-stands : goal.place_slot-requires-clause-stands
 place_slot-requires-clause-stands c =

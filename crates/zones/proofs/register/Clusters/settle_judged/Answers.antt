@@ -4,13 +4,13 @@ use Rattle.intervals.specs.declared.operation.Op.{Op}
 use Rattle.intervals.specs.Operation.{writes}
 use Rattle.intervals.specs.Edit.{new_op, edited, edit_id, found_by}
 use Rattle.intervals.specs.Refusal.{reply_to}
-use Rattle.intervals.specs.Table.{Tabled, prepared_after}
+use Rattle.intervals.specs.Table.{TableModel, prepared_after}
 use Rattle.intervals.specs.Target.{IsTargetOf}
 use Rattle.intervals.specs.Terms.{terms_of}
 use Rattle.intervals.proofs.Accepted.{edit_accepted}
-use Rattle.zone_tree.specs.Digits.{digits}
-use Rattle.zones.specs.Index.{AreMembers, HasPlacesOf, HoldsOnlyFor}
-use Rattle.zones.specs.Together.{Clustered, HasRoomFor}
+use Rattle.zone_tree.specs.Digits.{binary_digits}
+use Rattle.zones.specs.Index.{AreMembers, HasPlacesOf, ReservesOnlyForMember}
+use Rattle.zones.specs.Together.{ClustersModel, HasRoomInClusters}
 use Rattle.zones.specs.Zoned.{judged_part}
 use Rattle.zones.proofs.Admitted.{apart_after, as_many_writes, can_exchange_stretches, can_exchange_zones, change_is, judged_prepared, room_after, room_for, room_left, spare_after, stretched_after, zoned_after, zones_need_no_room}
 use Rattle.zones.proofs.Held.{only_after}
@@ -20,7 +20,7 @@ use Rattle.zones.proofs.register.Clusters.settle_judged.Goals as goal
 
 pub change-requires-clause-prepared : goal.change-requires-clause-prepared
 change-requires-clause-prepared c =
-    let same : c.prepared.result ≡ c.args.self.now.prepared = c.prepared.ensures ∙ ap (λ (x : Clustered). x.prepared) c.self.view_is in
+    let same : c.prepared.result ≡ c.args.self.now.prepared = c.prepared.ensures ∙ ap (λ (x : ClustersModel). x.prepared) c.self.view_is in
     let is : IfSome c.args.target.now.new (λ op. c.prepared.result ≡ Some op) = subst (λ (p : Option Op). IfSome c.args.target.now.new (λ op. p ≡ Some op)) (sym same) c.requires.prepared in
     subst (λ (n : Option Op). IfSome n (λ op. c.prepared.result ≡ Some op)) (sym c.requires.new) (judged_prepared c.args.target.now.new c.prepared.result is)
 
@@ -28,29 +28,29 @@ pub admit-requires-clause-accepted : goal.admit-requires-clause-accepted
 admit-requires-clause-accepted c =
     let claim = terms_of c.self.inside.claim in
     let ops = c.self.inside.table.ops in
-    edit_accepted claim ops c.args.edit.now (subst (λ (x : Clustered). reply_to x.claim x.ops c.args.edit.now ≡ None) (sym c.self.view_is) c.requires.accepted)
+    edit_accepted claim ops c.args.edit.now (subst (λ (x : ClustersModel). reply_to x.claim x.ops c.args.edit.now ≡ None) (sym c.self.view_is) c.requires.accepted)
 
 pub admit-requires-clause-target : goal.admit-requires-clause-target
-admit-requires-clause-target c = subst (λ (x : Clustered). IsTargetOf x.ops c.args.edit.now c.args.target.now) (sym c.self.view_is) c.requires.target
+admit-requires-clause-target c = subst (λ (x : ClustersModel). IsTargetOf x.ops c.args.edit.now c.args.target.now) (sym c.self.view_is) c.requires.target
 
 pub admit-requires-clause-room : goal.admit-requires-clause-room
 admit-requires-clause-room c =
     let prepared = c.self.inside.table.prepared in
-    let asked : c.args.target.now.new ≡ new_op c.self.inside.table.ops c.args.edit.now = subst (λ (x : Clustered). c.args.target.now.new ≡ new_op x.ops c.args.edit.now) (sym c.self.view_is) c.requires.target.new in
-    let held : IfSome c.args.target.now.new (λ op. prepared ≡ Some op) = subst (λ (x : Clustered). IfSome c.args.target.now.new (λ op. x.prepared ≡ Some op)) (sym c.self.view_is) c.requires.prepared in
+    let asked : c.args.target.now.new ≡ new_op c.self.inside.table.ops c.args.edit.now = subst (λ (x : ClustersModel). c.args.target.now.new ≡ new_op x.ops c.args.edit.now) (sym c.self.view_is) c.requires.target.new in
+    let held : IfSome c.args.target.now.new (λ op. prepared ≡ Some op) = subst (λ (x : ClustersModel). IfSome c.args.target.now.new (λ op. x.prepared ≡ Some op)) (sym c.self.view_is) c.requires.prepared in
     subst (λ (n : Option Op). IfSome n (λ op. prepared ≡ Some op)) asked held
 
 pub put_both-requires-clause-first : goal.put_both-requires-clause-first
 put_both-requires-clause-first c =
     let claim = terms_of c.self.inside.claim in
     let ops = c.self.inside.table.ops in
-    let accepted : reply_to claim ops c.args.edit.now ≡ None = subst (λ (x : Clustered). reply_to x.claim x.ops c.args.edit.now ≡ None) (sym c.self.view_is) c.requires.accepted in
-    let found : c.args.target.now.old ≡ found_by ops (edit_id c.args.edit.now) = subst (λ (x : Clustered). c.args.target.now.old ≡ found_by x.ops (edit_id c.args.edit.now)) (sym c.self.view_is) c.requires.target.old in
+    let accepted : reply_to claim ops c.args.edit.now ≡ None = subst (λ (x : ClustersModel). reply_to x.claim x.ops c.args.edit.now ≡ None) (sym c.self.view_is) c.requires.accepted in
+    let found : c.args.target.now.old ≡ found_by ops (edit_id c.args.edit.now) = subst (λ (x : ClustersModel). c.args.target.now.old ≡ found_by x.ops (edit_id c.args.edit.now)) (sym c.self.view_is) c.requires.target.old in
     let old_is : c.args.old.now ≡ judged_part (found_by ops (edit_id c.args.edit.now)) = c.requires.old ∙ ap judged_part found in
-    let asked : c.args.target.now.new ≡ new_op ops c.args.edit.now = subst (λ (x : Clustered). c.args.target.now.new ≡ new_op x.ops c.args.edit.now) (sym c.self.view_is) c.requires.target.new in
+    let asked : c.args.target.now.new ≡ new_op ops c.args.edit.now = subst (λ (x : ClustersModel). c.args.target.now.new ≡ new_op x.ops c.args.edit.now) (sym c.self.view_is) c.requires.target.new in
     let new_is : c.args.new.now ≡ judged_part (new_op ops c.args.edit.now) = c.requires.new ∙ ap judged_part asked in
     let after = c.admit.new.self.ops in
-    let after_is : after ≡ edited ops c.args.edit.now = ap (λ (t : Tabled). t.ops) c.admit.ensures in
+    let after_is : after ≡ edited ops c.args.edit.now = ap (λ (t : TableModel). t.ops) c.admit.ensures in
     let change = change_is claim ops c.args.edit.now c.self.invariant.apart accepted c.args.old.now c.args.new.now old_is new_is after after_is in
     let members : AreMembers after c.change.new.self = c.change.ensures.members ops after c.self.invariant.members_of change in
     let first = c.value_in-first.result in
@@ -64,14 +64,14 @@ put_both-requires-clause-second c some =
     let claim = terms_of c.self.inside.claim in
     let ops = c.self.inside.table.ops in
     let prepared = c.self.inside.table.prepared in
-    let accepted : reply_to claim ops c.args.edit.now ≡ None = subst (λ (x : Clustered). reply_to x.claim x.ops c.args.edit.now ≡ None) (sym c.self.view_is) c.requires.accepted in
-    let found : c.args.target.now.old ≡ found_by ops (edit_id c.args.edit.now) = subst (λ (x : Clustered). c.args.target.now.old ≡ found_by x.ops (edit_id c.args.edit.now)) (sym c.self.view_is) c.requires.target.old in
+    let accepted : reply_to claim ops c.args.edit.now ≡ None = subst (λ (x : ClustersModel). reply_to x.claim x.ops c.args.edit.now ≡ None) (sym c.self.view_is) c.requires.accepted in
+    let found : c.args.target.now.old ≡ found_by ops (edit_id c.args.edit.now) = subst (λ (x : ClustersModel). c.args.target.now.old ≡ found_by x.ops (edit_id c.args.edit.now)) (sym c.self.view_is) c.requires.target.old in
     let old_is : c.args.old.now ≡ judged_part (found_by ops (edit_id c.args.edit.now)) = c.requires.old ∙ ap judged_part found in
-    let asked : c.args.target.now.new ≡ new_op ops c.args.edit.now = subst (λ (x : Clustered). c.args.target.now.new ≡ new_op x.ops c.args.edit.now) (sym c.self.view_is) c.requires.target.new in
+    let asked : c.args.target.now.new ≡ new_op ops c.args.edit.now = subst (λ (x : ClustersModel). c.args.target.now.new ≡ new_op x.ops c.args.edit.now) (sym c.self.view_is) c.requires.target.new in
     let new_is : c.args.new.now ≡ judged_part (new_op ops c.args.edit.now) = c.requires.new ∙ ap judged_part asked in
-    let held : IfSome c.args.target.now.new (λ op. prepared ≡ Some op) = subst (λ (x : Clustered). IfSome c.args.target.now.new (λ op. x.prepared ≡ Some op)) (sym c.self.view_is) c.requires.prepared in
+    let held : IfSome c.args.target.now.new (λ op. prepared ≡ Some op) = subst (λ (x : ClustersModel). IfSome c.args.target.now.new (λ op. x.prepared ≡ Some op)) (sym c.self.view_is) c.requires.prepared in
     let after = c.admit.new.self.ops in
-    let after_is : after ≡ edited ops c.args.edit.now = ap (λ (t : Tabled). t.ops) c.admit.ensures in
+    let after_is : after ≡ edited ops c.args.edit.now = ap (λ (t : TableModel). t.ops) c.admit.ensures in
     let change = change_is claim ops c.args.edit.now c.self.invariant.apart accepted c.args.old.now c.args.new.now old_is new_is after after_is in
     let members : AreMembers after c.change.new.self = c.change.ensures.members ops after c.self.invariant.members_of change in
     let first = c.value_in-first.result in
@@ -86,14 +86,14 @@ exchange-requires c =
     let claim = terms_of c.self.inside.claim in
     let ops = c.self.inside.table.ops in
     let prepared = c.self.inside.table.prepared in
-    let accepted : reply_to claim ops c.args.edit.now ≡ None = subst (λ (x : Clustered). reply_to x.claim x.ops c.args.edit.now ≡ None) (sym c.self.view_is) c.requires.accepted in
-    let found : c.args.target.now.old ≡ found_by ops (edit_id c.args.edit.now) = subst (λ (x : Clustered). c.args.target.now.old ≡ found_by x.ops (edit_id c.args.edit.now)) (sym c.self.view_is) c.requires.target.old in
+    let accepted : reply_to claim ops c.args.edit.now ≡ None = subst (λ (x : ClustersModel). reply_to x.claim x.ops c.args.edit.now ≡ None) (sym c.self.view_is) c.requires.accepted in
+    let found : c.args.target.now.old ≡ found_by ops (edit_id c.args.edit.now) = subst (λ (x : ClustersModel). c.args.target.now.old ≡ found_by x.ops (edit_id c.args.edit.now)) (sym c.self.view_is) c.requires.target.old in
     let old_is : c.args.old.now ≡ judged_part (found_by ops (edit_id c.args.edit.now)) = c.requires.old ∙ ap judged_part found in
-    let asked : c.args.target.now.new ≡ new_op ops c.args.edit.now = subst (λ (x : Clustered). c.args.target.now.new ≡ new_op x.ops c.args.edit.now) (sym c.self.view_is) c.requires.target.new in
+    let asked : c.args.target.now.new ≡ new_op ops c.args.edit.now = subst (λ (x : ClustersModel). c.args.target.now.new ≡ new_op x.ops c.args.edit.now) (sym c.self.view_is) c.requires.target.new in
     let new_is : c.args.new.now ≡ judged_part (new_op ops c.args.edit.now) = c.requires.new ∙ ap judged_part asked in
-    let held : IfSome c.args.target.now.new (λ op. prepared ≡ Some op) = subst (λ (x : Clustered). IfSome c.args.target.now.new (λ op. x.prepared ≡ Some op)) (sym c.self.view_is) c.requires.prepared in
+    let held : IfSome c.args.target.now.new (λ op. prepared ≡ Some op) = subst (λ (x : ClustersModel). IfSome c.args.target.now.new (λ op. x.prepared ≡ Some op)) (sym c.self.view_is) c.requires.prepared in
     let after = c.admit.new.self.ops in
-    let after_is : after ≡ edited ops c.args.edit.now = ap (λ (t : Tabled). t.ops) c.admit.ensures in
+    let after_is : after ≡ edited ops c.args.edit.now = ap (λ (t : TableModel). t.ops) c.admit.ensures in
     let apart = c.self.invariant.apart in
     let later = apart_after claim ops c.args.edit.now apart accepted c.args.old.now c.args.new.now old_is new_is after after_is in
     let change = change_is claim ops c.args.edit.now apart accepted c.args.old.now c.args.new.now old_is new_is after after_is in
@@ -114,13 +114,13 @@ pub exchange_stretches-requires-clause-new : goal.exchange_stretches-requires-cl
 exchange_stretches-requires-clause-new c =
     let claim = terms_of c.self.inside.claim in
     let ops = c.self.inside.table.ops in
-    let accepted : reply_to claim ops c.args.edit.now ≡ None = subst (λ (x : Clustered). reply_to x.claim x.ops c.args.edit.now ≡ None) (sym c.self.view_is) c.requires.accepted in
-    let found : c.args.target.now.old ≡ found_by ops (edit_id c.args.edit.now) = subst (λ (x : Clustered). c.args.target.now.old ≡ found_by x.ops (edit_id c.args.edit.now)) (sym c.self.view_is) c.requires.target.old in
+    let accepted : reply_to claim ops c.args.edit.now ≡ None = subst (λ (x : ClustersModel). reply_to x.claim x.ops c.args.edit.now ≡ None) (sym c.self.view_is) c.requires.accepted in
+    let found : c.args.target.now.old ≡ found_by ops (edit_id c.args.edit.now) = subst (λ (x : ClustersModel). c.args.target.now.old ≡ found_by x.ops (edit_id c.args.edit.now)) (sym c.self.view_is) c.requires.target.old in
     let old_is : c.args.old.now ≡ judged_part (found_by ops (edit_id c.args.edit.now)) = c.requires.old ∙ ap judged_part found in
-    let asked : c.args.target.now.new ≡ new_op ops c.args.edit.now = subst (λ (x : Clustered). c.args.target.now.new ≡ new_op x.ops c.args.edit.now) (sym c.self.view_is) c.requires.target.new in
+    let asked : c.args.target.now.new ≡ new_op ops c.args.edit.now = subst (λ (x : ClustersModel). c.args.target.now.new ≡ new_op x.ops c.args.edit.now) (sym c.self.view_is) c.requires.target.new in
     let new_is : c.args.new.now ≡ judged_part (new_op ops c.args.edit.now) = c.requires.new ∙ ap judged_part asked in
     let after = c.admit.new.self.ops in
-    let after_is : after ≡ edited ops c.args.edit.now = ap (λ (t : Tabled). t.ops) c.admit.ensures in
+    let after_is : after ≡ edited ops c.args.edit.now = ap (λ (t : TableModel). t.ops) c.admit.ensures in
     let apart = c.self.invariant.apart in
     let later = apart_after claim ops c.args.edit.now apart accepted c.args.old.now c.args.new.now old_is new_is after after_is in
     let change = change_is claim ops c.args.edit.now apart accepted c.args.old.now c.args.new.now old_is new_is after after_is in
@@ -140,14 +140,14 @@ invariant_of-self c =
     let prepared = c.self.inside.table.prepared in
     let zones = c.self.inside.zones in
     let stretches = c.self.inside.stretches in
-    let accepted : reply_to claim ops c.args.edit.now ≡ None = subst (λ (x : Clustered). reply_to x.claim x.ops c.args.edit.now ≡ None) (sym c.self.view_is) c.requires.accepted in
-    let found : c.args.target.now.old ≡ found_by ops (edit_id c.args.edit.now) = subst (λ (x : Clustered). c.args.target.now.old ≡ found_by x.ops (edit_id c.args.edit.now)) (sym c.self.view_is) c.requires.target.old in
+    let accepted : reply_to claim ops c.args.edit.now ≡ None = subst (λ (x : ClustersModel). reply_to x.claim x.ops c.args.edit.now ≡ None) (sym c.self.view_is) c.requires.accepted in
+    let found : c.args.target.now.old ≡ found_by ops (edit_id c.args.edit.now) = subst (λ (x : ClustersModel). c.args.target.now.old ≡ found_by x.ops (edit_id c.args.edit.now)) (sym c.self.view_is) c.requires.target.old in
     let old_is : c.args.old.now ≡ judged_part (found_by ops (edit_id c.args.edit.now)) = c.requires.old ∙ ap judged_part found in
-    let asked : c.args.target.now.new ≡ new_op ops c.args.edit.now = subst (λ (x : Clustered). c.args.target.now.new ≡ new_op x.ops c.args.edit.now) (sym c.self.view_is) c.requires.target.new in
+    let asked : c.args.target.now.new ≡ new_op ops c.args.edit.now = subst (λ (x : ClustersModel). c.args.target.now.new ≡ new_op x.ops c.args.edit.now) (sym c.self.view_is) c.requires.target.new in
     let new_is : c.args.new.now ≡ judged_part (new_op ops c.args.edit.now) = c.requires.new ∙ ap judged_part asked in
-    let held : IfSome c.args.target.now.new (λ op. prepared ≡ Some op) = subst (λ (x : Clustered). IfSome c.args.target.now.new (λ op. x.prepared ≡ Some op)) (sym c.self.view_is) c.requires.prepared in
+    let held : IfSome c.args.target.now.new (λ op. prepared ≡ Some op) = subst (λ (x : ClustersModel). IfSome c.args.target.now.new (λ op. x.prepared ≡ Some op)) (sym c.self.view_is) c.requires.prepared in
     let after = c.admit.new.self.ops in
-    let after_is : after ≡ edited ops c.args.edit.now = ap (λ (t : Tabled). t.ops) c.admit.ensures in
+    let after_is : after ≡ edited ops c.args.edit.now = ap (λ (t : TableModel). t.ops) c.admit.ensures in
     let apart = c.self.invariant.apart in
     let later = apart_after claim ops c.args.edit.now apart accepted c.args.old.now c.args.new.now old_is new_is after after_is in
     let change = change_is claim ops c.args.edit.now apart accepted c.args.old.now c.args.new.now old_is new_is after after_is in
@@ -181,7 +181,7 @@ invariant_of-self c =
       spare = spare_after c.self.inside.members c.self.inside.records zones stretches prepared c.self.invariant.room c.self.invariant.spare c.args.target.now.new held c.exchange.new.tree.zones c.exchange_stretches.new.tree.free
           (subst (λ (n : Option Op). n ≡ None → length c.exchange.new.tree.zones + stretches.free ≤ length zones.zones + c.exchange_stretches.new.tree.free) c.requires.new no_fewer)
           (more_length c.exchange.ensures.zones.gone c.exchange.ensures.zones.come zones.zones c.exchange.new.tree.zones c.exchange.ensures.zones.moves) c.exchange_stretches.ensures.room;
-      room = subst (λ (p : Option Op). IfSome p (HasRoomFor c.change.new.self c.put_both.new.self c.exchange.new.tree c.exchange_stretches.new.tree)) (sym (ap (λ (t : Tabled). t.prepared) c.admit.ensures))
+      room = subst (λ (p : Option Op). IfSome p (HasRoomInClusters c.change.new.self c.put_both.new.self c.exchange.new.tree c.exchange_stretches.new.tree)) (sym (ap (λ (t : TableModel). t.prepared) c.admit.ensures))
           (room_after c.self.inside.members c.self.inside.records zones stretches prepared c.self.invariant.room c.change.new.self c.put_both.new.self c.exchange.new.tree c.exchange_stretches.new.tree (new_op ops c.args.edit.now)
           (subst (λ (p : Option Op). HasPlacesOf p c.change.new.self) c.prepared.ensures c.change.ensures.places)
           (λ none. c.put_both.ensures.room (ap is_some (second_none ops c.args.old.now c.args.new.now after change (new_is ∙ none) c.edges_after-after.result values_later)))
@@ -189,10 +189,10 @@ invariant_of-self c =
           c.value_in-first.result c.other_value-second.result (search rules) (search rules) c.zones_in-zones.result c.zones_in-zones_after.result zones c.self.invariant.zoned
           zones_before zones_later (new_is ∙ none)))
           (λ none. no_fewer (new_is ∙ none)));
-      only = subst (λ (p : Option Op). HoldsOnlyFor p c.change.new.self) (sym (ap (λ (t : Tabled). t.prepared) c.admit.ensures ∙ ap (λ (n : Option Op). prepared_after n prepared) (sym asked)))
-          (only_after c.args.target.now.new prepared c.change.new.self (subst (λ (x : Clustered). IfSome c.args.target.now.new (λ op. x.prepared ≡ Some op)) (sym c.self.view_is) c.requires.prepared)
-          (subst (λ (n : Option Op). HoldsOnlyFor (prepared_after n prepared) c.change.new.self) c.requires.new
-          (subst (λ (p : Option Op). HoldsOnlyFor p c.self.inside.members → HoldsOnlyFor (prepared_after c.args.new.now p) c.change.new.self) c.prepared.ensures c.change.ensures.only c.self.invariant.only)));
+      only = subst (λ (p : Option Op). ReservesOnlyForMember p c.change.new.self) (sym (ap (λ (t : TableModel). t.prepared) c.admit.ensures ∙ ap (λ (n : Option Op). prepared_after n prepared) (sym asked)))
+          (only_after c.args.target.now.new prepared c.change.new.self (subst (λ (x : ClustersModel). IfSome c.args.target.now.new (λ op. x.prepared ≡ Some op)) (sym c.self.view_is) c.requires.prepared)
+          (subst (λ (n : Option Op). ReservesOnlyForMember (prepared_after n prepared) c.change.new.self) c.requires.new
+          (subst (λ (p : Option Op). ReservesOnlyForMember p c.self.inside.members → ReservesOnlyForMember (prepared_after c.args.new.now p) c.change.new.self) c.prepared.ensures c.change.ensures.only c.self.invariant.only)));
     }
 
 pub returns-clause-edited : goal.returns-clause-edited
@@ -200,15 +200,15 @@ returns-clause-edited c =
     let claim = terms_of c.self.inside.claim in
     let table = c.self.inside.table in
     let steps = c.exchange.new.tree.steps in
-    let asked : c.args.target.now.new ≡ new_op table.ops c.args.edit.now = subst (λ (x : Clustered). c.args.target.now.new ≡ new_op x.ops c.args.edit.now) (sym c.self.view_is) c.requires.target.new in
-    ap {B = Clustered} (λ (t : Tabled). record { claim = claim; ops = t.ops; prepared = t.prepared; steps = steps }) c.admit.ensures
-    ∙ (ap {B = Clustered} (λ (n : Option Op). record { claim = claim; ops = edited table.ops c.args.edit.now; prepared = prepared_after n table.prepared; steps = steps }) (sym asked)
-    ∙ ap {B = Clustered} (λ (x : Clustered). record { claim = x.claim; ops = edited x.ops c.args.edit.now; prepared = prepared_after c.args.target.now.new x.prepared; steps = steps }) c.self.view_is)
+    let asked : c.args.target.now.new ≡ new_op table.ops c.args.edit.now = subst (λ (x : ClustersModel). c.args.target.now.new ≡ new_op x.ops c.args.edit.now) (sym c.self.view_is) c.requires.target.new in
+    ap {B = ClustersModel} (λ (t : TableModel). record { claim = claim; ops = t.ops; prepared = t.prepared; steps = steps }) c.admit.ensures
+    ∙ (ap {B = ClustersModel} (λ (n : Option Op). record { claim = claim; ops = edited table.ops c.args.edit.now; prepared = prepared_after n table.prepared; steps = steps }) (sym asked)
+    ∙ ap {B = ClustersModel} (λ (x : ClustersModel). record { claim = x.claim; ops = edited x.ops c.args.edit.now; prepared = prepared_after c.args.target.now.new x.prepared; steps = steps }) c.self.view_is)
 
 pub returns-clause-steps : goal.returns-clause-steps
 returns-clause-steps c =
     let claim = terms_of c.self.inside.claim in
     let zones = c.self.inside.zones in
     let many = as_many_writes claim c.self.inside.table.ops zones.zones c.self.invariant.apart c.iter.ensures.order c.self.invariant.zoned in
-    subst (λ (x : Clustered). c.exchange.new.tree.steps ≤ x.steps + 4 * (2 * digits (length (writes x.ops) + 1) + 1)) c.self.view_is
-    (subst (λ (n : ℕ). c.exchange.new.tree.steps ≤ zones.steps + 4 * (2 * digits (n + 1) + 1)) many c.exchange.ensures.steps)
+    subst (λ (x : ClustersModel). c.exchange.new.tree.steps ≤ x.steps + 4 * (2 * binary_digits (length (writes x.ops) + 1) + 1)) c.self.view_is
+    (subst (λ (n : ℕ). c.exchange.new.tree.steps ≤ zones.steps + 4 * (2 * binary_digits (n + 1) + 1)) many c.exchange.ensures.steps)

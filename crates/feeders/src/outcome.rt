@@ -1,0 +1,11 @@
+//! What a feeder leaves.
+
+use crate::log::Log;
+use shards::Pass;
+
+/// A feeder's pass, and its log.
+#[derive(Drop)]
+pub struct FeederOutcome<'t> {
+    pub pass: Pass<'t>,
+    pub log: Log<'t>,
+}

@@ -1,0 +1,2 @@
+-- a check: its error is the refusal
+pub mod Refusals

@@ -1,5 +1,0 @@
-use Rattle.report.proofs.Pieces.{no_registers}
-use Rattle.report.proofs.piece.Piece.new.Goals as goal
-
-pub returns : goal.returns
-returns c = λ tower closed first. no_registers tower closed first _ c.new.ensures.bytes c.new-2.ensures.items
