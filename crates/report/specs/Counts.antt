@@ -15,8 +15,8 @@ abbrev pub standing_counts : TowerModel → List ClosedShard → List ℕ
 standing_counts tower closed = map (standing_in closed) (range_with_len 0 (length tower.registers))
 
 -- how many operations stand in all registers, the sum of these numbers, and in one, the least of them, if there are any
-pub record AreCounts (standing_counts : List ℕ) (counts : Counts) : Type 0 where
-  pub all : counts.all ≡ sum standing_counts
-  pub none : IsNone counts.least ↔ (standing_counts ≡ [])
-  pub one : IfSome counts.least (Contains standing_counts)
-  pub least : IfSome counts.least (λ least. All (λ many. least ≤ many) standing_counts)
+pub record AreCounts (each : List ℕ) (counts : Counts) : Type 0 where
+  pub all : counts.all ≡ sum each
+  pub none : IsNone counts.least ↔ (each ≡ [])
+  pub one : IfSome counts.least (Contains each)
+  pub least : IfSome counts.least (λ least. All (λ many. least ≤ many) each)

@@ -6,8 +6,8 @@ use Rattle.zone_tree.specs.declared.edge.Edge.{Edge}
 use Rattle.zone_tree.specs.declared.edge.Edge.TheVariants.{Before, At, Never}
 use Rattle.zone_tree.specs.declared.zone.Zone.{Zone}
 use Rattle.zone_tree.specs.declared.summary.ZoneSummary.{ZoneSummary}
-use Rattle.zone_tree.specs.Edge.{edge_before, ComesBefore}
-use Rattle.zone_tree.specs.Summary.{latest, earliest, meets, no_zones, one_zone, join_zones, summary_of_zones}
+use Rattle.zone_tree.specs.Edge.{ComesBefore, earlier_edge, edge_before, later_edge}
+use Rattle.zone_tree.specs.Summary.{meets, no_zones, one_zone, join_zones, summary_of_zones}
 use Rattle.zone_tree.proofs.EdgeOrder.{before_irreflexive, before_transitive, before_cases, before_not_after, not_after_before, before-false}
 
 -- either of two bits
@@ -44,7 +44,7 @@ not_before_all (At m) = refl
 not_before_all Never = refl
 
 -- which edges come before the later of two, and which come after the earlier of two
-latest_by : (e a b : Edge) → (edge_before a b ≡ true) ⊎ (edge_before a b ≡ false) → (edge_before e a ≡ true) ⊎ (edge_before e a ≡ false) → edge_before e (latest a b) ≡ edge_before e a || edge_before e b
+latest_by : (e a b : Edge) → (edge_before a b ≡ true) ⊎ (edge_before a b ≡ false) → (edge_before e a ≡ true) ⊎ (edge_before e a ≡ false) → edge_before e (later_edge a b) ≡ edge_before e a || edge_before e b
 latest_by e a b (inl h) (inl f) =
     ap (λ (c : Bool). edge_before e (if c then b else a)) h
     ∙ before_transitive e a b f h
@@ -56,10 +56,10 @@ latest_by e a b (inr h) (inr f) =
     ∙ f
     ∙ sym (ap (λ c. c || edge_before e b) f ∙ before-false e b (λ g. both_ways (edge_before e a) f (before_not_after e b a g (both_ways (edge_before a b) h))))
 
-pub before_latest : (e a b : Edge) → edge_before e (latest a b) ≡ edge_before e a || edge_before e b
+pub before_latest : (e a b : Edge) → edge_before e (later_edge a b) ≡ edge_before e a || edge_before e b
 before_latest e a b = latest_by e a b (cases_Bool (edge_before a b)) (cases_Bool (edge_before e a))
 
-earliest_by : (e a b : Edge) → (edge_before b a ≡ true) ⊎ (edge_before b a ≡ false) → (edge_before a e ≡ true) ⊎ (edge_before a e ≡ false) → edge_before (earliest a b) e ≡ edge_before a e || edge_before b e
+earliest_by : (e a b : Edge) → (edge_before b a ≡ true) ⊎ (edge_before b a ≡ false) → (edge_before a e ≡ true) ⊎ (edge_before a e ≡ false) → edge_before (earlier_edge a b) e ≡ edge_before a e || edge_before b e
 earliest_by e a b (inl h) (inl f) =
     ap (λ (c : Bool). edge_before (if c then b else a) e) h
     ∙ before_transitive b a e h f
@@ -71,7 +71,7 @@ earliest_by e a b (inr h) (inr f) =
     ∙ f
     ∙ sym (ap (λ c. c || edge_before b e) f ∙ before-false b e (λ g. both_ways (edge_before a e) f (not_after_before a b e (both_ways (edge_before b a) h) g)))
 
-pub earliest_before : (e a b : Edge) → edge_before (earliest a b) e ≡ edge_before a e || edge_before b e
+pub earliest_before : (e a b : Edge) → edge_before (earlier_edge a b) e ≡ edge_before a e || edge_before b e
 earliest_before e a b = earliest_by e a b (cases_Bool (edge_before b a)) (cases_Bool (edge_before a e))
 
 -- edges are one that have the same edges before them, or the same edges after them
@@ -91,19 +91,19 @@ one_behind_by a b same (inr (inr h)) = absurd (before_irreflexive a (same a ∙ 
 one_behind : (a b : Edge) → ((e : Edge) → edge_before a e ≡ edge_before b e) → a ≡ b
 one_behind a b same = one_behind_by a b same (before_cases a b)
 
-latest_assoc : (a b c : Edge) → latest (latest a b) c ≡ latest a (latest b c)
-latest_assoc a b c = one_before (latest (latest a b) c) (latest a (latest b c)) (λ e.
-    before_latest e (latest a b) c
+latest_assoc : (a b c : Edge) → later_edge (later_edge a b) c ≡ later_edge a (later_edge b c)
+latest_assoc a b c = one_before (later_edge (later_edge a b) c) (later_edge a (later_edge b c)) (λ e.
+    before_latest e (later_edge a b) c
     ∙ ap (λ x. x || edge_before e c) (before_latest e a b)
     ∙ or_assoc (edge_before e a) (edge_before e b) (edge_before e c)
-    ∙ sym (before_latest e a (latest b c) ∙ ap (λ x. edge_before e a || x) (before_latest e b c)))
+    ∙ sym (before_latest e a (later_edge b c) ∙ ap (λ x. edge_before e a || x) (before_latest e b c)))
 
-earliest_assoc : (a b c : Edge) → earliest (earliest a b) c ≡ earliest a (earliest b c)
-earliest_assoc a b c = one_behind (earliest (earliest a b) c) (earliest a (earliest b c)) (λ e.
-    earliest_before e (earliest a b) c
+earliest_assoc : (a b c : Edge) → earlier_edge (earlier_edge a b) c ≡ earlier_edge a (earlier_edge b c)
+earliest_assoc a b c = one_behind (earlier_edge (earlier_edge a b) c) (earlier_edge a (earlier_edge b c)) (λ e.
+    earliest_before e (earlier_edge a b) c
     ∙ ap (λ x. x || edge_before c e) (earliest_before e a b)
     ∙ or_assoc (edge_before a e) (edge_before b e) (edge_before c e)
-    ∙ sym (earliest_before e a (earliest b c) ∙ ap (λ x. edge_before a e || x) (earliest_before e b c)))
+    ∙ sym (earliest_before e a (earlier_edge b c) ∙ ap (λ x. edge_before a e || x) (earliest_before e b c)))
 
 -- the summary of a forward zone and of a backward one
 abbrev pub of_forward : Zone → ZoneSummary
@@ -124,14 +124,14 @@ one_backward z f = ap (λ (b : Bool). if b then of_forward z else of_backward z)
 meets_front : (r s t : ZoneSummary) → meets (join_zones r s) t ≡ meets r t || meets s t
 unfolding join_zones
 meets_front r s t =
-    ap (λ x. x || edge_before t.first_backward (latest r.last_forward s.last_forward)) (before_latest t.first_forward r.last_forward s.last_forward)
+    ap (λ x. x || edge_before t.first_backward (later_edge r.last_forward s.last_forward)) (before_latest t.first_forward r.last_forward s.last_forward)
     ∙ ap (λ x. (edge_before t.first_forward r.last_forward || edge_before t.first_forward s.last_forward) || x) (before_latest t.first_backward r.last_forward s.last_forward)
     ∙ or_crossed (edge_before t.first_forward r.last_forward) (edge_before t.first_forward s.last_forward) (edge_before t.first_backward r.last_forward) (edge_before t.first_backward s.last_forward)
 
 meets_back : (r s t : ZoneSummary) → meets r (join_zones s t) ≡ meets r s || meets r t
 unfolding join_zones
 meets_back r s t =
-    ap (λ x. x || edge_before (earliest s.first_backward t.first_backward) r.last_forward) (earliest_before r.last_forward s.first_forward t.first_forward)
+    ap (λ x. x || edge_before (earlier_edge s.first_backward t.first_backward) r.last_forward) (earliest_before r.last_forward s.first_forward t.first_forward)
     ∙ ap (λ x. (edge_before s.first_forward r.last_forward || edge_before t.first_forward r.last_forward) || x) (earliest_before r.last_forward s.first_backward t.first_backward)
     ∙ or_crossed (edge_before s.first_forward r.last_forward) (edge_before t.first_forward r.last_forward) (edge_before s.first_backward r.last_forward) (edge_before t.first_backward r.last_forward)
 
@@ -168,15 +168,15 @@ join_assoc r s t =
     (earliest_assoc r.first_backward s.first_backward t.first_backward)
     (conflict_assoc r s t)
 
-latest_none : (a : Edge) → latest Before a ≡ a
+latest_none : (a : Edge) → later_edge Before a ≡ a
 latest_none Before = refl
 latest_none (At m) = refl
 latest_none Never = refl
 
-none_latest : (a : Edge) → latest a Before ≡ a
+none_latest : (a : Edge) → later_edge a Before ≡ a
 none_latest a = ap (λ (c : Bool). if c then Before else a) (not_before_all a)
 
-earliest_none : (a : Edge) → earliest Never a ≡ a
+earliest_none : (a : Edge) → earlier_edge Never a ≡ a
 earliest_none Before = refl
 earliest_none (At m) = refl
 earliest_none Never = refl
@@ -189,7 +189,7 @@ none_clear = refl
 pub join_none : (s : ZoneSummary) → join_zones no_zones s ≡ s
 unfolding join_zones no_zones
 join_none s =
-    same_summary (latest Before s.last_forward) (earliest Never s.first_forward) (earliest Never s.first_backward) (s.conflict || (edge_before s.first_forward Before || edge_before s.first_backward Before))
+    same_summary (later_edge Before s.last_forward) (earlier_edge Never s.first_forward) (earlier_edge Never s.first_backward) (s.conflict || (edge_before s.first_forward Before || edge_before s.first_backward Before))
     s.last_forward s.first_forward s.first_backward s.conflict
     (latest_none s.last_forward)
     (earliest_none s.first_forward)
@@ -201,7 +201,7 @@ join_none s =
 pub none_join : (s : ZoneSummary) → join_zones s no_zones ≡ s
 unfolding join_zones no_zones
 none_join s =
-    same_summary (latest s.last_forward Before) (earliest s.first_forward Never) (earliest s.first_backward Never) ((s.conflict || false) || false)
+    same_summary (later_edge s.last_forward Before) (earlier_edge s.first_forward Never) (earlier_edge s.first_backward Never) ((s.conflict || false) || false)
     s.last_forward s.first_forward s.first_backward s.conflict
     (none_latest s.last_forward)
     refl
@@ -209,11 +209,11 @@ none_join s =
     (or_false (s.conflict || false) ∙ or_false s.conflict)
 
 -- a backward zone before others adds its right edge alone
-backward_join : (z : Zone) (s : ZoneSummary) → join_zones (of_backward z) s ≡ summary s.last_forward s.first_forward (earliest z.right s.first_backward) s.conflict
+backward_join : (z : Zone) (s : ZoneSummary) → join_zones (of_backward z) s ≡ summary s.last_forward s.first_forward (earlier_edge z.right s.first_backward) s.conflict
 unfolding join_zones
 backward_join z s =
-    same_summary (latest Before s.last_forward) (earliest Never s.first_forward) (earliest z.right s.first_backward) (s.conflict || (edge_before s.first_forward Before || edge_before s.first_backward Before))
-    s.last_forward s.first_forward (earliest z.right s.first_backward) s.conflict
+    same_summary (later_edge Before s.last_forward) (earlier_edge Never s.first_forward) (earlier_edge z.right s.first_backward) (s.conflict || (edge_before s.first_forward Before || edge_before s.first_backward Before))
+    s.last_forward s.first_forward (earlier_edge z.right s.first_backward) s.conflict
     (latest_none s.last_forward)
     (earliest_none s.first_forward)
     refl
@@ -221,7 +221,7 @@ backward_join z s =
     ∙ ap (λ x. s.conflict || x) (not_before_all s.first_backward)
     ∙ or_false s.conflict)
 
-pub backward_first : (z : Zone) (s : ZoneSummary) → z.forward ≡ false → join_zones (one_zone z) s ≡ record { last_forward = s.last_forward; first_forward = s.first_forward; first_backward = earliest z.right s.first_backward; conflict = s.conflict }
+pub backward_first : (z : Zone) (s : ZoneSummary) → z.forward ≡ false → join_zones (one_zone z) s ≡ record { last_forward = s.last_forward; first_forward = s.first_forward; first_backward = earlier_edge z.right s.first_backward; conflict = s.conflict }
 backward_first z s f = ap (λ (o : ZoneSummary). join_zones o s) (one_backward z f) ∙ backward_join z s
 
 -- a summary joined with that of no zones, on either side

@@ -1,5 +1,5 @@
 -- The edges of zones: one before every moment, the moments themselves, and one after them.
-use Rattle.std.specs.Prelude.{ℕ, Bool, true, false, ◌==◌, nat_lt, IsTrue}
+use Rattle.std.specs.Prelude.{ℕ, Bool, true, false, ◌==◌, nat_lt, IsTrue, if◌then◌else◌}
 use Rattle.zone_tree.specs.declared.edge.Edge.{Edge}
 use Rattle.zone_tree.specs.declared.edge.Edge.TheVariants.{Before, At, Never}
 
@@ -22,6 +22,14 @@ edge_before Never b = false
 -- the first edge comes before the second: `Before`, then the moments one after another, then `Never`
 abbrev pub ComesBefore : Edge → Edge → Type 0
 ComesBefore a b = IsTrue (edge_before a b)
+
+-- the earlier of two edges
+abbrev pub earlier_edge : Edge → Edge → Edge
+earlier_edge a b = if edge_before b a then b else a
+
+-- the later of two edges
+abbrev pub later_edge : Edge → Edge → Edge
+later_edge a b = if edge_before a b then b else a
 
 -- the test whether two edges are one
 abbrev pub same_edge : Edge → Edge → Bool

@@ -4,15 +4,7 @@ use Rattle.zone_tree.specs.declared.edge.Edge.{Edge}
 use Rattle.zone_tree.specs.declared.edge.Edge.TheVariants.{Before, Never}
 use Rattle.zone_tree.specs.declared.zone.Zone.{Zone}
 use Rattle.zone_tree.specs.declared.summary.ZoneSummary.{ZoneSummary}
-use Rattle.zone_tree.specs.Edge.{edge_before}
-
--- the later of two edges
-abbrev pub latest : Edge → Edge → Edge
-latest a b = if edge_before a b then b else a
-
--- the earlier of two edges
-abbrev pub earliest : Edge → Edge → Edge
-earliest a b = if edge_before b a then b else a
+use Rattle.zone_tree.specs.Edge.{earlier_edge, edge_before, later_edge}
 
 -- a forward zone of the first list ends after a forward zone of the second begins, or after a backward one of the
 -- second ends
@@ -33,9 +25,9 @@ one_zone z =
 -- the summary of two lists of zones, one after the other, from the summaries of both
 unfoldable pub join_zones : ZoneSummary → ZoneSummary → ZoneSummary
 join_zones s t = record {
-  last_forward = latest s.last_forward t.last_forward;
-  first_forward = earliest s.first_forward t.first_forward;
-  first_backward = earliest s.first_backward t.first_backward;
+  last_forward = later_edge s.last_forward t.last_forward;
+  first_forward = earlier_edge s.first_forward t.first_forward;
+  first_backward = earlier_edge s.first_backward t.first_backward;
   conflict = (s.conflict || t.conflict) || meets s t;
 }
 

@@ -1,7 +1,7 @@
 //! The edges of zones, and their order.
 
 ghost use Rattle.std.specs.Prelude.{◌≡◌};
-ghost use Rattle.zone_tree.specs.Edge.{edge_before, rank, same_edge};
+ghost use Rattle.zone_tree.specs.Edge.{earlier_edge, edge_before, later_edge, rank, same_edge};
 
 use intervals::Moment;
 
@@ -26,6 +26,38 @@ impl Edge {
         }
     }
 
+    /// The earlier of the two.
+    #[inline(always)]
+    pub fn min(self, other: Edge) -> Edge
+        ensures { result ≡ earlier_edge self other }
+    {
+        if other.comes_before(self) {
+            other
+        } else {
+            self
+        }
+    }
+
+    /// The later of the two.
+    #[inline(always)]
+    pub fn max(self, other: Edge) -> Edge
+        ensures { result ≡ later_edge self other }
+    {
+        if self.comes_before(other) {
+            other
+        } else {
+            self
+        }
+    }
+
+    /// Whether the two are one.
+    #[inline(always)]
+    pub fn is_same(self, other: Edge) -> bool
+        ensures { result ≡ same_edge self other }
+    {
+        self == other
+    }
+
     #[inline(always)]
     fn rank(self) -> u8
         ensures { result ≡ rank self }
@@ -36,11 +68,4 @@ impl Edge {
             Edge::Never => 2,
         }
     }
-}
-
-/// Whether the two edges are one.
-pub fn is_same(a: Edge, b: Edge) -> bool
-    ensures { result ≡ same_edge a b }
-{
-    a == b
 }

@@ -1,9 +1,8 @@
 //! What each node keeps of the zones below it.
 
 ghost use Rattle.std.specs.Prelude.{◌≡◌};
-ghost use Rattle.zone_tree.specs.Summary.{no_zones, one_zone, join_zones, summary_of_zones, meets, latest, earliest};
+ghost use Rattle.zone_tree.specs.Summary.{no_zones, one_zone, join_zones, summary_of_zones, meets};
 
-use crate::edge::is_same;
 use crate::{Edge, Zone};
 use summary_tree::Summarizes;
 
@@ -72,9 +71,9 @@ impl Summarizes<Zone> for ZoneSummary {
 
     #[inline(always)]
     fn is_same(&self, other: &ZoneSummary) -> bool {
-        is_same(self.last_forward, other.last_forward)
-            && is_same(self.first_forward, other.first_forward)
-            && is_same(self.first_backward, other.first_backward)
+        self.last_forward.is_same(other.last_forward)
+            && self.first_forward.is_same(other.first_forward)
+            && self.first_backward.is_same(other.first_backward)
             && self.conflict == other.conflict
     }
 
@@ -82,9 +81,9 @@ impl Summarizes<Zone> for ZoneSummary {
     #[tactic(auto, unfolding(crate::specs::Summary::join_zones))]
     fn join(&self, later: &ZoneSummary) -> Self {
         ZoneSummary {
-            last_forward: latest(self.last_forward, later.last_forward),
-            first_forward: earliest(self.first_forward, later.first_forward),
-            first_backward: earliest(self.first_backward, later.first_backward),
+            last_forward: self.last_forward.max(later.last_forward),
+            first_forward: self.first_forward.min(later.first_forward),
+            first_backward: self.first_backward.min(later.first_backward),
             conflict: self.conflict || later.conflict || self.meets(later),
         }
     }
@@ -99,25 +98,11 @@ impl Summarizes<Zone> for ZoneSummary {
         ZoneSummary {
             last_forward: self.last_forward,
             first_forward: self.first_forward,
-            first_backward: earliest(zone.right, self.first_backward),
+            first_backward: zone.right.min(self.first_backward),
             conflict: self.conflict,
         }
     }
 
     #[inline(always)]
     fn summaries_add_up() {}
-}
-
-#[inline(always)]
-fn latest(a: Edge, b: Edge) -> Edge
-    ensures { result ≡ latest a b }
-{
-    if a.comes_before(b) { b } else { a }
-}
-
-#[inline(always)]
-fn earliest(a: Edge, b: Edge) -> Edge
-    ensures { result ≡ earliest a b }
-{
-    if b.comes_before(a) { b } else { a }
 }

@@ -12,9 +12,9 @@ use Rattle.intervals.specs.Standing.{IsMomentOf, ShareNoMoment, HasDistinctMomen
 use Rattle.zone_tree.specs.declared.edge.Edge.{Edge}
 use Rattle.zone_tree.specs.declared.edge.Edge.TheVariants.{Before, At, Never}
 use Rattle.zone_tree.specs.declared.zone.Zone.{Zone}
-use Rattle.zone_tree.specs.Edge.{ComesBefore, edge_before}
+use Rattle.zone_tree.specs.Edge.{ComesBefore, earlier_edge, edge_before, later_edge}
 use Rattle.zone_tree.specs.Zone.{Conflicts, HasOrderedEdges, least_end, greatest_begin}
-use Rattle.zones.specs.Cluster.{Interval, edge_of_end, interval_of, initial_span, has_value, cluster_of, spans_of, earlier_edge, later_edge, least_end_in, greatest_begin_in, least_end_of, greatest_begin_of, zone_between, zone_of, written_values, zones_of}
+use Rattle.zones.specs.Cluster.{Interval, edge_of_end, interval_of, initial_span, has_value, cluster_of, spans_of, least_end_in, greatest_begin_in, least_end_of, greatest_begin_of, zone_between, zone_of, written_values, zones_of}
 use Rattle.zones.specs.Crossing.{value_at, StandsJudged, HasEndedBefore, IsCrossing, HasLeastEnd, HasGreatestBegin, AreExtremes}
 use Rattle.zones.proofs.EdgeOrder.{AtMost, at_most_itself, at_most_transitive, at_most_both, before_all, before_not_after, not_after_before, not_both_ways, earlier-left, earlier-right, earlier-cases, later-left, later-right, later-cases}
 use Rattle.zones.proofs.Judged.{is_judged, judged_write}

@@ -3,8 +3,7 @@ use Rattle.std.proofs.Common.{◌≡◌, ◌⊎◌, inl, inr, refl}
 use Rattle.std.proofs.lemmas.Bool.{both_ways, cond_both}
 use Rattle.zone_tree.specs.declared.edge.Edge.{Edge}
 use Rattle.zone_tree.specs.declared.edge.Edge.TheVariants.{Before, At, Never}
-use Rattle.zone_tree.specs.Edge.{edge_before, ComesBefore}
-use Rattle.zones.specs.Cluster.{earlier_edge, later_edge}
+use Rattle.zone_tree.specs.Edge.{ComesBefore, earlier_edge, edge_before, later_edge}
 pub use Rattle.zone_tree.proofs.EdgeOrder.{before_irreflexive, before_transitive, before_cases, not_both_ways, before_not_after, not_after_before}
 
 -- the first edge does not come after the second

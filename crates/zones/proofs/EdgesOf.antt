@@ -11,9 +11,9 @@ use Rattle.intervals.specs.Operation.{IsJudgedRead, IsWrite, is_judged_read, is_
 use Rattle.stretch_tree.specs.declared.stretch.Stretch.{Stretch}
 use Rattle.zone_tree.specs.declared.edge.Edge.{Edge}
 use Rattle.zone_tree.specs.declared.edge.Edge.TheVariants.{Before, At, Never}
-use Rattle.zone_tree.specs.Edge.{ComesBefore, same_edge}
+use Rattle.zone_tree.specs.Edge.{ComesBefore, earlier_edge, later_edge, same_edge}
 use Rattle.zone_tree.proofs.EdgeOrder.{Decides-same_edge}
-use Rattle.zones.specs.Cluster.{earlier_edge, edge_of_end, later_edge}
+use Rattle.zones.specs.Cluster.{edge_of_end}
 use Rattle.zones.specs.Edges.{AreEdges, AreReadEdges, AreWriteEdges, NamesWrite, op_if_of_value, read_part, write_part}
 use Rattle.zone_tree.specs.declared.zone.Zone.{Zone}
 use Rattle.zones.specs.declared.edges.Edges.{Edges}

@@ -14,8 +14,8 @@ use Rattle.intervals.specs.Standing.{HasDistinctIds}
 use Rattle.intervals.proofs.Ids.{found_by_id}
 use Rattle.zone_tree.specs.declared.edge.Edge.{Edge}
 use Rattle.zone_tree.specs.declared.edge.Edge.TheVariants.{Before, At, Never}
-use Rattle.zone_tree.specs.Edge.{ComesBefore, edge_before}
-use Rattle.zones.specs.Cluster.{cluster_of, earlier_edge, edge_of_end, greatest_begin_of, later_edge, least_end_of, written_zone, zone_between, zone_of}
+use Rattle.zone_tree.specs.Edge.{ComesBefore, earlier_edge, edge_before, later_edge}
+use Rattle.zones.specs.Cluster.{cluster_of, edge_of_end, greatest_begin_of, least_end_of, written_zone, zone_between, zone_of}
 use Rattle.zones.specs.Crossing.{HasLeastEnd}
 use Rattle.zones.specs.Index.{at_first}
 use Rattle.intervals.specs.Kind.{HasNoWrite}

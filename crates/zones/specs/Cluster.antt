@@ -7,7 +7,7 @@ use Rattle.intervals.specs.Operation.{value_of, same_value, judged, writes}
 use Rattle.zone_tree.specs.declared.edge.Edge.{Edge}
 use Rattle.zone_tree.specs.declared.edge.Edge.TheVariants.{Before, At, Never}
 use Rattle.zone_tree.specs.declared.zone.Zone.{Zone}
-use Rattle.zone_tree.specs.Edge.{edge_before}
+use Rattle.zone_tree.specs.Edge.{earlier_edge, edge_before, later_edge}
 
 -- a beginning and an end, as edges
 pub record Interval : Type 0 where
@@ -42,14 +42,6 @@ spans_of initial ops value =
     if same_value initial value
     then initial_span ∷ map interval_of (cluster_of ops value)
     else map interval_of (cluster_of ops value)
-
--- the earlier of two edges
-abbrev pub earlier_edge : Edge → Edge → Edge
-earlier_edge a b = if edge_before b a then b else a
-
--- the later of two edges
-abbrev pub later_edge : Edge → Edge → Edge
-later_edge a b = if edge_before a b then b else a
 
 -- the least end of some intervals; `Never` where there are none
 abbrev pub least_end_in : List Interval → Edge

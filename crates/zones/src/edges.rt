@@ -6,7 +6,7 @@ ghost use Rattle.intervals.specs.declared.operation.Op.{Op as AnOp};
 ghost use Rattle.intervals.specs.declared.operation.Value.{Value as AValue};
 ghost use Rattle.intervals.specs.Operation.{IsJudgedRead};
 ghost use Rattle.zone_tree.specs.Edge.{same_edge};
-ghost use Rattle.zones.specs.Cluster.{edge_of_end, earlier_edge, later_edge};
+ghost use Rattle.zones.specs.Cluster.{edge_of_end};
 ghost use Rattle.zones.specs.Edges.{AreEdges, AreEdgesAt, AreEdgesAtSome, AreWriteEdges, NamesWrite, edges_of_nothing, is_of_nothing, read_part, write_part};
 ghost use Rattle.zones.specs.Index.{AreMembers};
 ghost use Rattle.zones.specs.Members.{IsChange, IsGreatestBegin, IsLeastEnd};
@@ -46,10 +46,10 @@ pub fn is_of_nothing(edges: &Edges) -> bool
     ensures { result ≡ is_of_nothing edges.now }
 {
     edges.write_id.is_none()
-        && is_same_edge(edges.read_begin, Edge::Before)
-        && is_same_edge(edges.write_begin, Edge::Before)
-        && is_same_edge(edges.read_end, Edge::Never)
-        && is_same_edge(edges.write_end, Edge::Never)
+        && edges.read_begin.is_same(Edge::Before)
+        && edges.write_begin.is_same(Edge::Before)
+        && edges.read_end.is_same(Edge::Never)
+        && edges.write_end.is_same(Edge::Never)
 }
 
 /// The edges of two values once `old` went and `new` came. The indexes are as they are after that, and are looked
@@ -60,8 +60,8 @@ pub fn edges_after(
     old: &Option<Op>,
     new: &Option<Op>,
 ) -> (Option<Edges>, Option<Edges>)
-    ensures { (ops later_edge : List AnOp) (first second : Option AValue) → AreEdgesAt ops first second before.now → IsChange ops old.now new.now later_edge → AreMembers later_edge members.now
-        → AreEdgesAt later_edge first second result }
+    ensures { (ops later : List AnOp) (first second : Option AValue) → AreEdgesAt ops first second before.now → IsChange ops old.now new.now later → AreMembers later members.now
+        → AreEdgesAt later first second result }
 {
     (
         after_in_some(&before.0, members, old, new),
@@ -75,8 +75,8 @@ fn after_in_some(
     old: &Option<Op>,
     new: &Option<Op>,
 ) -> Option<Edges>
-    ensures { (ops later_edge : List AnOp) (value : Option AValue) → AreEdgesAtSome ops value before.now → IsChange ops old.now new.now later_edge → AreMembers later_edge members.now
-        → AreEdgesAtSome later_edge value result }
+    ensures { (ops later : List AnOp) (value : Option AValue) → AreEdgesAtSome ops value before.now → IsChange ops old.now new.now later → AreMembers later members.now
+        → AreEdgesAtSome later value result }
 {
     match before {
         Some(edges) => Some(after(edges, members, old, new)),
@@ -85,8 +85,8 @@ fn after_in_some(
 }
 
 fn after(before: &Edges, members: &Members, old: &Option<Op>, new: &Option<Op>) -> Edges
-    ensures { (ops later_edge : List AnOp) → AreEdges ops before.now.value before.now → IsChange ops old.now new.now later_edge → AreMembers later_edge members.now
-        → AreEdges later_edge before.now.value result }
+    ensures { (ops later : List AnOp) → AreEdges ops before.now.value before.now → IsChange ops old.now new.now later → AreMembers later members.now
+        → AreEdges later before.now.value result }
 {
     let (write_id, write_begin, write_end) = write_after(before, old, new);
     Edges {
@@ -100,8 +100,8 @@ fn after(before: &Edges, members: &Members, old: &Option<Op>, new: &Option<Op>) 
 }
 
 fn write_after(before: &Edges, old: &Option<Op>, new: &Option<Op>) -> (Option<OpId>, Edge, Edge)
-    ensures named { (ops later_edge : List AnOp) → AreEdges ops before.now.value before.now → IsChange ops old.now new.now later_edge → NamesWrite later_edge before.now.value result.0 }
-    ensures edges { (ops later_edge : List AnOp) → AreEdges ops before.now.value before.now → IsChange ops old.now new.now later_edge → AreWriteEdges later_edge before.now.value result.1 result.2 }
+    ensures named { (ops later : List AnOp) → AreEdges ops before.now.value before.now → IsChange ops old.now new.now later → NamesWrite later before.now.value result.0 }
+    ensures edges { (ops later : List AnOp) → AreEdges ops before.now.value before.now → IsChange ops old.now new.now later → AreWriteEdges later before.now.value result.1 result.2 }
 {
     match write_in(new, before.value) {
         Some(write) => (
@@ -119,14 +119,14 @@ fn write_after(before: &Edges, old: &Option<Op>, new: &Option<Op>) -> (Option<Op
 /// Where the last of the judged reads of the value begins after the edit; the index is looked into only where that
 /// read went.
 fn read_begin_after(before: &Edges, members: &Members, old: &Option<Op>, new: &Option<Op>) -> Edge
-    ensures { (ops later_edge : List AnOp) → AreEdges ops before.now.value before.now → IsChange ops old.now new.now later_edge → AreMembers later_edge members.now
-        → IsGreatestBegin IsJudgedRead later_edge before.now.value result }
+    ensures { (ops later : List AnOp) → AreEdges ops before.now.value before.now → IsChange ops old.now new.now later → AreMembers later members.now
+        → IsGreatestBegin IsJudgedRead later before.now.value result }
 {
     if is_begun_by(before, old) {
         return read_begin(members, before.value);
     }
     match read_in(new, before.value) {
-        Some(read) => later_of(before.read_begin, Edge::At(read.begin)),
+        Some(read) => before.read_begin.max(Edge::At(read.begin)),
         None => before.read_begin,
     }
 }
@@ -134,14 +134,14 @@ fn read_begin_after(before: &Edges, members: &Members, old: &Option<Op>, new: &O
 /// Where the first of the judged reads of the value ends after the edit; the index is looked into only where that
 /// read went.
 fn read_end_after(before: &Edges, members: &Members, old: &Option<Op>, new: &Option<Op>) -> Edge
-    ensures { (ops later_edge : List AnOp) → AreEdges ops before.now.value before.now → IsChange ops old.now new.now later_edge → AreMembers later_edge members.now
-        → IsLeastEnd IsJudgedRead later_edge before.now.value result }
+    ensures { (ops later : List AnOp) → AreEdges ops before.now.value before.now → IsChange ops old.now new.now later → AreMembers later members.now
+        → IsLeastEnd IsJudgedRead later before.now.value result }
 {
     if is_ended_by(before, old) {
         return read_end(members, before.value);
     }
     match read_in(new, before.value) {
-        Some(read) => earlier_of(before.read_end, edge_of_end(read.end)),
+        Some(read) => before.read_end.min(edge_of_end(read.end)),
         None => before.read_end,
     }
 }
@@ -151,7 +151,7 @@ fn is_begun_by(edges: &Edges, op: &Option<Op>) -> bool
     ensures { result ≡ false → IfSome (read_part edges.now.value op.now) (λ read. same_edge (Edge.At read.begin) edges.now.read_begin ≡ false) }
 {
     match read_in(op, edges.value) {
-        Some(read) => is_same_edge(Edge::At(read.begin), edges.read_begin),
+        Some(read) => Edge::At(read.begin).is_same(edges.read_begin),
         None => false,
     }
 }
@@ -161,7 +161,7 @@ fn is_ended_by(edges: &Edges, op: &Option<Op>) -> bool
     ensures { result ≡ false → IfSome (read_part edges.now.value op.now) (λ read. same_edge (edge_of_end read.end) edges.now.read_end ≡ false) }
 {
     match read_in(op, edges.value) {
-        Some(read) => is_same_edge(edge_of_end(read.end), edges.read_end),
+        Some(read) => edge_of_end(read.end).is_same(edges.read_end),
         None => false,
     }
 }
@@ -213,22 +213,4 @@ pub fn edge_of_end(end: Option<Moment>) -> Edge
         Some(end) => Edge::At(end),
         None => Edge::Never,
     }
-}
-
-pub fn earlier_of(a: Edge, b: Edge) -> Edge
-    ensures { result ≡ earlier_edge a b }
-{
-    if b.comes_before(a) { b } else { a }
-}
-
-pub fn later_of(a: Edge, b: Edge) -> Edge
-    ensures { result ≡ later_edge a b }
-{
-    if a.comes_before(b) { b } else { a }
-}
-
-pub fn is_same_edge(a: Edge, b: Edge) -> bool
-    ensures { result ≡ same_edge a b }
-{
-    a == b
 }

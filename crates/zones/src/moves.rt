@@ -6,7 +6,6 @@ ghost use Rattle.zone_tree.specs.Order.{zone_at};
 ghost use Rattle.zones.specs.Moves.{AreExchanged, IsNew, KeepsRoom, IsThere, with, without, moved};
 ghost use Rattle.zones.specs.Zoned.{CanExchange, CanMove, NeedsNoRoom, zone_shape};
 
-use crate::edges::is_same_edge;
 use intervals::is_same_value;
 use zone_tree::laws::digits_are_the_least_that_hold_a_number;
 use zone_tree::{Zone, ZoneTree};
@@ -69,7 +68,7 @@ fn move_zone(tree: &mut ZoneTree, gone: &Option<Zone>, come: &Option<Zone>)
 fn keeps_its_edge(tree: &ZoneTree, old: &Zone, new: &Zone) -> bool
     ensures { result ≡ true → (old.now.left ≡ new.now.left) × IsSome (zone_at new.now.left tree.now.zones) }
 {
-    is_same_edge(old.left, new.left) && tree.get(new.left).is_some()
+    old.left.is_same(new.left) && tree.get(new.left).is_some()
 }
 
 /// Puts two optional zones in the place of two others, each taken out and put in.
@@ -94,8 +93,8 @@ fn move_both(
 fn is_same(a: &Zone, b: &Zone) -> bool
     ensures { IsTrue result → a.now ≡ b.now }
 {
-    is_same_edge(a.left, b.left)
-        && is_same_edge(a.right, b.right)
+    a.left.is_same(b.left)
+        && a.right.is_same(b.right)
         && a.forward == b.forward
         && is_same_value(a.value, b.value)
 }

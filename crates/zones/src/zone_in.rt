@@ -10,7 +10,7 @@ ghost use Rattle.zones.specs.Members.{HasWrite};
 ghost use Rattle.zones.specs.Records.{AreRecords};
 ghost use Rattle.zones.specs.Zoned.{IsZoneAt, IsZoneAtSome, AreZonesAt};
 
-use crate::edges::{Edges, earlier_of, later_of};
+use crate::edges::Edges;
 use crate::records::Records;
 use intervals::Value;
 use zone_tree::{Edge, Zone};
@@ -54,8 +54,8 @@ fn zone_of(edges: &Edges) -> Zone
     ensures { (ops : List Op) (value : AValue) → AreEdges ops value edges.now → result ≡ written_zone ops value }
 {
     zone_between(
-        earlier_of(edges.write_end, edges.read_end),
-        later_of(edges.write_begin, edges.read_begin),
+        edges.write_end.min(edges.read_end),
+        edges.write_begin.max(edges.read_begin),
         edges.value,
     )
 }

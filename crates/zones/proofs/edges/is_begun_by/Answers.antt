@@ -8,7 +8,7 @@ use Rattle.zones.proofs.edges.is_begun_by.Goals as goal
 pub returns-in-Some : goal.returns-in-Some
 returns-in-Some c none =
     subst (λ (o : Option Op). IfSome o (λ read. same_edge (At read.begin) c.args.edges.now.read_begin ≡ false)) (sym (ap option_copied c.in-Some.is) ∙ c.read_in.ensures)
-    (sym c.is_same_edge.ensures ∙ none)
+    (sym c.is_same.ensures ∙ none)
 
 pub returns-in-None : goal.returns-in-None
 returns-in-None c none =

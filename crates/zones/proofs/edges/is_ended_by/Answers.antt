@@ -10,7 +10,7 @@ pub returns-in-Some : goal.returns-in-Some
 returns-in-Some c none =
     let end = c.args.edges.now.read_end in
     subst (λ (o : Option Op). IfSome o (λ read. same_edge (edge_of_end read.end) end ≡ false)) (sym (ap option_copied c.in-Some.is) ∙ c.read_in.ensures)
-    (ap (λ (e : Edge). same_edge e end) (sym c.edge_of_end.ensures) ∙ (sym c.is_same_edge.ensures ∙ none))
+    (ap (λ (e : Edge). same_edge e end) (sym c.edge_of_end.ensures) ∙ (sym c.is_same.ensures ∙ none))
 
 pub returns-in-None : goal.returns-in-None
 returns-in-None c none =

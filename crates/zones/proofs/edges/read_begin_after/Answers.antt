@@ -15,7 +15,7 @@ returns-in-Some c ops later are change members =
     let edges = c.args.before.now in
     let read = c.in-Some.read.now in
     let apart : c.is_begun_by.result ≡ false = search rules in
-    subst (IsGreatestBegin IsJudgedRead later edges.value) (sym c.later_of.ensures)
+    subst (IsGreatestBegin IsJudgedRead later edges.value) (sym c.max.ensures)
     (begin_more ops c.args.old.now c.args.new.now later change edges.value edges.read_begin
     (edges_apart (λ op. At op.begin) edges.read_begin (read_part edges.value c.args.old.now) (c.is_begun_by.ensures apart))
     read (sym c.read_in.ensures ∙ ap option_copied c.in-Some.is) are.read.begin)
