@@ -9,8 +9,6 @@ mod AloneReplies
 mod AloneRefusals
 mod AloneJournal
 mod Alone
--- bytes that are read after others
-mod Behind
 -- at a status other than 2 what was read is whole
 mod Whole
 -- what `lint` found

@@ -8,8 +8,8 @@ use Rattle.report.specs.declared.fault.ReportFault.{ReportFault}
 use Rattle.report.specs.declared.fault.ReportFault.TheVariants as reports
 use Rattle.commands.specs.declared.fault.CommandFault.{CommandFault}
 use Rattle.commands.specs.declared.fault.CommandFault.TheVariants.{Usage, TooManyTraces, Unreadable, Tower, NoRegister, NoCode, Shard, Memory, Unwritable}
-use Rattle.commands.specs.declared.input.InputFault.{InputFault}
-use Rattle.commands.specs.declared.input.InputFault.TheVariants as inputs
+use Rattle.feeders.specs.declared.whole.InputFault.{InputFault}
+use Rattle.feeders.specs.declared.whole.InputFault.TheVariants as inputs
 use Rattle.report.specs.Names.{printed}
 
 -- the line that says why a run broke off; none for a usage fault, whose text is clap's

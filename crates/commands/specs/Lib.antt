@@ -9,5 +9,4 @@ pub mod Printed
 pub mod Run
 pub mod Shown
 -- words of private clauses
-pub mod Input
 pub mod Audit

@@ -4,8 +4,7 @@ ghost use Rattle.std.specs.Prelude.{◌≡◌, ◌≢◌, ◌∷◌, ◌++◌, [
 ghost use Rattle.tower_file.specs.Tower.{tower_fault_code};
 ghost use Rattle.commands.specs.Complaint.{broken_off, complaint_of, unread, unreported};
 
-use crate::input::InputFault;
-use feeders::RunFault;
+use feeders::{InputFault, RunFault};
 use report::{ReportFault, push_printed};
 use shards::ShardFault;
 use std::alloc::{AllocError, Global};

@@ -4,7 +4,7 @@ ghost use Rattle.std.specs.Prelude.{◌≡◌, ◌≢◌, ℕ, List, Option, Som
 ghost use Rattle.commands.specs.Run.{AreHeld};
 
 use crate::fault::CommandFault;
-use crate::input::read_whole;
+use feeders::read_whole;
 use std::alloc::Global;
 use std::io::Read;
 use std::{fs, rt};
@@ -93,8 +93,8 @@ pub fn read_file<'a, F: Files>(
     ensures stays { F.held files.new ≡ F.held files.old }
     ensures quiet { IfErr result (λ fault. fault ≢ CommandFault.Unwritable) }
 {
-    let mut file = open_file(files, name)?;
-    match read_whole(alloc, &mut file) {
+    let file = open_file(files, name)?;
+    match read_whole(alloc, file) {
         Ok(bytes) => Ok(bytes),
         Err(fault) => Err(CommandFault::of_input(fault, name)),
     }

@@ -16,7 +16,6 @@ mod deny;
 mod draw;
 mod fault;
 mod files;
-mod input;
 pub mod laws;
 mod look;
 mod picture;

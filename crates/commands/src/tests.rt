@@ -3,8 +3,7 @@
 use crate::commands::{conclude, run, run_safe, run_words};
 use crate::fault::CommandFault;
 use crate::files::{Files, Missing};
-use crate::input::{read_whole, read_within};
-use feeders::run_traces;
+use feeders::{read_whole, run_traces};
 use intervals::{Memory, RegId};
 use jepsen_form::MomentField;
 use report::culprits;
@@ -240,11 +239,10 @@ fn a_reading_that_is_always_interrupted_is_told(rt: HostRuntime) -> Result<(), F
 /// The call that finds the end is the last that may be made.
 #[test]
 fn the_call_that_finds_the_end_counts(rt: HostRuntime) -> Result<(), Fail> {
-    for (halts, wanted) in [(99, true), (100, false)] {
-        let found = read_within(rt.alloc(), &mut Source::halting(b"", halts), 100);
+    for (halts, wanted) in [(16_777_215, true), (16_777_216, false)] {
+        let found = read_whole(rt.alloc(), Source::halting(b"", halts));
         assert!(rt; found.is_ok() == wanted, "{halts}");
     }
-    assert!(rt; read_whole(rt.alloc(), &mut Source::halting(b"", 1_000)).is_ok());
     Ok(())
 }
 

@@ -24,7 +24,7 @@ pub mod TextsLists
 pub mod TextsSteps
 pub mod TextsEntries
 pub mod TextsRun
--- a trace that comes in chunks: what a source gives, a chunk, an element, the end, and a pass between two calls
+-- a trace that comes in chunks: what a source gives, an input read whole, a chunk, an element, the end, and a pass between two calls
 pub mod Sourcing
 pub mod Pieces
 pub mod Taking

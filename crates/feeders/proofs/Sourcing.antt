@@ -1,5 +1,6 @@
 -- What a source has given is a prefix of what its reader had.
-use Rattle.std.proofs.Common.{◌≡◌, ℕ, ◌<◌, ◌≤◌, Bool, true, false, List, ◌++◌, length, take, drop, Option, Some, None, sym, ap, ◌∙◌, arith, append_assoc, length-append, length-drop, take-append-drop, take-take}
+use Rattle.std.proofs.Common.{◌≡◌, ℕ, ◌<◌, ◌≤◌, ◌+◌, Bool, true, false, List, ◌++◌, length, take, drop, Option, Some, None, sym, ap, subst, ◌∙◌, IfSome, arith, append_assoc, length-append, length-drop, take-append-drop, take-take}
+use Rattle.std.proofs.Math.Seq.{take-append-add}
 use Rattle.std.proofs.lemmas.Option.{none-some, same_Some}
 use Rattle.std.proofs.lemmas.List.{length-take-le, take-append-le}
 use Rattle.std.specs.Io.KnownBytes.{Keeps, Consumes}
@@ -25,3 +26,14 @@ front_given (Some all) (Some left) (Some still) (Some rest) bytes read behind ro
 pub given_front : (all bytes : List ℕ) (left : Option (List ℕ)) (past : Bool) → AreBytesOf (Some all) bytes left past → (rest : List ℕ) × (all ≡ bytes ++ rest)
 given_front all bytes left false given = (given.0, given.2)
 given_front all bytes left true given = (given.0, given.1)
+
+-- the used bytes, and so many of those that were read
+pub read_after_used : (used count : ℕ) (old read rest : List ℕ) → used ≤ length old → count ≤ length read → take (used + count) (take used old ++ (read ++ rest)) ≡ take used old ++ take count read
+read_after_used used count old read rest within few =
+    subst (λ (n : ℕ). take (n + count) (take used old ++ (read ++ rest)) ≡ take used old ++ take count (read ++ rest)) (length-take-le used old within) (take-append-add (take used old) (read ++ rest) count)
+    ∙ ap (λ (l : List ℕ). take used old ++ l) (take-append-le count read rest few)
+
+-- where more than the greatest number of bytes was there, all of that number were given
+pub more_than_given : (limit : ℕ) (first left : Option (List ℕ)) (bytes : List ℕ) → length bytes ≡ limit → AreBytesOf first bytes left true → IfSome first (λ all. limit < length all)
+more_than_given limit None left bytes full given = tt
+more_than_given limit (Some all) left bytes full given = omega (arith, full, ap length given.1, length-append bytes given.0, given.2)

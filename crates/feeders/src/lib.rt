@@ -30,9 +30,11 @@ mod source;
 mod stream;
 mod tail_buffer;
 mod trace;
+mod whole;
 
 pub use fault::{FeedFault, RunFault};
 pub use feeder::Feeder;
 pub use log::{BreakCode, Broken, Code, Line, Log, What};
 pub use pages::Pages;
 pub use run::{Run, run_in_turn, run_readers, run_traces};
+pub use whole::{InputFault, read_whole};

@@ -1,4 +1,4 @@
-//! A reader whose bytes and read calls are counted.
+//! A reader whose bytes and read calls are counted: the limits of a trace, of standard input and of a tower file.
 
 ghost use Rattle.std.specs.Prelude.{◌≡◌, ◌≤◌, ◌<◌, ◌+◌, ◌++◌, ◌⊎◌, ℕ, true, List, [], Option, Ok, Err, IfOk, IfErr, IfSome, length, take};
 ghost use Rattle.feeders.specs.Source.{AreBytesOf};
@@ -7,10 +7,10 @@ ghost use Rattle.feeders.specs.declared.source.TheConstants.{BYTE_LIMIT, CALL_LI
 use crate::log::BreakCode;
 use std::io::{ErrorKind, Read};
 
-/// The most bytes that a trace may have.
+/// The most bytes that an input may have.
 pub const BYTE_LIMIT: usize = 1_073_741_824;
 
-/// The most read calls that a trace may take, the one that finds its end among them.
+/// The most read calls that an input may take, the one that finds its end among them.
 pub const CALL_LIMIT: u32 = 16_777_216;
 
 /// A reader whose bytes and read calls are counted.
@@ -18,11 +18,11 @@ pub const CALL_LIMIT: u32 = 16_777_216;
 pub struct Source<R: Read> {
     reader: R,
     /// How many bytes were given so far.
-    given: usize,
+    pub given: usize,
     /// How many read calls were made.
     calls: u32,
-    /// Whether the reader gave more bytes than a trace may have.
-    past: bool,
+    /// Whether the reader gave more bytes than an input may have.
+    pub past: bool,
     ghost within: { (given ≤ BYTE_LIMIT) × (calls ≤ CALL_LIMIT) × (past ≡ true → given ≡ BYTE_LIMIT) },
 }
 
