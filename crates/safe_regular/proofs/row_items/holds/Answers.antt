@@ -10,4 +10,4 @@ returns c claim ops apart laid =
       some = c.short_reads_are_told.ensures.some items;
       cover = λ spot. c.each_spot_has_a_last_cover.ensures items spot laid.order;
     } in
-    none_where_none claim ops apart items laid told c.has_uncovered.result c.has_uncovered.ensures.short
+    none_where_none claim ops apart items laid told c.has_uncovered.result c.has_uncovered.ensures.uncovered
