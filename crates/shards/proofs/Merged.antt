@@ -67,9 +67,9 @@ module _ (at : ℕ) (passes : List PassModel) where
       by_test true e rest = (All-contains (λ own. own.feeder ≡ x.entry.feeder → SubmittedAt own at x) passes pass owned.0 h (sym (eqb-true x.entry.feeder pass.feeder e)), rest)
       by_test false e rest = rest
 
-  own_entries : (journal : List Entry) → AreOwned passes at journal → (pass : PassModel) → Contains passes pass → Rises (own_entries pass at) → count_by pass.feeder journal ≡ length (own_entries pass at)
+  entries_are_own : (journal : List Entry) → AreOwned passes at journal → (pass : PassModel) → Contains passes pass → Rises (own_entries pass at) → count_by pass.feeder journal ≡ length (own_entries pass at)
       → map plain_numbered (entries_of pass.feeder journal) ≡ map plain_numbered (own_entries pass at)
-  own_entries journal owned pass h up count =
+  entries_are_own journal owned pass h up count =
       same_from_covers (entries_of pass.feeder journal) (own_entries pass at) (filter_rises (is_numbered_by pass.feeder) (numbered 0 journal) (numbers_rise 0 journal)) up
       (among_own pass h (numbered 0 journal) (recursion_from_All (IsOwned passes at) (numbered 0 journal) owned))
       (count_of pass.feeder journal ∙ count)
@@ -87,7 +87,7 @@ module _ (plan : Plan) (passes : List PassModel) where
   settled_at : (place : ℕ) (shard : ShardModel) → IsJournalOf plan shard.at shard.journal → Fits passes place shard → All (λ pass. Rises (own_entries pass place)) passes → AreOwned passes place shard.journal → IsSettledFor plan passes place shard.journal
   settled_at place shard of_shard fits rise owned = record {
     of_shard = subst (λ (at : ℕ). IsJournalOf plan at shard.journal) fits.in_place of_shard;
-    of_each = λ k d l. own_entries place passes shard.journal owned (get_or passes k d) (Contains-get_or passes k d l) (rise k d l) (fits.keeping k d l).count;
+    of_each = λ k d l. entries_are_own place passes shard.journal owned (get_or passes k d) (Contains-get_or passes k d l) (rise k d l) (fits.keeping k d l).count;
     farthest = λ k d l. (fits.keeping k d l).farthest;
   }
 
