@@ -9,7 +9,7 @@ Of an atomic register every process reads and writes. Each operation happens at
 once at some moment between its invocation and its answer, so a read returns what
 was there at that moment, which is nil at first; no value is written twice.
 
-Moments are the numbers of the lines, so they rise and none stands twice. Where
+Moments are the numbers of the lines, so they rise and none occurs twice. Where
 the number of events is even, every operation is answered.
 """
 import argparse

@@ -250,7 +250,7 @@ fn run_end(input: &[u8], mut at: usize) -> usize {
     at
 }
 
-/// The place behind the quote that ends the Text whose inside begins at a place.
+/// The place after the quote that ends the Text whose inside begins at a place.
 fn text_end(input: &[u8], mut at: usize) -> Result<usize, Fault> {
     while at < input.len() {
         match input[at] {
