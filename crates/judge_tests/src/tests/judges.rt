@@ -222,19 +222,36 @@ fn with_room<'t, J: Judge<'t>>(
     judge.change(&edit, &target)
 }
 
-/// Carries out the edit that a word says, or writes its refusal down; after `+` with room that is made first.
+/// What a word says is done.
+pub enum Step<'t> {
+    /// The edit is carried out, or refused.
+    Edit(Edit<'t>),
+    /// Room is made for the operation, and the one of the id, if there is an id, is withdrawn. Then the first is
+    /// admitted, or its room is given up.
+    Room(Op<'t>, Option<OpId>),
+}
+
+/// What a word says: after `+` that room is made first.
+pub fn step_of(word: &'static str) -> Step<'static> {
+    match word.strip_prefix('+') {
+        Some(word) => {
+            let (word, gone) = divided(word, '!');
+            Step::Room(appended(word), id_in(gone))
+        }
+        None => Step::Edit(edit_of(word)),
+    }
+}
+
+/// Does what a step says, or writes the refusal of its edit down.
 pub fn step<'t, J: Judge<'t>>(
     rt: &impl Abort,
     told: &mut String,
     judge: &mut J,
-    word: &'static str,
+    next: Step<'t>,
 ) -> Result<(), Memory> {
-    match word.strip_prefix('+') {
-        Some(word) => {
-            let (word, gone) = divided(word, '!');
-            with_room(rt, judge, appended(word), id_in(gone))
-        }
-        None => retried(rt, told, judge, edit_of(word)),
+    match next {
+        Step::Edit(edit) => retried(rt, told, judge, edit),
+        Step::Room(op, gone) => with_room(rt, judge, op, gone),
     }
 }
 

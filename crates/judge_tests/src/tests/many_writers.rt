@@ -5,7 +5,7 @@ ghost use Rattle.std.specs.Prelude.{◌≡◌};
 
 mod short;
 
-use super::judges::{Judge, number_of_id, number_of_moments, step};
+use super::judges::{Judge, number_of_id, number_of_moments, step, step_of};
 use super::notation::{ROW, is_same_text, roomy, row_of, tell_zone};
 use intervals::{
     Claim, Edit, Initial, Kind, Memory, Op, OpId, OpTable, Refusal, Target, Value, Writers,
@@ -194,7 +194,7 @@ fn told<R: AllocGlobal + Abort>(
 ) -> Result<String, Memory> {
     let mut told = roomy(rt.alloc())?;
     for word in words.split_whitespace() {
-        step(rt, &mut told, clusters, word)?;
+        step(rt, &mut told, clusters, step_of(word))?;
     }
     tell(&mut told, rt.alloc(), clusters, values)?;
     Ok(told)

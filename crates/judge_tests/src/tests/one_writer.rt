@@ -5,7 +5,9 @@ ghost use Rattle.std.specs.Prelude.{◌≡◌, ◌≢◌, IsTrue};
 ghost use Rattle.intervals.specs.Refusal.{first_refusal};
 ghost use Rattle.intervals.specs.Terms.{terms_of};
 
-use super::judges::{Judge, carried_out, number_of_id, number_of_moments, refusal_of, step};
+use super::judges::{
+    Judge, carried_out, number_of_id, number_of_moments, refusal_of, step, step_of,
+};
 use super::notation::{ROW, amending, edit_of, id, is_same_text, operation, roomy, row_of};
 use super::numbers::Numbers;
 use intervals::{
@@ -125,7 +127,7 @@ fn told<R: AllocGlobal + Abort>(
     let mut told = roomy(rt.alloc())?;
     let mut judge = begun(rt.alloc(), claim)?;
     for word in words.split_whitespace() {
-        step(rt, &mut told, &mut judge, word)?;
+        step(rt, &mut told, &mut judge, step_of(word))?;
     }
     tell_fault(&mut told, &judge);
     Ok(told)
