@@ -223,7 +223,7 @@ fn with_room<'t, J: Judge<'t>>(
 }
 
 /// What a word says is done.
-pub enum Step<'t> {
+pub enum RowStep<'t> {
     /// The edit is carried out, or refused.
     Edit(Edit<'t>),
     /// Room is made for the operation, and the one of the id, if there is an id, is withdrawn. Then the first is
@@ -232,13 +232,13 @@ pub enum Step<'t> {
 }
 
 /// What a word says: after `+` that room is made first.
-pub fn step_of(word: &'static str) -> Step<'static> {
+pub fn step_of(word: &'static str) -> RowStep<'static> {
     match word.strip_prefix('+') {
         Some(word) => {
             let (word, gone) = divided(word, '!');
-            Step::Room(appended(word), id_in(gone))
+            RowStep::Room(appended(word), id_in(gone))
         }
-        None => Step::Edit(edit_of(word)),
+        None => RowStep::Edit(edit_of(word)),
     }
 }
 
@@ -247,11 +247,11 @@ pub fn step<'t, J: Judge<'t>>(
     rt: &impl Abort,
     told: &mut String,
     judge: &mut J,
-    next: Step<'t>,
+    next: RowStep<'t>,
 ) -> Result<(), Memory> {
     match next {
-        Step::Edit(edit) => retried(rt, told, judge, edit),
-        Step::Room(op, gone) => with_room(rt, judge, op, gone),
+        RowStep::Edit(edit) => retried(rt, told, judge, edit),
+        RowStep::Room(op, gone) => with_room(rt, judge, op, gone),
     }
 }
 
