@@ -212,7 +212,7 @@ operations_text refusals.ClaimInitial = []
 
 -- the words for a refused element, by what refused it
 abbrev pub words_of_code : Code → List ℕ
-words_of_code (codings.Format fault) = form_words fault
+words_of_code (codings.Form fault) = form_words fault
 words_of_code (codings.Pair fault) = pair_words fault
 words_of_code (codings.Register refusal) = refusal_words refusal
 
@@ -225,7 +225,7 @@ words_of (amiss.Noted event note) = note_words note
 
 -- what the words for a refused element end with
 abbrev pub details_of_code : Code → List ℕ
-details_of_code (codings.Format fault) = field_text fault
+details_of_code (codings.Form fault) = field_text fault
 details_of_code (codings.Pair fault) = []
 details_of_code (codings.Register refusal) = operations_text refusal
 

@@ -198,7 +198,7 @@ fn push_refused(
         push_meant(text, word)?;
     }
     text.push_str("\n")?;
-    if let (Code::Format(FormFault::UnsupportedF), 0) = (code, case.before) {
+    if let (Code::Form(FormFault::UnsupportedF), 0) = (code, case.before) {
         push_foot(text, case.width)?;
         text.push_str(
             "only reads and writes are judged: a register that meets another :f is not covered by its verdict\n",

@@ -83,7 +83,7 @@ fn push_spot(text: &mut String, finding: &Finding) -> Result<(), AllocError> {
 /// The name of what is amiss, which a printed fault has after its code.
 fn push_name(text: &mut String, alloc: Global, what: &Amiss) -> Result<(), AllocError> {
     let printed = match what {
-        Amiss::Refused(_, Code::Format(fault)) => format!(in alloc; "{fault}")?,
+        Amiss::Refused(_, Code::Form(fault)) => format!(in alloc; "{fault}")?,
         Amiss::Refused(_, Code::Pair(fault)) => format!(in alloc; "{fault}")?,
         Amiss::Refused(_, Code::Register(refusal)) => format!(in alloc; "{refusal}")?,
         Amiss::Broken(code) => format!(in alloc; "{code:?}")?,

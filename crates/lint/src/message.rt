@@ -24,7 +24,7 @@ fn words(what: &Amiss) -> &'static str
     ensures { result.now ≡ words_of what.now }
 {
     match what {
-        Amiss::Refused(_, Code::Format(fault)) => form_words(fault),
+        Amiss::Refused(_, Code::Form(fault)) => form_words(fault),
         Amiss::Refused(_, Code::Pair(fault)) => pair_words(fault),
         Amiss::Refused(_, Code::Register(refusal)) => refusal_words(refusal),
         Amiss::Broken(code) => break_words(*code),
@@ -121,7 +121,7 @@ fn push_details(text: &mut String, what: &Amiss) -> Result<(), AllocError>
     ensures { OnOk result (string_bytes text.new ≡ string_bytes text.old ++ details_of what.now) }
 {
     match what {
-        Amiss::Refused(_, Code::Format(fault)) => push_field(text, fault),
+        Amiss::Refused(_, Code::Form(fault)) => push_field(text, fault),
         Amiss::Refused(_, Code::Register(refusal)) => push_operations(text, refusal),
         Amiss::Tower(fault) => push_tower(text, fault),
         Amiss::Noted(_, note) => push_noted(text, note),

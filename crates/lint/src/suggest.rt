@@ -22,12 +22,12 @@ pub fn meant_in_element<'t>(
         return Ok(None);
     };
     match code {
-        Code::Format(FormFault::NoRegister) => match name_in(&element) {
+        Code::Form(FormFault::NoRegister) => match name_in(&element) {
             Some(name) => nearest_name(alloc, name, &names_in(alloc, tower)?),
             None => Ok(None),
         },
-        Code::Format(FormFault::BadType) => meant_type(alloc, &element),
-        Code::Format(FormFault::UnsupportedF) => meant_under(
+        Code::Form(FormFault::BadType) => meant_type(alloc, &element),
+        Code::Form(FormFault::UnsupportedF) => meant_under(
             alloc,
             &element,
             b":f",
