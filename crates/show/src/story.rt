@@ -102,7 +102,7 @@ fn writes_by_beginning<'t>(
 }
 
 fn writes_in<'t>(alloc: Global, slots: &[Option<Op<'t>>]) -> Result<Vec<Op<'t>>, AllocError>
-    ensures { IfOk result (λ writes. writes.items ≡ writes (ops_in_slots slots.now)) }
+    ensures { IfOk result (λ found. found.items ≡ writes (ops_in_slots slots.now)) }
 {
     let mut writes = Vec::new(alloc);
     for slot in slots {
