@@ -226,21 +226,36 @@ fn each_is_told<R: Threads + Wait + AllocGlobal + Abort + Sync>(
 /// break in each way, beside one that does not and an empty one.
 const TRACES: &str =
     "open in 1 {:levels [{:name top :registers [{:name x :kind :atomic :writers :any}]}]}
-{:process 0 :type :invoke :f :write :value 5 :index 0} {:process 0 :type :ok :f :write :value 5 :index 1} {:process 1 :type :invoke :f :read :value nil :index 2} {:process 1 :type :ok :f :read :value 4 :index 3} {:ask x} {:edit :amend :of 2 :value 5} #t {:ask x}
+{:process 0 :type :invoke :f :write :value 5 :index 0} {:process 0 :type :ok :f :write :value 5 :index 1} \
+    {:process 1 :type :invoke :f :read :value nil :index 2} {:process 1 :type :ok :f :read :value 4 :index 3} \
+    {:ask x} {:edit :amend :of 2 :value 5} #t {:ask x}
 => holds 2, 1 logs 0: 4 x0 fails 2, 6 x0 holds 2,
 
 open in 2 {:levels [{:name top :registers [{:name x :kind :atomic :writers :any}]}]}
-7 {:process 0 :type :ok :f :write :value 1 :index 1} {:process 0 :type :invoke :f :write :value 1 :index 2} {:process 0 :type :invoke :f :write :value 2 :index 3} {:process 0 :type :ok :f :write :value 9 :index 4} {:process 1 :type :invoke :f :write :value 1 :index 5} {:process nemesis} {:ask y} {:process 1 :type :fail :f :write} {:ask x} {:edit :withdraw :of 2} {:edit :withdraw :of 2} {:process 2 :type :invoke :f :write :value 3}
-=> holds 0, 1 logs 0: 0 F1 NotAMap, 1 P2 NoInvocation, 3 P1 ProcessBusy, 4 P3 AnswerMismatch, 5 X8 ValueTaken, 7 F8 NoRegister, 8 X1 UnknownOp, 9 x0 holds 1, 11 X1 UnknownOp, 12 F2 MissingField,
+7 {:process 0 :type :ok :f :write :value 1 :index 1} {:process 0 :type :invoke :f :write :value 1 :index 2} \
+    {:process 0 :type :invoke :f :write :value 2 :index 3} {:process 0 :type :ok :f :write :value 9 :index 4} \
+    {:process 1 :type :invoke :f :write :value 1 :index 5} {:process nemesis} {:ask y} \
+    {:process 1 :type :fail :f :write} {:ask x} {:edit :withdraw :of 2} {:edit :withdraw :of 2} \
+    {:process 2 :type :invoke :f :write :value 3}
+=> holds 0, 1 logs 0: 0 F1 NotAMap, 1 P2 NoInvocation, 3 P1 ProcessBusy, 4 P3 AnswerMismatch, 5 X8 ValueTaken, 7 F8 \
+    NoRegister, 8 X1 UnknownOp, 9 x0 holds 1, 11 X1 UnknownOp, 12 F2 MissingField,
 
-open yields in 2 {:levels [{:name top :registers [{:name a :kind :regular :writers [0]} {:name b :kind :atomic :writers :any} {:name c :kind :safe :writers [3]}]}]}
-{:process 0 :type :invoke :f :write :value [a 1] :index 0} {:process 0 :type :ok :f :write :value [a 1] :index 1} {:ask a} {:process 0 :type :invoke :f :write :value [a 2] :index 1}
-{:process 1 :type :invoke :f :write :value [a 1] :index 5} {:process 1 :type :ok :f :write :value [a 1] :index 6} {:process 1 :type :invoke :f :read :value [b nil] :index 5} {:process 1 :type :ok :f :read :value [b 7] :index 6} {:process 2 :type :invoke :f :read :value [b nil] :index 7} {:process 2 :type :ok :f :read :value [b nil] :index 8} {:ask b} {:ask c}
+open yields in 2 {:levels [{:name top :registers [{:name a :kind :regular :writers [0]} \
+    {:name b :kind :atomic :writers :any} {:name c :kind :safe :writers [3]}]}]}
+{:process 0 :type :invoke :f :write :value [a 1] :index 0} {:process 0 :type :ok :f :write :value [a 1] :index 1} \
+    {:ask a} {:process 0 :type :invoke :f :write :value [a 2] :index 1}
+{:process 1 :type :invoke :f :write :value [a 1] :index 5} {:process 1 :type :ok :f :write :value [a 1] :index 6} \
+    {:process 1 :type :invoke :f :read :value [b nil] :index 5} \
+    {:process 1 :type :ok :f :read :value [b 7] :index 6} \
+    {:process 2 :type :invoke :f :read :value [b nil] :index 7} \
+    {:process 2 :type :ok :f :read :value [b nil] :index 8} {:ask b} {:ask c}
 => holds 1, fails 2, holds 0, 2 logs 0: 2 x0 holds 1, 3 X4 MomentTaken, 1: 0 X6 NotAWriter, 1 X1 UnknownOp, 6 x1 fails 2, 7 x2 holds 0,
 
 open in 2 {:levels [{:name top :registers [{:name a :kind :atomic :writers :any} {:name b :kind :atomic :writers :any} {:name c :kind :atomic :writers :any}]}]}
 {:process 0 :type :invoke :f :write :value [a 1] :index 0} {:process 0 :type :ok :f :write :value [a 1] :index 1} {:index 0
-{:process 0 :type :invoke :f :write :value [b 1] :index 0} {:process 0 :type :ok :f :write :value [b 1] :index 1} 7 {:process 0 :type :invoke :f :read :value [a nil] :index 2} {:process 0 :type :ok :f :read :value [a 1] :index 3} {:ask b}
+{:process 0 :type :invoke :f :write :value [b 1] :index 0} \
+    {:process 0 :type :ok :f :write :value [b 1] :index 1} 7 {:process 0 :type :invoke :f :read :value [a nil] \
+    :index 2} {:process 0 :type :ok :f :read :value [a 1] :index 3} {:ask b}
 [1 2)
 ]
 {:a}
@@ -248,31 +263,59 @@ open in 2 {:levels [{:name top :registers [{:name a :kind :atomic :writers :any}
 [[[[[[[[[[[[[[[[[[[[[[[[[[[[[[[[[[[[[[[[[[[[[[[[[[[[[[[[[[[[[[[[[
 ;
 {:process 0 :type :invoke :f :write :value [c 2] :index 4} #_
-=> holds 2, holds 1, holds 1, 9 logs 0: Truncated at 123, 1: 2 F1 NotAMap, 5 x1 holds 1, 2: WrongClose at 4, 3: StrayClose at 0, 4: OddMap at 3, 5: 0 F1 NotAMap, TagWithoutElement at 3, 6: TooDeep at 64, 8: Truncated at 61,";
+=> holds 2, holds 1, holds 1, 9 logs 0: Truncated at 123, 1: 2 F1 NotAMap, 5 x1 holds 1, 2: WrongClose at 4, 3: \
+    StrayClose at 0, 4: OddMap at 3, 5: 0 F1 NotAMap, TagWithoutElement at 3, 6: TooDeep at 64, 8: Truncated at 61,";
 
 /// Two feeders and four, in shards of their own and in one.
 const GATES: &str =
-    "meet gather yields in 2 {:levels [{:name bits :registers [{:name 0 :kind :regular :writers [1] :initial 0}]} {:name top :registers [{:name :x :kind :atomic :writers :any :of [0]}]}]}
-{:process 1 :type :invoke :f :write :value [0 1] :index 0} {:process 1 :type :ok :f :write :value [0 1] :index 1} {:process 2 :type :invoke :f :read :value [0 nil] :index 2} {:process 2 :type :ok :f :read :value [0 0] :index 3}
-{:process 5 :type :invoke :f :write :value [:x 5] :index 10} {:process 5 :type :ok :f :write :value [:x 5] :index 11} {:process 6 :type :invoke :f :read :value [:x nil] :index 12} {:process 6 :type :ok :f :read :value [:x nil] :index 13}
+    "meet gather yields in 2 {:levels [{:name bits :registers [{:name 0 :kind :regular :writers [1] :initial 0}]} \
+    {:name top :registers [{:name :x :kind :atomic :writers :any :of [0]}]}]}
+{:process 1 :type :invoke :f :write :value [0 1] :index 0} {:process 1 :type :ok :f :write :value [0 1] :index 1} \
+    {:process 2 :type :invoke :f :read :value [0 nil] :index 2} {:process 2 :type :ok :f :read :value [0 0] :index 3}
+{:process 5 :type :invoke :f :write :value [:x 5] :index 10} \
+    {:process 5 :type :ok :f :write :value [:x 5] :index 11} \
+    {:process 6 :type :invoke :f :read :value [:x nil] :index 12} \
+    {:process 6 :type :ok :f :read :value [:x nil] :index 13}
 => fails 2, fails 2, 2 logs
 
-alone yields in 1 {:levels [{:name bits :registers [{:name 0 :kind :regular :writers [1] :initial 0}]} {:name top :registers [{:name :x :kind :atomic :writers :any :of [0]}]}]}
-{:process 1 :type :invoke :f :write :value [0 1] :index 0} {:process 1 :type :ok :f :write :value [0 1] :index 1} {:process 2 :type :invoke :f :read :value [0 nil] :index 2} {:process 2 :type :ok :f :read :value [0 0] :index 3}
-{:process 5 :type :invoke :f :write :value [:x 5] :index 10} {:process 5 :type :ok :f :write :value [:x 5] :index 11} {:process 6 :type :invoke :f :read :value [:x nil] :index 12} {:process 6 :type :ok :f :read :value [:x nil] :index 13}
+alone yields in 1 {:levels [{:name bits :registers [{:name 0 :kind :regular :writers [1] :initial 0}]} \
+    {:name top :registers [{:name :x :kind :atomic :writers :any :of [0]}]}]}
+{:process 1 :type :invoke :f :write :value [0 1] :index 0} {:process 1 :type :ok :f :write :value [0 1] :index 1} \
+    {:process 2 :type :invoke :f :read :value [0 nil] :index 2} {:process 2 :type :ok :f :read :value [0 0] :index 3}
+{:process 5 :type :invoke :f :write :value [:x 5] :index 10} \
+    {:process 5 :type :ok :f :write :value [:x 5] :index 11} \
+    {:process 6 :type :invoke :f :read :value [:x nil] :index 12} \
+    {:process 6 :type :ok :f :read :value [:x nil] :index 13}
 => fails 2, fails 2, 2 logs
 
-meet gather in 4 {:levels [{:name top :registers [{:name 100 :kind :atomic :writers :any} {:name 101 :kind :atomic :writers :any} {:name 102 :kind :atomic :writers :any} {:name 103 :kind :atomic :writers :any}]}]}
+meet gather in 4 {:levels [{:name top :registers [{:name 100 :kind :atomic :writers :any} \
+    {:name 101 :kind :atomic :writers :any} {:name 102 :kind :atomic :writers :any} \
+    {:name 103 :kind :atomic :writers :any}]}]}
 4 times {:process 0 :type :invoke :f :write :value [% %] :index %} {:ask %} {:process 0 :type :ok :f :write :value [% %] :index %0}
 => holds 1, holds 1, holds 1, holds 1, 4 logs 0: 1 x0 holds 1, 1: 1 x1 holds 1, 2: 1 x2 holds 1, 3: 1 x3 holds 1,
 
-alone gather in 1 {:levels [{:name top :registers [{:name 100 :kind :atomic :writers :any} {:name 101 :kind :atomic :writers :any} {:name 102 :kind :atomic :writers :any} {:name 103 :kind :atomic :writers :any}]}]}
+alone gather in 1 {:levels [{:name top :registers [{:name 100 :kind :atomic :writers :any} \
+    {:name 101 :kind :atomic :writers :any} {:name 102 :kind :atomic :writers :any} \
+    {:name 103 :kind :atomic :writers :any}]}]}
 4 times {:process 0 :type :invoke :f :write :value [% %] :index %} {:ask %} {:process 0 :type :ok :f :write :value [% %] :index %0}
 => holds 1, holds 1, holds 1, holds 1, 4 logs 0: 1 x0 holds 1, 1: 1 x1 holds 1, 2: 1 x2 holds 1, 3: 1 x3 holds 1,";
 
 /// Three feeders, whose next two calls after the first call of each arrive in every order.
 const ORDERS: &str =
-    "gather001122 gather001212 gather001221 gather002112 gather002121 gather002211 gather010122 gather010212 gather010221 gather011022 gather011202 gather011220 gather012012 gather012021 gather012102 gather012120 gather012201 gather012210 gather020112 gather020121 gather020211 gather021012 gather021021 gather021102 gather021120 gather021201 gather021210 gather022011 gather022101 gather022110 gather100122 gather100212 gather100221 gather101022 gather101202 gather101220 gather102012 gather102021 gather102102 gather102120 gather102201 gather102210 gather110022 gather110202 gather110220 gather112002 gather112020 gather112200 gather120012 gather120021 gather120102 gather120120 gather120201 gather120210 gather121002 gather121020 gather121200 gather122001 gather122010 gather122100 gather200112 gather200121 gather200211 gather201012 gather201021 gather201102 gather201120 gather201201 gather201210 gather202011 gather202101 gather202110 gather210012 gather210021 gather210102 gather210120 gather210201 gather210210 gather211002 gather211020 gather211200 gather212001 gather212010 gather212100 gather220011 gather220101 gather220110 gather221001 gather221010 gather221100 in 1 {:levels [{:name top :registers [{:name a :kind :atomic :writers :any} {:name b :kind :atomic :writers :any} {:name c :kind :atomic :writers :any} {:name s :kind :atomic :writers :any}]}]}
+    "gather001122 gather001212 gather001221 gather002112 gather002121 gather002211 gather010122 gather010212 \
+    gather010221 gather011022 gather011202 gather011220 gather012012 gather012021 gather012102 gather012120 \
+    gather012201 gather012210 gather020112 gather020121 gather020211 gather021012 gather021021 gather021102 \
+    gather021120 gather021201 gather021210 gather022011 gather022101 gather022110 gather100122 gather100212 \
+    gather100221 gather101022 gather101202 gather101220 gather102012 gather102021 gather102102 gather102120 \
+    gather102201 gather102210 gather110022 gather110202 gather110220 gather112002 gather112020 gather112200 \
+    gather120012 gather120021 gather120102 gather120120 gather120201 gather120210 gather121002 gather121020 \
+    gather121200 gather122001 gather122010 gather122100 gather200112 gather200121 gather200211 gather201012 \
+    gather201021 gather201102 gather201120 gather201201 gather201210 gather202011 gather202101 gather202110 \
+    gather210012 gather210021 gather210102 gather210120 gather210201 gather210210 gather211002 gather211020 \
+    gather211200 gather212001 gather212010 gather212100 gather220011 gather220101 gather220110 gather221001 \
+    gather221010 gather221100 in 1 {:levels [{:name top :registers [{:name a :kind :atomic :writers :any} \
+    {:name b :kind :atomic :writers :any} {:name c :kind :atomic :writers :any} \
+    {:name s :kind :atomic :writers :any}]}]}
 {:ask a} {:process 0 :type :invoke :f :write :value [s 1] :index 0} {:process 0 :type :ok :f :write :value [s 1] :index 3}
 {:ask b} {:process 0 :type :invoke :f :read :value [s nil] :index 2} {:process 0 :type :ok :f :read :value [s 1] :index 5} {:ask b}
 {:ask c} {:process 0 :type :invoke :f :read :value [s nil] :index 6} {:process 0 :type :ok :f :read :value [s 2] :index 7} {:edit :amend :of 1 :value 1}
@@ -280,17 +323,23 @@ const ORDERS: &str =
 
 /// As many traces as a run may have, each with a feeder at once.
 const MANY: &str =
-    "open gather in 64 {:levels [{:name top :registers [{:name a :kind :atomic :writers :any} {:name b :kind :atomic :writers :any} {:name c :kind :regular :writers [0]}]}]}
-100 times {:process 0 :type :invoke :f :write :value [a %] :index %0} {:process 0 :type :ok :f :write :value [a %] :index %1} {:process 0 :type :invoke :f :read :value [b nil] :index %2} {:process 0 :type :ok :f :read :value [b 7] :index %3}
+    "open gather in 64 {:levels [{:name top :registers [{:name a :kind :atomic :writers :any} \
+    {:name b :kind :atomic :writers :any} {:name c :kind :regular :writers [0]}]}]}
+100 times {:process 0 :type :invoke :f :write :value [a %] :index %0} \
+    {:process 0 :type :ok :f :write :value [a %] :index %1} \
+    {:process 0 :type :invoke :f :read :value [b nil] :index %2} {:process 0 :type :ok :f :read :value [b 7] :index %3}
 {:process 0 :type :invoke :f :write :value [b 7] :index 1} {:process 0 :type :ok :f :write :value [b 7] :index 2} {:ask c} 7
-154 times {:process 0 :type :invoke :f :write :value [a %] :index %0} {:process 0 :type :ok :f :write :value [a %] :index %1} {:process 0 :type :invoke :f :read :value [b nil] :index %2} {:process 0 :type :ok :f :read :value [b 7] :index %3}
+154 times {:process 0 :type :invoke :f :write :value [a %] :index %0} \
+    {:process 0 :type :ok :f :write :value [a %] :index %1} \
+    {:process 0 :type :invoke :f :read :value [b nil] :index %2} {:process 0 :type :ok :f :read :value [b 7] :index %3}
 {:process 9 :type :invoke :f :write :value [c 7] :index 1} {:ask c} ]
 => holds 254, holds 255, holds 0, 256 logs 100: 2 x2 holds 0, 3 F1 NotAMap, 255: 0 X6 NotAWriter, 1 x2 holds 0, StrayClose at 68,";
 
 /// Two traces with edits, questions and refusals, of which one breaks.
 const MEMORY: &str =
     "open in 2 {:levels [{:name top :registers [{:name a :kind :atomic :writers :any} {:name b :kind :atomic :writers :any}]}]}
-{:process 0 :type :invoke :f :write :value [a 1] :index 0} {:process 0 :type :ok :f :write :value [a 1] :index 1} {:ask a} {:process 0 :type :invoke :f :write :value [a 1] :index 2} ]
+{:process 0 :type :invoke :f :write :value [a 1] :index 0} {:process 0 :type :ok :f :write :value [a 1] :index 1} \
+    {:ask a} {:process 0 :type :invoke :f :write :value [a 1] :index 2} ]
 {:process 1 :type :invoke :f :read :value [b nil] :index 0} {:process 1 :type :ok :f :read :value [b 2] :index 1} {:edit :amend :of 0 :value nil} 7 {:ask b}
 => holds 1, holds 1, 2 logs 0: 2 x0 holds 1, 3 X8 ValueTaken, StrayClose at 182, 1: 3 F1 NotAMap, 4 x1 holds 1,";
 
@@ -330,7 +379,10 @@ fn traces_may_be_cut_anywhere(rt: HostRuntime) -> Result<(), Fail> {
 /// Steps of each kind between long blanks, and an event whose text is long, so that chunks are put on pages whole.
 const LONG: &str =
     "open in 1 {:levels [{:name top :registers [{:name x :kind :atomic :writers :any}]}]}
-~{:process 0 :type :invoke :f :write :value 1 :index 0} {:process 0 :type :ok :f :write :value 1 :index 1} {:ask x}~{:process 1 :type :invoke :f :read ~:value nil :index 2} #t {:process 1 :type :ok :f :read :value 2 :index 3} {:edit :amend :of 3 :value 1} {:process 2 :type :fail :f :read} 7 {:process 1 :type :invoke :f :read :value nil :index 4 :error \"e\"} {:edit :withdraw :of 0} {:ask x}~
+~{:process 0 :type :invoke :f :write :value 1 :index 0} {:process 0 :type :ok :f :write :value 1 :index 1} \
+    {:ask x}~{:process 1 :type :invoke :f :read ~:value nil :index 2} #t {:process 1 :type :ok :f :read :value 2 \
+    :index 3} {:edit :amend :of 3 :value 1} {:process 2 :type :fail :f :read} 7 {:process 1 :type :invoke :f :read \
+    :value nil :index 4 :error \"e\"} {:edit :withdraw :of 0} {:ask x}~
 => fails 2, 1 logs 0: 2 x0 holds 1, 6 P2 NoInvocation, 7 F1 NotAMap, 10 x0 fails 2,";
 
 /// Cut into two long chunks at each place in and between some elements.

@@ -714,55 +714,153 @@ const FIVE: &str = "{:levels [{:name top :registers [
 /// What passes submit, learn and ask: of one register; after edits of another pass that they have not seen; with
 /// several registers in a shard; with more shards than registers; and edits that are refused.
 const CALLS: &str =
-    "one 7 1 2 | 0 writes x0 5 0-1; 1 learns 0; 1 asks x0; 1 reads x0 4 2-3; finish with 1; 1 asks x0; finish with 1 0 => 0/0 holds; learnt; holds 1 of 1; 0/1 fails; S4 PassMissing of feeder 0; fails 2 unwritten 1:2 of 2; closed 0: 0 x0 + 0:0 holds, 1 x0 + 1:2 fails, 1: fails 2, none
+    "one 7 1 2 | 0 writes x0 5 0-1; 1 learns 0; 1 asks x0; 1 reads x0 4 2-3; finish with 1; 1 asks x0; \
+    finish with 1 0 => 0/0 holds; learnt; holds 1 of 1; 0/1 fails; S4 PassMissing of feeder 0; \
+    fails 2 unwritten 1:2 of 2; closed 0: 0 x0 + 0:0 holds, 1 x0 + 1:2 fails, 1: fails 2, none
 one 7 1 2 | 0 writes x0 1 0-1; 0 writes x0 2 2-3; 0 reads x0 1 4-5; 1 asks x0 => 0/0 holds; 0/1 holds; 0/2 fails; fails 3 crossing of 3
-one 7 1 2 | 0 writes x0 5 0-1; 1 reads x0 5 2-3; 0 counts 0; 1 counts 0; 1 counts 1; finish with 0 1; 0 asks x0 => 0/0 holds; 0/1 holds; 1; 1; 0; closed 0: 0 x0 + 0:0 holds, 1 x0 + 1:2 holds, 1: holds 2, none; is closed
-five 7 3 2 | 0 writes x0 1 0-1; 0 writes x3 1 0-1; 1 writes x4 5 0-1; 1 writes x1 5 0-1; 0 reads x1 5 2-3; 1 learns 0; 1 asks x3; 0 asks x2; finish with 0 1 => 0/0 holds; 0/1 holds; 1/0 holds; 1/1 holds; 1/2 holds; learnt; holds 1 of 2; holds 0 of 0; closed 0: 0 x0 + 0:0 holds, 0 x3 + 0:0 holds, 1: 1 x4 + 1:0 holds, 1 x1 + 1:0 holds, 0 x1 + 0:2 holds, 2: 3: holds 1, holds 2, holds 0, holds 1, holds 1, none
-five 7 8 1 | 0 writes x4 1 0-1; gate; 0 asks x3; gate; 0 counts 4; 0 counts 8; finish with 0 => 4/0 holds; 1 inside, 1 outside, 0 in 4, 0 out; holds 0 of 0; 2 inside, 2 outside, 0 in 3, 0 out; 1; 0; closed 0: 1: 2: 3: 4: 0 x4 + 0:0 holds, 5: 6: 7: 8: holds 0, holds 0, holds 0, holds 0, holds 1, none
-five 7 2 2 | 1 writes x3 1 0-1; 0 writes x3 1 0-1; 0 writes x3 2 0-9; 0 withdraws x3 0:9; 0 reads x3 1 3-2; 0 reads x3 1 1-5; 0 writes x3 2 5-; 0 ends x3 0:5 7; 1 reads x3 8 8-9; 1 asks x3; 0 asks x1; 1 sets x3 1:8 2; 1 asks x3; 0 withdraws x3 0:5; 0 asks x3; 0 counts 1; 1 counts 1; 1 counts 7; finish with 0 1 => 1/0 X6 NotAWriter; 1/1 holds; 1/2 X2 OpTaken; 1/3 X1 UnknownOp; 1/4 X3 EndNotAfterBegin; 1/5 X4 MomentTaken; 1/6 holds; 1/7 holds; 1/8 fails; fails 3 1:8 of 9; holds 0 of 9; 1/9 holds; holds 3 of 10; 1/10 fails; fails 2 1:8 of 11; 8; 3; 0; closed 0: 1: 1 x3 + 1:0 X6 NotAWriter, 0 x3 + 0:0 holds, 0 x3 + 0:0 X2 OpTaken, 0 x3 - 0:9 X1 UnknownOp, 0 x3 + 0:3 X3 EndNotAfterBegin, 0 x3 + 0:1 X4 MomentTaken, 0 x3 + 0:5 holds, 0 x3 ~ 0:5 holds, 1 x3 + 1:8 fails, 1 x3 ~ 1:8 holds, 0 x3 - 0:5 fails, 2: holds 0, holds 0, holds 0, fails 2, holds 0, none";
+one 7 1 2 | 0 writes x0 5 0-1; 1 reads x0 5 2-3; 0 counts 0; 1 counts 0; 1 counts 1; finish with 0 1; \
+    0 asks x0 => 0/0 holds; 0/1 holds; 1; 1; 0; closed 0: 0 x0 + 0:0 holds, 1 x0 + 1:2 holds, 1: holds 2, none; \
+    is closed
+five 7 3 2 | 0 writes x0 1 0-1; 0 writes x3 1 0-1; 1 writes x4 5 0-1; 1 writes x1 5 0-1; 0 reads x1 5 2-3; \
+    1 learns 0; 1 asks x3; 0 asks x2; finish with 0 1 => 0/0 holds; 0/1 holds; 1/0 holds; 1/1 holds; 1/2 holds; \
+    learnt; holds 1 of 2; holds 0 of 0; closed 0: 0 x0 + 0:0 holds, 0 x3 + 0:0 holds, 1: 1 x4 + 1:0 holds, 1 x1 + \
+    1:0 holds, 0 x1 + 0:2 holds, 2: 3: holds 1, holds 2, holds 0, holds 1, holds 1, none
+five 7 8 1 | 0 writes x4 1 0-1; gate; 0 asks x3; gate; 0 counts 4; 0 counts 8; finish with 0 => 4/0 holds; \
+    1 inside, 1 outside, 0 in 4, 0 out; holds 0 of 0; 2 inside, 2 outside, 0 in 3, 0 out; 1; 0; \
+    closed 0: 1: 2: 3: 4: 0 x4 + 0:0 holds, 5: 6: 7: 8: holds 0, holds 0, holds 0, holds 0, holds 1, none
+five 7 2 2 | 1 writes x3 1 0-1; 0 writes x3 1 0-1; 0 writes x3 2 0-9; 0 withdraws x3 0:9; 0 reads x3 1 3-2; \
+    0 reads x3 1 1-5; 0 writes x3 2 5-; 0 ends x3 0:5 7; 1 reads x3 8 8-9; 1 asks x3; 0 asks x1; 1 sets x3 1:8 2; \
+    1 asks x3; 0 withdraws x3 0:5; 0 asks x3; 0 counts 1; 1 counts 1; 1 counts 7; \
+    finish with 0 1 => 1/0 X6 NotAWriter; 1/1 holds; 1/2 X2 OpTaken; 1/3 X1 UnknownOp; 1/4 X3 EndNotAfterBegin; \
+    1/5 X4 MomentTaken; 1/6 holds; 1/7 holds; 1/8 fails; fails 3 1:8 of 9; holds 0 of 9; 1/9 holds; holds 3 of 10; \
+    1/10 fails; fails 2 1:8 of 11; 8; 3; 0; closed 0: 1: 1 x3 + 1:0 X6 NotAWriter, 0 x3 + 0:0 holds, 0 x3 + 0:0 X2 \
+    OpTaken, 0 x3 - 0:9 X1 UnknownOp, 0 x3 + 0:3 X3 EndNotAfterBegin, 0 x3 + 0:1 X4 MomentTaken, 0 x3 + 0:5 holds, 0 \
+    x3 ~ 0:5 holds, 1 x3 + 1:8 fails, 1 x3 ~ 1:8 holds, 0 x3 - 0:5 fails, 2: holds 0, holds 0, holds 0, fails 2, \
+    holds 0, none";
 
 /// A register that is not there, and passes of another opening or of a feeder whose pass is there already.
 const FOREIGN: &str =
-    "five 7 2 2 | 0 writes x5 1 0-1; 0 asks x9; 0 counts 1; gate; 0 writes x3 1 0-1; 0 counts 1; finish with 0 1 => S1 UnknownRegister; S1 UnknownRegister; 0; 0 inside, 0 outside; 1/0 holds; 1; closed 0: 1: 0 x3 + 0:0 holds, 2: holds 0, holds 0, holds 0, holds 1, holds 0, none
-five 7 2 2 and 8 2 2 | 4 writes x0 1 0-1; 4 asks x0; 4 writes x5 1 0-1; 4 asks x9; 0 learns 4; 4 learns 0; gate; finish with 4; finish with 0 5; finish with 0 1 4; 4 counts 0; 0 writes x0 1 0-1; gate; finish with 0 1 => S6 ForeignPass; S6 ForeignPass; S6 ForeignPass; S6 ForeignPass; S6 ForeignPass; S6 ForeignPass; 0 inside, 0 outside; S6 ForeignPass; S6 ForeignPass; S6 ForeignPass; 0; 0/0 holds; 1 inside, 1 outside, 0 in 0, 0 out; closed 0: 0 x0 + 0:0 holds, 1: 2: holds 1, holds 0, holds 0, holds 0, holds 0, none
-five 7 2 2 and 7 3 2 | 4 writes x0 1 0-1; 4 asks x9; 0 learns 4; 4 learns 0; gate; finish with 4 5; 0 asks x0; finish with 0 1 => S6 ForeignPass; S6 ForeignPass; S6 ForeignPass; S6 ForeignPass; 0 inside, 0 outside; S6 ForeignPass; holds 0 of 0; closed 0: 1: 2: holds 0, holds 0, holds 0, holds 0, holds 0, none
-five 7 2 2 and 7 2 3 | other 2 writes x0 1 0-1; 6 learns 2; 6 writes x0 1 0-1; 6 asks x0; 6 asks x9; 6 counts 0; finish with 6; finish with 0 1 6; 0 asks x0; finish with 0 1 => 0/0 holds; learnt; S6 ForeignPass; S6 ForeignPass; S6 ForeignPass; 0; S6 ForeignPass; S6 ForeignPass; holds 0 of 0; closed 0: 1: 2: holds 0, holds 0, holds 0, holds 0, holds 0, none
-five 7 2 2 | 0 writes x0 1 0-1; other 2 writes x0 9 0-1; finish with 0 2; finish with 2 1 0; finish with 1 0 2; 0 asks x0; finish with 1 0 => 0/0 holds; 0/0 holds; S6 ForeignPass; S6 ForeignPass; S6 ForeignPass; holds 1 of 1; closed 0: 0 x0 + 0:0 holds, 1: 2: holds 1, holds 0, holds 0, holds 0, holds 0, none";
+    "five 7 2 2 | 0 writes x5 1 0-1; 0 asks x9; 0 counts 1; gate; 0 writes x3 1 0-1; 0 counts 1; \
+    finish with 0 1 => S1 UnknownRegister; S1 UnknownRegister; 0; 0 inside, 0 outside; 1/0 holds; 1; \
+    closed 0: 1: 0 x3 + 0:0 holds, 2: holds 0, holds 0, holds 0, holds 1, holds 0, none
+five 7 2 2 and 8 2 2 | 4 writes x0 1 0-1; 4 asks x0; 4 writes x5 1 0-1; 4 asks x9; 0 learns 4; 4 learns 0; gate; \
+    finish with 4; finish with 0 5; finish with 0 1 4; 4 counts 0; 0 writes x0 1 0-1; gate; \
+    finish with 0 1 => S6 ForeignPass; S6 ForeignPass; S6 ForeignPass; S6 ForeignPass; S6 ForeignPass; \
+    S6 ForeignPass; 0 inside, 0 outside; S6 ForeignPass; S6 ForeignPass; S6 ForeignPass; 0; 0/0 holds; \
+    1 inside, 1 outside, 0 in 0, 0 out; closed 0: 0 x0 + 0:0 holds, 1: 2: holds 1, holds 0, holds 0, holds 0, holds \
+    0, none
+five 7 2 2 and 7 3 2 | 4 writes x0 1 0-1; 4 asks x9; 0 learns 4; 4 learns 0; gate; finish with 4 5; 0 asks x0; \
+    finish with 0 1 => S6 ForeignPass; S6 ForeignPass; S6 ForeignPass; S6 ForeignPass; 0 inside, 0 outside; \
+    S6 ForeignPass; holds 0 of 0; closed 0: 1: 2: holds 0, holds 0, holds 0, holds 0, holds 0, none
+five 7 2 2 and 7 2 3 | other 2 writes x0 1 0-1; 6 learns 2; 6 writes x0 1 0-1; 6 asks x0; 6 asks x9; 6 counts 0; \
+    finish with 6; finish with 0 1 6; 0 asks x0; finish with 0 1 => 0/0 holds; learnt; S6 ForeignPass; \
+    S6 ForeignPass; S6 ForeignPass; 0; S6 ForeignPass; S6 ForeignPass; holds 0 of 0; \
+    closed 0: 1: 2: holds 0, holds 0, holds 0, holds 0, holds 0, none
+five 7 2 2 | 0 writes x0 1 0-1; other 2 writes x0 9 0-1; finish with 0 2; finish with 2 1 0; finish with 1 0 2; \
+    0 asks x0; finish with 1 0 => 0/0 holds; 0/0 holds; S6 ForeignPass; S6 ForeignPass; S6 ForeignPass; \
+    holds 1 of 1; closed 0: 0 x0 + 0:0 holds, 1: 2: holds 1, holds 0, holds 0, holds 0, holds 0, none";
 
 /// Passes of an auditor beside the journals of another that was opened alike: they differ by the farthest entry, by
 /// the pass's own last one, or by their number alone; or the journals agree.
 const BEHIND: &str =
-    "five 7 2 2 | other 2 writes x0 1 0-1; 2 asks x5; 2 writes x5 2 4-5; 2 asks x0; gate; 2 writes x0 2 4-5; 2 asks x1; 2 counts 0; 0 asks x0; other 2 asks x0; gate => 0/0 holds; S1 UnknownRegister; S1 UnknownRegister; S3 JournalBehind in shard 0 at 0 of 0; 2 inside, 2 outside, 0 in 0, 0 out; S3 JournalBehind in shard 0 at 0 of 0; holds 0 of 0; 1; holds 0 of 0; holds 1 of 1; 6 inside, 6 outside, 0 in 0, 0 out
-five 7 2 2 | other 2 writes x0 1 0-1; 3 learns 2; 3 asks x0; 0 writes x0 7 0-1; 3 asks x0; 3 writes x0 8 2-3; 0 asks x0; other 3 asks x0; finish with 0 1 => 0/0 holds; learnt; S3 JournalBehind in shard 0 at 0 of 0; 0/0 holds; S3 JournalBehind in shard 0 at 0 of 1; S3 JournalBehind in shard 0 at 0 of 1; holds 1 of 1; holds 1 of 1; closed 0: 0 x0 + 0:0 holds, 1: 2: holds 1, holds 0, holds 0, holds 0, holds 0, none
-five 7 2 2 | other 2 writes x0 1 0-1; other 3 writes x0 2 2-3; other 2 asks x0; 2 asks x0; 2 counts 0 => 0/0 holds; 0/1 holds; holds 2 of 2; S3 JournalBehind in shard 0 at 1 of 0; 1
-five 7 2 2 | other 2 writes x0 1 0-1; 1 writes x0 3 0-1; 1 writes x0 4 2-3; 2 learns 1; 2 asks x0; 2 writes x0 9 8-9; 1 asks x0; finish with 2 1; finish with 0 1 => 0/0 holds; 0/0 holds; 0/1 holds; learnt; S3 JournalBehind in shard 0 at 0 of 2; S3 JournalBehind in shard 0 at 0 of 2; holds 2 of 2; S3 JournalBehind in shard 0 at 0 of 2; closed 0: 1 x0 + 1:0 holds, 1 x0 + 1:2 holds, 1: 2: holds 2, holds 0, holds 0, holds 0, holds 0, none
-five 7 2 2 | 0 writes x0 3 0-1; 2 asks x0; 2 reads x0 3 2-3; 0 asks x0; finish with 2; finish with 2 1; finish with 1 0 => 0/0 holds; S3 JournalBehind in shard 0 at 0 of 1; S3 JournalBehind in shard 0 at 0 of 1; holds 1 of 1; S4 PassMissing of feeder 1; S3 JournalBehind in shard 0 at 0 of 1; closed 0: 0 x0 + 0:0 holds, 1: 2: holds 1, holds 0, holds 0, holds 0, holds 0, none
-five 7 2 2 | 0 writes x0 3 0-1; other 2 writes x0 3 0-1; 2 asks x0; 0 writes x0 4 2-3 a; other 2 writes x0 4 2-3 b; 2 asks x0; other 0 asks x0; 0 learns 2; 0 asks x0; 0 writes x0 5 4-5; 2 learns 0; 2 asks x0 => 0/0 holds; 0/0 holds; holds 1 of 1; 0/1 holds; 0/1 holds; S3 JournalBehind in shard 0 at 1 of 2; S3 JournalBehind in shard 0 at 1 of 2; learnt; holds 2 of 2; 0/2 holds; learnt; S3 JournalBehind in shard 0 at 1 of 3
-five 7 2 2 | 1 asks x0; 0 writes x0 3 0-1; other 1 asks x0; 1 asks x0; other 1 asks x0; other 1 asks x1; 1 learns 2; 1 asks x0 => holds 0 of 0; 0/0 holds; holds 0 of 0; holds 1 of 1; S3 JournalBehind in shard 0 at 0 of 0; holds 0 of 0; learnt; holds 1 of 1
-five 7 2 2 | 0 writes x0 1 0-1; other 2 writes x0 4 0-1; other 2 writes x0 5 2-3; 0 learns 2; 0 asks x0; 0 asks x1; other 0 asks x0; finish with 0 1 => 0/0 holds; 0/0 holds; 0/1 holds; learnt; S3 JournalBehind in shard 0 at 1 of 1; holds 0 of 0; S3 JournalBehind in shard 0 at 0 of 2; S3 JournalBehind in shard 0 at 1 of 1";
+    "five 7 2 2 | other 2 writes x0 1 0-1; 2 asks x5; 2 writes x5 2 4-5; 2 asks x0; gate; 2 writes x0 2 4-5; \
+    2 asks x1; 2 counts 0; 0 asks x0; other 2 asks x0; gate => 0/0 holds; S1 UnknownRegister; S1 UnknownRegister; \
+    S3 JournalBehind in shard 0 at 0 of 0; 2 inside, 2 outside, 0 in 0, 0 out; \
+    S3 JournalBehind in shard 0 at 0 of 0; holds 0 of 0; 1; holds 0 of 0; holds 1 of 1; \
+    6 inside, 6 outside, 0 in 0, 0 out
+five 7 2 2 | other 2 writes x0 1 0-1; 3 learns 2; 3 asks x0; 0 writes x0 7 0-1; 3 asks x0; 3 writes x0 8 2-3; \
+    0 asks x0; other 3 asks x0; finish with 0 1 => 0/0 holds; learnt; S3 JournalBehind in shard 0 at 0 of 0; \
+    0/0 holds; S3 JournalBehind in shard 0 at 0 of 1; S3 JournalBehind in shard 0 at 0 of 1; holds 1 of 1; \
+    holds 1 of 1; closed 0: 0 x0 + 0:0 holds, 1: 2: holds 1, holds 0, holds 0, holds 0, holds 0, none
+five 7 2 2 | other 2 writes x0 1 0-1; other 3 writes x0 2 2-3; other 2 asks x0; 2 asks x0; 2 counts 0 => 0/0 holds; \
+    0/1 holds; holds 2 of 2; S3 JournalBehind in shard 0 at 1 of 0; 1
+five 7 2 2 | other 2 writes x0 1 0-1; 1 writes x0 3 0-1; 1 writes x0 4 2-3; 2 learns 1; 2 asks x0; \
+    2 writes x0 9 8-9; 1 asks x0; finish with 2 1; finish with 0 1 => 0/0 holds; 0/0 holds; 0/1 holds; learnt; \
+    S3 JournalBehind in shard 0 at 0 of 2; S3 JournalBehind in shard 0 at 0 of 2; holds 2 of 2; \
+    S3 JournalBehind in shard 0 at 0 of 2; closed 0: 1 x0 + 1:0 holds, 1 x0 + 1:2 holds, 1: 2: holds 2, holds 0, \
+    holds 0, holds 0, holds 0, none
+five 7 2 2 | 0 writes x0 3 0-1; 2 asks x0; 2 reads x0 3 2-3; 0 asks x0; finish with 2; finish with 2 1; \
+    finish with 1 0 => 0/0 holds; S3 JournalBehind in shard 0 at 0 of 1; S3 JournalBehind in shard 0 at 0 of 1; \
+    holds 1 of 1; S4 PassMissing of feeder 1; S3 JournalBehind in shard 0 at 0 of 1; \
+    closed 0: 0 x0 + 0:0 holds, 1: 2: holds 1, holds 0, holds 0, holds 0, holds 0, none
+five 7 2 2 | 0 writes x0 3 0-1; other 2 writes x0 3 0-1; 2 asks x0; 0 writes x0 4 2-3 a; other 2 writes x0 4 2-3 b; \
+    2 asks x0; other 0 asks x0; 0 learns 2; 0 asks x0; 0 writes x0 5 4-5; 2 learns 0; 2 asks x0 => 0/0 holds; \
+    0/0 holds; holds 1 of 1; 0/1 holds; 0/1 holds; S3 JournalBehind in shard 0 at 1 of 2; \
+    S3 JournalBehind in shard 0 at 1 of 2; learnt; holds 2 of 2; 0/2 holds; learnt; \
+    S3 JournalBehind in shard 0 at 1 of 3
+five 7 2 2 | 1 asks x0; 0 writes x0 3 0-1; other 1 asks x0; 1 asks x0; other 1 asks x0; other 1 asks x1; \
+    1 learns 2; 1 asks x0 => holds 0 of 0; 0/0 holds; holds 0 of 0; holds 1 of 1; \
+    S3 JournalBehind in shard 0 at 0 of 0; holds 0 of 0; learnt; holds 1 of 1
+five 7 2 2 | 0 writes x0 1 0-1; other 2 writes x0 4 0-1; other 2 writes x0 5 2-3; 0 learns 2; 0 asks x0; 0 asks x1; \
+    other 0 asks x0; finish with 0 1 => 0/0 holds; 0/0 holds; 0/1 holds; learnt; \
+    S3 JournalBehind in shard 0 at 1 of 1; holds 0 of 0; S3 JournalBehind in shard 0 at 0 of 2; \
+    S3 JournalBehind in shard 0 at 1 of 1";
 
 /// The first fault of a closing, and what goes on after it.
 const CLOSING: &str =
-    "five 7 2 3 | finish with 9; finish with 1; finish with 0 2; finish with 2 1 0 => S4 PassMissing of feeder 0; S4 PassMissing of feeder 0; S4 PassMissing of feeder 1; closed 0: 1: 2: holds 0, holds 0, holds 0, holds 0, holds 0, none
-five 7 2 2 | 0 writes x0 1 0-1; 1 writes x0 2 2-3; 1 writes x1 4 0-1; other 3 writes x0 8 0-1; other 2 writes x0 9 2-3; finish with 3 2; finish with 0 3; finish with 2 1; finish with 1; finish with 0 1 => 0/0 holds; 0/1 holds; 1/0 holds; 0/0 holds; 0/1 holds; S3 JournalBehind in shard 0 at 1 of 2; S3 JournalBehind in shard 0 at 0 of 2; S3 JournalBehind in shard 0 at 1 of 2; S4 PassMissing of feeder 0; closed 0: 0 x0 + 0:0 holds, 1 x0 + 1:2 holds, 1: 1 x1 + 1:0 holds, 2: holds 2, holds 1, holds 0, holds 0, holds 0, none
-five 7 2 2 | 0 writes x0 1 0-1; 0 writes x0 2 2-3; other 2 writes x0 9 0-1; other 2 writes x0 2 2-3; 2 asks x0; finish with 2 1; finish with 2; finish with 0 2 1; 2 writes x0 3 4-5; finish with 0 1; finish with 2 1 => 0/0 holds; 0/1 holds; 0/0 holds; 0/1 holds; holds 2 of 2; S5 Stranger of feeder 0 in shard 0 at 0; S4 PassMissing of feeder 1; S6 ForeignPass; 0/2 holds; S3 JournalBehind in shard 0 at 2 of 3; S5 Stranger of feeder 0 in shard 0 at 0
-five 7 2 2 | 0 writes x0 1 0-1; 0 writes x0 2 2-3; other 2 writes x0 9 0-1; other 2 writes x0 2 2-3; 1 writes x1 7 0-1; finish with 2 3; finish with 3 2; finish with 1 2; finish with 0 1 => 0/0 holds; 0/1 holds; 0/0 holds; 0/1 holds; 1/0 holds; S3 JournalBehind in shard 1 at 0 of 1; S3 JournalBehind in shard 1 at 0 of 1; S5 Stranger of feeder 0 in shard 0 at 0; closed 0: 0 x0 + 0:0 holds, 0 x0 + 0:2 holds, 1: 1 x1 + 1:0 holds, 2: holds 2, holds 1, holds 0, holds 0, holds 0, none
-five 7 1 2 | 1 writes x0 1 0-1; 0 writes x0 2 2-3; 0 writes x0 3 4-5; 1 writes x0 4 6-7; other 3 writes x0 1 0-1 a; other 2 writes x0 2 2-3 b; other 2 writes x0 3 4-5; other 3 writes x0 4 6-7; finish with 2 3; finish with 2 1; finish with 0 3; finish with 1 0 => 0/0 holds; 0/1 holds; 0/2 holds; 0/3 holds; 0/0 holds; 0/1 holds; 0/2 holds; 0/3 holds; S5 Stranger of feeder 1 in shard 0 at 0; S5 Stranger of feeder 0 in shard 0 at 1; S5 Stranger of feeder 1 in shard 0 at 0; closed 0: 1 x0 + 1:0 holds, 0 x0 + 0:2 holds, 0 x0 + 0:4 holds, 1 x0 + 1:6 holds, 1: holds 4, holds 0, holds 0, holds 0, holds 0, none
-five 7 2 1 | 0 writes x1 1 0-1; 0 writes x1 2 2-3; 0 writes x0 1 0-1; 0 writes x0 2 2-3; other 1 writes x1 1 0-1 a; other 1 writes x1 2 2-3; other 1 writes x0 1 0-1 a; other 1 writes x0 2 2-3; finish with 1; finish with 0 => 1/0 holds; 1/1 holds; 0/0 holds; 0/1 holds; 1/0 holds; 1/1 holds; 0/0 holds; 0/1 holds; S5 Stranger of feeder 0 in shard 0 at 0; closed 0: 0 x0 + 0:0 holds, 0 x0 + 0:2 holds, 1: 0 x1 + 0:0 holds, 0 x1 + 0:2 holds, 2: holds 2, holds 2, holds 0, holds 0, holds 0, none";
+    "five 7 2 3 | finish with 9; finish with 1; finish with 0 2; finish with 2 1 0 => S4 PassMissing of feeder 0; \
+    S4 PassMissing of feeder 0; S4 PassMissing of feeder 1; \
+    closed 0: 1: 2: holds 0, holds 0, holds 0, holds 0, holds 0, none
+five 7 2 2 | 0 writes x0 1 0-1; 1 writes x0 2 2-3; 1 writes x1 4 0-1; other 3 writes x0 8 0-1; \
+    other 2 writes x0 9 2-3; finish with 3 2; finish with 0 3; finish with 2 1; finish with 1; \
+    finish with 0 1 => 0/0 holds; 0/1 holds; 1/0 holds; 0/0 holds; 0/1 holds; \
+    S3 JournalBehind in shard 0 at 1 of 2; S3 JournalBehind in shard 0 at 0 of 2; \
+    S3 JournalBehind in shard 0 at 1 of 2; S4 PassMissing of feeder 0; \
+    closed 0: 0 x0 + 0:0 holds, 1 x0 + 1:2 holds, 1: 1 x1 + 1:0 holds, 2: holds 2, holds 1, holds 0, holds 0, holds \
+    0, none
+five 7 2 2 | 0 writes x0 1 0-1; 0 writes x0 2 2-3; other 2 writes x0 9 0-1; other 2 writes x0 2 2-3; 2 asks x0; \
+    finish with 2 1; finish with 2; finish with 0 2 1; 2 writes x0 3 4-5; finish with 0 1; \
+    finish with 2 1 => 0/0 holds; 0/1 holds; 0/0 holds; 0/1 holds; holds 2 of 2; \
+    S5 Stranger of feeder 0 in shard 0 at 0; S4 PassMissing of feeder 1; S6 ForeignPass; 0/2 holds; \
+    S3 JournalBehind in shard 0 at 2 of 3; S5 Stranger of feeder 0 in shard 0 at 0
+five 7 2 2 | 0 writes x0 1 0-1; 0 writes x0 2 2-3; other 2 writes x0 9 0-1; other 2 writes x0 2 2-3; \
+    1 writes x1 7 0-1; finish with 2 3; finish with 3 2; finish with 1 2; finish with 0 1 => 0/0 holds; 0/1 holds; \
+    0/0 holds; 0/1 holds; 1/0 holds; S3 JournalBehind in shard 1 at 0 of 1; S3 JournalBehind in shard 1 at 0 of 1; \
+    S5 Stranger of feeder 0 in shard 0 at 0; closed 0: 0 x0 + 0:0 holds, 0 x0 + 0:2 holds, 1: 1 x1 + 1:0 holds, 2: \
+    holds 2, holds 1, holds 0, holds 0, holds 0, none
+five 7 1 2 | 1 writes x0 1 0-1; 0 writes x0 2 2-3; 0 writes x0 3 4-5; 1 writes x0 4 6-7; other 3 writes x0 1 0-1 a; \
+    other 2 writes x0 2 2-3 b; other 2 writes x0 3 4-5; other 3 writes x0 4 6-7; finish with 2 3; finish with 2 1; \
+    finish with 0 3; finish with 1 0 => 0/0 holds; 0/1 holds; 0/2 holds; 0/3 holds; 0/0 holds; 0/1 holds; \
+    0/2 holds; 0/3 holds; S5 Stranger of feeder 1 in shard 0 at 0; S5 Stranger of feeder 0 in shard 0 at 1; \
+    S5 Stranger of feeder 1 in shard 0 at 0; closed 0: 1 x0 + 1:0 holds, 0 x0 + 0:2 holds, 0 x0 + 0:4 holds, 1 x0 + \
+    1:6 holds, 1: holds 4, holds 0, holds 0, holds 0, holds 0, none
+five 7 2 1 | 0 writes x1 1 0-1; 0 writes x1 2 2-3; 0 writes x0 1 0-1; 0 writes x0 2 2-3; other 1 writes x1 1 0-1 a; \
+    other 1 writes x1 2 2-3; other 1 writes x0 1 0-1 a; other 1 writes x0 2 2-3; finish with 1; \
+    finish with 0 => 1/0 holds; 1/1 holds; 0/0 holds; 0/1 holds; 1/0 holds; 1/1 holds; 0/0 holds; 0/1 holds; \
+    S5 Stranger of feeder 0 in shard 0 at 0; closed 0: 0 x0 + 0:0 holds, 0 x0 + 0:2 holds, 1: 0 x1 + 0:0 holds, 0 x1 \
+    + 0:2 holds, 2: holds 2, holds 2, holds 0, holds 0, holds 0, none";
 
 /// Passes that are lost or of another auditor.
 const LOST: &str =
     "one 7 1 2 | 0 writes x0 5 0-1; finish with 1; finish some with 1 => 0/0 holds; S4 PassMissing of feeder 0; closed 0: 0 x0 + 0:0 holds, 1: holds 1, none
-one 1 1 1 and 2 1 1 | 2 writes x0 5 0-1; 2 asks x0; 0 learns 2; 2 learns 0; 0 writes x1 5 0-1; 0 asks x1; 0 counts 0; 2 counts 0; 0 asks x0 => S6 ForeignPass; S6 ForeignPass; S6 ForeignPass; S6 ForeignPass; S1 UnknownRegister; S1 UnknownRegister; 0; 0; holds 0 of 0
+one 1 1 1 and 2 1 1 | 2 writes x0 5 0-1; 2 asks x0; 0 learns 2; 2 learns 0; 0 writes x1 5 0-1; 0 asks x1; \
+    0 counts 0; 2 counts 0; 0 asks x0 => S6 ForeignPass; S6 ForeignPass; S6 ForeignPass; S6 ForeignPass; \
+    S1 UnknownRegister; S1 UnknownRegister; 0; 0; holds 0 of 0
 one 1 1 1 | 0 writes x0 5 0-1; other 0 asks x0 => 0/0 holds; S3 JournalBehind in shard 0 at 0 of 0
-one 1 1 1 | 0 writes x0 5 0-1; 0 writes x0 6 2-3; other 1 writes x0 7 0-1; other 1 writes x0 6 2-3; finish with 1; finish some with 1; finish with 0 => 0/0 holds; 0/1 holds; 0/0 holds; 0/1 holds; S5 Stranger of feeder 0 in shard 0 at 0; S5 Stranger of feeder 0 in shard 0 at 0; closed 0: 0 x0 + 0:0 holds, 0 x0 + 0:2 holds, 1: holds 2, none
-five 7 2 3 | 2 writes x1 1 0-1; 0 writes x0 1 0-1; 1 writes x0 2 2-3; 0 writes x0 3 4-5; finish some with 9 => 1/0 holds; 0/0 holds; 0/1 holds; 0/2 holds; closed 0: 0 x0 + 0:0 holds, 1 x0 + 1:2 holds, 0 x0 + 0:4 holds, 1: 2 x1 + 2:0 holds, 2: holds 3, holds 1, holds 0, holds 0, holds 0, none
-five 7 2 3 and 8 2 3 | 0 writes x0 1 0-1; 1 writes x0 2 2-3; 1 writes x1 4 0-1; other 4 writes x0 8 0-1; other 4 writes x1 9 0-1; finish some with 6; finish some with 1 4; finish some with 4 2; finish some with 5 3; finish some with 1 2 => 0/0 holds; 0/1 holds; 1/0 holds; 0/0 holds; 1/0 holds; S6 ForeignPass; S6 ForeignPass; S3 JournalBehind in shard 0 at 0 of 2; S3 JournalBehind in shard 0 at 0 of 2; closed 0: 0 x0 + 0:0 holds, 1 x0 + 1:2 holds, 1: 1 x1 + 1:0 holds, 2: holds 2, holds 1, holds 0, holds 0, holds 0, none
-five 7 1 3 | 0 writes x0 1 0-1; 1 writes x0 2 2-3; 1 writes x0 3 4-5; other 3 writes x0 1 0-1; other 4 writes x0 9 2-3; other 4 writes x0 3 4-5; finish some with 4; finish some with 3 2 => 0/0 holds; 0/1 holds; 0/2 holds; 0/0 holds; 0/1 holds; 0/2 holds; S5 Stranger of feeder 1 in shard 0 at 1; closed 0: 0 x0 + 0:0 holds, 1 x0 + 1:2 holds, 1 x0 + 1:4 holds, 1: holds 3, holds 0, holds 0, holds 0, holds 0, none";
+one 1 1 1 | 0 writes x0 5 0-1; 0 writes x0 6 2-3; other 1 writes x0 7 0-1; other 1 writes x0 6 2-3; finish with 1; \
+    finish some with 1; finish with 0 => 0/0 holds; 0/1 holds; 0/0 holds; 0/1 holds; \
+    S5 Stranger of feeder 0 in shard 0 at 0; S5 Stranger of feeder 0 in shard 0 at 0; \
+    closed 0: 0 x0 + 0:0 holds, 0 x0 + 0:2 holds, 1: holds 2, none
+five 7 2 3 | 2 writes x1 1 0-1; 0 writes x0 1 0-1; 1 writes x0 2 2-3; 0 writes x0 3 4-5; \
+    finish some with 9 => 1/0 holds; 0/0 holds; 0/1 holds; 0/2 holds; \
+    closed 0: 0 x0 + 0:0 holds, 1 x0 + 1:2 holds, 0 x0 + 0:4 holds, 1: 2 x1 + 2:0 holds, 2: holds 3, holds 1, holds \
+    0, holds 0, holds 0, none
+five 7 2 3 and 8 2 3 | 0 writes x0 1 0-1; 1 writes x0 2 2-3; 1 writes x1 4 0-1; other 4 writes x0 8 0-1; \
+    other 4 writes x1 9 0-1; finish some with 6; finish some with 1 4; finish some with 4 2; finish some with 5 3; \
+    finish some with 1 2 => 0/0 holds; 0/1 holds; 1/0 holds; 0/0 holds; 1/0 holds; S6 ForeignPass; S6 ForeignPass; \
+    S3 JournalBehind in shard 0 at 0 of 2; S3 JournalBehind in shard 0 at 0 of 2; \
+    closed 0: 0 x0 + 0:0 holds, 1 x0 + 1:2 holds, 1: 1 x1 + 1:0 holds, 2: holds 2, holds 1, holds 0, holds 0, holds \
+    0, none
+five 7 1 3 | 0 writes x0 1 0-1; 1 writes x0 2 2-3; 1 writes x0 3 4-5; other 3 writes x0 1 0-1; \
+    other 4 writes x0 9 2-3; other 4 writes x0 3 4-5; finish some with 4; finish some with 3 2 => 0/0 holds; \
+    0/1 holds; 0/2 holds; 0/0 holds; 0/1 holds; 0/2 holds; S5 Stranger of feeder 1 in shard 0 at 1; \
+    closed 0: 0 x0 + 0:0 holds, 1 x0 + 1:2 holds, 1 x0 + 1:4 holds, 1: holds 3, holds 0, holds 0, holds 0, holds 0, \
+    none";
 
 /// Feeders in threads.
 const THREADS: &str =
-    "one 7 1 2 | hand on with 0 1; 0 asks x0; finish with 0 1 => 0/0 holds, holds 1 of 1, 0/1 fails; fails 2 unwritten 1:2 of 2; closed 0: 0 x0 + 0:0 holds, 1 x0 + 1:2 fails, 1: fails 2, none
+    "one 7 1 2 | hand on with 0 1; 0 asks x0; finish with 0 1 => 0/0 holds, holds 1 of 1, 0/1 fails; \
+    fails 2 unwritten 1:2 of 2; closed 0: 0 x0 + 0:0 holds, 1 x0 + 1:2 fails, 1: fails 2, none
 five 7 3 4 | mingle with 0 1 2 3; close with 3 2 1 0 => no fault; closed 800 entries
 five 7 2 2 | hold with 0 1; close with 0 1 => 0 failures; closed 1000 entries
 one 7 1 2 | alone with 0 1; close with 1 0 => 0 failures; closed 100 entries
