@@ -1,0 +1,5 @@
+-- words of the public clauses
+pub mod Symbol
+pub mod Json
+pub mod Edn
+pub mod Line
