@@ -6,11 +6,11 @@ use Rattle.intervals.specs.declared.operation.OpId.{OpId}
 use Rattle.intervals.specs.Operation.{same_id}
 use Rattle.register_book.specs.declared.fault.Side.{Side}
 use Rattle.register_book.specs.declared.fault.Side.TheVariants as sides
+use Rattle.story.specs.declared.story.Story.{Story}
+use Rattle.story.specs.declared.story.Story.TheVariants.{Holds, Wrong, Unwritten, Split, Early, Crossing}
 use Rattle.show.specs.declared.letter.Letter.{Letter}
 use Rattle.show.specs.declared.letter.Letter.TheVariants.{A, B, C, Bc, D, Read, FirstRead, SecondRead, Write, LastWrite, FirstOver, SecondOver, ThirdOver}
 use Rattle.show.specs.declared.letter.Lettered.{Lettered}
-use Rattle.show.specs.declared.story.Story.{Story}
-use Rattle.show.specs.declared.story.Story.TheVariants.{Holds, Wrong, Unwritten, Split, Early, Crossing}
 
 -- a letter as it is printed
 abbrev pub word_of : Letter → List ℕ

@@ -7,5 +7,4 @@ pub mod Letter
 pub mod Measure
 pub mod Rank
 pub mod Scene
-pub mod Story
 pub mod Svg

@@ -10,15 +10,15 @@ use Rattle.timeline.specs.declared.choice.Extent.TheVariants.{Around}
 use Rattle.timeline.specs.Axis.{AreMarks, AreSpans, folded_of}
 use Rattle.timeline.specs.Choice.{IsChosen}
 use Rattle.timeline.specs.Seat.{AreSeats}
+use Rattle.story.specs.declared.story.Story.{Story}
+use Rattle.story.specs.declared.story.Story.TheVariants.{Holds, Wrong, Unwritten, Split, Early, Crossing}
+use Rattle.story.specs.Story.{IsStory}
 use Rattle.show.specs.declared.letter.Lettered.{Lettered}
 use Rattle.show.specs.declared.scene.Scene.{Scene}
-use Rattle.show.specs.declared.story.Story.{Story}
-use Rattle.show.specs.declared.story.Story.TheVariants.{Holds, Wrong, Unwritten, Split, Early, Crossing}
 use Rattle.show.specs.declared.subject.Subject.{Subject}
 use Rattle.show.specs.Label.{label_by}
 use Rattle.show.specs.Letter.{letters_of}
 use Rattle.show.specs.Rank.{rank_of}
-use Rattle.show.specs.Story.{IsStory}
 
 -- how much is shown of a register: eight times as many operations where it holds, at most 2^64 - 1
 abbrev pub extent_of : Story → Extent → Extent

@@ -5,8 +5,8 @@ use crate::layout::Bar;
 use crate::letter::letter_for;
 use crate::role::role_of;
 use crate::scene::Scene;
-use crate::story::is_wrong;
 use std::alloc::{AllocError, Global};
+use story::is_wrong;
 
 /// The width of the part of an unfinished write that fades.
 const FADE: u128 = 36;

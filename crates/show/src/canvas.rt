@@ -3,12 +3,12 @@
 use crate::layout::{Layout, layout_of, widest_name};
 use crate::measure::{Measure, digits_of};
 use crate::scene::Scene;
-use crate::story::Story;
 use crate::subject::Subject;
 use crate::zone::{Zone, zones_of};
 use intervals::Kind;
 use register_book::Side;
 use std::alloc::{AllocError, Global};
+use story::Story;
 use timeline::Extent;
 
 /// What is drawn, and where, in units. Each row is a window on one strip, which has all zones, lanes and moments.

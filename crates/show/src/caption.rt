@@ -6,11 +6,11 @@ ghost use Rattle.show.specs.Caption.{before_text, holds_text, second_letter, sid
 use crate::label::value_word;
 use crate::letter::{Letter, is_one, over_letter};
 use crate::scene::Scene;
-use crate::story::{Story, Wrong};
 use crate::subject::Subject;
 use intervals::{Initial, Kind, Op, Value, is_same_value};
 use register_book::Side;
 use std::alloc::{AllocError, Global};
+use story::{Story, Wrong};
 
 /// Adds what there is to say of the register, a sentence a line.
 pub fn push_caption(

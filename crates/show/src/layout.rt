@@ -6,12 +6,12 @@ ghost use Rattle.show.specs.Layout.{ArePlaced, IsLayout};
 use crate::label::push_value;
 use crate::measure::{Measure, steps_of, wants_of, width_of};
 use crate::scene::Scene;
-use crate::story::Story;
 use crate::subject::Subject;
 use crate::told::{span_for, told_of};
 use intervals::{Initial, Op, Value};
 use register_book::Side;
 use std::alloc::{AllocError, Global};
+use story::Story;
 use timeline::{BarSpan, Seat, places, rows};
 
 /// A scene, with the places of its marks.

@@ -6,11 +6,11 @@ ghost use Rattle.std.specs.Option.{option_map_or};
 ghost use Rattle.intervals.specs.Operation.{same_id};
 ghost use Rattle.show.specs.Letter.{letter_for, letters_at, letters_by, letters_of, middle_letters, over_letters, over_letter, same_side, word_of};
 
-use crate::story::{Story, Wrong};
 use intervals::{Op, OpId};
 use register_book::Side;
 use std::alloc::{AllocError, Global};
 use std::unreachable;
+use story::{Story, Wrong};
 
 /// What an operation is to the reason why its register fails.
 #[derive(Clone, Copy, Debug, PartialEq, Eq)]

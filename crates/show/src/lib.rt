@@ -7,9 +7,9 @@
 //! push_page_part(&mut text, alloc, &subject, &sheet, is_unfolded, report)?     // on a page
 //! ```
 //!
-//! A subject is a register with the operations that stand and the witness. `story.rt` finds why it fails, `letter.rt`
-//! gives letters to the operations that show it, `rank.rt` says which place each operation has in an order that
-//! explains the reads, and `scene.rt` chooses which operations are shown, with their marks and lanes, by the crate
+//! A subject is a register with the operations that stand and the witness. The crate `story` finds why it fails,
+//! `letter.rt` gives letters to the operations that show it, `rank.rt` says which place each operation has in an order
+//! that explains the reads, and `scene.rt` chooses which operations are shown, with their marks and lanes, by the crate
 //! `timeline`. `measure.rt` says how wide things are, `layout.rt` how far right they are. Two files draw that:
 //! `text.rt` in lines of cells (`line.rt`, with the characters of `glyphs.rt`), and `svg.rt` on a canvas
 //! (`canvas.rt`), with the parts of a picture (`strip.rt`, `bar.rt`, `axis.rt`) and the colours of `role.rt` and
@@ -39,7 +39,6 @@ mod page;
 mod rank;
 mod role;
 mod scene;
-mod story;
 mod strip;
 mod style;
 mod subject;
@@ -52,7 +51,6 @@ mod zone;
 pub use letter::{Letter, Lettered};
 pub use page::{push_page_end, push_page_head, push_page_part};
 pub use scene::{Scene, scene_of};
-pub use story::{Story, Wrong, story_of};
 pub use style::Theme;
 pub use subject::Subject;
 pub use svg::{Sheet, push_picture};

@@ -4,12 +4,12 @@ ghost use Rattle.std.specs.Prelude.{◌≡◌, ◌++◌, OnOk, string_bytes};
 ghost use Rattle.show.specs.Svg.{quoted_text, part_head_text};
 
 use crate::escape::push_element;
-use crate::story::story_of;
 use crate::style::{Theme, push_style};
 use crate::subject::Subject;
 use crate::svg::{Sheet, push_picture};
 use crate::title::push_heading;
 use std::alloc::{AllocError, Global};
+use story::story_of;
 
 /// The rules for what is around the pictures.
 const PAGE: &str = "<style>:root{color-scheme:light dark}
@@ -57,8 +57,9 @@ pub fn push_page_part(
     } else {
         "<details>\n"
     })?;
+    let story = story_of(alloc, subject.slots, subject.witness)?;
     let mut heading = String::new(alloc);
-    push_heading(&mut heading, subject, &story_of(alloc, subject)?)?;
+    push_heading(&mut heading, subject, &story)?;
     push_part_head(text, &heading)?;
     push_picture(text, alloc, subject, sheet)?;
     push_quoted(text, report)?;

@@ -1,8 +1,8 @@
 //! What operations are to the reason why a register fails, which gives them their colours.
 
-use crate::story::{Story, Wrong};
 use intervals::{Op, Value, is_same_value, overlaps};
 use register_book::Side;
+use story::{Story, Wrong};
 
 /// What an operation is to the reason why its register fails.
 #[derive(Clone, Copy, Debug, PartialEq, Eq)]

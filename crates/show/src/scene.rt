@@ -11,11 +11,11 @@ ghost use Rattle.show.specs.Scene.{IsScene, asked_ids, asked_beside, extent_of, 
 use crate::label::{head_of, push_label};
 use crate::letter::{Lettered, letter_for, letters_of};
 use crate::rank::{places_of, rank_in, ranks_in};
-use crate::story::{Story, story_of};
 use crate::subject::Subject;
 use intervals::{Op, OpId};
 use std::alloc::{AllocError, Global};
 use std::collections::HashMap;
+use story::{Story, story_of};
 use timeline::{BarSpan, Extent, Mark, Seat, choose, folded, marks, seats, spans};
 
 /// By what factor more operations are shown of a register that holds, from its first one on.
@@ -47,7 +47,7 @@ pub fn scene_of<'t>(
 ) -> Result<Scene<'t>, AllocError>
     ensures { IfOk result (IsScene subject.now extent) }
 {
-    let story = story_of(alloc, subject)?;
+    let story = story_of(alloc, subject.slots, subject.witness)?;
     let letters = letters_of(alloc, &story)?;
     let asked = asked_of(alloc, subject.slots, &story, &letters)?;
     let chosen = choose(alloc, subject.slots, &asked, extent_of(&story, extent))?;

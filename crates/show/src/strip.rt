@@ -5,10 +5,10 @@ use crate::bar::{points_of, push_bar, push_dots, push_order, push_words};
 use crate::canvas::{BAR, Canvas, ZONE, ZONE_ROW, box_width, middle_of, rows_of};
 use crate::label::push_value;
 use crate::role::{Role, role_of_value};
-use crate::story::Story;
 use crate::zone::{Zone, conflict_in};
 use register_book::Side;
 use std::alloc::{AllocError, Global};
+use story::Story;
 
 /// The whole strip.
 pub fn push_strip(text: &mut String, alloc: Global, canvas: &Canvas) -> Result<(), AllocError> {

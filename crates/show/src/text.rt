@@ -7,11 +7,11 @@ use crate::letter::letter_for;
 use crate::line::TextLine;
 use crate::measure::{Measure, digits_of, digits_of_moment};
 use crate::scene::{Scene, scene_of};
-use crate::story::is_wrong;
 use crate::subject::Subject;
 use crate::title::push_title;
 use crate::zone::{Zone, conflict_in};
 use std::alloc::{AllocError, Global};
+use story::is_wrong;
 use timeline::Extent;
 
 /// How a timeline looks: how much it shows, how many cells a line may have, and whether its characters are all of

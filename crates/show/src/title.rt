@@ -1,10 +1,10 @@
 //! The first line of a picture.
 
 use crate::scene::Scene;
-use crate::story::Story;
 use crate::subject::Subject;
 use report::{kind_word, push_fault, push_printed};
 use std::alloc::{AllocError, Global};
+use story::Story;
 
 /// Adds the register, its kind, why it fails or that it holds, and how many of its operations are shown.
 pub fn push_title(

@@ -1,10 +1,10 @@
 //! The moments that a caption speaks of.
 
 use crate::scene::Scene;
-use crate::story::Story;
 use intervals::OpId;
 use register_book::Side;
 use std::alloc::{AllocError, Global};
+use story::Story;
 use timeline::BarSpan;
 
 /// The numbers of the marks of these moments, each once, in order.

@@ -1,10 +1,10 @@
 //! The zones of the values of an atomic register, as they are drawn.
 
 use crate::layout::Layout;
-use crate::story::Story;
 use intervals::{Initial, Op, Value, is_same_value};
 use register_book::Side;
 use std::alloc::{AllocError, Global};
+use story::Story;
 
 /// The zone of a value: from the least end of its operations to their greatest beginning, if that is later (forward),
 /// else from the greatest beginning to the least end.

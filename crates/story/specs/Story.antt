@@ -1,13 +1,13 @@
 -- Why a register fails, by operations.
-use Rattle.std.specs.Prelude.{◌≡◌, ◌&&◌, Bool, List, Option, Some, None, filter, find, reverse}
+use Rattle.std.specs.Prelude.{◌≡◌, ◌&&◌, Bool, false, List, Option, Some, None, filter, find, reverse}
 use Rattle.intervals.specs.declared.operation.Op.{Op}
-use Rattle.intervals.specs.Operation.{overlaps, precedes, same_value, value_of, writes}
+use Rattle.intervals.specs.Operation.{overlaps, precedes, same_id, same_value, value_of, writes}
 use Rattle.register_book.specs.declared.fault.Witness.{Witness}
 use Rattle.register_book.specs.declared.fault.Witness.TheVariants as witnesses
 use Rattle.timeline.specs.Choice.{IsByBeginning}
-use Rattle.show.specs.declared.story.Story.{Story}
-use Rattle.show.specs.declared.story.Story.TheVariants as stories
-use Rattle.show.specs.declared.story.Wrong.{Wrong}
+use Rattle.story.specs.declared.story.Story.{Story}
+use Rattle.story.specs.declared.story.Story.TheVariants as stories
+use Rattle.story.specs.declared.story.Wrong.{Wrong}
 
 -- the write is of the value that the read returned
 abbrev pub is_of_its_value : Op → Op → Bool
@@ -44,3 +44,12 @@ IsToldBy ops (witnesses.Crossing a b c d) story = story ≡ stories.Crossing a b
 abbrev pub IsStory : List Op → Option Witness → Story → Type 0
 IsStory ops None story = story ≡ stories.Holds
 IsStory ops (Some witness) story = IsToldBy ops witness story
+
+-- whether the operation is the read of a story that is wrong by itself, without another
+abbrev pub is_wrong_by_itself : Story → Op → Bool
+is_wrong_by_itself stories.Holds op = false
+is_wrong_by_itself (stories.Wrong wrong) op = same_id op.id wrong.read.id
+is_wrong_by_itself (stories.Unwritten read) op = same_id op.id read.id
+is_wrong_by_itself (stories.Split first second) op = false
+is_wrong_by_itself (stories.Early read write) op = same_id op.id read.id
+is_wrong_by_itself (stories.Crossing a b c d) op = false

@@ -2,7 +2,7 @@ use Rattle.std.proofs.Common.{List, rules, subst}
 use Rattle.std.proofs.lemmas.List.Sorted.{IsNonDecreasingBy-from_sort_by_key}
 use Rattle.std.specs.Prelude.{IsPermutation}
 use Rattle.intervals.specs.declared.operation.Op.{Op}
-use Rattle.show.proofs.story.writes_by_beginning.Goals as goal
+use Rattle.story.proofs.story.writes_by_beginning.Goals as goal
 
 pub returns : goal.returns
 returns c = record {

@@ -1,12 +1,11 @@
-//! Why a register fails, by the operations that a picture shows.
+//! Why a register fails, by operations.
 
 ghost use Rattle.std.specs.Prelude.{◌≡◌, IfOk, filter, find, reverse};
 ghost use Rattle.intervals.specs.Operation.{overlaps, precedes, writes};
 ghost use Rattle.intervals.specs.Table.{ops_in_slots};
 ghost use Rattle.timeline.specs.Choice.{IsByBeginning};
-ghost use Rattle.show.specs.Story.{IsStory, IsToldBy, IsWrong, is_later_source, is_of_its_value, is_source};
+ghost use Rattle.story.specs.Story.{IsStory, IsToldBy, IsWrong, is_later_source, is_of_its_value, is_source, is_wrong_by_itself};
 
-use crate::subject::Subject;
 use intervals::{Op, is_same_value, overlaps, precedes};
 use register_book::{Side, Witness};
 use std::alloc::{AllocError, Global};
@@ -48,11 +47,15 @@ pub struct Wrong<'t> {
 }
 
 /// Why the register fails, by its witness; or that it holds.
-pub fn story_of<'t>(alloc: Global, subject: &Subject<'_, 't>) -> Result<Story<'t>, AllocError>
-    ensures { IfOk result (IsStory (ops_in_slots subject.now.slots.now) subject.now.witness) }
+pub fn story_of<'t>(
+    alloc: Global,
+    slots: &[Option<Op<'t>>],
+    witness: Option<Witness<'t>>,
+) -> Result<Story<'t>, AllocError>
+    ensures { IfOk result (IsStory (ops_in_slots slots.now) witness.entry) }
 {
-    match subject.witness {
-        Some(witness) => told_by(alloc, subject.slots, witness),
+    match witness {
+        Some(witness) => told_by(alloc, slots, witness),
         None => Ok(Story::Holds),
     }
 }
@@ -73,7 +76,8 @@ fn told_by<'t>(
     }
 }
 
-fn wrong_of<'t>(
+/// A wrong read, with the writes that explain it.
+pub fn wrong_of<'t>(
     alloc: Global,
     slots: &[Option<Op<'t>>],
     read: Op<'t>,
@@ -179,7 +183,9 @@ fn is_of_its_value(write: &Op, read: &Op) -> bool
 }
 
 /// Whether the operation is a read that is wrong by itself, without another.
-pub fn is_wrong(story: &Story, op: &Op) -> bool {
+pub fn is_wrong(story: &Story, op: &Op) -> bool
+    ensures { result ≡ is_wrong_by_itself story.now op.now }
+{
     match story {
         Story::Wrong(wrong) => op.has_id(wrong.read.id),
         Story::Unwritten(read) => op.has_id(read.id),

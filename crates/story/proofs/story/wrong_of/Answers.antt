@@ -1,5 +1,5 @@
 use Rattle.std.proofs.Common.{refl}
-use Rattle.show.proofs.story.wrong_of.Goals as goal
+use Rattle.story.proofs.story.wrong_of.Goals as goal
 
 pub returns : goal.returns
 returns c = record {
