@@ -1,0 +1,22 @@
+-- what exchanges keep; members of lists; judged operations; a value that no write has
+pub mod Shuffles
+pub mod Members
+pub mod JudgedOps
+pub mod Unused
+-- the verdict before an edit from that after it: the order of an atomic register, the reads of the other kinds
+pub mod Orders
+pub mod RightReads
+-- the same for each edit that comes last
+pub mod AfterAppend
+pub mod AfterAmend
+pub mod AfterWithdraw
+-- a register that fails never holds again
+pub mod Failing
+-- the steps of a trace that edits nothing, in the order of its moments
+pub mod Placing
+pub mod Waits
+pub mod Plain
+pub mod Unfailed
+pub mod Elements
+-- worked edits
+pub mod Worked

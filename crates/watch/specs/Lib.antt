@@ -1,0 +1,4 @@
+-- words of the public clauses
+pub mod Coming
+pub mod Trace
+pub mod Healing

@@ -1,0 +1,76 @@
+//! Laws of a register whose edits come in the order of time. Each is the contract of a function that does nothing.
+
+ghost use Rattle.std.specs.Prelude.{◌≡◌, ◌⊎◌, ◌++◌, ◌∷◌, [], ℕ, All, List, Result, true, None};
+ghost use Rattle.intervals.specs.declared.edit.Edit.{Edit};
+ghost use Rattle.intervals.specs.declared.edit.Edit.TheVariants.{Withdraw, Claim as ToKind};
+ghost use Rattle.intervals.specs.declared.operation.Value.TheVariants.{Nil};
+ghost use Rattle.intervals.specs.declared.claim.Kind.TheVariants.{Safe};
+ghost use Rattle.intervals.specs.Terms.{ClaimModel, RegisterState, unedited};
+ghost use Rattle.intervals.specs.Refusal.{reply_to, carried_out, standing};
+ghost use Rattle.intervals.specs.Standing.{StandApart};
+ghost use Rattle.intervals.specs.Kind.{Holds};
+ghost use Rattle.intervals.specs.Histories.{place};
+ghost use Rattle.jepsen_form.specs.declared.fault.FormFault.{FormFault};
+ghost use Rattle.jepsen_form.specs.declared.item.Item.{Item};
+ghost use Rattle.feeders.specs.Steps.{steps_behind, steps_of};
+ghost use Rattle.watch.specs.Coming.{ComesLast, ComeInOrder, LeavesReadValues, LeaveReadValues};
+ghost use Rattle.watch.specs.Trace.{IsNoFail, IsPlainTrace, edits_among};
+ghost use Rattle.watch.specs.Healing.{of_unknown_initial, of_one_process, answered_at, read_then_invoked, write_withdrawn, read_of_one, older_write, seven_within_write};
+
+/// A register that fails never holds again under later edits that come in the order of time, whatever the edits
+/// before were: where its initial value is known, and else where none of them withdraws a write whose value a
+/// finished read returned. Refused edits change nothing.
+pub fn a_failed_register_never_holds_again()
+    ensures known { (claim : ClaimModel) (edits later : List Edit) → let held = standing (unedited claim) edits in claim.known ≡ true → ComeInOrder held later
+        → ¬ Holds held.claim held.ops → let after = standing (unedited claim) (edits ++ later) in ¬ Holds after.claim after.ops }
+    ensures unread { (claim : ClaimModel) (edits later : List Edit) → let held = standing (unedited claim) edits in ComeInOrder held later → LeaveReadValues held later
+        → ¬ Holds held.claim held.ops → let after = standing (unedited claim) (edits ++ later) in ¬ Holds after.claim after.ops }
+{}
+
+/// A register that holds after an accepted edit that comes last held before it, where its initial value is known or
+/// the edit withdraws no write whose value a finished read returned.
+pub fn a_register_that_holds_held_before()
+    ensures { (held : RegisterState) (edit : Edit) → StandApart held.claim held.ops → reply_to held.claim held.ops edit ≡ None → ComesLast held.ops edit
+        → (held.claim.known ≡ true) ⊎ LeavesReadValues held.ops edit → let after = carried_out held edit in Holds after.claim after.ops → Holds held.claim held.ops }
+{}
+
+/// The edits of a register among the steps of a plain trace come in the order of time.
+pub fn a_plain_trace_comes_in_order()
+    ensures { (claim : ClaimModel) (feeder register : ℕ) (items : List (Result Item FormFault)) → IsPlainTrace items
+        → ComeInOrder (unedited claim) (edits_among register (steps_of feeder items)) }
+{}
+
+/// A register that fails after the first elements of a plain trace fails after all longer fronts of it: where its
+/// initial value is known, and else where no later element is a `:fail`, or at least none withdraws a write whose value
+/// a finished read returned.
+pub fn a_trace_that_fails_never_holds_again()
+    ensures known { (claim : ClaimModel) (feeder register : ℕ) (items more : List (Result Item FormFault)) → claim.known ≡ true → IsPlainTrace (items ++ more)
+        → let held = standing (unedited claim) (edits_among register (steps_of feeder items)) in ¬ Holds held.claim held.ops
+        → let after = standing (unedited claim) (edits_among register (steps_of feeder (items ++ more))) in ¬ Holds after.claim after.ops }
+    ensures without_fail { (claim : ClaimModel) (feeder register : ℕ) (items more : List (Result Item FormFault)) → All IsNoFail more → IsPlainTrace (items ++ more)
+        → let held = standing (unedited claim) (edits_among register (steps_of feeder items)) in ¬ Holds held.claim held.ops
+        → let after = standing (unedited claim) (edits_among register (steps_of feeder (items ++ more))) in ¬ Holds after.claim after.ops }
+    ensures unread { (claim : ClaimModel) (feeder register : ℕ) (items more : List (Result Item FormFault)) → IsPlainTrace (items ++ more)
+        → let held = standing (unedited claim) (edits_among register (steps_of feeder items)) in
+        LeaveReadValues held (edits_among register (steps_behind feeder items more)) → ¬ Holds held.claim held.ops
+        → let after = standing (unedited claim) (edits_among register (steps_of feeder (items ++ more))) in ¬ Holds after.claim after.ops }
+{}
+
+/// Where nobody knows the initial value, a read of 7 that ended before a write of 7 began fails; where that write is
+/// then withdrawn, the register may have begun with 7, and holds again.
+pub fn a_withdrawn_write_may_heal()
+    ensures in_order { ComeInOrder (unedited of_unknown_initial) (read_then_invoked ++ write_withdrawn ∷ []) }
+    ensures fails { let held = standing (unedited of_unknown_initial) read_then_invoked in ¬ Holds held.claim held.ops }
+    ensures holds { let held = standing (unedited of_unknown_initial) (read_then_invoked ++ write_withdrawn ∷ []) in Holds held.claim held.ops }
+{}
+
+/// Edits that do not come in the order of time may heal too: a write that began before, as of another trace, another
+/// value or no end for a read that was finished, its withdrawal, or another claim.
+pub fn edits_out_of_order_may_heal()
+    ensures fails { let held = standing (unedited of_one_process) read_of_one in ¬ Holds held.claim held.ops }
+    ensures older { let held = standing (unedited of_one_process) (read_of_one ++ older_write ∷ []) in Holds held.claim held.ops }
+    ensures value { let held = standing (unedited of_one_process) (read_of_one ++ answered_at 0 Nil 3 ∷ []) in Holds held.claim held.ops }
+    ensures withdrawn { let held = standing (unedited of_one_process) (read_of_one ++ Withdraw (place 0) ∷ []) in Holds held.claim held.ops }
+    ensures fails_as_regular { let held = standing (unedited of_one_process) seven_within_write in ¬ Holds held.claim held.ops }
+    ensures claim { let held = standing (unedited of_one_process) (seven_within_write ++ ToKind Safe ∷ []) in Holds held.claim held.ops }
+{}

@@ -1,0 +1,4 @@
+//! What a watcher of one trace may rely on.
+#![tactic(auto)]
+
+pub mod laws;
