@@ -25,7 +25,7 @@ pub checked : (held : Option (List ℕ)) (asked : AskedCheck) (tower : TowerMode
     → ((known : List (List ℕ)) → AreTheir known → lefts ≡ map (λ text. Some text) known)
     → chosen ≡ chosen_field asked.moments
     → ((read : List (List ℕ)) × AreReadOf lefts logs read × IsRun tower chosen asked.shards read closed logs)
-    → ((text : List ℕ) × IsPrinted asked.form tower closed logs order text × Appends old new text)
+    → ((text : List ℕ) × IsPrinted asked status tower closed logs order text × Appends old new text)
     → IsStatus tower closed logs asked.least asked.least_each status
     → IfSome held (λ file. (traces : List (List ℕ)) → AreTheir traces → IsChecked asked file traces status old new)
 checked None asked tower order closed logs chosen lefts AreTheir status old new says named opened field run report is = search rules

@@ -1,5 +1,5 @@
 -- What the command `check` prints of traces, and its status.
-use Rattle.std.specs.Prelude.{◌≡◌, ◌↔◌, ℕ, Bool, List, map, Option, Some, None, IsTrue}
+use Rattle.std.specs.Prelude.{◌≡◌, ◌↔◌, ℕ, Bool, List, map, Option, Some, None, IsTrue, codes}
 use Rattle.std.specs.List.{list_any}
 use Rattle.std.specs.Io.KnownBytes.{Appends}
 use Rattle.clap.specs.Words.{Text}
@@ -14,8 +14,11 @@ use Rattle.feeders.specs.Readers.{AreReadOf}
 use Rattle.feeders.specs.Run.{IsRun}
 use Rattle.report.specs.Report.{IsReport}
 use Rattle.report.specs.Summary.{IsSummary}
+use Rattle.records.specs.declared.line.Notation.{Notation}
+use Rattle.records.specs.declared.line.Notation.TheVariants as notations
+use Rattle.records.specs.Run.{IsTextOfRecords, RunNames}
 use Rattle.words.specs.declared.check.ReportForm.{ReportForm}
-use Rattle.words.specs.declared.check.ReportForm.TheVariants.{Report, Summary}
+use Rattle.words.specs.declared.check.ReportForm.TheVariants.{Report, Summary, Json, Edn}
 use Rattle.words.specs.declared.check.MomentKey.{MomentKey}
 use Rattle.words.specs.declared.check.MomentKey.TheVariants.{Index, Time}
 use Rattle.words.specs.Words.{AskedCheck}
@@ -34,10 +37,31 @@ IsNamed tower None (Some id) = ⊥
 IsNamed tower (Some name) None = ⊥
 IsNamed tower (Some name) (Some id) = number_of tower.registers name ≡ Some id
 
--- the text is the report, with the order that is asked for, or the summary
-abbrev pub IsPrinted : ReportForm → TowerModel → List ClosedShard → List Log → Option RegId → List ℕ → Type 0
-IsPrinted Report tower closed logs order text = IsReport tower closed logs order text
-IsPrinted Summary tower closed logs order text = IsSummary tower closed logs text
+-- the word of the field that has the moments
+abbrev pub moment_word : MomentKey → List ℕ
+moment_word Index = codes "index"
+moment_word Time = codes "time"
+
+-- what the first record of a run names
+abbrev pub record_names : AskedCheck → RunNames
+record_names asked = record { tower = asked.tower; traces = asked.traces; moments = moment_word asked.moments }
+
+-- the text has the records of a run in this notation
+abbrev pub ArePrinted : Notation → AskedCheck → ℕ → TowerModel → List ClosedShard → List Log → Option RegId → List ℕ → Type 0
+ArePrinted notation asked status tower closed logs order text =
+    IsTextOfRecords notation (record_names asked) asked.only_failing status tower closed logs order text
+
+-- the text is what is printed of a run in this form: the report, with the order that is asked for, the summary, or the
+-- records
+abbrev pub IsPrintedIn : ReportForm → AskedCheck → ℕ → TowerModel → List ClosedShard → List Log → Option RegId → List ℕ → Type 0
+IsPrintedIn Report asked status tower closed logs order text = IsReport tower closed logs order text
+IsPrintedIn Summary asked status tower closed logs order text = IsSummary tower closed logs text
+IsPrintedIn Json asked status tower closed logs order text = ArePrinted notations.Json asked status tower closed logs order text
+IsPrintedIn Edn asked status tower closed logs order text = ArePrinted notations.Edn asked status tower closed logs order text
+
+-- the text is what `check` prints of a run with this status
+abbrev pub IsPrinted : AskedCheck → ℕ → TowerModel → List ClosedShard → List Log → Option RegId → List ℕ → Type 0
+IsPrinted asked status tower closed logs order text = IsPrintedIn asked.form asked status tower closed logs order text
 
 -- the status of a run: 2 where a trace broke, else 1 where a register fails, else 3 where an element was refused,
 -- else 4 where too few operations stand, else 0
@@ -61,6 +85,6 @@ pub record IsChecked (asked : AskedCheck) (file : List ℕ) (traces : List (List
   pub are_read : AreReadOf (map (λ trace. Some trace) traces) logs read
   pub run : IsRun tower (chosen_field asked.moments) asked.shards read closed logs
   pub text : List ℕ
-  pub printed : IsPrinted asked.form tower closed logs order text
+  pub printed : IsPrinted asked status tower closed logs order text
   pub written : Appends old new text
   pub status_is : IsStatus tower closed logs asked.least asked.least_each status

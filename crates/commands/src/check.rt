@@ -5,7 +5,8 @@ ghost use Rattle.std.specs.Io.KnownBytes.{Appends};
 ghost use Rattle.report.specs.Finding.{IsOfTower};
 ghost use Rattle.tower_file.specs.Tower.{IsTowerOf};
 ghost use Rattle.words.specs.Words.{asked_check};
-ghost use Rattle.commands.specs.Checked.{IsChecked, IsNamed, IsPrinted, IsStatus, chosen_field};
+ghost use Rattle.records.specs.Run.{names_of};
+ghost use Rattle.commands.specs.Checked.{ArePrinted, IsChecked, IsNamed, IsPrintedIn, IsStatus, chosen_field, moment_word, record_names};
 ghost use Rattle.commands.specs.Run.{AreHeld};
 
 use crate::fault::CommandFault;
@@ -14,6 +15,7 @@ use crate::status::{any_broken, any_fails, any_refused, has_too_few, status};
 use feeders::{Pages, Run, run_readers};
 use intervals::RegId;
 use jepsen_form::MomentField;
+use records::{Form, Notation, write_records};
 use report::laws::a_run_is_of_its_tower;
 use report::{ReportFault, report, summary};
 use shards::NoGate;
@@ -71,7 +73,7 @@ pub fn check<'a, A: AllocGlobal + Threads + Wait + Sync, F: Files, W: Write>(
     let Ok(status) = status_after(alloc, asked.least, asked.least_each, &tower, &run) else {
         return Err(CommandFault::Memory);
     };
-    match print(rt, asked.form, &tower, &run, order, out) {
+    match print(rt, asked.form, asked, status, &tower, &run, order, out) {
         Ok(()) => {
             // The command is over: to free the run, node by node, would cost a tenth of its time.
             forget(run);
@@ -123,23 +125,75 @@ pub fn field_of(moments: MomentKey) -> MomentField
     }
 }
 
-/// Writes the report or the summary of a run.
-fn print<A: AllocGlobal + Threads + Wait + Sync, W: Write>(
+/// Writes what is asked for of a run with this status: the report, the summary or the records.
+fn print<'x, A: AllocGlobal + Threads + Wait + Sync, W: Write>(
     rt: &A,
     form: ReportForm,
-    tower: &Tower,
-    run: &Run,
+    asked: &Check<'_>,
+    status: u8,
+    tower: &'x Tower,
+    run: &Run<'x>,
     order: Option<RegId>,
     out: &mut W,
 ) -> Result<(), ReportFault>
     requires of_tower { IsOfTower tower.now run.now.closed }
     requires order { IfSome order (λ id. id.0 < length tower.now.registers) }
-    ensures printed { OnOk result ((text : List ℕ) × IsPrinted form tower.now run.now.closed run.now.logs.items order text × Appends (W.contents out.old) (W.contents out.new) text) }
+    ensures printed { OnOk result ((text : List ℕ) × IsPrintedIn form (asked_check asked.now) status tower.now run.now.closed run.now.logs.items order text × Appends (W.contents out.old) (W.contents out.new) text) }
     ensures memory { result ≡ Err ReportFault.Memory → out.new ≡ out.old }
 {
+    let alloc = rt.alloc();
     match form {
-        ReportForm::Report => report(rt, rt.alloc(), tower, run, order, out),
-        ReportForm::Summary => summary(rt.alloc(), tower, run, out),
+        ReportForm::Report => report(rt, alloc, tower, run, order, out),
+        ReportForm::Summary => summary(alloc, tower, run, out),
+        ReportForm::Json => {
+            print_records(alloc, Notation::Json, asked, status, tower, run, order, out)
+        }
+        ReportForm::Edn => {
+            print_records(alloc, Notation::Edn, asked, status, tower, run, order, out)
+        }
+    }
+}
+
+/// Writes the records of a run with this status.
+fn print_records<'x, W: Write>(
+    alloc: Global,
+    notation: Notation,
+    asked: &Check<'_>,
+    status: u8,
+    tower: &'x Tower,
+    run: &Run<'x>,
+    order: Option<RegId>,
+    out: &mut W,
+) -> Result<(), ReportFault>
+    requires of_tower { IsOfTower tower.now run.now.closed }
+    requires order { IfSome order (λ id. id.0 < length tower.now.registers) }
+    ensures printed { OnOk result ((text : List ℕ) × ArePrinted notation (asked_check asked.now) status tower.now run.now.closed run.now.logs.items order text × Appends (W.contents out.old) (W.contents out.new) text) }
+    ensures memory { result ≡ Err ReportFault.Memory → out.new ≡ out.old }
+{
+    let form = form_of(asked, notation);
+    write_records(alloc, &form, status, tower, run, order, out)
+}
+
+fn form_of<'b>(asked: &'b Check<'_>, notation: Notation) -> Form<'b>
+    ensures names { names_of result ≡ record_names (asked_check asked.now) }
+    ensures notation { result.notation ≡ notation }
+    ensures only { result.only_failing ≡ (asked_check asked.now).only_failing }
+{
+    Form {
+        notation,
+        only_failing: asked.only_failing,
+        tower: asked.tower,
+        traces: &asked.traces,
+        moments: moment_word(asked.moments),
+    }
+}
+
+fn moment_word(moments: MomentKey) -> &'static str
+    ensures { result.now ≡ moment_word moments }
+{
+    match moments {
+        MomentKey::Index => "index",
+        MomentKey::Time => "time",
     }
 }
 

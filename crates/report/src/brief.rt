@@ -111,7 +111,8 @@ fn push_blamed_count(text: &mut String, blamed: usize) -> Result<(), AllocError>
     write!(text, "{blamed} to blame; ")
 }
 
-fn count_failing(findings: &[Finding]) -> usize
+/// How many registers fail, by what is found of them.
+pub fn count_failing(findings: &[Finding]) -> usize
     ensures { result ≡ count_by is_failing findings.now }
 {
     findings
@@ -150,7 +151,8 @@ fn push_counted(text: &mut String, many: u128, word: &str) -> Result<(), AllocEr
     text.push_str("s")
 }
 
-fn count_operations(findings: &[Finding]) -> u128
+/// How many operations stand in all registers together, by what is found of them.
+pub fn count_operations(findings: &[Finding]) -> u128
     ensures { result ≡ operations findings.now }
 {
     findings
@@ -179,7 +181,8 @@ fn push_breaks_count(text: &mut String, many: usize) -> Result<(), AllocError>
     text.push_str(" broken")
 }
 
-fn count_broken(logs: &[Log]) -> usize
+/// How many traces broke.
+pub fn count_broken(logs: &[Log]) -> usize
     ensures { result ≡ count_by is_broken logs.now }
 {
     logs.iter().filter(|log| log.broken.is_some()).count()

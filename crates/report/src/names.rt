@@ -18,7 +18,8 @@ pub fn push_printed(text: &mut String, name: &[u8]) -> Result<(), AllocError>
     Ok(())
 }
 
-fn printed_char(character: char) -> char
+/// A character as it is printed: a space for one below U+0020.
+pub fn printed_char(character: char) -> char
     ensures { result ≡ printed_char character }
 {
     if character < ' ' { ' ' } else { character }

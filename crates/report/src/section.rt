@@ -2,8 +2,8 @@
 
 ghost use Rattle.std.specs.Prelude.{◌≡◌, ◌++◌, ◌∷◌, [], OnOk, string_bytes, is_none, flat_map, codes, if◌then◌else◌};
 ghost use Rattle.std.specs.List.{slice_get};
-ghost use Rattle.std.specs.Option.{option_map_or};
-ghost use Rattle.intervals.specs.Operation.{same_id};
+ghost use Rattle.std.specs.Option.{option_map_or, option_to_list};
+ghost use Rattle.intervals.specs.Table.{ops_in_slots};
 ghost use Rattle.register_book.specs.Fault.{ops_at};
 ghost use Rattle.report.specs.Names.{id_text};
 ghost use Rattle.report.specs.Section.{fault_line, holder_text, is_one, part_line, part_line_of, part_lines, register_line, section_text, shown_of, witness_text};
@@ -63,8 +63,16 @@ fn push_witness(text: &mut String, witness: &Witness) -> Result<(), AllocError>
     ensures { OnOk result (string_bytes text.new ≡ string_bytes text.old ++ witness_text witness.now) }
 {
     push_fault(text, witness.ids())?;
+    push_ops(text, &shown_of(witness))
+}
+
+/// The operations of a witness whose texts are printed, in at most four slots; a conflict's second and third once, where
+/// they are one operation.
+pub fn shown_of<'t>(witness: &Witness<'t>) -> [Option<Op<'t>>; 4]
+    ensures { ops_in_slots result ≡ shown_of witness.now }
+{
     match witness {
-        Witness::Wrong(read) | Witness::Unwritten(read) => push_parts(text, read),
+        Witness::Wrong(read) | Witness::Unwritten(read) => [Some(*read), None, None, None],
         Witness::Split {
             first: one,
             second: other,
@@ -72,62 +80,49 @@ fn push_witness(text: &mut String, witness: &Witness) -> Result<(), AllocError>
         | Witness::Early {
             read: one,
             write: other,
-        } => {
-            push_parts(text, one)?;
-            push_parts(text, other)
-        }
-        Witness::Crossing { a, b, c, d } => push_crossing(text, a, b, c, d),
+        } => [Some(*one), Some(*other), None, None],
+        Witness::Crossing { a, b, c, d } => [op_at(a), op_at(b), other_at(b, c), op_at(d)],
     }
 }
 
-/// The lines of the operations of a conflict; of its second and third once, where they are one operation.
-fn push_crossing(
-    text: &mut String,
-    a: &Side,
-    b: &Side,
-    c: &Side,
-    d: &Side,
-) -> Result<(), AllocError>
-    ensures { OnOk result (string_bytes text.new ≡ string_bytes text.old ++ flat_map part_lines (shown_of (Witness.Crossing a.now b.now c.now d.now))) }
-{
-    push_side(text, a)?;
-    push_side(text, b)?;
-    push_other(text, b, c)?;
-    push_side(text, d)
-}
-
-/// The lines of a side, unless it is the operation before it.
-fn push_other(text: &mut String, before: &Side, side: &Side) -> Result<(), AllocError>
-    ensures { OnOk result (string_bytes text.new ≡ string_bytes text.old ++ flat_map part_lines (if is_one before.now side.now then [] else ops_at side.now)) }
+/// The operation of a side, unless it is the operation before it.
+fn other_at<'t>(before: &Side, side: &Side<'t>) -> Option<Op<'t>>
+    ensures { option_to_list result ≡ if is_one before.now side.now then [] else ops_at side.now }
 {
     if is_one(before, side) {
-        return Ok(());
+        None
+    } else {
+        op_at(side)
     }
-    push_side(text, side)
 }
 
 fn is_one(a: &Side, b: &Side) -> bool
     ensures { result ≡ is_one a.now b.now }
 {
     match (a, b) {
-        (Side::Op(a), Side::Op(b)) => is_same_id(a.id, b.id),
+        (Side::Op(a), Side::Op(b)) => a.has_id(b.id),
         _ => false,
     }
 }
 
-fn is_same_id(a: OpId, b: OpId) -> bool
-    ensures { result ≡ same_id a b }
-{
-    a.feeder == b.feeder && a.event == b.event
-}
-
-fn push_side(text: &mut String, side: &Side) -> Result<(), AllocError>
-    ensures { OnOk result (string_bytes text.new ≡ string_bytes text.old ++ flat_map part_lines (ops_at side.now)) }
+fn op_at<'t>(side: &Side<'t>) -> Option<Op<'t>>
+    ensures { option_to_list result ≡ ops_at side.now }
 {
     match side {
-        Side::Op(op) => push_parts(text, op),
-        Side::Initial => Ok(()),
+        Side::Op(op) => Some(*op),
+        Side::Initial => None,
     }
+}
+
+fn push_ops(text: &mut String, ops: &[Option<Op>]) -> Result<(), AllocError>
+    ensures { OnOk result (string_bytes text.new ≡ string_bytes text.old ++ flat_map part_lines (ops_in_slots ops.now)) }
+{
+    for op in ops {
+        if let Some(op) = op {
+            push_parts(text, op)?;
+        }
+    }
+    Ok(())
 }
 
 /// The line of a fault: its word, and the ids of the operations that show it.

@@ -4,9 +4,9 @@ use Rattle.std.proofs.lemmas.Bool.{eqb-true}
 use Rattle.clap.proofs.OnLiterals.{clap_on_literals}
 use Rattle.clap.specs.Words.{Text, takes}
 use Rattle.words.specs.declared.check.MomentKey.TheVariants.{Index, Time}
-use Rattle.words.specs.declared.check.ReportForm.TheVariants.{Report, Summary}
+use Rattle.words.specs.declared.check.ReportForm.TheVariants.{Report, Summary, Json, Edn}
 use Rattle.words.specs.declared.completion.Shell.TheVariants.{Bash, Zsh, Fish}
-use Rattle.words.specs.declared.lint.LintForm.TheVariants.{Human, Json}
+use Rattle.words.specs.declared.lint.LintForm.TheVariants as lint_forms
 use Rattle.words.specs.declared.show.Picture.TheVariants as pictures
 use Rattle.words.specs.declared.show.Theme.TheVariants.{Auto, Dark}
 use Rattle.words.specs.Words.{Check, Completion, Explain, Lint, Manual, Safe, Show, Tower, Version, asked, command_line, is_no_option}
@@ -89,27 +89,47 @@ unfolding clap_on_literals
 taken = (refl, refl, refl, refl, refl)
 
 pub plain_check : (program : Text) → asked (program ∷ codes "check" ∷ codes "--tower" ∷ codes "t" ∷ codes "a" ∷ [])
-    ≡ Some (Check (record { tower = codes "t"; shards = 1; moments = Index; order = None; form = Report; least = 0; least_each = 0; traces = codes "a" ∷ [] }))
+    ≡ Some (Check (record { tower = codes "t"; shards = 1; moments = Index; order = None; form = Report; only_failing = false; least = 0; least_each = 0; traces = codes "a" ∷ [] }))
 unfolding clap_on_literals
 plain_check program = refl
 
 pub whole_check : (program : Text) → asked (program ∷ codes "check" ∷ codes "--tower" ∷ codes "t" ∷ codes "--shards" ∷ codes "64" ∷ codes "--moment" ∷ codes "time" ∷ codes "--order" ∷ codes "x" ∷ codes "--as" ∷ codes "summary" ∷ codes "--least" ∷ codes "7" ∷ codes "--least-each" ∷ codes "1" ∷ codes "a" ∷ [])
-    ≡ Some (Check (record { tower = codes "t"; shards = 64; moments = Time; order = Some (codes "x"); form = Summary; least = 7; least_each = 1; traces = codes "a" ∷ [] }))
+    ≡ Some (Check (record { tower = codes "t"; shards = 64; moments = Time; order = Some (codes "x"); form = Summary; only_failing = false; least = 7; least_each = 1; traces = codes "a" ∷ [] }))
 unfolding clap_on_literals
 whole_check program = refl
 
 pub two_traces : (program : Text) → asked (program ∷ codes "check" ∷ codes "--tower" ∷ codes "t" ∷ codes "a" ∷ codes "b" ∷ [])
-    ≡ Some (Check (record { tower = codes "t"; shards = 1; moments = Index; order = None; form = Report; least = 0; least_each = 0; traces = codes "a" ∷ codes "b" ∷ [] }))
+    ≡ Some (Check (record { tower = codes "t"; shards = 1; moments = Index; order = None; form = Report; only_failing = false; least = 0; least_each = 0; traces = codes "a" ∷ codes "b" ∷ [] }))
 unfolding clap_on_literals
 two_traces program = refl
 
 pub between_traces : (program : Text) → asked (program ∷ codes "check" ∷ codes "a" ∷ codes "--shards=+2" ∷ codes "b" ∷ codes "--tower=t" ∷ codes "--moment=index" ∷ codes "a" ∷ [])
-    ≡ Some (Check (record { tower = codes "t"; shards = 2; moments = Index; order = None; form = Report; least = 0; least_each = 0; traces = codes "a" ∷ codes "b" ∷ codes "a" ∷ [] }))
+    ≡ Some (Check (record { tower = codes "t"; shards = 2; moments = Index; order = None; form = Report; only_failing = false; least = 0; least_each = 0; traces = codes "a" ∷ codes "b" ∷ codes "a" ∷ [] }))
 unfolding clap_on_literals
 between_traces program = refl
 
+pub json_check : (program : Text) → asked (program ∷ codes "check" ∷ codes "--tower=t" ∷ codes "--as=json" ∷ codes "a" ∷ [])
+    ≡ Some (Check (record { tower = codes "t"; shards = 1; moments = Index; order = None; form = Json; only_failing = false; least = 0; least_each = 0; traces = codes "a" ∷ [] }))
+unfolding clap_on_literals
+json_check program = refl
+
+pub edn_check : (program : Text) → asked (program ∷ codes "check" ∷ codes "--tower=t" ∷ codes "--as" ∷ codes "edn" ∷ codes "a" ∷ [])
+    ≡ Some (Check (record { tower = codes "t"; shards = 1; moments = Index; order = None; form = Edn; only_failing = false; least = 0; least_each = 0; traces = codes "a" ∷ [] }))
+unfolding clap_on_literals
+edn_check program = refl
+
+pub failing_check : (program : Text) → asked (program ∷ codes "check" ∷ codes "--tower=t" ∷ codes "--as=json" ∷ codes "--only" ∷ codes "failing" ∷ codes "a" ∷ [])
+    ≡ Some (Check (record { tower = codes "t"; shards = 1; moments = Index; order = None; form = Json; only_failing = true; least = 0; least_each = 0; traces = codes "a" ∷ [] }))
+unfolding clap_on_literals
+failing_check program = refl
+
+pub whole_records : (program : Text) → asked (program ∷ codes "check" ∷ codes "--tower" ∷ codes "t" ∷ codes "--shards" ∷ codes "64" ∷ codes "--moment" ∷ codes "time" ∷ codes "--order" ∷ codes "x" ∷ codes "--as" ∷ codes "edn" ∷ codes "--only" ∷ codes "failing" ∷ codes "--least" ∷ codes "7" ∷ codes "--least-each" ∷ codes "1" ∷ codes "a" ∷ [])
+    ≡ Some (Check (record { tower = codes "t"; shards = 64; moments = Time; order = Some (codes "x"); form = Edn; only_failing = true; least = 7; least_each = 1; traces = codes "a" ∷ [] }))
+unfolding clap_on_literals
+whole_records program = refl
+
 pub any_names : (program tower order trace : Text) → asked (program ∷ codes "check" ∷ (codes "--tower=" ++ tower) ∷ (codes "--order=" ++ order) ∷ codes "--" ∷ trace ∷ [])
-    ≡ Some (Check (record { tower = tower; shards = 1; moments = Index; order = Some order; form = Report; least = 0; least_each = 0; traces = trace ∷ [] }))
+    ≡ Some (Check (record { tower = tower; shards = 1; moments = Index; order = Some order; form = Report; only_failing = false; least = 0; least_each = 0; traces = trace ∷ [] }))
 unfolding clap_on_literals
 any_names program tower order trace = refl
 
@@ -132,6 +152,16 @@ no_moment program = refl
 pub no_form : (program : Text) → asked (program ∷ codes "check" ∷ codes "--tower" ∷ codes "t" ∷ codes "--as" ∷ codes "html" ∷ codes "a" ∷ []) ≡ None
 unfolding clap_on_literals
 no_form program = refl
+
+pub no_only : (program : Text) → asked (program ∷ codes "check" ∷ codes "--tower=t" ∷ codes "--as=json" ∷ codes "--only=all" ∷ codes "a" ∷ []) ≡ None
+unfolding clap_on_literals
+no_only program = refl
+
+pub no_records : (program : Text) → (asked (program ∷ codes "check" ∷ codes "--tower=t" ∷ codes "--only=failing" ∷ codes "a" ∷ []) ≡ None)
+    × (asked (program ∷ codes "check" ∷ codes "--tower=t" ∷ codes "--as=text" ∷ codes "--only=failing" ∷ codes "a" ∷ []) ≡ None)
+    × (asked (program ∷ codes "check" ∷ codes "--tower=t" ∷ codes "--as=summary" ∷ codes "--only=failing" ∷ codes "a" ∷ []) ≡ None)
+unfolding clap_on_literals
+no_records program = (refl, refl, refl)
 
 pub no_shell : (program : Text) → asked (program ∷ codes "completion" ∷ codes "csh" ∷ []) ≡ None
 unfolding clap_on_literals
@@ -196,17 +226,17 @@ unfolding clap_on_literals
 taken_shows = (refl, refl)
 
 pub tower_alone : (program : Text) → asked (program ∷ codes "lint" ∷ codes "--tower" ∷ codes "t" ∷ [])
-    ≡ Some (Lint (record { tower = Some (codes "t"); moments = Index; form = Human; most = 3; denied = None; traces = [] }))
+    ≡ Some (Lint (record { tower = Some (codes "t"); moments = Index; form = lint_forms.Human; most = 3; denied = None; traces = [] }))
 unfolding clap_on_literals
 tower_alone program = refl
 
 pub traces_alone : (program : Text) → asked (program ∷ codes "lint" ∷ codes "a" ∷ codes "b" ∷ [])
-    ≡ Some (Lint (record { tower = None; moments = Index; form = Human; most = 3; denied = None; traces = codes "a" ∷ codes "b" ∷ [] }))
+    ≡ Some (Lint (record { tower = None; moments = Index; form = lint_forms.Human; most = 3; denied = None; traces = codes "a" ∷ codes "b" ∷ [] }))
 unfolding clap_on_literals
 traces_alone program = refl
 
 pub whole_lint : (program : Text) → asked (program ∷ codes "lint" ∷ codes "--tower=t" ∷ codes "--moment" ∷ codes "time" ∷ codes "--as" ∷ codes "json" ∷ codes "--max" ∷ codes "0" ∷ codes "--deny" ∷ codes "L1,L3" ∷ codes "a" ∷ [])
-    ≡ Some (Lint (record { tower = Some (codes "t"); moments = Time; form = Json; most = 0; denied = Some (codes "L1,L3"); traces = codes "a" ∷ [] }))
+    ≡ Some (Lint (record { tower = Some (codes "t"); moments = Time; form = lint_forms.Json; most = 0; denied = Some (codes "L1,L3"); traces = codes "a" ∷ [] }))
 unfolding clap_on_literals
 whole_lint program = refl
 

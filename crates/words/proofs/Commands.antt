@@ -11,7 +11,7 @@ use Rattle.words.specs.declared.check.MomentKey.{MomentKey}
 use Rattle.words.specs.declared.lint.LintForm.{LintForm}
 use Rattle.words.specs.declared.show.Picture.{Picture}
 use Rattle.words.specs.declared.show.Theme.{Theme}
-use Rattle.words.specs.Words.{Asked, AskedCheck, AskedLint, AskedShow, asked_by, check_by, command_by, command_line, count_in, form_in, is_set, lint_by, lint_form_in, moments_in, picture_by, said_in, shards_in, show_by, theme_in, traces_in}
+use Rattle.words.specs.Words.{Asked, AskedCheck, AskedLint, AskedShow, asked_by, check_by, command_by, command_line, count_in, form_in, is_set, lint_by, lint_form_in, moments_in, only_by, picture_by, said_in, shards_in, show_by, theme_in, traces_in}
 
 one_by_one : {A B C : Type 0} (f : B → C) (g : A → B) (found : Option A) → option_map f (option_map g found) ≡ option_map (λ a. f (g a)) found
 one_by_one f g None = refl
@@ -35,12 +35,12 @@ pub asks_command : (matches found : ArgMatches) (name : Text) (asked : Option As
 asks_command matches found name asked named has is = rw (entered matches name (rows_of (found_of found)) named has) is
 
 -- a check whose arguments are all there
-pub is_check : (rows : List Row) (tower : Text) (shards : ℕ) (moments : MomentKey) (order : Option Text) (form : ReportForm) (least least_each : ℕ) (traces : List Text) → first_of (codes "tower") rows ≡ Some tower → Some shards ≡ said_in shards_in (codes "shards") rows
-    → Some moments ≡ said_in moments_in (codes "moment") rows → first_of (codes "order") rows ≡ order → Some form ≡ said_in form_in (codes "as") rows → Some least ≡ said_in count_in (codes "least") rows → Some least_each ≡ said_in count_in (codes "least-each") rows
+pub is_check : (rows : List Row) (tower : Text) (shards : ℕ) (moments : MomentKey) (order : Option Text) (form : ReportForm) (only_failing : Bool) (least least_each : ℕ) (traces : List Text) → first_of (codes "tower") rows ≡ Some tower → Some shards ≡ said_in shards_in (codes "shards") rows
+    → Some moments ≡ said_in moments_in (codes "moment") rows → first_of (codes "order") rows ≡ order → Some form ≡ said_in form_in (codes "as") rows → Some only_failing ≡ only_by form rows → Some least ≡ said_in count_in (codes "least") rows → Some least_each ≡ said_in count_in (codes "least-each") rows
     → traces ≡ traces_in rows → (length traces == 0) ≡ false
-    → ◌≡◌ {A = Option AskedCheck} (Some (record { tower = tower; shards = shards; moments = moments; order = order; form = form; least = least; least_each = least_each; traces = traces })) (check_by rows)
-is_check rows tower shards moments order form least least_each traces tower_is shards_is moments_is order_is form_is least_is each_is traces_are some =
-    rw (tower_is, ← shards_is, ← moments_is, ← form_is, ← least_is, ← each_is, ← traces_are, some, order_is) refl
+    → ◌≡◌ {A = Option AskedCheck} (Some (record { tower = tower; shards = shards; moments = moments; order = order; form = form; only_failing = only_failing; least = least; least_each = least_each; traces = traces })) (check_by rows)
+is_check rows tower shards moments order form only_failing least least_each traces tower_is shards_is moments_is order_is form_is only_is least_is each_is traces_are some =
+    rw (tower_is, ← shards_is, ← moments_is, ← form_is, ← only_is, ← least_is, ← each_is, ← traces_are, some, order_is) refl
 
 pub no_tower : (rows : List Row) → first_of (codes "tower") rows ≡ None → ◌≡◌ {A = Option AskedCheck} None (check_by rows)
 no_tower rows none = rw none refl

@@ -14,12 +14,12 @@ use Rattle.clap.specs.declared.builder.action.ArgAction.TheVariants.{SetTrue}
 use Rattle.clap.specs.declared.builder.value_parser.ValueParser.TheVariants as parsers
 use Rattle.words.specs.declared.check.Check.{Check as HeldCheck}
 use Rattle.words.specs.declared.check.ReportForm.{ReportForm}
-use Rattle.words.specs.declared.check.ReportForm.TheVariants.{Report, Summary}
+use Rattle.words.specs.declared.check.ReportForm.TheVariants.{Report, Summary, Json, Edn}
 use Rattle.words.specs.declared.check.MomentKey.{MomentKey}
 use Rattle.words.specs.declared.check.MomentKey.TheVariants.{Index, Time}
 use Rattle.words.specs.declared.lint.Lint.{Lint as HeldLint}
 use Rattle.words.specs.declared.lint.LintForm.{LintForm}
-use Rattle.words.specs.declared.lint.LintForm.TheVariants.{Human, Short, GitHub, Json}
+use Rattle.words.specs.declared.lint.LintForm.TheVariants as lint_forms
 use Rattle.words.specs.declared.show.Picture.{Picture}
 use Rattle.words.specs.declared.show.Picture.TheVariants as pictures
 use Rattle.words.specs.declared.show.Show.{Show as HeldShow}
@@ -50,6 +50,10 @@ order_rule = record (new_rule (codes "order")) { long = Some (codes "order"); va
 abbrev pub form_rule : Rule
 form_rule = record (new_rule (codes "as")) { long = Some (codes "as"); value_names = 1; defaults = codes "text" ∷ [] }
 
+-- the option `--only WHICH`
+abbrev pub only_rule : Rule
+only_rule = record (new_rule (codes "only")) { long = Some (codes "only"); value_names = 1 }
+
 -- the option `--NAME N` of this name, a number below 2^64; this default where it is not given
 abbrev pub count_rule : Text → Text → Rule
 count_rule name default = record (new_rule name) { long = Some name; value_names = 1; defaults = default ∷ []; parser = Some (parsers.Unsigned 0 (2 ^ 64 - 1)) }
@@ -62,9 +66,10 @@ traces_rule = record (new_rule (codes "TRACE")) { range = Some (record { start_i
 abbrev pub with_counts : App → App
 with_counts options = with_rule (with_rule (with_rule options (count_rule (codes "least") (codes "0"))) (count_rule (codes "least-each") (codes "0"))) traces_rule
 
--- `check --tower FILE [--shards N] [--moment FIELD] [--order NAME] [--as FORM] [--least N] [--least-each N] TRACE..`
+-- `check --tower FILE [--shards N] [--moment FIELD] [--order NAME] [--as FORM] [--only WHICH] [--least N]
+-- [--least-each N] TRACE..`
 abbrev pub check_line : App
-check_line = with_counts (with_rule (with_rule (with_rule (with_rule (with_rule (new_app (codes "check")) tower_rule) shards_rule) moment_rule) order_rule) form_rule)
+check_line = with_counts (with_rule (with_rule (with_rule (with_rule (with_rule (with_rule (new_app (codes "check")) tower_rule) shards_rule) moment_rule) order_rule) form_rule) only_rule)
 
 -- the option `--register NAME`
 abbrev pub register_rule : Rule
@@ -183,6 +188,7 @@ pub record AskedCheck : Type 0 where
   pub moments : MomentKey
   pub order : Option Text
   pub form : ReportForm
+  pub only_failing : Bool
   pub least : ℕ
   pub least_each : ℕ
   pub traces : List Text
@@ -229,9 +235,25 @@ shards_in text = if is_unsigned_in 1 64 text then Some (digits_value 10 (without
 abbrev pub moments_in : Text → Option MomentKey
 moments_in text = if bytes_eq text (codes "index") then Some Index else (if bytes_eq text (codes "time") then Some Time else None)
 
--- the form of a report that a text names: `text` or `summary`
+-- the form of a report that a text names: `text`, `summary`, `json` or `edn`
 abbrev pub form_in : Text → Option ReportForm
-form_in text = if bytes_eq text (codes "text") then Some Report else (if bytes_eq text (codes "summary") then Some Summary else None)
+form_in text =
+    if bytes_eq text (codes "text") then Some Report
+    else (if bytes_eq text (codes "summary") then Some Summary
+    else (if bytes_eq text (codes "json") then Some Json
+    else (if bytes_eq text (codes "edn") then Some Edn else None)))
+
+-- a report of this form is made of records, in JSON or EDN
+abbrev pub has_records : ReportForm → Bool
+has_records Report = false
+has_records Summary = false
+has_records Json = true
+has_records Edn = true
+
+-- the word of `--only`, to a report of this form: `failing`, that only the registers that fail have a record; none
+-- where it is another word, or the report has no records
+abbrev pub only_in : ReportForm → Text → Option Bool
+only_in form text = if bytes_eq text (codes "failing") && has_records form then Some true else None
 
 -- the picture that the flags `--svg`, `--html` and `--ascii` ask for: lines of text without any; none where two are set
 abbrev pub picture_in : Bool → Bool → Bool → Option Picture
@@ -250,10 +272,10 @@ theme_in text =
 -- the form of findings that a text names: `human`, `short`, `github` or `json`
 abbrev pub lint_form_in : Text → Option LintForm
 lint_form_in text =
-    if bytes_eq text (codes "human") then Some Human
-    else (if bytes_eq text (codes "short") then Some Short
-    else (if bytes_eq text (codes "github") then Some GitHub
-    else (if bytes_eq text (codes "json") then Some Json else None)))
+    if bytes_eq text (codes "human") then Some lint_forms.Human
+    else (if bytes_eq text (codes "short") then Some lint_forms.Short
+    else (if bytes_eq text (codes "github") then Some lint_forms.GitHub
+    else (if bytes_eq text (codes "json") then Some lint_forms.Json else None)))
 
 -- the number that a text gives: digits, after a plus or none, below 2^64
 abbrev pub count_in : Text → Option ℕ
@@ -271,19 +293,26 @@ said_in says name rows = option_and_then says (first_of name rows)
 abbrev pub is_set : Text → List Row → Bool
 is_set name rows = option_map_or (λ value. bytes_eq value (codes "true")) (first_of name rows) false
 
+-- only the registers that fail have a record, by the arguments to a report of this form: all of them have one where
+-- `--only` is not given
+abbrev pub only_by : ReportForm → List Row → Option Bool
+only_by form rows = option_map_or (only_in form) (first_of (codes "only") rows) (Some false)
+
 -- what `check` asks for by these values and the other arguments; none where they name no trace
-abbrev pub check_of : Text → ℕ → MomentKey → ReportForm → ℕ → ℕ → List Row → Option AskedCheck
-check_of tower shards moments form least least_each rows =
+abbrev pub check_of : Text → ℕ → MomentKey → ReportForm → Bool → ℕ → ℕ → List Row → Option AskedCheck
+check_of tower shards moments form only_failing least least_each rows =
     if length (traces_in rows) == 0 then None
-    else Some (record { tower = tower; shards = shards; moments = moments; order = first_of (codes "order") rows; form = form; least = least; least_each = least_each; traces = traces_in rows })
+    else Some (record { tower = tower; shards = shards; moments = moments; order = first_of (codes "order") rows; form = form; only_failing = only_failing; least = least; least_each = least_each; traces = traces_in rows })
 
 -- what `check` asks for by these arguments, or none
 abbrev pub check_by : List Row → Option AskedCheck
 check_by rows =
     option_and_then (λ tower. option_and_then (λ shards. option_and_then (λ moments. option_and_then (λ form.
-    option_and_then (λ least. option_and_then (λ least_each. check_of tower shards moments form least least_each rows)
+    option_and_then (λ only_failing. option_and_then (λ least. option_and_then (λ least_each.
+    check_of tower shards moments form only_failing least least_each rows)
     (said_in count_in (codes "least-each") rows))
     (said_in count_in (codes "least") rows))
+    (only_by form rows))
     (said_in form_in (codes "as") rows))
     (said_in moments_in (codes "moment") rows))
     (said_in shards_in (codes "shards") rows))
@@ -367,6 +396,7 @@ asked_check check = record {
   moments = check.moments;
   order = option_map (λ name. name.now) check.order;
   form = check.form;
+  only_failing = check.only_failing;
   least = check.least;
   least_each = check.least_each;
   traces = map (λ name. name.now) check.traces.items;

@@ -3,7 +3,7 @@
 ghost use Rattle.std.specs.Prelude.{◌≡◌, ◌<◌, ◌≤◌, IfOk, IfSome, codes, length, map};
 ghost use Rattle.std.specs.Option.{option_map};
 ghost use Rattle.clap.specs.Words.{found_of, rows_of};
-ghost use Rattle.words.specs.Words.{asked_check, check_by, count_in, form_in, moments_in, said_in, shards_in, traces_in};
+ghost use Rattle.words.specs.Words.{asked_check, check_by, count_in, form_in, has_records, moments_in, only_by, only_in, said_in, shards_in, traces_in};
 
 use clap::ArgMatches;
 use std::alloc::{AllocError, Global};
@@ -22,6 +22,22 @@ pub enum ReportForm {
     Report,
     /// Counts, and what fails.
     Summary,
+    /// A record a line, in JSON.
+    Json,
+    /// A record a line, in EDN.
+    Edn,
+}
+
+impl ReportForm {
+    /// Whether records are printed.
+    fn has_records(self) -> bool
+        ensures { result ≡ has_records self }
+    {
+        match self {
+            ReportForm::Report | ReportForm::Summary => false,
+            ReportForm::Json | ReportForm::Edn => true,
+        }
+    }
 }
 
 /// What `check` asks for.
@@ -35,6 +51,8 @@ pub struct Check<'a> {
     /// The name of the register whose order is asked for.
     pub order: Option<&'a str>,
     pub form: ReportForm,
+    /// Whether only the registers that fail have a record.
+    pub only_failing: bool,
     /// How many operations have to stand in all registers together, at least.
     pub least: u64,
     /// How many operations have to stand in each register, at least.
@@ -64,6 +82,9 @@ pub(crate) fn check_of<'a>(
     let Some(form) = form_of(found) else {
         return Ok(None);
     };
+    let Some(only_failing) = only_of(form, found) else {
+        return Ok(None);
+    };
     let Some(least) = count_of(found, "least") else {
         return Ok(None);
     };
@@ -80,6 +101,7 @@ pub(crate) fn check_of<'a>(
         moments,
         order: found.get_str("order"),
         form,
+        only_failing,
         least,
         least_each,
         traces,
@@ -140,6 +162,29 @@ fn form_in(text: &str) -> Option<ReportForm>
         Some(ReportForm::Report)
     } else if text == "summary" {
         Some(ReportForm::Summary)
+    } else if text == "json" {
+        Some(ReportForm::Json)
+    } else if text == "edn" {
+        Some(ReportForm::Edn)
+    } else {
+        None
+    }
+}
+
+fn only_of(form: ReportForm, found: &ArgMatches<'_>) -> Option<bool>
+    ensures { result ≡ only_by form (rows_of (found_of found.now)) }
+{
+    match found.get_str("only") {
+        Some(text) => only_in(form, text),
+        None => Some(false),
+    }
+}
+
+fn only_in(form: ReportForm, text: &str) -> Option<bool>
+    ensures { result ≡ only_in form text.now }
+{
+    if text == "failing" && form.has_records() {
+        Some(true)
     } else {
         None
     }

@@ -3,7 +3,7 @@
 ghost use Rattle.std.specs.Prelude.{◌≡◌, codes, false, IfOk};
 ghost use Rattle.clap.specs.Words.{App, app_of, rule_of};
 ghost use Rattle.words.specs.declared.cli.Vocabulary.TheVariants.{Open};
-ghost use Rattle.words.specs.Words.{IsFlag, IsLine, amiss_rule, any_tower_rule, any_traces_rule, check_line, command_line, completion_line, count_rule, deny_rule, explain_line, flag_rule, form_rule, lint_line, manual_line, moment_rule, order_rule, register_rule, safe_line, shards_rule, shell_rule, show_line, theme_rule, tower_line, tower_rule, traces_rule, version_line, width_rule, with_audits, with_counts, with_files, with_lint_options, with_pictures, with_show_options, with_texts};
+ghost use Rattle.words.specs.Words.{IsFlag, IsLine, amiss_rule, any_tower_rule, any_traces_rule, check_line, command_line, completion_line, count_rule, deny_rule, explain_line, flag_rule, form_rule, lint_line, manual_line, moment_rule, only_rule, order_rule, register_rule, safe_line, shards_rule, shell_rule, show_line, theme_rule, tower_line, tower_rule, traces_rule, version_line, width_rule, with_audits, with_counts, with_files, with_lint_options, with_pictures, with_show_options, with_texts};
 
 use clap::builder::ValueParser;
 use clap::{Arg, ArgAction, Command};
@@ -59,7 +59,9 @@ pub(crate) enum Vocabulary {
 
 static MOMENTS: [&str; 2] = ["index", "time"];
 
-static FORMS: [&str; 2] = ["text", "summary"];
+static FORMS: [&str; 4] = ["text", "summary", "json", "edn"];
+
+static ONLY: [&str; 1] = ["failing"];
 
 static THEMES: [&str; 3] = ["auto", "light", "dark"];
 
@@ -154,10 +156,26 @@ fn form<'a>(alloc: Global, vocabulary: Vocabulary) -> Arg<'a>
         .long("as")
         .value_name("FORM")
         .default_value("text")
-        .help("What is printed: the report as text, or a summary of it");
+        .help("What is printed: the report as text, a summary of it, or records in json or edn");
     match vocabulary {
         Vocabulary::Open => arg,
         Vocabulary::Closed => arg.value_parser(FORMS.as_slice()),
+    }
+}
+
+fn only<'a>(alloc: Global, vocabulary: Vocabulary) -> Arg<'a>
+    ensures rule { vocabulary ≡ Open → rule_of result ≡ only_rule }
+    ensures local { vocabulary ≡ Open → result.global ≡ false }
+{
+    let arg = Arg::new(alloc, "only")
+        .long("only")
+        .value_name("WHICH")
+        .help(
+            "Which registers have a record, in json or edn: failing, or all where it is not said",
+        );
+    match vocabulary {
+        Vocabulary::Open => arg,
+        Vocabulary::Closed => arg.value_parser(ONLY.as_slice()),
     }
 }
 
@@ -216,7 +234,8 @@ fn check_line<'a>(alloc: Global, vocabulary: Vocabulary) -> Result<Command<'a>, 
     let line = line
         .arg(moment(alloc, vocabulary))?
         .arg(order(alloc))?
-        .arg(form(alloc, vocabulary))?;
+        .arg(form(alloc, vocabulary))?
+        .arg(only(alloc, vocabulary))?;
     add_counts(alloc, line)
 }
 

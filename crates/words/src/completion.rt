@@ -88,7 +88,8 @@ _regaudit() {
             check:--tower | show:--tower | lint:--tower) ;;
             check:--shards) words='1 2 4 8 16 32 64' ;;
             check:--moment | show:--moment | lint:--moment) words='index time' ;;
-            check:--as) words='text summary' ;;
+            check:--as) words='text summary json edn' ;;
+            check:--only) words=failing ;;
             show:--theme) words='auto light dark' ;;
             lint:--as) words='human short github json' ;;
             lint:--deny) words='L1 L2 L3 L4 L5 L6 L7 L8' ;;
@@ -96,7 +97,7 @@ _regaudit() {
             completion:completion) words='bash zsh fish' ;;
             check:*)
                 if [[ $begun == -* ]]; then
-                    words='--tower --shards --moment --order --as --least --least-each --help'
+                    words='--tower --shards --moment --order --as --only --least --least-each --help'
                 fi
                 ;;
             show:*)
@@ -174,7 +175,8 @@ _regaudit() {
                         '--shards=[over how many shards the registers are spread]:number:(1 2 4 8 16 32 64)' \
                         '--moment=[the field that moments stand under]:field:(index time)' \
                         '--order=[prints an order of this register]:register:_regaudit_registers' \
-                        '--as=[how the report is printed]:form:(text summary)' \
+                        '--as=[how the report is printed]:form:(text summary json edn)' \
+                        '--only=[which registers have a record]:registers:(failing)' \
                         '--least=[status 4 where fewer operations stand]:number: ' \
                         '--least-each=[status 4 where fewer stand in a register]:number: ' \
                         '(- *)'{-h,--help}'[prints help]' \
@@ -269,7 +271,8 @@ complete -c regaudit -n '__regaudit_is check' -l tower -rF -d 'the tower file'
 complete -c regaudit -n '__regaudit_is check' -l shards -x -a '1 2 4 8 16 32 64' -d 'over how many shards the registers are spread'
 complete -c regaudit -n '__regaudit_is check' -l moment -x -a 'index time' -d 'the field that moments stand under'
 complete -c regaudit -n '__regaudit_is check' -l order -x -a '(__regaudit_registers)' -d 'prints an order of this register'
-complete -c regaudit -n '__regaudit_is check' -l as -x -a 'text summary' -d 'how the report is printed'
+complete -c regaudit -n '__regaudit_is check' -l as -x -a 'text summary json edn' -d 'how the report is printed'
+complete -c regaudit -n '__regaudit_is check' -l only -x -a failing -d 'which registers have a record'
 complete -c regaudit -n '__regaudit_is check' -l least -x -d 'status 4 where fewer operations stand'
 complete -c regaudit -n '__regaudit_is check' -l least-each -x -d 'status 4 where fewer stand in a register'
 complete -c regaudit -n '__regaudit_is show' -l tower -rF -d 'the tower file'

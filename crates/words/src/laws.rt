@@ -3,9 +3,9 @@
 ghost use Rattle.std.specs.Prelude.{◌≡◌, ◌++◌, ℕ, true, false, List, [], ◌∷◌, Some, None, codes};
 ghost use Rattle.clap.specs.Words.{Text, takes};
 ghost use Rattle.words.specs.declared.check.MomentKey.TheVariants.{Index, Time};
-ghost use Rattle.words.specs.declared.check.ReportForm.TheVariants.{Report, Summary};
+ghost use Rattle.words.specs.declared.check.ReportForm.TheVariants.{Report, Summary, Json, Edn};
 ghost use Rattle.words.specs.declared.completion.Shell.TheVariants.{Bash, Zsh, Fish};
-ghost use Rattle.words.specs.declared.lint.LintForm.TheVariants.{Human, Json};
+ghost use Rattle.words.specs.declared.lint.LintForm.TheVariants as lint_forms;
 ghost use Rattle.words.specs.declared.show.Picture.TheVariants as pictures;
 ghost use Rattle.words.specs.declared.show.Theme.TheVariants.{Auto, Dark};
 ghost use Rattle.words.specs.Words.{Check, Completion, Explain, Lint, Manual, Safe, Show, Tower, Version, asked, command_line, is_no_option};
@@ -30,18 +30,27 @@ pub fn words_in_turn()
 {}
 
 /// What `check` asks for: one shard and `index` where nothing else is said, and every trace, in order, wherever the
-/// options are. Names that begin with a hyphen come after `=` and `--`.
+/// options are. All registers have a record where `--only` is not given. Names that begin with a hyphen come after `=`
+/// and `--`.
 pub fn checks_in_turn()
     ensures plain { (program : Text) → asked (program ∷ codes "check" ∷ codes "--tower" ∷ codes "t" ∷ codes "a" ∷ [])
-        ≡ Some (Check (record { tower = codes "t"; shards = 1; moments = Index; order = None; form = Report; least = 0; least_each = 0; traces = codes "a" ∷ [] })) }
+        ≡ Some (Check (record { tower = codes "t"; shards = 1; moments = Index; order = None; form = Report; only_failing = false; least = 0; least_each = 0; traces = codes "a" ∷ [] })) }
     ensures whole { (program : Text) → asked (program ∷ codes "check" ∷ codes "--tower" ∷ codes "t" ∷ codes "--shards" ∷ codes "64" ∷ codes "--moment" ∷ codes "time" ∷ codes "--order" ∷ codes "x" ∷ codes "--as" ∷ codes "summary" ∷ codes "--least" ∷ codes "7" ∷ codes "--least-each" ∷ codes "1" ∷ codes "a" ∷ [])
-        ≡ Some (Check (record { tower = codes "t"; shards = 64; moments = Time; order = Some (codes "x"); form = Summary; least = 7; least_each = 1; traces = codes "a" ∷ [] })) }
+        ≡ Some (Check (record { tower = codes "t"; shards = 64; moments = Time; order = Some (codes "x"); form = Summary; only_failing = false; least = 7; least_each = 1; traces = codes "a" ∷ [] })) }
     ensures two { (program : Text) → asked (program ∷ codes "check" ∷ codes "--tower" ∷ codes "t" ∷ codes "a" ∷ codes "b" ∷ [])
-        ≡ Some (Check (record { tower = codes "t"; shards = 1; moments = Index; order = None; form = Report; least = 0; least_each = 0; traces = codes "a" ∷ codes "b" ∷ [] })) }
+        ≡ Some (Check (record { tower = codes "t"; shards = 1; moments = Index; order = None; form = Report; only_failing = false; least = 0; least_each = 0; traces = codes "a" ∷ codes "b" ∷ [] })) }
     ensures between { (program : Text) → asked (program ∷ codes "check" ∷ codes "a" ∷ codes "--shards=+2" ∷ codes "b" ∷ codes "--tower=t" ∷ codes "--moment=index" ∷ codes "a" ∷ [])
-        ≡ Some (Check (record { tower = codes "t"; shards = 2; moments = Index; order = None; form = Report; least = 0; least_each = 0; traces = codes "a" ∷ codes "b" ∷ codes "a" ∷ [] })) }
+        ≡ Some (Check (record { tower = codes "t"; shards = 2; moments = Index; order = None; form = Report; only_failing = false; least = 0; least_each = 0; traces = codes "a" ∷ codes "b" ∷ codes "a" ∷ [] })) }
+    ensures json { (program : Text) → asked (program ∷ codes "check" ∷ codes "--tower=t" ∷ codes "--as=json" ∷ codes "a" ∷ [])
+        ≡ Some (Check (record { tower = codes "t"; shards = 1; moments = Index; order = None; form = Json; only_failing = false; least = 0; least_each = 0; traces = codes "a" ∷ [] })) }
+    ensures edn { (program : Text) → asked (program ∷ codes "check" ∷ codes "--tower=t" ∷ codes "--as" ∷ codes "edn" ∷ codes "a" ∷ [])
+        ≡ Some (Check (record { tower = codes "t"; shards = 1; moments = Index; order = None; form = Edn; only_failing = false; least = 0; least_each = 0; traces = codes "a" ∷ [] })) }
+    ensures failing { (program : Text) → asked (program ∷ codes "check" ∷ codes "--tower=t" ∷ codes "--as=json" ∷ codes "--only" ∷ codes "failing" ∷ codes "a" ∷ [])
+        ≡ Some (Check (record { tower = codes "t"; shards = 1; moments = Index; order = None; form = Json; only_failing = true; least = 0; least_each = 0; traces = codes "a" ∷ [] })) }
+    ensures whole_records { (program : Text) → asked (program ∷ codes "check" ∷ codes "--tower" ∷ codes "t" ∷ codes "--shards" ∷ codes "64" ∷ codes "--moment" ∷ codes "time" ∷ codes "--order" ∷ codes "x" ∷ codes "--as" ∷ codes "edn" ∷ codes "--only" ∷ codes "failing" ∷ codes "--least" ∷ codes "7" ∷ codes "--least-each" ∷ codes "1" ∷ codes "a" ∷ [])
+        ≡ Some (Check (record { tower = codes "t"; shards = 64; moments = Time; order = Some (codes "x"); form = Edn; only_failing = true; least = 7; least_each = 1; traces = codes "a" ∷ [] })) }
     ensures any_names { (program tower order trace : Text) → asked (program ∷ codes "check" ∷ (codes "--tower=" ++ tower) ∷ (codes "--order=" ++ order) ∷ codes "--" ∷ trace ∷ [])
-        ≡ Some (Check (record { tower = tower; shards = 1; moments = Index; order = Some order; form = Report; least = 0; least_each = 0; traces = trace ∷ [] })) }
+        ≡ Some (Check (record { tower = tower; shards = 1; moments = Index; order = Some order; form = Report; only_failing = false; least = 0; least_each = 0; traces = trace ∷ [] })) }
 {}
 
 /// What `show` asks for: lines of a terminal, three operations around each one that shows why a register fails, and the
@@ -76,17 +85,17 @@ pub fn shows_in_turn()
 /// where nothing else is said.
 pub fn looks_in_turn()
     ensures tower { (program : Text) → asked (program ∷ codes "lint" ∷ codes "--tower" ∷ codes "t" ∷ [])
-        ≡ Some (Lint (record { tower = Some (codes "t"); moments = Index; form = Human; most = 3; denied = None; traces = [] })) }
+        ≡ Some (Lint (record { tower = Some (codes "t"); moments = Index; form = lint_forms.Human; most = 3; denied = None; traces = [] })) }
     ensures traces { (program : Text) → asked (program ∷ codes "lint" ∷ codes "a" ∷ codes "b" ∷ [])
-        ≡ Some (Lint (record { tower = None; moments = Index; form = Human; most = 3; denied = None; traces = codes "a" ∷ codes "b" ∷ [] })) }
+        ≡ Some (Lint (record { tower = None; moments = Index; form = lint_forms.Human; most = 3; denied = None; traces = codes "a" ∷ codes "b" ∷ [] })) }
     ensures whole { (program : Text) → asked (program ∷ codes "lint" ∷ codes "--tower=t" ∷ codes "--moment" ∷ codes "time" ∷ codes "--as" ∷ codes "json" ∷ codes "--max" ∷ codes "0" ∷ codes "--deny" ∷ codes "L1,L3" ∷ codes "a" ∷ [])
-        ≡ Some (Lint (record { tower = Some (codes "t"); moments = Time; form = Json; most = 0; denied = Some (codes "L1,L3"); traces = codes "a" ∷ [] })) }
+        ≡ Some (Lint (record { tower = Some (codes "t"); moments = Time; form = lint_forms.Json; most = 0; denied = Some (codes "L1,L3"); traces = codes "a" ∷ [] })) }
     ensures nothing { (program : Text) → asked (program ∷ codes "lint" ∷ []) ≡ None }
     ensures no_form { (program : Text) → asked (program ∷ codes "lint" ∷ codes "--as" ∷ codes "text" ∷ codes "a" ∷ []) ≡ None }
 {}
 
-/// Words that ask for nothing: no command, an unknown one, no file, no tower, no trace or an unknown form. Words that
-/// do not fit the command line are refused by `clap`.
+/// Words that ask for nothing: no command, an unknown one, no file, no tower, no trace or an unknown form, or `--only`
+/// of a report that is not made of records. Words that do not fit the command line are refused by `clap`.
 pub fn words_that_ask_for_nothing()
     ensures alone { (program : Text) → asked (program ∷ []) ≡ None }
     ensures other { (program : Text) → asked (program ∷ codes "list" ∷ []) ≡ None }
@@ -97,6 +106,10 @@ pub fn words_that_ask_for_nothing()
     ensures no_trace { (program : Text) → asked (program ∷ codes "check" ∷ codes "--tower" ∷ codes "t" ∷ []) ≡ None }
     ensures no_moment { (program : Text) → asked (program ∷ codes "check" ∷ codes "--tower" ∷ codes "t" ∷ codes "--moment" ∷ codes "now" ∷ codes "a" ∷ []) ≡ None }
     ensures no_form { (program : Text) → asked (program ∷ codes "check" ∷ codes "--tower" ∷ codes "t" ∷ codes "--as" ∷ codes "html" ∷ codes "a" ∷ []) ≡ None }
+    ensures no_only { (program : Text) → asked (program ∷ codes "check" ∷ codes "--tower=t" ∷ codes "--as=json" ∷ codes "--only=all" ∷ codes "a" ∷ []) ≡ None }
+    ensures no_records { (program : Text) → (asked (program ∷ codes "check" ∷ codes "--tower=t" ∷ codes "--only=failing" ∷ codes "a" ∷ []) ≡ None)
+        × (asked (program ∷ codes "check" ∷ codes "--tower=t" ∷ codes "--as=text" ∷ codes "--only=failing" ∷ codes "a" ∷ []) ≡ None)
+        × (asked (program ∷ codes "check" ∷ codes "--tower=t" ∷ codes "--as=summary" ∷ codes "--only=failing" ∷ codes "a" ∷ []) ≡ None) }
     ensures no_shell { (program : Text) → asked (program ∷ codes "completion" ∷ codes "csh" ∷ []) ≡ None }
     ensures none { asked [] ≡ None }
     ensures refused { (takes command_line (codes "regaudit" ∷ codes "safe" ∷ codes "a" ∷ codes "b" ∷ []) ≡ false)

@@ -1,8 +1,8 @@
 //! The words of the command line: which command they ask for.
 //!
 //! ```text
-//! regaudit check --tower FILE [--shards N] [--moment index|time] [--order NAME] [--as text|summary]
-//!     [--least N] [--least-each N] TRACE..
+//! regaudit check --tower FILE [--shards N] [--moment index|time] [--order NAME]
+//!     [--as text|summary|json|edn] [--only failing] [--least N] [--least-each N] TRACE..
 //! regaudit show --tower FILE [--moment index|time] [--register NAME] [--svg|--html|--ascii] [--around N] [--all]
 //!     [--width N] [--theme auto|light|dark] TRACE..
 //! regaudit lint [--tower FILE] [--moment index|time] [--as human|short|github|json] [--max N] [--deny CODES]
@@ -23,6 +23,7 @@
 //!         moments: MomentKey::Index,
 //!         order: None,
 //!         form: ReportForm::Report,
+//!         only_failing: false,
 //!         least: 0,
 //!         least_each: 0,
 //!         traces: ["a.edn", "b.edn"],

@@ -104,16 +104,22 @@ fn usage_fault(alloc: Global, message: &str) -> Result<Error, AllocError> {
 
 /// The fault of words that `clap` takes and that ask for nothing. Where an argument has none of its few words, or two
 /// flags ask for pictures, `clap` reports that in its own text, by a line that takes only these words and one such
-/// flag; else `lint` is given nothing to read. That line holds the words as they were lent to it, so no line of
-/// `specs/` is equal to it, and words are not read by it.
+/// flag; else `check` has `--only` and prints no records, or `lint` is given nothing to read. That line holds the words
+/// as they were lent to it, so no line of `specs/` is equal to it, and words are not read by it.
 fn refused<'a, S: AsStr>(alloc: Global, words: &'a [S]) -> Result<Error, AllocError> {
     let mut line = command_line(alloc, Vocabulary::Closed)?;
     match line.try_get_matches_from_mut(words) {
         Err(error) => Ok(error),
-        Ok(_) => line.error(
-            ErrorKind::MissingRequiredArgument,
-            "a tower file or a trace is required",
-        ),
+        Ok(matches) => match matches.subcommand_name() {
+            Some("check") => line.error(
+                ErrorKind::ArgumentConflict,
+                "--only needs --as json or --as edn",
+            ),
+            _ => line.error(
+                ErrorKind::MissingRequiredArgument,
+                "a tower file or a trace is required",
+            ),
+        },
     }
 }
 

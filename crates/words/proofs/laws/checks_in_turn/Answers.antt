@@ -1,4 +1,4 @@
-use Rattle.words.proofs.Asking.{any_names, between_traces, plain_check, two_traces, whole_check}
+use Rattle.words.proofs.Asking.{any_names, between_traces, edn_check, failing_check, json_check, plain_check, two_traces, whole_check, whole_records}
 use Rattle.words.proofs.laws.checks_in_turn.Goals as goal
 
 pub returns-clause-plain : goal.returns-clause-plain
@@ -15,3 +15,15 @@ returns-clause-between c = between_traces
 
 pub returns-clause-any_names : goal.returns-clause-any_names
 returns-clause-any_names c = any_names
+
+pub returns-clause-json : goal.returns-clause-json
+returns-clause-json c = json_check
+
+pub returns-clause-edn : goal.returns-clause-edn
+returns-clause-edn c = edn_check
+
+pub returns-clause-failing : goal.returns-clause-failing
+returns-clause-failing c = failing_check
+
+pub returns-clause-whole_records : goal.returns-clause-whole_records
+returns-clause-whole_records c = whole_records

@@ -1,4 +1,4 @@
-use Rattle.words.proofs.Asking.{alone, other, help, no_file, no_check, no_tower, no_trace, no_moment, no_form, no_shell, nothing, refused, refused_checks, refused_shards, taken}
+use Rattle.words.proofs.Asking.{alone, other, help, no_file, no_check, no_tower, no_trace, no_moment, no_form, no_only, no_records, no_shell, nothing, refused, refused_checks, refused_shards, taken}
 use Rattle.words.proofs.laws.words_that_ask_for_nothing.Goals as goal
 
 pub returns-clause-alone : goal.returns-clause-alone
@@ -45,3 +45,9 @@ returns-clause-no_form c = no_form
 
 pub returns-clause-no_shell : goal.returns-clause-no_shell
 returns-clause-no_shell c = no_shell
+
+pub returns-clause-no_only : goal.returns-clause-no_only
+returns-clause-no_only c = no_only
+
+pub returns-clause-no_records : goal.returns-clause-no_records
+returns-clause-no_records c = no_records

@@ -1,0 +1,8 @@
+-- what is added in two steps, and the lines of all records
+pub mod Steps
+pub mod AllLines
+-- what is explained of the registers
+pub mod Explaining
+-- the records tell the report, and each is whole
+pub mod Telling
+pub mod Shapes

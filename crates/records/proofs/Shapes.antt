@@ -1,0 +1,322 @@
+-- Each record of a run is a record by the grammar.
+use Rattle.std.proofs.Common.{◌≡◌, ℕ, ◌+◌, Bool, true, false, List, [], ◌∷◌, ◌++◌, length, map, Option, Some, None, refl, sym, subst, append_assoc}
+use Rattle.std.proofs.lemmas.List.{append-nil}
+use Rattle.std.proofs.lemmas.List.Elements.{All-nil, All-cons, All-append}
+use Rattle.std.specs.Prelude.{All, codes, flat_map, is_none, if◌then◌else◌}
+use Rattle.std.specs.Borrow.{Bor}
+use Rattle.std.specs.Fmt.{decimal, signed_decimal}
+use Rattle.std.specs.List.{slice_get}
+use Rattle.std.specs.Option.{option_map_or}
+use Rattle.intervals.specs.declared.claim.Holder.{Holder}
+use Rattle.intervals.specs.declared.claim.Holder.TheVariants as holders
+use Rattle.intervals.specs.declared.claim.Kind.{Kind}
+use Rattle.intervals.specs.declared.operation.Moment.{Moment}
+use Rattle.intervals.specs.declared.operation.Op.{Op}
+use Rattle.intervals.specs.declared.operation.OpId.{OpId}
+use Rattle.intervals.specs.declared.operation.RegId.{RegId}
+use Rattle.intervals.specs.declared.operation.Value.{Value}
+use Rattle.intervals.specs.declared.operation.Value.TheVariants.{Nil, Int}
+use Rattle.intervals.specs.Operation.{is_write, value_of}
+use Rattle.tower_file.specs.Contents.{Register, TowerModel}
+use Rattle.shards.specs.Closing.{ClosedShard}
+use Rattle.feeders.specs.Code.{break_code_of, refused_code}
+use Rattle.feeders.specs.declared.log.Broken.{Broken}
+use Rattle.feeders.specs.declared.log.Code.{Code}
+use Rattle.feeders.specs.declared.log.Line.{Line}
+use Rattle.feeders.specs.declared.log.Log.{Log}
+use Rattle.feeders.specs.declared.log.What.{What}
+use Rattle.feeders.specs.declared.log.What.TheVariants.{Refused, Answered}
+use Rattle.register_book.specs.declared.fault.Witness.{Witness}
+use Rattle.register_book.specs.declared.fault.Witness.TheVariants.{Wrong, Unwritten, Split, Early, Crossing}
+use Rattle.register_book.specs.Fault.{side_holder}
+use Rattle.report.specs.declared.finding.Finding.{Finding}
+use Rattle.report.specs.Culprit.{is_culprit}
+use Rattle.report.specs.Finding.{fails_of}
+use Rattle.report.specs.Listing.{level_name}
+use Rattle.report.specs.Names.{kind_word, register_name}
+use Rattle.report.specs.Section.{shown_of}
+use Rattle.records.specs.declared.allowed.Allowed.{Allowed}
+use Rattle.records.specs.declared.allowed.Source.{Source}
+use Rattle.records.specs.declared.allowed.Source.TheVariants as sources
+use Rattle.records.specs.declared.ends.Totals.{Totals}
+use Rattle.records.specs.Allowed.{allowed_symbols, source_symbol}
+use Rattle.records.specs.Ends.{end_of_records, format_symbols, head_record, order_symbols, tower_symbols, traces_symbols}
+use Rattle.records.specs.Fault.{fault_symbols, side_value}
+use Rattle.records.specs.Field.{end_symbols, flag_symbols, list_symbols, number_symbols, place_symbols, text_field, type_symbols, word_symbols}
+use Rattle.records.specs.Grammar.{AreFields, AreValues, IsOneValue, IsRecord, alone, between, is_whole_value, listed, more_fields, more_values, nested, no_field, no_value}
+use Rattle.records.specs.Log.{answer_symbols, broken_symbols, met_by, refused_symbols}
+use Rattle.records.specs.Operation.{act_word, op_symbols}
+use Rattle.records.specs.Register.{register_symbols, witness_symbols}
+use Rattle.records.specs.Run.{AreRecordsOfRun, RunNames, asked_records, broken_records, has_record, line_record, log_records, logs_records, records_of, register_record, registers_records, totals_of, what_record}
+use Rattle.records.specs.Symbol.{Symbol, begin_list, begin_record, end_list, end_record, flag, key, nothing, number, place, text, word}
+use Rattle.records.specs.Value.{end_symbol, holder_symbol, part_symbol, value_symbol}
+
+-- values by themselves
+
+whole_value : (value : Value) → is_whole_value (value_symbol value) ≡ true
+whole_value Nil = refl
+whole_value (Int i) = refl
+
+whole_source : (source : Source) → is_whole_value (source_symbol source) ≡ true
+whole_source (sources.Write id) = refl
+whole_source sources.Initial = refl
+whole_source sources.Domain = refl
+
+whole_end : (end : Option Moment) → is_whole_value (end_symbol end) ≡ true
+whole_end None = refl
+whole_end (Some moment) = refl
+
+whole_part : (part : Option (Bor (List ℕ))) → is_whole_value (part_symbol part) ≡ true
+whole_part None = refl
+whole_part (Some part) = refl
+
+whole_holder : (holder : Holder) → is_whole_value (holder_symbol holder) ≡ true
+whole_holder (holders.Op id) = refl
+whole_holder holders.Initial = refl
+
+-- fields
+
+field_is : (name : List ℕ) (symbol : Symbol) → {rest : List Symbol} → is_whole_value symbol ≡ true → AreFields rest → AreFields (key name ∷ symbol ∷ rest)
+field_is name symbol whole rest = more_fields name (alone symbol whole) rest
+
+last_field_is : (name : List ℕ) → {value : List Symbol} → IsOneValue value → AreFields (key name ∷ value)
+last_field_is name {value = value} is = subst (λ (symbols : List Symbol). AreFields (key name ∷ symbols)) (append-nil value) (more_fields name is no_field)
+
+last_list_is : (name : List ℕ) → {values : List Symbol} → AreValues values → AreFields (key name ∷ begin_list ∷ (values ++ end_list ∷ []))
+last_list_is name are = last_field_is name (listed are)
+
+-- operations
+
+op_is : (op : Op) → IsRecord (op_symbols op)
+unfolding op_symbols
+op_is op =
+    between
+    (field_is (codes "id") (place op.id.feeder op.id.event) refl
+    (field_is (codes "process") (number (signed_decimal op.process)) refl
+    (field_is (codes "f") (word (act_word (is_write op))) refl
+    (field_is (codes "value") (value_symbol (value_of op.act)) (whole_value (value_of op.act))
+    (field_is (codes "begin") (number (decimal op.begin.0)) refl
+    (field_is (codes "end") (end_symbol op.end) (whole_end op.end)
+    (field_is (codes "invocation") (text op.parts.invocation.now) refl
+    (field_is (codes "answer") (part_symbol op.parts.answer) (whole_part op.parts.answer)
+    (field_is (codes "amendment") (part_symbol op.parts.amendment) (whole_part op.parts.amendment) no_field)))))))))
+
+ops_are : (ops : List Op) → AreValues (flat_map op_symbols ops)
+ops_are [] = no_value
+ops_are (op ∷ ops) = more_values (nested (op_is op)) (ops_are ops)
+
+-- faults
+
+allowed_is : (allowed : Allowed) → IsRecord (allowed_symbols allowed)
+allowed_is allowed =
+    between
+    (field_is (codes "value") (value_symbol allowed.value) (whole_value allowed.value)
+    (field_is (codes "id") (source_symbol allowed.source) (whole_source allowed.source) no_field))
+
+allowed_are : (allowed : List Allowed) → AreValues (flat_map allowed_symbols allowed)
+allowed_are [] = no_value
+allowed_are (one ∷ allowed) = more_values (nested (allowed_is one)) (allowed_are allowed)
+
+fault_is : (allowed : List Allowed) (witness : Witness) → IsRecord (fault_symbols allowed witness)
+unfolding end_symbols
+fault_is allowed (Wrong read) =
+    subst (λ (tail : List Symbol). IsRecord (begin_record ∷ key (codes "kind") ∷ word (codes "wrong") ∷ key (codes "read") ∷ place read.id.feeder read.id.event ∷ key (codes "allowed") ∷ begin_list ∷ tail))
+    (append_assoc (flat_map allowed_symbols allowed) (end_list ∷ []) (end_record ∷ []))
+    (between
+    (field_is (codes "kind") (word (codes "wrong")) refl
+    (field_is (codes "read") (place read.id.feeder read.id.event) refl (last_list_is (codes "allowed") (allowed_are allowed)))))
+fault_is allowed (Unwritten read) =
+    between (field_is (codes "kind") (word (codes "unwritten")) refl (field_is (codes "read") (place read.id.feeder read.id.event) refl no_field))
+fault_is allowed (Split first second) =
+    between
+    (field_is (codes "kind") (word (codes "split")) refl
+    (field_is (codes "first") (place first.id.feeder first.id.event) refl (field_is (codes "second") (place second.id.feeder second.id.event) refl no_field)))
+fault_is allowed (Early read write) =
+    between
+    (field_is (codes "kind") (word (codes "early")) refl
+    (field_is (codes "read") (place read.id.feeder read.id.event) refl (field_is (codes "write") (place write.id.feeder write.id.event) refl no_field)))
+fault_is allowed (Crossing a b c d) =
+    between
+    (field_is (codes "kind") (word (codes "conflict")) refl
+    (field_is (codes "a") (holder_symbol (side_holder a)) (whole_holder (side_holder a))
+    (field_is (codes "b") (holder_symbol (side_holder b)) (whole_holder (side_holder b))
+    (field_is (codes "c") (holder_symbol (side_holder c)) (whole_holder (side_holder c))
+    (field_is (codes "d") (holder_symbol (side_holder d)) (whole_holder (side_holder d))
+    (field_is (codes "first") (value_symbol (side_value d)) (whole_value (side_value d))
+    (field_is (codes "second") (value_symbol (side_value b)) (whole_value (side_value b)) no_field)))))))
+
+-- registers
+
+register_fields : (n : ℕ) (level name : List ℕ) (finding : Finding) (culprit : Bool) → {rest : List Symbol} → AreFields rest → AreFields (key (codes "t") ∷ word (codes "register") ∷ key (codes "number") ∷ number (decimal n) ∷ key (codes "level") ∷ text level ∷ key (codes "name") ∷ text name ∷ key (codes "kind") ∷ word (kind_word finding.kind) ∷ key (codes "holds") ∷ flag (is_none finding.witness) ∷ key (codes "operations") ∷ number (decimal finding.operations) ∷ key (codes "culprit") ∷ flag culprit ∷ rest)
+register_fields n level name finding culprit rest =
+    field_is (codes "t") (word (codes "register")) refl
+    (field_is (codes "number") (number (decimal n)) refl
+    (field_is (codes "level") (text level) refl
+    (field_is (codes "name") (text name) refl
+    (field_is (codes "kind") (word (kind_word finding.kind)) refl
+    (field_is (codes "holds") (flag (is_none finding.witness)) refl
+    (field_is (codes "operations") (number (decimal finding.operations)) refl
+    (field_is (codes "culprit") (flag culprit) refl rest)))))))
+
+regrouped : (fault witness shown : List Symbol) → fault ++ (witness ++ (shown ++ end_list ∷ [])) ++ end_record ∷ [] ≡ fault ++ witness ++ shown ++ end_list ∷ end_record ∷ []
+regrouped fault witness shown = simp append_assoc
+
+found_is : (n : ℕ) (level name : List ℕ) (kind : Kind) (operations : ℕ) (found : Option Witness) (culprit : Bool) (allowed : List Allowed) → IsRecord (register_symbols n level name (record { kind = kind; operations = operations; witness = found }) culprit allowed)
+unfolding register_symbols witness_symbols type_symbols number_symbols text_field word_symbols flag_symbols list_symbols end_symbols
+found_is n level name kind operations None culprit allowed =
+    between
+    (register_fields n level name (record { kind = kind; operations = operations; witness = None }) culprit
+    (field_is (codes "fault") nothing refl (last_list_is (codes "witness") no_value)))
+found_is n level name kind operations (Some witness) culprit allowed =
+    subst (λ (tail : List Symbol). IsRecord (begin_record ∷ key (codes "t") ∷ word (codes "register") ∷ key (codes "number") ∷ number (decimal n) ∷ key (codes "level") ∷ text level ∷ key (codes "name") ∷ text name ∷ key (codes "kind") ∷ word (kind_word kind) ∷ key (codes "holds") ∷ flag false ∷ key (codes "operations") ∷ number (decimal operations) ∷ key (codes "culprit") ∷ flag culprit ∷ key (codes "fault") ∷ tail))
+    (regrouped (fault_symbols allowed witness) (key (codes "witness") ∷ begin_list ∷ []) (flat_map op_symbols (shown_of witness)))
+    (between
+    (register_fields n level name (record { kind = kind; operations = operations; witness = Some witness }) culprit
+    (more_fields (codes "fault") (nested (fault_is allowed witness)) (last_list_is (codes "witness") (ops_are (shown_of witness))))))
+
+register_is : (n : ℕ) (level name : List ℕ) (finding : Finding) (culprit : Bool) (allowed : List Allowed) → IsRecord (register_symbols n level name finding culprit allowed)
+register_is n level name finding culprit allowed = found_is n level name finding.kind finding.operations finding.witness culprit allowed
+
+-- the traces
+
+holders_are : (holders : List Holder) → AreValues (map holder_symbol holders)
+holders_are [] = no_value
+holders_are (holder ∷ holders) = more_values (alone (holder_symbol holder) (whole_holder holder)) (holders_are holders)
+
+refused_is : (feeder event : ℕ) (code : Code) → IsRecord (refused_symbols feeder event code)
+unfolding refused_symbols type_symbols place_symbols word_symbols list_symbols end_symbols
+refused_is feeder event code =
+    subst (λ (tail : List Symbol). IsRecord (begin_record ∷ key (codes "t") ∷ word (codes "refused") ∷ key (codes "id") ∷ place feeder event ∷ key (codes "code") ∷ word (refused_code code) ∷ key (codes "with") ∷ begin_list ∷ tail))
+    (append_assoc (map holder_symbol (met_by code)) (end_list ∷ []) (end_record ∷ []))
+    (between
+    (field_is (codes "t") (word (codes "refused")) refl
+    (field_is (codes "id") (place feeder event) refl
+    (field_is (codes "code") (word (refused_code code)) refl (last_list_is (codes "with") (holders_are (met_by code)))))))
+
+answer_is : (feeder event : ℕ) (name : List ℕ) (holds : Bool) (operations : ℕ) → IsRecord (answer_symbols feeder event name holds operations)
+unfolding answer_symbols type_symbols place_symbols text_field flag_symbols number_symbols
+answer_is feeder event name holds operations =
+    between
+    (field_is (codes "t") (word (codes "answer")) refl
+    (field_is (codes "id") (place feeder event) refl
+    (field_is (codes "register") (text name) refl
+    (field_is (codes "holds") (flag holds) refl (field_is (codes "operations") (number (decimal operations)) refl no_field)))))
+
+broken_is : (feeder : ℕ) (broken : Broken) → IsRecord (broken_symbols feeder broken)
+unfolding broken_symbols type_symbols number_symbols word_symbols
+broken_is feeder broken =
+    between
+    (field_is (codes "t") (word (codes "broken")) refl
+    (field_is (codes "trace") (number (decimal feeder)) refl
+    (field_is (codes "code") (word (break_code_of broken.code)) refl (field_is (codes "byte") (number (decimal broken.place)) refl no_field))))
+
+-- the order, the first and the last record
+
+id_values : (ids : List OpId) → AreValues (map (λ id. place id.feeder id.event) ids)
+id_values [] = no_value
+id_values (id ∷ ids) = more_values (alone (place id.feeder id.event) refl) (id_values ids)
+
+order_is : (name : List ℕ) (ids : Option (List OpId)) → IsRecord (order_symbols name ids)
+unfolding order_symbols type_symbols text_field
+order_is name None =
+    between (field_is (codes "t") (word (codes "order")) refl (field_is (codes "register") (text name) refl (field_is (codes "ids") nothing refl no_field)))
+order_is name (Some ids) =
+    between (field_is (codes "t") (word (codes "order")) refl (field_is (codes "register") (text name) refl (last_list_is (codes "ids") (id_values ids))))
+
+text_values : (texts : List (List ℕ)) → AreValues (map text texts)
+text_values [] = no_value
+text_values (bytes ∷ texts) = more_values (alone (text bytes) refl) (text_values texts)
+
+head_is : (tower : List ℕ) (registers : ℕ) (traces : List (List ℕ)) (moments : List ℕ) → IsRecord (head_record tower registers traces moments)
+unfolding head_record format_symbols tower_symbols traces_symbols type_symbols text_field number_symbols word_symbols list_symbols
+head_is tower registers traces moments =
+    between
+    (field_is (codes "t") (word (codes "head")) refl
+    (field_is (codes "format") (number (decimal 1)) refl
+    (field_is (codes "program") (text (codes "regaudit")) refl
+    (field_is (codes "tower") (text tower) refl
+    (field_is (codes "registers") (number (decimal registers)) refl
+    (more_fields (codes "traces") (listed (text_values traces)) (field_is (codes "moment") (word moments) refl no_field)))))))
+
+end_is : (status : ℕ) (totals : Totals) → IsRecord (end_of_records status totals)
+unfolding end_of_records type_symbols number_symbols
+end_is status totals =
+    between
+    (field_is (codes "t") (word (codes "end")) refl
+    (field_is (codes "status") (number (decimal status)) refl
+    (field_is (codes "registers") (number (decimal totals.registers)) refl
+    (field_is (codes "failing") (number (decimal totals.failing)) refl
+    (field_is (codes "culprits") (number (decimal totals.culprits)) refl
+    (field_is (codes "operations") (number (decimal totals.operations)) refl
+    (field_is (codes "refused") (number (decimal totals.refused)) refl (field_is (codes "broken") (number (decimal totals.broken)) refl no_field))))))))
+
+-- all records of a run
+
+one_record : (symbols : List Symbol) → IsRecord symbols → All IsRecord (symbols ∷ [])
+one_record symbols is = All-cons IsRecord symbols [] is (All-nil IsRecord)
+
+where_shown : (shown : Bool) (records : List (List Symbol)) → All IsRecord records → All IsRecord (if shown then records else [])
+where_shown true records are = are
+where_shown false records are = All-nil IsRecord
+
+record_of : (tower : TowerModel) (failing : List Bool) (n : ℕ) (found : Option Register) (finding : Finding) (allowed : List Allowed) → All IsRecord (option_map_or (λ register. register_symbols n (level_name tower.levels register.level) register.name finding (is_culprit failing n register) allowed ∷ []) found [])
+record_of tower failing n None finding allowed = All-nil IsRecord
+record_of tower failing n (Some register) finding allowed =
+    let level = level_name tower.levels register.level in
+    let culprit = is_culprit failing n register in
+    one_record (register_symbols n level register.name finding culprit allowed) (register_is n level register.name finding culprit allowed)
+
+registers_are : (tower : TowerModel) (failing : List Bool) (only : Bool) (n : ℕ) (findings : List Finding) (others : List (List Allowed)) → All IsRecord (registers_records tower failing only n findings others)
+registers_are tower failing only n [] others = All-nil IsRecord
+registers_are tower failing only n (finding ∷ findings) [] = All-nil IsRecord
+registers_are tower failing only n (finding ∷ findings) (allowed ∷ others) =
+    let here = register_record tower failing n finding allowed in
+    let shown = has_record only finding in
+    All-append IsRecord (if shown then here else []) (registers_records tower failing only (n + 1) findings others)
+    (where_shown shown here (record_of tower failing n (slice_get tower.registers n) finding allowed))
+    (registers_are tower failing only (n + 1) findings others)
+
+what_is : (registers : List Register) (feeder event : ℕ) (what : What) → IsRecord (what_record registers feeder event what)
+what_is registers feeder event (Refused code) = refused_is feeder event code
+what_is registers feeder event (Answered register answer) = answer_is feeder event (register_name registers register) answer.holds answer.operations
+
+lines_are : (registers : List Register) (feeder : ℕ) (lines : List Line) → All IsRecord (map (line_record registers feeder) lines)
+lines_are registers feeder [] = All-nil IsRecord
+lines_are registers feeder (line ∷ lines) =
+    All-cons IsRecord (line_record registers feeder line) (map (line_record registers feeder) lines) (what_is registers feeder line.event line.what) (lines_are registers feeder lines)
+
+breaks_are : (feeder : ℕ) (broken : Option Broken) → All IsRecord (broken_records feeder broken)
+breaks_are feeder None = All-nil IsRecord
+breaks_are feeder (Some broken) = one_record (broken_symbols feeder broken) (broken_is feeder broken)
+
+logs_are : (registers : List Register) (feeder : ℕ) (logs : List Log) → All IsRecord (logs_records registers feeder logs)
+logs_are registers feeder [] = All-nil IsRecord
+logs_are registers feeder (log ∷ logs) =
+    let lines = map (line_record registers feeder) log.lines.items in
+    All-append IsRecord (log_records registers feeder log) (logs_records registers (feeder + 1) logs)
+    (All-append IsRecord lines (broken_records feeder log.broken) (lines_are registers feeder log.lines.items) (breaks_are feeder log.broken))
+    (logs_are registers (feeder + 1) logs)
+
+asked_are : (registers : List Register) (asked : Option (RegId × Option (List OpId))) → All IsRecord (asked_records registers asked)
+asked_are registers None = All-nil IsRecord
+asked_are registers (Some found) =
+    one_record (order_symbols (register_name registers found.0) found.1) (order_is (register_name registers found.0) found.1)
+
+run_is : (names : RunNames) (only : Bool) (status : ℕ) (tower : TowerModel) (findings : List Finding) (allowed : List (List Allowed)) (logs : List Log) (asked : Option (RegId × Option (List OpId))) → All IsRecord (records_of names only status tower findings allowed logs asked)
+run_is names only status tower findings allowed logs asked =
+    let first = head_record names.tower (length tower.registers) names.traces names.moments in
+    let last = end_of_records status (totals_of tower findings logs) in
+    let of_registers = registers_records tower (fails_of findings) only 0 findings allowed in
+    let of_logs = logs_records tower.registers 0 logs in
+    let of_asked = asked_records tower.registers asked in
+    let middle = of_registers ++ of_logs ++ of_asked in
+    All-cons IsRecord first (middle ++ last ∷ []) (head_is names.tower (length tower.registers) names.traces names.moments)
+    (All-append IsRecord middle (last ∷ [])
+    (All-append IsRecord (of_registers ++ of_logs) of_asked
+    (All-append IsRecord of_registers of_logs (registers_are tower (fails_of findings) only 0 findings allowed) (logs_are tower.registers 0 logs))
+    (asked_are tower.registers asked))
+    (one_record last (end_is status (totals_of tower findings logs))))
+
+pub each_is_record : (names : RunNames) (only : Bool) (status : ℕ) (tower : TowerModel) (closed : List ClosedShard) (logs : List Log) (order : Option RegId) (records : List (List Symbol)) → AreRecordsOfRun names only status tower closed logs order records → All IsRecord records
+each_is_record names only status tower closed logs order records are =
+    subst (λ (list : List (List Symbol)). All IsRecord list) (sym are.records_are) (run_is names only status tower are.findings are.allowed logs are.asked)

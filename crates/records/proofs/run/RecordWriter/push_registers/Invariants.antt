@@ -1,0 +1,14 @@
+-- the lines so far and those of the registers that are left are those of all
+use Rattle.std.proofs.Common.{◌≡◌, ◌≤◌, ◌++◌, drop, length, map}
+use Rattle.std.specs.Prelude.{Vec}
+use Rattle.std.specs.declared.alloc.Global.{Global}
+use Rattle.records.specs.declared.allowed.Allowed.{Allowed}
+use Rattle.records.specs.Run.{lines_of, registers_records}
+use Rattle.records.proofs.run.RecordWriter.push_registers.Given as goal
+
+abbrev pub invariant-loop-number : goal.invariant-loop-number
+invariant-loop-number l = record {
+  within : l.number ≤ length l.findings;
+  lines : l.text.items ++ lines_of l.self.notation (registers_records l.tower l.failing l.only_failing l.number (drop l.number l.findings) (map (λ (allowed : Vec Allowed Global). allowed.items) (drop l.number l.allowed)))
+      ≡ l.fn.text.items ++ lines_of l.fn.self.notation (registers_records l.fn.tower l.fn.failing l.fn.only_failing 0 l.fn.findings (map (λ (allowed : Vec Allowed Global). allowed.items) l.fn.allowed));
+}

@@ -1,0 +1,39 @@
+-- The record of a register.
+use Rattle.std.specs.Prelude.{ℕ, Bool, List, [], ◌∷◌, ◌++◌, Option, Some, None, codes, flat_map, is_none}
+use Rattle.register_book.specs.declared.fault.Witness.{Witness}
+use Rattle.report.specs.declared.finding.Finding.{Finding}
+use Rattle.report.specs.Names.{kind_word}
+use Rattle.report.specs.Section.{shown_of}
+use Rattle.records.specs.declared.allowed.Allowed.{Allowed}
+use Rattle.records.specs.Fault.{fault_symbols}
+use Rattle.records.specs.Field.{end_symbols, flag_symbols, list_symbols, number_symbols, text_field, type_symbols, word_symbols}
+use Rattle.records.specs.Operation.{op_symbols}
+use Rattle.records.specs.Symbol.{Symbol, begin_list, end_list, end_record, key, nothing}
+
+-- the end of a register's record, where it fails: the fault, and the operations that show it
+unfoldable pub witness_symbols : List Allowed → Witness → List Symbol
+witness_symbols allowed witness =
+    (key (codes "fault") ∷ []) ++ fault_symbols allowed witness ++ list_symbols (codes "witness")
+    ++ flat_map op_symbols (shown_of witness) ++ end_symbols
+
+-- the end of a register's record: its fault with the operations that show it, or none
+abbrev pub found_symbols : List Allowed → Option Witness → List Symbol
+found_symbols allowed None = key (codes "fault") ∷ nothing ∷ key (codes "witness") ∷ begin_list ∷ end_list ∷ end_record ∷ []
+found_symbols allowed (Some witness) = witness_symbols allowed witness
+
+-- the number of a register, the name of its level, and its name
+abbrev pub register_names : ℕ → List ℕ → List ℕ → List Symbol
+register_names n level name = number_symbols (codes "number") n ++ text_field (codes "level") level ++ text_field (codes "name") name
+
+-- the verdict on a register: its kind, and whether it holds
+abbrev pub verdict_symbols : Finding → List Symbol
+verdict_symbols finding = word_symbols (codes "kind") (kind_word finding.kind) ++ flag_symbols (codes "holds") (is_none finding.witness)
+
+-- how many operations of a register stand, and whether it is to blame
+abbrev pub blame_symbols : ℕ → Bool → List Symbol
+blame_symbols operations culprit = number_symbols (codes "operations") operations ++ flag_symbols (codes "culprit") culprit
+
+-- the record of a register
+unfoldable pub register_symbols : ℕ → List ℕ → List ℕ → Finding → Bool → List Allowed → List Symbol
+register_symbols n level name finding culprit allowed =
+    type_symbols (codes "register") ++ register_names n level name ++ verdict_symbols finding ++ blame_symbols finding.operations culprit ++ found_symbols allowed finding.witness

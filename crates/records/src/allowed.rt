@@ -1,0 +1,133 @@
+//! The values that a wrong read might have returned.
+
+ghost use Rattle.std.specs.Prelude.{◌≡◌, ◌++◌, ◌∷◌, [], IfOk, OnOk, List, flat_map, map, option_map};
+ghost use Rattle.intervals.specs.declared.operation.Value.{Value as AValue};
+ghost use Rattle.records.specs.Allowed.{allowed_by, allowed_symbols, may_return_any, of_domain, of_initial, of_last, of_write, source_symbol};
+ghost use Rattle.records.specs.Symbol.{symbol_of, symbols_of};
+
+use crate::token::Token;
+use crate::value::value_token;
+use intervals::{Kind, Op, OpId, Value};
+use std::alloc::{AllocError, Global};
+
+/// Where a value comes from: a write, the register before any write, or its domain.
+#[derive(Clone, Copy, Debug)]
+pub enum Source {
+    Write(OpId),
+    Initial,
+    Domain,
+}
+
+/// A value that a wrong read might have returned.
+#[derive(Clone, Copy, Debug)]
+pub struct Allowed {
+    pub value: Value,
+    pub source: Source,
+}
+
+/// The values that a wrong read might have returned, by the last write that precedes it and the writes that overlap it.
+pub fn allowed_by(
+    alloc: Global,
+    kind: Kind,
+    initial: Value,
+    domain: &[Value],
+    last: &Option<Op>,
+    over: &[Op],
+) -> Result<Vec<Allowed>, AllocError>
+    ensures { IfOk result (λ allowed. allowed.items ≡ allowed_by kind initial domain.now last.now over.now) }
+{
+    let mut allowed = Vec::new(alloc);
+    if may_return_any(kind, over) {
+        add_domain(&mut allowed, domain)?;
+        allowed.push(of_initial(initial))?;
+    } else {
+        allowed.push(of_last(initial, last))?;
+        add_writes(&mut allowed, over)?;
+    }
+    Ok(allowed)
+}
+
+/// On a safe register a read that overlaps a write may return any value of the domain.
+fn may_return_any(kind: Kind, over: &[Op]) -> bool
+    ensures { result ≡ may_return_any kind over.now }
+{
+    match kind {
+        Kind::Safe => !over.is_empty(),
+        Kind::Regular | Kind::Atomic => false,
+    }
+}
+
+fn add_domain(allowed: &mut Vec<Allowed>, domain: &[Value]) -> Result<(), AllocError>
+    ensures { OnOk result (allowed.new.items ≡ allowed.old.items ++ of_domain domain.now) }
+{
+    for value in domain {
+        allowed.push(Allowed {
+            value: *value,
+            source: Source::Domain,
+        })?;
+    }
+    Ok(())
+}
+
+fn add_writes(allowed: &mut Vec<Allowed>, writes: &[Op]) -> Result<(), AllocError>
+    ensures { OnOk result (allowed.new.items ≡ allowed.old.items ++ map of_write writes.now) }
+{
+    for write in writes {
+        allowed.push(of_write(write))?;
+    }
+    Ok(())
+}
+
+fn of_write(write: &Op) -> Allowed
+    ensures { result ≡ of_write write.now }
+{
+    Allowed {
+        value: write.value(),
+        source: Source::Write(write.id),
+    }
+}
+
+fn of_initial(value: Value) -> Allowed
+    ensures { result ≡ of_initial value }
+{
+    Allowed {
+        value,
+        source: Source::Initial,
+    }
+}
+
+fn of_last(initial: Value, last: &Option<Op>) -> Allowed
+    ensures { result ≡ of_last initial last.now }
+{
+    match last {
+        Some(write) => of_write(write),
+        None => of_initial(initial),
+    }
+}
+
+/// Adds the records of values.
+pub fn add_allowed<'a>(tokens: &mut Vec<Token<'a>>, allowed: &[Allowed]) -> Result<(), AllocError>
+    ensures { OnOk result (symbols_of tokens.new.items ≡ symbols_of tokens.old.items ++ flat_map allowed_symbols allowed.now) }
+{
+    for one in allowed {
+        tokens.extend_from_slice(&[
+            Token::BeginRecord,
+            Token::Key("value"),
+            value_token(one.value),
+            Token::Key("id"),
+            source_token(one.source),
+            Token::EndRecord,
+        ])?;
+    }
+    Ok(())
+}
+
+fn source_token<'a>(source: Source) -> Token<'a>
+    ensures { symbol_of result ≡ source_symbol source }
+{
+    match source {
+        Source::Write(id) => Token::Id(id),
+        Source::Initial => Token::Word("initial"),
+        Source::Domain => Token::Word("domain"),
+    }
+}

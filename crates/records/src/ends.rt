@@ -1,0 +1,161 @@
+//! The first and the last record of a run, and the record of an order.
+
+ghost use Rattle.std.specs.Prelude.{◌≡◌, ◌++◌, ◌∷◌, [], OnOk, map, option_map};
+ghost use Rattle.records.specs.Ends.{end_of_records, format_symbols, head_record, ids_symbols, order_symbols, tower_symbols, trace_totals, traces_symbols, verdict_totals};
+ghost use Rattle.records.specs.Symbol.{end_list, place, symbols_of, text};
+
+use crate::field::{add_list, add_number, add_text, add_type, add_word};
+use crate::token::Token;
+use intervals::OpId;
+use std::alloc::AllocError;
+
+/// How many registers there are, fail and are to blame; how many operations stand; how many elements were refused, and
+/// how many traces broke.
+#[derive(Clone, Copy, Debug)]
+pub struct Totals {
+    pub registers: u64,
+    pub failing: u64,
+    pub culprits: u64,
+    pub operations: u64,
+    pub refused: u64,
+    pub broken: u64,
+}
+
+/// Adds the first record.
+#[tactic(auto, unfolding(crate::specs::Ends::head_record))]
+pub fn add_head<'a>(
+    tokens: &mut Vec<Token<'a>>,
+    tower: &'a [u8],
+    registers: u64,
+    traces: &[&'a str],
+    moments: &'static str,
+) -> Result<(), AllocError>
+    ensures { OnOk result (symbols_of tokens.new.items ≡ symbols_of tokens.old.items ++ head_record tower.now registers (map (λ name. name.now) traces.now) moments.now) }
+{
+    add_type(tokens, "head")?;
+    add_format(tokens)?;
+    add_tower(tokens, tower, registers)?;
+    add_traces(tokens, traces)?;
+    add_word(tokens, "moment", moments)?;
+    tokens.push(Token::EndRecord)?;
+    Ok(())
+}
+
+#[tactic(auto, unfolding(crate::specs::Ends::tower_symbols))]
+fn add_tower<'a>(
+    tokens: &mut Vec<Token<'a>>,
+    tower: &'a [u8],
+    registers: u64,
+) -> Result<(), AllocError>
+    ensures { OnOk result (symbols_of tokens.new.items ≡ symbols_of tokens.old.items ++ tower_symbols tower.now registers) }
+{
+    add_text(tokens, "tower", tower)?;
+    add_number(tokens, "registers", registers)
+}
+
+#[tactic(auto, unfolding(crate::specs::Ends::traces_symbols))]
+fn add_traces<'a>(tokens: &mut Vec<Token<'a>>, traces: &[&'a str]) -> Result<(), AllocError>
+    ensures { OnOk result (symbols_of tokens.new.items ≡ symbols_of tokens.old.items ++ traces_symbols (map (λ name. name.now) traces.now)) }
+{
+    add_list(tokens, "traces")?;
+    add_names(tokens, traces)?;
+    tokens.push(Token::EndList)?;
+    Ok(())
+}
+
+#[tactic(auto, unfolding(crate::specs::Ends::format_symbols))]
+fn add_format<'a>(tokens: &mut Vec<Token<'a>>) -> Result<(), AllocError>
+    ensures { OnOk result (symbols_of tokens.new.items ≡ symbols_of tokens.old.items ++ format_symbols) }
+{
+    add_number(tokens, "format", 1)?;
+    add_text(tokens, "program", b"regaudit")
+}
+
+fn add_names<'a>(tokens: &mut Vec<Token<'a>>, names: &[&'a str]) -> Result<(), AllocError>
+    ensures { OnOk result (symbols_of tokens.new.items ≡ symbols_of tokens.old.items ++ map text (map (λ name. name.now) names.now)) }
+{
+    for name in names {
+        tokens.push(Token::Text(name.as_bytes()))?;
+    }
+    Ok(())
+}
+
+/// Adds the record of an order.
+#[tactic(auto, unfolding(crate::specs::Ends::order_symbols))]
+pub fn add_order<'a>(
+    tokens: &mut Vec<Token<'a>>,
+    name: &'a [u8],
+    found: &Option<Vec<OpId>>,
+) -> Result<(), AllocError>
+    ensures { OnOk result (symbols_of tokens.new.items ≡ symbols_of tokens.old.items ++ order_symbols name.now (option_map (λ ids. ids.items) found.now)) }
+{
+    add_type(tokens, "order")?;
+    add_text(tokens, "register", name)?;
+    tokens.push(Token::Key("ids"))?;
+    add_found(tokens, found)?;
+    tokens.push(Token::EndRecord)?;
+    Ok(())
+}
+
+fn add_found<'a>(tokens: &mut Vec<Token<'a>>, found: &Option<Vec<OpId>>) -> Result<(), AllocError>
+    ensures { OnOk result (symbols_of tokens.new.items ≡ symbols_of tokens.old.items ++ ids_symbols (option_map (λ ids. ids.items) found.now)) }
+{
+    match found {
+        Some(ids) => {
+            tokens.push(Token::BeginList)?;
+            add_ids(tokens, ids)?;
+            tokens.push(Token::EndList)?;
+            Ok(())
+        }
+        None => {
+            tokens.push(Token::Nothing)?;
+            Ok(())
+        }
+    }
+}
+
+fn add_ids<'a>(tokens: &mut Vec<Token<'a>>, ids: &[OpId]) -> Result<(), AllocError>
+    ensures { OnOk result (symbols_of tokens.new.items ≡ symbols_of tokens.old.items ++ map (λ id. place id.feeder id.event) ids.now) }
+{
+    for id in ids {
+        tokens.push(Token::Id(*id))?;
+    }
+    Ok(())
+}
+
+/// Adds the last record.
+#[tactic(auto, unfolding(crate::specs::Ends::end_of_records))]
+pub fn add_last<'a>(
+    tokens: &mut Vec<Token<'a>>,
+    status: u64,
+    totals: &Totals,
+) -> Result<(), AllocError>
+    ensures { OnOk result (symbols_of tokens.new.items ≡ symbols_of tokens.old.items ++ end_of_records status totals.now) }
+{
+    add_type(tokens, "end")?;
+    add_verdict_totals(tokens, status, totals)?;
+    add_trace_totals(tokens, totals)?;
+    tokens.push(Token::EndRecord)?;
+    Ok(())
+}
+
+fn add_verdict_totals<'a>(
+    tokens: &mut Vec<Token<'a>>,
+    status: u64,
+    totals: &Totals,
+) -> Result<(), AllocError>
+    ensures { OnOk result (symbols_of tokens.new.items ≡ symbols_of tokens.old.items ++ verdict_totals status totals.now) }
+{
+    add_number(tokens, "status", status)?;
+    add_number(tokens, "registers", totals.registers)?;
+    add_number(tokens, "failing", totals.failing)?;
+    add_number(tokens, "culprits", totals.culprits)
+}
+
+fn add_trace_totals<'a>(tokens: &mut Vec<Token<'a>>, totals: &Totals) -> Result<(), AllocError>
+    ensures { OnOk result (symbols_of tokens.new.items ≡ symbols_of tokens.old.items ++ trace_totals totals.now) }
+{
+    add_number(tokens, "operations", totals.operations)?;
+    add_number(tokens, "refused", totals.refused)?;
+    add_number(tokens, "broken", totals.broken)
+}

@@ -1,0 +1,27 @@
+//! Laws of this crate's words, which its users may rely on.
+
+ghost use Rattle.std.specs.Prelude.{ℕ, Bool, false, List, Option, All};
+ghost use Rattle.intervals.specs.declared.operation.RegId.{RegId};
+ghost use Rattle.tower_file.specs.Contents.{TowerModel};
+ghost use Rattle.shards.specs.Closing.{ClosedShard};
+ghost use Rattle.feeders.specs.declared.log.Log.{Log};
+ghost use Rattle.report.specs.Report.{IsReport};
+ghost use Rattle.records.specs.Grammar.{IsRecord};
+ghost use Rattle.records.specs.Run.{AreRecordsOfRun, RunNames};
+ghost use Rattle.records.specs.Symbol.{Symbol};
+ghost use Rattle.records.specs.Told.{report_of};
+
+/// The records of a run determine the text of its report.
+pub fn the_records_tell_the_report()
+    ensures { (names : RunNames) (status : ℕ) (tower : TowerModel) (closed : List ClosedShard) (logs : List Log)
+        → (order : Option RegId) (records : List (List Symbol))
+        → AreRecordsOfRun names false status tower closed logs order records
+        → IsReport tower closed logs order (report_of records) }
+{}
+
+/// Each record of a run is one by the grammar: its brackets match, and each key has a value.
+pub fn each_record_is_whole()
+    ensures { (names : RunNames) (only : Bool) (status : ℕ) (tower : TowerModel) (closed : List ClosedShard)
+        → (logs : List Log) (order : Option RegId) (records : List (List Symbol))
+        → AreRecordsOfRun names only status tower closed logs order records → All IsRecord records }
+{}

@@ -1,0 +1,95 @@
+//! The records of operations.
+
+ghost use Rattle.std.specs.Prelude.{◌≡◌, ◌++◌, OnOk, flat_map};
+ghost use Rattle.intervals.specs.Operation.{is_write};
+ghost use Rattle.intervals.specs.Table.{ops_in_slots};
+ghost use Rattle.records.specs.Symbol.{symbols_of};
+ghost use Rattle.records.specs.Operation.{act_symbols, act_word, head_symbols, moment_symbols, op_symbols, part_symbols, process_symbols, text_symbols};
+
+use crate::token::Token;
+use crate::value::{end_token, integer_token, part_token, value_token};
+use intervals::{Op, OpId};
+use std::alloc::AllocError;
+
+/// Adds the record of each operation in the slots.
+pub fn add_ops<'a>(tokens: &mut Vec<Token<'a>>, slots: &[Option<Op<'a>>]) -> Result<(), AllocError>
+    ensures { OnOk result (symbols_of tokens.new.items ≡ symbols_of tokens.old.items ++ flat_map op_symbols (ops_in_slots slots.now)) }
+{
+    for slot in slots {
+        if let Some(op) = slot {
+            add_op(tokens, op)?;
+        }
+    }
+    Ok(())
+}
+
+#[tactic(auto, unfolding(crate::specs::Operation::op_symbols))]
+fn add_op<'a>(tokens: &mut Vec<Token<'a>>, op: &Op<'a>) -> Result<(), AllocError>
+    ensures { OnOk result (symbols_of tokens.new.items ≡ symbols_of tokens.old.items ++ op_symbols op.now) }
+{
+    add_head(tokens, op.id)?;
+    add_process(tokens, op.process)?;
+    add_act(tokens, op)?;
+    add_moments(tokens, op)?;
+    add_texts(tokens, op)?;
+    tokens.push(Token::EndRecord)?;
+    Ok(())
+}
+
+fn add_head<'a>(tokens: &mut Vec<Token<'a>>, id: OpId) -> Result<(), AllocError>
+    ensures { OnOk result (symbols_of tokens.new.items ≡ symbols_of tokens.old.items ++ head_symbols id) }
+{
+    tokens.extend_from_slice(&[Token::BeginRecord, Token::Key("id"), Token::Id(id)])
+}
+
+fn add_process<'a>(tokens: &mut Vec<Token<'a>>, process: i64) -> Result<(), AllocError>
+    ensures { OnOk result (symbols_of tokens.new.items ≡ symbols_of tokens.old.items ++ process_symbols process) }
+{
+    tokens.extend_from_slice(&[Token::Key("process"), integer_token(process)])
+}
+
+fn add_act<'a>(tokens: &mut Vec<Token<'a>>, op: &Op) -> Result<(), AllocError>
+    ensures { OnOk result (symbols_of tokens.new.items ≡ symbols_of tokens.old.items ++ act_symbols op.now) }
+{
+    tokens.extend_from_slice(&[
+        Token::Key("f"),
+        Token::Word(act_word(op)),
+        Token::Key("value"),
+        value_token(op.value()),
+    ])
+}
+
+fn add_moments<'a>(tokens: &mut Vec<Token<'a>>, op: &Op) -> Result<(), AllocError>
+    ensures { OnOk result (symbols_of tokens.new.items ≡ symbols_of tokens.old.items ++ moment_symbols op.now) }
+{
+    tokens.extend_from_slice(&[
+        Token::Key("begin"),
+        Token::Number(op.begin.0),
+        Token::Key("end"),
+        end_token(op.end),
+    ])
+}
+
+fn add_texts<'a>(tokens: &mut Vec<Token<'a>>, op: &Op<'a>) -> Result<(), AllocError>
+    ensures { OnOk result (symbols_of tokens.new.items ≡ symbols_of tokens.old.items ++ text_symbols op.now) }
+{
+    tokens.extend_from_slice(&[Token::Key("invocation"), Token::Text(op.parts.invocation)])?;
+    add_part(tokens, "answer", op.parts.answer)?;
+    add_part(tokens, "amendment", op.parts.amendment)
+}
+
+fn add_part<'a>(
+    tokens: &mut Vec<Token<'a>>,
+    name: &'static str,
+    part: Option<&'a [u8]>,
+) -> Result<(), AllocError>
+    ensures { OnOk result (symbols_of tokens.new.items ≡ symbols_of tokens.old.items ++ part_symbols name.now part.entry) }
+{
+    tokens.extend_from_slice(&[Token::Key(name), part_token(part)])
+}
+
+fn act_word(op: &Op) -> &'static str
+    ensures { result.now ≡ act_word (is_write op.now) }
+{
+    if op.is_write() { "write" } else { "read" }
+}

@@ -1,0 +1,101 @@
+//! The records of registers.
+
+ghost use Rattle.std.specs.Prelude.{◌≡◌, ◌++◌, OnOk};
+ghost use Rattle.records.specs.Register.{blame_symbols, found_symbols, register_names, register_symbols, verdict_symbols, witness_symbols};
+ghost use Rattle.records.specs.Symbol.{symbols_of};
+
+use crate::allowed::Allowed;
+use crate::fault::add_fault;
+use crate::field::{add_end, add_flag, add_list, add_number, add_text, add_type, add_word};
+use crate::operation::add_ops;
+use crate::token::Token;
+use register_book::Witness;
+use report::{Finding, kind_word, shown_of};
+use std::alloc::AllocError;
+
+/// Adds the record of a register: its number, the name of its level, its name, what is found of it, whether it is to
+/// blame, and what a wrong read might have returned.
+#[tactic(auto, unfolding(crate::specs::Register::register_symbols))]
+pub fn add_register<'a>(
+    tokens: &mut Vec<Token<'a>>,
+    number: u64,
+    level: &'a [u8],
+    name: &'a [u8],
+    finding: &Finding<'a>,
+    culprit: bool,
+    allowed: &[Allowed],
+) -> Result<(), AllocError>
+    ensures { OnOk result (symbols_of tokens.new.items ≡ symbols_of tokens.old.items ++ register_symbols number level.now name.now finding.now culprit allowed.now) }
+{
+    add_type(tokens, "register")?;
+    add_names(tokens, number, level, name)?;
+    add_verdict(tokens, finding)?;
+    add_blame(tokens, finding.operations, culprit)?;
+    add_found(tokens, allowed, &finding.witness)
+}
+
+fn add_names<'a>(
+    tokens: &mut Vec<Token<'a>>,
+    number: u64,
+    level: &'a [u8],
+    name: &'a [u8],
+) -> Result<(), AllocError>
+    ensures { OnOk result (symbols_of tokens.new.items ≡ symbols_of tokens.old.items ++ register_names number level.now name.now) }
+{
+    add_number(tokens, "number", number)?;
+    add_text(tokens, "level", level)?;
+    add_text(tokens, "name", name)
+}
+
+fn add_verdict<'a>(tokens: &mut Vec<Token<'a>>, finding: &Finding) -> Result<(), AllocError>
+    ensures { OnOk result (symbols_of tokens.new.items ≡ symbols_of tokens.old.items ++ verdict_symbols finding.now) }
+{
+    add_word(tokens, "kind", kind_word(finding.kind))?;
+    add_flag(tokens, "holds", finding.witness.is_none())
+}
+
+fn add_blame<'a>(
+    tokens: &mut Vec<Token<'a>>,
+    operations: u64,
+    culprit: bool,
+) -> Result<(), AllocError>
+    ensures { OnOk result (symbols_of tokens.new.items ≡ symbols_of tokens.old.items ++ blame_symbols operations culprit) }
+{
+    add_number(tokens, "operations", operations)?;
+    add_flag(tokens, "culprit", culprit)
+}
+
+fn add_found<'a>(
+    tokens: &mut Vec<Token<'a>>,
+    allowed: &[Allowed],
+    witness: &Option<Witness<'a>>,
+) -> Result<(), AllocError>
+    ensures { OnOk result (symbols_of tokens.new.items ≡ symbols_of tokens.old.items ++ found_symbols allowed.now witness.now) }
+{
+    match witness {
+        Some(witness) => add_witness(tokens, allowed, witness),
+        None => tokens.extend_from_slice(&[
+            Token::Key("fault"),
+            Token::Nothing,
+            Token::Key("witness"),
+            Token::BeginList,
+            Token::EndList,
+            Token::EndRecord,
+        ]),
+    }
+}
+
+#[tactic(auto, unfolding(crate::specs::Register::witness_symbols))]
+fn add_witness<'a>(
+    tokens: &mut Vec<Token<'a>>,
+    allowed: &[Allowed],
+    witness: &Witness<'a>,
+) -> Result<(), AllocError>
+    ensures { OnOk result (symbols_of tokens.new.items ≡ symbols_of tokens.old.items ++ witness_symbols allowed.now witness.now) }
+{
+    tokens.push(Token::Key("fault"))?;
+    add_fault(tokens, allowed, witness)?;
+    add_list(tokens, "witness")?;
+    add_ops(tokens, &shown_of(witness))?;
+    add_end(tokens)
+}
