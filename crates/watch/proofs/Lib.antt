@@ -20,3 +20,5 @@ pub mod Unfailed
 pub mod Elements
 -- worked edits
 pub mod Worked
+-- what is written after lines
+mod Writing

@@ -2,3 +2,5 @@
 pub mod Coming
 pub mod Trace
 pub mod Healing
+pub mod Line
+pub mod Teller

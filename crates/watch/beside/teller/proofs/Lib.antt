@@ -1,0 +1,6 @@
+-- what is written after lines
+mod Writing
+-- what was picked
+mod EachChange
+-- lines of a source
+mod Cursor

@@ -1,0 +1,4 @@
+-- words of the public clauses
+pub mod Lines
+pub mod Picks
+pub mod Said
