@@ -1,5 +1,5 @@
 -- What a command that was not broken off has written, and its status.
-use Rattle.std.proofs.Common.{◌≡◌, ℕ, false, List, map, not, Option, Some, None, rules, subst}
+use Rattle.std.proofs.Common.{◌≡◌, ◌≢◌, ◌⊎◌, inl, inr, ℕ, Bool, false, List, map, not, Option, Some, None, refl, ap, rules, subst}
 use Rattle.std.specs.Prelude.{IfSome, is_some}
 use Rattle.std.specs.Io.KnownBytes.{Appends}
 use Rattle.intervals.specs.declared.operation.RegId.{RegId}
@@ -10,13 +10,23 @@ use Rattle.shards.specs.Closing.{ClosedShard}
 use Rattle.feeders.specs.declared.log.Log.{Log}
 use Rattle.feeders.specs.Readers.{AreReadOf}
 use Rattle.feeders.specs.Run.{IsRun}
-use Rattle.words.specs.Words.{AskedCheck, AskedShow}
+use Rattle.feeders.specs.declared.watcher.Notice.{Notice}
+use Rattle.watch.specs.declared.fault.WatchFault.{WatchFault}
+use Rattle.watch.specs.declared.fault.WatchFault.TheVariants as watches
+use Rattle.watch.specs.declared.run.Terms.{Terms}
+use Rattle.watch.specs.Text.{text_of_notices}
+use Rattle.watch.specs.Watched.{IsWatched}
+use Rattle.words.specs.Words.{Asked, AskedCheck, AskedShow, AskedWatch, Safe, Check, Watch, Show, Lint, Tower, Explain, Version, Manual, Completion}
+use Rattle.commands.specs.declared.fault.CommandFault.{CommandFault}
+use Rattle.commands.specs.declared.fault.CommandFault.TheVariants as commands
 use Rattle.commands.specs.declared.safe.Audit.{Audit}
 use Rattle.commands.specs.Audit.{IsAudit}
 use Rattle.commands.specs.Status.{status_of}
 use Rattle.commands.specs.Verdict.{IsAudited, verdict_line}
 use Rattle.commands.specs.Checked.{IsChecked, IsNamed, IsPrinted, IsStatus, chosen_field}
 use Rattle.commands.specs.Shown.{IsShown}
+use Rattle.commands.specs.Watching.{HasWholeNotices, IsFollowed, IsWatchStatus, watch_terms}
+use Rattle.commands.specs.Run.{WritesWhole}
 
 -- `AreTheir known` says that the files hold these texts
 pub checked : (held : Option (List ℕ)) (asked : AskedCheck) (tower : TowerModel) (order : Option RegId) (closed : List ClosedShard) (logs : List Log) (chosen : MomentField) (lefts : List (Option (List ℕ))) (AreTheir : List (List ℕ) → Type 0) (status : ℕ) (old new : Option (List ℕ))
@@ -93,3 +103,51 @@ shown (Some file) asked tower register closed logs chosen lefts AreTheir text st
       written = written;
       status_is = is;
     }
+
+-- what `watch` has written, with `AreTheir` as for `checked`
+pub followed : (held : Option (List ℕ)) (asked : AskedWatch) (tower : TowerModel) (closed : List ClosedShard) (logs : List Log) (stopped : Bool) (terms : Terms) (lefts : List (Option (List ℕ))) (AreTheir : List (List ℕ) → Type 0) (status : ℕ) (old new : Option (List ℕ))
+    → IfSome held (λ file. IsTowerOf file tower)
+    → ((known : List (List ℕ)) → AreTheir known → lefts ≡ map (λ text. Some text) known)
+    → terms ≡ watch_terms asked
+    → IsWatched tower terms lefts closed logs stopped old new
+    → IsWatchStatus tower closed logs stopped status
+    → IfSome held (λ file. (traces : List (List ℕ)) → AreTheir traces → IsFollowed asked file traces status old new)
+followed None asked tower closed logs stopped terms lefts AreTheir status old new says opened same watched is = search rules
+followed (Some file) asked tower closed logs stopped terms lefts AreTheir status old new says opened same watched is =
+    λ traces are. record {
+      tower = tower;
+      says = says;
+      closed = closed;
+      logs = logs;
+      stopped = stopped;
+      watched = subst (λ (l : List (Option (List ℕ))). IsWatched tower (watch_terms asked) l closed logs stopped old new) (opened traces are)
+          (subst (λ (t : Terms). IsWatched tower t lefts closed logs stopped old new) same watched);
+      status_is = is;
+    }
+
+-- a watch that broke off
+pub broke_whole : (asked : AskedWatch) (tower : TowerModel) (terms : Terms) (fault : WatchFault) (command : CommandFault) (old new : Option (List ℕ))
+    → terms ≡ watch_terms asked
+    → (command ≢ commands.Unwritable → fault ≢ watches.Write)
+    → (fault ≢ watches.Write → (notices : List Notice) × Appends old new (text_of_notices terms.form tower.registers notices))
+    → command ≢ commands.Unwritable → HasWholeNotices asked old new
+broke_whole asked tower terms fault command old new same write whole other =
+    let wrote = whole (write other) in
+    inr (tower, wrote.0, subst (λ (t : Terms). Appends old new (text_of_notices t.form tower.registers wrote.0)) same wrote.1)
+
+as_before : (command : Asked) (old new : Option (List ℕ)) → new ≡ old → WritesWhole command old new
+as_before (Watch watch) old new same = inl same
+as_before (Safe name) old new same = tt
+as_before (Check check) old new same = tt
+as_before (Show show) old new same = tt
+as_before (Lint lint) old new same = tt
+as_before (Tower name) old new same = tt
+as_before (Explain code) old new same = tt
+as_before Version old new same = tt
+as_before Manual old new same = tt
+as_before (Completion shell) old new same = tt
+
+-- an output that is as it was has whole notices, whatever was asked for
+pub untouched : (found : Option Asked) (old new : Option (List ℕ)) → new ≡ old → IfSome found (λ command. WritesWhole command old new)
+untouched None old new same = tt
+untouched (Some command) old new same = as_before command old new same

@@ -7,7 +7,7 @@ use Rattle.feeders.specs.declared.fault.RunFault.TheVariants as runs
 use Rattle.report.specs.declared.fault.ReportFault.{ReportFault}
 use Rattle.report.specs.declared.fault.ReportFault.TheVariants as reports
 use Rattle.commands.specs.declared.fault.CommandFault.{CommandFault}
-use Rattle.commands.specs.declared.fault.CommandFault.TheVariants.{Usage, TooManyTraces, Unreadable, Tower, NoRegister, NoCode, Shard, Memory, Unwritable}
+use Rattle.commands.specs.declared.fault.CommandFault.TheVariants.{Usage, TooManyTraces, Unreadable, Tower, NoRegister, NoCode, Shard, Memory, Unwritable, Untold}
 use Rattle.feeders.specs.declared.whole.InputFault.{InputFault}
 use Rattle.feeders.specs.declared.whole.InputFault.TheVariants as inputs
 use Rattle.report.specs.Names.{printed}
@@ -23,6 +23,7 @@ complaint_of (NoCode name) = Some (codes "regaudit: no code " ++ printed name.no
 complaint_of (Shard fault) = Some (codes "regaudit: " ++ shard_fault_code fault ++ 10 ∷ [])
 complaint_of Memory = Some (codes "regaudit: out of memory" ++ 10 ∷ [])
 complaint_of Unwritable = Some (codes "regaudit: cannot write" ++ 10 ∷ [])
+complaint_of Untold = Some (codes "regaudit: what was written is not what the registers did" ++ 10 ∷ [])
 
 -- the fault of a command that could not read the input of this name whole, or had no memory for it
 abbrev pub unread : Bor (List ℕ) → InputFault → CommandFault

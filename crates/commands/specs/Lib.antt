@@ -8,5 +8,6 @@ pub mod Looked
 pub mod Printed
 pub mod Run
 pub mod Shown
+pub mod Watching
 -- words of private clauses
 pub mod Audit

@@ -7,12 +7,13 @@ use Rattle.tower_file.specs.Tower.{IsTowerOf}
 use Rattle.report.specs.Listing.{tower_lines}
 use Rattle.texts.specs.declared.version.TheConstants.{VERSION}
 use Rattle.words.specs.Completion.{script_for}
-use Rattle.words.specs.Words.{Asked, Safe, Check, Show, Lint, Tower, Explain, Version, Manual, Completion, IsWellFormed, asked}
+use Rattle.words.specs.Words.{Asked, Safe, Check, Watch, Show, Lint, Tower, Explain, Version, Manual, Completion, IsWellFormed, asked}
 use Rattle.commands.specs.Printed.{IsExplained, IsManual, IsPrintedText}
 use Rattle.commands.specs.Verdict.{IsAudited}
 use Rattle.commands.specs.Checked.{IsChecked}
 use Rattle.commands.specs.Looked.{IsLooked}
 use Rattle.commands.specs.Shown.{IsShown}
+use Rattle.commands.specs.Watching.{HasWholeNotices, IsFollowed}
 
 -- what `tower` did: the lines of the tower that the file says were written
 pub record IsListed (file : List ℕ) (status : ℕ) (old new : Option (List ℕ)) : Type 0 where
@@ -31,6 +32,8 @@ IsCarriedOut (Safe None) files input status old new = IfSome input (λ bytes. Is
 IsCarriedOut (Safe (Some name)) files input status old new = IfSome (files name) (λ bytes. IsAudited bytes status old new)
 IsCarriedOut (Check check) files input status old new =
     IfSome (files check.tower) (λ file. (traces : List (List ℕ)) → AreHeld files check.traces traces → IsChecked check file traces status old new)
+IsCarriedOut (Watch watch) files input status old new =
+    IfSome (files watch.tower) (λ file. (traces : List (List ℕ)) → AreHeld files watch.traces traces → IsFollowed watch file traces status old new)
 IsCarriedOut (Show show) files input status old new =
     IfSome (files show.tower) (λ file. (traces : List (List ℕ)) → AreHeld files show.traces traces → IsShown show file traces status old new)
 IsCarriedOut (Lint lint) files input status old new =
@@ -40,6 +43,16 @@ IsCarriedOut Version files input status old new = IsPrintedText VERSION.now stat
 IsCarriedOut Manual files input status old new = IsManual status old new
 IsCarriedOut (Completion shell) files input status old new = IsPrintedText (script_for shell) status old new
 IsCarriedOut (Tower name) files input status old new = IfSome (files name) (λ bytes. IsListed bytes status old new)
+
+-- the command is a watch
+abbrev pub IsWatch : Asked → Type 0
+IsWatch (Watch watch) = Unit {0}
+IsWatch command = ⊥
+
+-- where the command is a watch that broke off, it wrote nothing or whole notices alone
+abbrev pub WritesWhole : Asked → Option (List ℕ) → Option (List ℕ) → Type 0
+WritesWhole (Watch watch) old new = HasWholeNotices watch old new
+WritesWhole command old new = Unit {0}
 
 -- the words are well formed and ask for `safe` on standard input
 abbrev pub WantInput : List Text → Type 0

@@ -3,9 +3,9 @@
 ghost use Rattle.std.specs.Prelude.{◌≡◌, ◌≢◌, IsErr, IfOk, IfErr, IfSome, MatchResult, None, map};
 ghost use Rattle.std.specs.Result.{IsOkAnd};
 ghost use Rattle.std.specs.Io.KnownBytes.{Appends, Keeps};
-ghost use Rattle.words.specs.Words.{HasShards, HasTraces, Safe, asked_of};
+ghost use Rattle.words.specs.Words.{HasShards, HasTraces, Safe, asked, asked_of};
 ghost use Rattle.commands.specs.Verdict.{IsAudited};
-ghost use Rattle.commands.specs.Run.{IsListed, IsCarriedOut, IsDone, WantInput};
+ghost use Rattle.commands.specs.Run.{IsListed, IsCarriedOut, IsDone, IsWatch, WantInput, WritesWhole};
 
 use crate::check::{check, read_tower};
 use crate::draw::draw;
@@ -15,6 +15,7 @@ use crate::look::look;
 use crate::print::{explain, print, print_manual};
 use crate::safe::judge;
 use crate::status::BROKEN;
+use crate::watching::follow;
 use report::tower_text;
 use std::convert::AsStr;
 use std::io::{Read, Write};
@@ -37,7 +38,7 @@ pub fn run<
     S: AsStr + Drop,
     F: Files,
     R: Read + Send,
-    W: Write,
+    W: Write + Send,
     E: Write,
 >(rt: &A, words: io::Result<Vec<S>>, files: &mut F, input: &mut R, out: &mut W, err: &mut E) -> u8
     ensures done { result ≢ BROKEN → IsOkAnd words (λ words. IsDone (map S.text words.items) (F.held files.old) (R.remaining input.old) result (W.contents out.old) (W.contents out.new)) }
@@ -85,18 +86,20 @@ pub fn conclude<'a, A: AllocGlobal, E: Write>(
     }
 }
 
-/// Carries out what the words ask for. Where the run breaks off `out` is as it was, unless `out` could not be written.
+/// Carries out what the words ask for. Where the run breaks off `out` is as it was, unless `out` could not be written, or
+/// a watch wrote whole notices before.
 pub fn run_words<
     'a,
     A: AllocGlobal + Threads + Wait + Sync,
     S: AsStr,
     F: Files,
     R: Read + Send,
-    W: Write,
+    W: Write + Send,
 >(rt: &A, words: &'a [S], files: &mut F, input: &mut R, out: &mut W) -> Result<u8, CommandFault<'a>>
     ensures done { IfOk result (λ status. IsDone (map S.text words.entry.now) (F.held files.old) (R.remaining input.old) status (W.contents out.old) (W.contents out.new)) }
     ensures input { ¬ WantInput (map S.text words.entry.now) → input.new ≡ input.old }
-    ensures quiet { IfErr result (λ fault. fault ≢ CommandFault.Unwritable → out.new ≡ out.old) }
+    ensures quiet { IfErr result (λ fault. fault ≢ CommandFault.Unwritable → IfSome (asked (map S.text words.entry.now)) (λ command. ¬ IsWatch command) → out.new ≡ out.old) }
+    ensures whole { IfErr result (λ fault. fault ≢ CommandFault.Unwritable → IfSome (asked (map S.text words.entry.now)) (λ command. WritesWhole command (W.contents out.old) (W.contents out.new))) }
 {
     match read_words(rt.alloc(), words) {
         Ok(command) => carry_out(rt, command, files, input, out),
@@ -104,7 +107,7 @@ pub fn run_words<
     }
 }
 
-fn carry_out<'a, A: AllocGlobal + Threads + Wait + Sync, F: Files, R: Read + Send, W: Write>(
+fn carry_out<'a, A: AllocGlobal + Threads + Wait + Sync, F: Files, R: Read + Send, W: Write + Send>(
     rt: &A,
     command: Command<'a>,
     files: &mut F,
@@ -115,12 +118,14 @@ fn carry_out<'a, A: AllocGlobal + Threads + Wait + Sync, F: Files, R: Read + Sen
     requires traces { HasTraces command }
     ensures done { IfOk result (λ status. IsCarriedOut (asked_of command.entry) (F.held files.old) (R.remaining input.old) status (W.contents out.old) (W.contents out.new)) }
     ensures input { asked_of command.entry ≢ Safe None → input.new ≡ input.old }
-    ensures quiet { IfErr result (λ fault. fault ≢ CommandFault.Unwritable → out.new ≡ out.old) }
+    ensures quiet { IfErr result (λ fault. fault ≢ CommandFault.Unwritable → ¬ IsWatch (asked_of command.entry) → out.new ≡ out.old) }
+    ensures whole { IfErr result (λ fault. fault ≢ CommandFault.Unwritable → WritesWhole (asked_of command.entry) (W.contents out.old) (W.contents out.new)) }
 {
     match command {
         Command::Safe(None) => judge(rt, input, out),
         Command::Safe(Some(name)) => judge(rt, open_file(files, name)?, out),
         Command::Check(asked) => check(rt, &asked, files, out),
+        Command::Watch(asked) => follow(rt, &asked, files, out),
         Command::Show(asked) => draw(rt, &asked, files, out),
         Command::Lint(asked) => look(rt, &asked, files, out),
         Command::Tower(name) => list(rt, name, files, out),

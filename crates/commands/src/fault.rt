@@ -3,6 +3,7 @@
 ghost use Rattle.std.specs.Prelude.{◌≡◌, ◌≢◌, ◌∷◌, ◌++◌, [], Some, IfOk, IfSome, codes, string_bytes};
 ghost use Rattle.tower_file.specs.Tower.{tower_fault_code};
 ghost use Rattle.commands.specs.Complaint.{broken_off, complaint_of, unread, unreported};
+ghost use Rattle.commands.specs.Watching.{unfollowed};
 
 use feeders::{InputFault, RunFault};
 use report::{ReportFault, push_printed};
@@ -10,6 +11,7 @@ use shards::ShardFault;
 use std::alloc::{AllocError, Global};
 use std::io::{self, Write};
 use tower_file::TowerFault;
+use watch::WatchFault;
 use words::no_text;
 
 /// Why a run broke off.
@@ -31,6 +33,8 @@ pub enum CommandFault<'a> {
     Shard(ShardFault),
     Memory,
     Unwritable,
+    /// The notices of a watch are not those of the closed journals.
+    Untold,
 }
 
 impl<'a> CommandFault<'a> {
@@ -81,6 +85,18 @@ impl<'a> CommandFault<'a> {
         match fault {
             RunFault::Memory => CommandFault::Memory,
             RunFault::Shard(fault) => CommandFault::Shard(fault),
+        }
+    }
+
+    pub fn of_watch(fault: WatchFault) -> CommandFault<'a>
+        ensures own { result ≡ unfollowed fault }
+        ensures write { result ≢ CommandFault.Unwritable → fault ≢ WatchFault.Write }
+    {
+        match fault {
+            WatchFault::Memory => CommandFault::Memory,
+            WatchFault::Write => CommandFault::Unwritable,
+            WatchFault::Shard(fault) => CommandFault::Shard(fault),
+            WatchFault::Untold => CommandFault::Untold,
         }
     }
 
@@ -139,6 +155,9 @@ fn complaint(alloc: Global, fault: &CommandFault<'_>) -> Result<String, AllocErr
         }
         CommandFault::Memory => text.push_str("regaudit: out of memory\n")?,
         CommandFault::Unwritable => text.push_str("regaudit: cannot write\n")?,
+        CommandFault::Untold => {
+            text.push_str("regaudit: what was written is not what the registers did\n")?
+        }
     }
     Ok(text)
 }

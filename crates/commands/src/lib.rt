@@ -22,12 +22,10 @@ mod picture;
 mod print;
 mod safe;
 mod status;
+mod watching;
 mod write;
 
 pub use commands::{conclude, run, run_safe, run_words, words_of};
 pub use fault::CommandFault;
 pub use files::{Files, HostFiles, Missing};
 pub use status::BROKEN;
-
-#[cfg(test)]
-mod tests;

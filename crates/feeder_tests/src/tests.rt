@@ -3,6 +3,7 @@
 
 mod again;
 mod gates;
+mod notices;
 mod pages;
 mod readers;
 

@@ -20,10 +20,11 @@ use crate::pending::Pending;
 use crate::progress::Progress;
 use crate::site::Site;
 use crate::tail_buffer::TailBuffer;
+use crate::watcher::Watcher;
 use edn_reader::Splitter;
 use edn_reader::laws::{no_fault_so_far, told_so_far};
 use jepsen_form::MomentField;
-use shards::{Auditor, Gate, Opening, Pass};
+use shards::{Auditor, Opening, Pass};
 use std::alloc::Global;
 use std::marker::Model;
 use std::sync::Wait;
@@ -49,6 +50,8 @@ pub enum FeedState {
 ///
 /// Where memory or a shard refuses, nothing is lost: after a fault of [`feed`](Feeder::feed) feed it the rest of the
 /// chunk, from the byte after those that were used; after one of [`end`](Feeder::end) end it again.
+///
+/// It tells its gate of changes and refusals only, and not of the break or the end of its trace.
 #[derive(Drop)]
 pub struct Feeder<'t> {
     field: MomentField,
@@ -105,7 +108,7 @@ impl<'t> Feeder<'t> {
     /// Takes `piece`, the next chunk of the trace, and carries out each step as soon as its element has ended.
     /// Once the trace broke or was ended nothing changes. After a fault feed it the rest of the chunk: it goes on
     /// first with the element that had ended last, where that was not carried out.
-    pub fn feed<O: Opening, R: Wait, G: Gate>(
+    pub fn feed<O: Opening, R: Wait, G: Watcher>(
         &mut self,
         rt: &R,
         alloc: Global,
@@ -161,7 +164,7 @@ impl<'t> Feeder<'t> {
     }
 
     /// Takes the end of the trace. Once the trace broke or was ended nothing changes. After a fault call it again.
-    pub fn end<O: Opening, R: Wait, G: Gate>(
+    pub fn end<O: Opening, R: Wait, G: Watcher>(
         &mut self,
         rt: &R,
         alloc: Global,
@@ -208,7 +211,7 @@ impl<'t> Feeder<'t> {
     }
 
     /// Goes on with the last element of a trace whose end was taken, until its step is carried out.
-    fn settle_last<O: Opening, R: Wait, G: Gate>(
+    fn settle_last<O: Opening, R: Wait, G: Watcher>(
         &mut self,
         site: Site<'_, '_, 't, O, R, G>,
         pass: &mut Pass<'t>,
@@ -260,6 +263,13 @@ impl<'t> Feeder<'t> {
         ensures { result.now ≡ self.now.intake.progress.log }
     {
         &self.intake.progress.log
+    }
+
+    /// How many elements were carried out or refused so far.
+    pub fn elements(&self) -> u64
+        ensures { result ≡ self.now.intake.progress.place }
+    {
+        self.intake.progress.place
     }
 
     /// Whether the trace broke in what was fed.

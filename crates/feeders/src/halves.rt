@@ -15,8 +15,9 @@ use crate::pages::Pages;
 use crate::site::Site;
 use crate::stream::feed_reader;
 use crate::trace::feed_trace;
+use crate::watcher::Watcher;
 use jepsen_form::MomentField;
-use shards::{Auditor, Gate, Opening, Pass};
+use shards::{Auditor, Opening, Pass};
 use std::alloc::{AllocError, Global};
 use std::io::Read;
 use std::sync::Wait;
@@ -26,7 +27,7 @@ use tower_file::Tower;
 /// Feeds each trace with its pass. Of two traces or more the first half is fed by a thread of its own while this
 /// one feeds the rest; where no thread can be made, this one feeds both. Where several feeders fail the answer is
 /// the fault of the one with the least number, after all have ended.
-pub fn feed_all<'t, O: Opening + Send + Sync, R: Threads + Wait + Sync, G: Gate>(
+pub fn feed_all<'t, O: Opening + Send + Sync, R: Threads + Wait + Sync, G: Watcher>(
     site: Site<'_, '_, 't, O, R, G>,
     mut passes: Vec<Pass<'t>>,
     traces: &[&'t [u8]],
@@ -63,7 +64,7 @@ pub fn feed_all<'t, O: Opening + Send + Sync, R: Threads + Wait + Sync, G: Gate>
 }
 
 /// Feeds the one trace with its pass, or none.
-fn feed_alone<'t, O: Opening, R: Wait, G: Gate>(
+fn feed_alone<'t, O: Opening, R: Wait, G: Watcher>(
     site: Site<'_, '_, 't, O, R, G>,
     mut passes: Vec<Pass<'t>>,
     traces: &[&'t [u8]],
@@ -93,7 +94,7 @@ pub fn read_all<
     't,
     O: Opening + Send + Sync,
     R: Threads + Wait + Sync,
-    G: Gate,
+    G: Watcher,
     S: Read + Drop + Send,
 >(
     rt: &R,
@@ -148,7 +149,7 @@ pub fn read_all<
 }
 
 /// Feeds what each reader gives with its pass, on this thread alone, the first half before the rest.
-pub fn read_in_turn<'t, O: Opening, R: Wait, G: Gate, S: Read + Drop>(
+pub fn read_in_turn<'t, O: Opening, R: Wait, G: Watcher, S: Read + Drop>(
     site: Site<'_, 't, 't, O, R, G>,
     pages: &'t Pages,
     mut passes: Vec<Pass<'t>>,
@@ -173,7 +174,7 @@ pub fn read_in_turn<'t, O: Opening, R: Wait, G: Gate, S: Read + Drop>(
 }
 
 /// Feeds what the one reader gives with its pass, or nothing.
-fn read_alone<'t, O: Opening, R: Wait, G: Gate, S: Read + Drop>(
+fn read_alone<'t, O: Opening, R: Wait, G: Watcher, S: Read + Drop>(
     site: Site<'_, 't, 't, O, R, G>,
     pages: &'t Pages,
     mut passes: Vec<Pass<'t>>,

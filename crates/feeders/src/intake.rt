@@ -25,13 +25,14 @@ use crate::pending::{Pending, hold_last, read_pending};
 use crate::progress::Progress;
 use crate::site::Site;
 use crate::tail_buffer::TailBuffer;
+use crate::watcher::Watcher;
 use edn_reader::Splitter;
 use edn_reader::laws::each_is_element;
 use intervals::Memory;
 use jepsen_form::laws::items_name_registers_of_the_tower;
 use jepsen_form::{FormFault, Item};
 use pairing::laws::steps_are_on_named_registers;
-use shards::{Gate, Opening, Pass};
+use shards::{Opening, Pass};
 use std::sync::Wait;
 
 /// What is known of the bytes so far: the splitter after them, those that an element may still need, what their
@@ -46,7 +47,7 @@ pub struct Intake<'t> {
 
 impl<'t> Intake<'t> {
     /// Reads the element that waits to be read, if any, from its kept bytes, which are then dropped.
-    fn read_whole<O: Opening, R: Wait, G: Gate>(
+    fn read_whole<O: Opening, R: Wait, G: Watcher>(
         &mut self,
         site: Site<'_, '_, 't, O, R, G>,
         pages: &'t Pages,
@@ -93,7 +94,7 @@ impl<'t> Intake<'t> {
     }
 
     /// Carries out the step of the element that was paired, if one waits.
-    fn carry_out<O: Opening, R: Wait, G: Gate>(
+    fn carry_out<O: Opening, R: Wait, G: Watcher>(
         &mut self,
         site: Site<'_, '_, 't, O, R, G>,
         pass: &mut Pass<'t>,
@@ -127,7 +128,7 @@ impl<'t> Intake<'t> {
     }
 
     /// Goes on with the element that waits, if any, until its step is carried out.
-    pub fn settle<O: Opening, R: Wait, G: Gate>(
+    pub fn settle<O: Opening, R: Wait, G: Watcher>(
         &mut self,
         site: Site<'_, '_, 't, O, R, G>,
         pages: &'t Pages,
@@ -157,7 +158,7 @@ impl<'t> Intake<'t> {
 
     /// Takes `front`, the prefix of a chunk with which an element ended that begins at the place `start`. The
     /// element then waits. Its text is on `page`, and its item is `item`, where these are given.
-    fn take_whole<'p, O: Opening, R: Wait, G: Gate>(
+    fn take_whole<'p, O: Opening, R: Wait, G: Watcher>(
         &mut self,
         site: Site<'_, '_, 't, O, R, G>,
         pages: &'t Pages,
@@ -214,7 +215,7 @@ impl<'t> Intake<'t> {
     /// Takes a chunk, which is also on `page` where that is given, up to the end of the next element, whose step
     /// is then carried out, or else to its own end. The answer is how many of its bytes were used, or none where
     /// the trace broke.
-    fn take_next<O: Opening, R: Wait, G: Gate>(
+    fn take_next<O: Opening, R: Wait, G: Watcher>(
         &mut self,
         site: Site<'_, '_, 't, O, R, G>,
         pages: &'t Pages,
@@ -283,7 +284,7 @@ impl<'t> Intake<'t> {
 
     /// Takes a whole chunk, which is also on `page` where that is given, and answers whether the trace goes on:
     /// false where it broke.
-    pub fn take_piece<O: Opening, R: Wait, G: Gate>(
+    pub fn take_piece<O: Opening, R: Wait, G: Watcher>(
         &mut self,
         site: Site<'_, '_, 't, O, R, G>,
         pages: &'t Pages,
@@ -325,7 +326,7 @@ impl<'t> Intake<'t> {
     }
 
     /// Takes the end of the trace. An element that ends with it then waits.
-    pub fn take_end<O: Opening, R: Wait, G: Gate>(
+    pub fn take_end<O: Opening, R: Wait, G: Watcher>(
         &mut self,
         site: Site<'_, '_, 't, O, R, G>,
         pages: &'t Pages,

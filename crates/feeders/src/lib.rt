@@ -30,6 +30,7 @@ mod source;
 mod stream;
 mod tail_buffer;
 mod trace;
+mod watcher;
 mod whole;
 
 pub use fault::{FeedFault, RunFault};
@@ -37,4 +38,5 @@ pub use feeder::Feeder;
 pub use log::{BreakCode, Broken, Code, Line, Log, What};
 pub use pages::Pages;
 pub use run::{Run, run_in_turn, run_readers, run_traces};
+pub use watcher::{Notice, Watcher};
 pub use whole::{InputFault, read_whole};

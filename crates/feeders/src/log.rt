@@ -11,13 +11,14 @@ ghost use Rattle.feeders.specs.Progress.{GoesOn, HasSameLines};
 
 use crate::fault::RunFault;
 use crate::site::Site;
+use crate::watcher::{Notice, Placed, Watcher};
 use edn_reader::EdnFault;
 use intervals::{Edit, Refusal, RegId};
 use jepsen_form::FormFault;
 use pairing::{PairFault, Step};
 use register_book::Reply;
 use shards::laws::what_was_told_stays;
-use shards::{Answer, Gate, Opening, Pass};
+use shards::{Answer, Opening, Pass};
 use std::sync::Wait;
 
 /// Why an element of a trace was refused: by its form, by the pairing, or by its register.
@@ -110,7 +111,7 @@ pub struct Log<'t> {
 
 impl<'t> Log<'t> {
     /// Carries out the step of the element at `place`, where it has one, and notes a refusal or an answer.
-    pub fn carry_out<O: Opening, R: Wait, G: Gate>(
+    pub fn carry_out<O: Opening, R: Wait, G: Watcher>(
         &mut self,
         site: Site<'_, '_, 't, O, R, G>,
         pass: &mut Pass<'t>,
@@ -146,7 +147,7 @@ impl<'t> Log<'t> {
 
     /// Submits an edit, and notes a refusal by its register. Room for the log line is made first, since nothing
     /// may fail once the edit is entered.
-    fn submit<O: Opening, R: Wait, G: Gate>(
+    fn submit<O: Opening, R: Wait, G: Watcher>(
         &mut self,
         site: Site<'_, '_, 't, O, R, G>,
         pass: &mut Pass<'t>,
@@ -162,20 +163,25 @@ impl<'t> Log<'t> {
     {
         what_was_told_stays();
         self.lines.reserve(1)?;
-        let receipt = site
-            .auditor
-            .submit(site.rt, site.gate, pass, register, edit)?;
+        let gate = Placed::new(site.gate, place);
+        let receipt = site.auditor.submit(site.rt, &gate, pass, register, edit)?;
         if let Reply::Refused(refusal) = receipt.reply {
+            let code = Code::Register(refusal);
             self.lines.push_reserved(Line {
                 event: place,
-                what: What::Refused(Code::Register(refusal)),
+                what: What::Refused(code),
+            });
+            site.gate.told(Notice::Refused {
+                feeder: pass.feeder(),
+                place,
+                code,
             });
         }
         Ok(())
     }
 
     /// Asks whether a register holds, and notes the answer. Room for the log line is made first.
-    fn ask<O: Opening, R: Wait, G: Gate>(
+    fn ask<O: Opening, R: Wait, G: Watcher>(
         &mut self,
         site: Site<'_, '_, 't, O, R, G>,
         pass: &mut Pass<'t>,

@@ -18,12 +18,13 @@ use crate::log::Code;
 use crate::pages::Pages;
 use crate::progress::Progress;
 use crate::site::Site;
+use crate::watcher::Watcher;
 use edn_reader::{Element, Splitter};
 use intervals::{Edit, Memory};
 use jepsen_form::laws::one_item;
 use jepsen_form::{FormFault, Item, Stage, read_item};
 use pairing::Step;
-use shards::{Gate, Opening};
+use shards::Opening;
 use std::sync::Wait;
 
 /// What a feeder has of the element that ended last, as long as its step is not carried out.
@@ -39,7 +40,7 @@ pub enum Pending<'t> {
 }
 
 /// Reads an element whose text is on no page, and holds its item.
-pub fn read_pending<'t, O: Opening, R: Wait, G: Gate>(
+pub fn read_pending<'t, O: Opening, R: Wait, G: Watcher>(
     site: Site<'_, '_, 't, O, R, G>,
     pages: &'t Pages,
     progress: &mut Progress<'t>,
@@ -55,7 +56,7 @@ pub fn read_pending<'t, O: Opening, R: Wait, G: Gate>(
 
 /// Holds the item of the element that ended last, which has this text, also on a page where one is given. Where
 /// the item was not read yet, it is read here.
-pub fn hold_last<'t, 'p, O: Opening, R: Wait, G: Gate>(
+pub fn hold_last<'t, 'p, O: Opening, R: Wait, G: Watcher>(
     site: Site<'_, '_, 't, O, R, G>,
     pages: &'t Pages,
     progress: &mut Progress<'t>,
@@ -85,7 +86,7 @@ pub fn hold_last<'t, 'p, O: Opening, R: Wait, G: Gate>(
 /// Holds the item of an element with this text, which is lent from `page` where that is given. Else the text is
 /// put on a page of its own if its step lends it; if not, the element is paired at once, since its item cannot
 /// outlive the text.
-pub fn hold_item<'t, O: Opening, R: Wait, G: Gate>(
+pub fn hold_item<'t, O: Opening, R: Wait, G: Watcher>(
     site: Site<'_, '_, 't, O, R, G>,
     pages: &'t Pages,
     progress: &mut Progress<'t>,

@@ -14,10 +14,11 @@ use crate::fault::RunFault;
 use crate::log::{Broken, Code, Log};
 use crate::outcome::FeederOutcome;
 use crate::site::Site;
+use crate::watcher::{Notice, Watcher};
 use intervals::Memory;
 use jepsen_form::{FormFault, Item};
 use pairing::{PairFault, Pairing, Step};
-use shards::{Gate, Opening, Pass};
+use shards::{Opening, Pass};
 use std::alloc::Global;
 use std::sync::Wait;
 
@@ -73,7 +74,7 @@ impl<'t> Progress<'t> {
     }
 
     /// Carries out the step of the element that was paired last, or notes why it is refused.
-    pub fn carry_out<O: Opening, R: Wait, G: Gate>(
+    pub fn carry_out<O: Opening, R: Wait, G: Watcher>(
         &mut self,
         site: Site<'_, '_, 't, O, R, G>,
         pass: &mut Pass<'t>,
@@ -92,7 +93,14 @@ impl<'t> Progress<'t> {
     {
         match step {
             Ok(step) => self.log.carry_out(site, pass, self.place, step)?,
-            Err(code) => self.log.refuse::<O>(self.place, code)?,
+            Err(code) => {
+                self.log.refuse::<O>(self.place, code)?;
+                site.gate.told(Notice::Refused {
+                    feeder: pass.feeder(),
+                    place: self.place,
+                    code,
+                });
+            }
         }
         self.place += 1;
         Ok(())

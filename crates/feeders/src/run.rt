@@ -11,8 +11,9 @@ use crate::halves::{feed_all, read_all, read_in_turn, unzipped};
 use crate::log::Log;
 use crate::pages::Pages;
 use crate::site::Site;
+use crate::watcher::Watcher;
 use jepsen_form::MomentField;
-use shards::{Auditor, Closed, Gate, Opening};
+use shards::{Auditor, Closed, Opening};
 use std::alloc::Global;
 use std::io::Read;
 use std::marker::Brand;
@@ -30,7 +31,7 @@ pub struct Run<'t> {
 /// Feeds traces to the registers of a tower, each by a thread of its own, this one among them: feeder `i` has
 /// trace `i`. Moments are read under `:index` or under `:time`, as `field` says. It waits for the shards' locks.
 /// Where feeders fail, the fault is that of the one with the least number.
-pub fn run_traces<'t, R: Threads + Wait + Sync, G: Gate>(
+pub fn run_traces<'t, R: Threads + Wait + Sync, G: Watcher>(
     rt: &R,
     alloc: Global,
     tower: &Tower,
@@ -53,7 +54,7 @@ pub fn run_traces<'t, R: Threads + Wait + Sync, G: Gate>(
 /// reading fails (N1), or takes more than 1,073,741,824 bytes or 16,777,216 read calls (N2), ends with the bytes
 /// that were read. An interrupted call is made again, and counts. It waits for the shards' locks and for other
 /// pushes to the pages.
-pub fn run_readers<'t, R: Threads + Wait + Sync, S: Read + Drop + Send, G: Gate>(
+pub fn run_readers<'t, R: Threads + Wait + Sync, S: Read + Drop + Send, G: Watcher>(
     rt: &R,
     alloc: Global,
     tower: &'t Tower,
@@ -73,7 +74,7 @@ pub fn run_readers<'t, R: Threads + Wait + Sync, S: Read + Drop + Send, G: Gate>
 
 /// Feeds what readers give, as `run_readers` does, but on this thread alone, one reader after another: so where
 /// traces meet on a register, each run refuses the same edits.
-pub fn run_in_turn<'t, R: Wait, S: Read + Drop, G: Gate>(
+pub fn run_in_turn<'t, R: Wait, S: Read + Drop, G: Watcher>(
     rt: &R,
     alloc: Global,
     tower: &'t Tower,
@@ -92,7 +93,13 @@ pub fn run_in_turn<'t, R: Wait, S: Read + Drop, G: Gate>(
 }
 
 /// `run_readers` for the plan of the opening `O`.
-fn read_in<'t, O: Opening + Send + Sync, R: Threads + Wait + Sync, S: Read + Drop + Send, G: Gate>(
+fn read_in<
+    't,
+    O: Opening + Send + Sync,
+    R: Threads + Wait + Sync,
+    S: Read + Drop + Send,
+    G: Watcher,
+>(
     rt: &R,
     alloc: Global,
     tower: &'t Tower,
@@ -120,7 +127,7 @@ fn read_in<'t, O: Opening + Send + Sync, R: Threads + Wait + Sync, S: Read + Dro
 }
 
 /// `run_traces` for the plan of the opening `O`.
-fn run_in<'t, O: Opening + Send + Sync, R: Threads + Wait + Sync, G: Gate>(
+fn run_in<'t, O: Opening + Send + Sync, R: Threads + Wait + Sync, G: Watcher>(
     rt: &R,
     alloc: Global,
     tower: &Tower,
@@ -154,7 +161,7 @@ fn run_in<'t, O: Opening + Send + Sync, R: Threads + Wait + Sync, G: Gate>(
 }
 
 /// `run_in_turn` for the plan of the opening `O`.
-fn turn_in<'t, O: Opening, R: Wait, S: Read + Drop, G: Gate>(
+fn turn_in<'t, O: Opening, R: Wait, S: Read + Drop, G: Watcher>(
     rt: &R,
     alloc: Global,
     tower: &'t Tower,

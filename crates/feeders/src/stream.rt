@@ -13,8 +13,9 @@ use crate::outcome::FeederOutcome;
 use crate::pages::Pages;
 use crate::site::Site;
 use crate::source::Source;
+use crate::watcher::{Watcher, tell_end};
 use shards::laws::what_was_told_stays;
-use shards::{Gate, Opening, Pass};
+use shards::{Opening, Pass};
 use std::io::Read;
 use std::sync::Wait;
 
@@ -23,7 +24,7 @@ const PIECE: usize = 65_536;
 
 /// Reads a trace up to its end, to where it breaks or to where its reading breaks off, and carries its steps out in
 /// order, each as soon as its element has ended.
-pub fn feed_reader<'t, O: Opening, R: Wait, G: Gate, S: Read + Drop>(
+pub fn feed_reader<'t, O: Opening, R: Wait, G: Watcher, S: Read + Drop>(
     site: Site<'_, 't, 't, O, R, G>,
     pages: &'t Pages,
     mut pass: Pass<'t>,
@@ -47,7 +48,7 @@ pub fn feed_reader<'t, O: Opening, R: Wait, G: Gate, S: Read + Drop>(
             Ok(count) => {
                 if count == 0 {
                     feeder.end(site.rt, site.alloc, site.auditor, site.gate, &mut pass)?;
-                    return Ok(feeder.into_fed(pass));
+                    return Ok(close(site.gate, feeder, pass));
                 }
                 let piece = &buffer[..count];
                 if let Err(failed) = feeder.feed(
@@ -61,13 +62,21 @@ pub fn feed_reader<'t, O: Opening, R: Wait, G: Gate, S: Read + Drop>(
                     return Err(failed.fault);
                 }
                 if feeder.has_broken() {
-                    return Ok(feeder.into_fed(pass));
+                    return Ok(close(site.gate, feeder, pass));
                 }
             }
             Err(code) => {
                 feeder.break_off(code);
-                return Ok(feeder.into_fed(pass));
+                return Ok(close(site.gate, feeder, pass));
             }
         }
     }
+}
+
+/// Tells a watcher that the feeder's trace is over, and gives what the feeder leaves.
+fn close<'t, G: Watcher>(gate: &G, feeder: Feeder<'t>, pass: Pass<'t>) -> FeederOutcome<'t>
+    ensures { (result.pass ≡ pass.entry) × (result.log ≡ feeder.entry.intake.progress.log) }
+{
+    tell_end(gate, pass.feeder(), feeder.log().broken, feeder.elements());
+    feeder.into_fed(pass)
 }

@@ -13,16 +13,17 @@ use crate::log::broken_by;
 use crate::outcome::FeederOutcome;
 use crate::progress::Progress;
 use crate::site::Site;
+use crate::watcher::{Watcher, tell_end};
 use edn_reader::Reader;
 use jepsen_form::laws::items_name_registers_of_the_tower;
 use jepsen_form::read_item;
 use pairing::laws::steps_are_on_named_registers;
 use shards::laws::what_was_told_stays;
-use shards::{Gate, Opening, Pass};
+use shards::{Opening, Pass};
 use std::sync::Wait;
 
 /// Reads a trace up to its end or to where it breaks, and carries its steps out in order.
-pub fn feed_trace<'t, O: Opening, R: Wait, G: Gate>(
+pub fn feed_trace<'t, O: Opening, R: Wait, G: Watcher>(
     site: Site<'_, '_, 't, O, R, G>,
     mut pass: Pass<'t>,
     trace: &'t [u8],
@@ -48,11 +49,15 @@ pub fn feed_trace<'t, O: Opening, R: Wait, G: Gate>(
                     return Err(fault);
                 }
             }
-            Ok(None) => return Ok(progress.end(pass, None)),
+            Ok(None) => {
+                tell_end(site.gate, pass.feeder(), None, progress.place);
+                return Ok(progress.end(pass, None));
+            }
             Err(fault) => {
                 let Some(broken) = broken_by(fault) else {
                     return Err(RunFault::Memory);
                 };
+                tell_end(site.gate, pass.feeder(), Some(broken), progress.place);
                 return Ok(progress.end(pass, Some(broken)));
             }
         }

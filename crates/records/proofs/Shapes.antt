@@ -19,6 +19,7 @@ use Rattle.intervals.specs.declared.operation.Value.TheVariants.{Nil, Int}
 use Rattle.intervals.specs.Operation.{is_write, value_of}
 use Rattle.tower_file.specs.Contents.{Register, TowerModel}
 use Rattle.shards.specs.Closing.{ClosedShard}
+use Rattle.shards.specs.declared.entry.VerdictChange.{VerdictChange}
 use Rattle.feeders.specs.Code.{break_code_of, refused_code}
 use Rattle.feeders.specs.declared.log.Broken.{Broken}
 use Rattle.feeders.specs.declared.log.Code.{Code}
@@ -26,6 +27,10 @@ use Rattle.feeders.specs.declared.log.Line.{Line}
 use Rattle.feeders.specs.declared.log.Log.{Log}
 use Rattle.feeders.specs.declared.log.What.{What}
 use Rattle.feeders.specs.declared.log.What.TheVariants.{Refused, Answered}
+use Rattle.feeders.specs.declared.watcher.Notice.{Notice}
+use Rattle.feeders.specs.declared.watcher.Notice.TheVariants as notices
+use Rattle.register_book.specs.declared.fault.Fault.{Fault}
+use Rattle.register_book.specs.declared.fault.Fault.TheVariants as faults
 use Rattle.register_book.specs.declared.fault.Witness.{Witness}
 use Rattle.register_book.specs.declared.fault.Witness.TheVariants.{Wrong, Unwritten, Split, Early, Crossing}
 use Rattle.register_book.specs.Fault.{side_holder}
@@ -45,6 +50,7 @@ use Rattle.records.specs.Fault.{fault_symbols, side_value}
 use Rattle.records.specs.Field.{end_symbols, flag_symbols, list_symbols, number_symbols, place_symbols, text_field, type_symbols, word_symbols}
 use Rattle.records.specs.Grammar.{AreFields, AreValues, IsOneValue, IsRecord, alone, between, is_whole_value, listed, more_fields, more_values, nested, no_field, no_value}
 use Rattle.records.specs.Log.{answer_symbols, broken_symbols, met_by, refused_symbols}
+use Rattle.records.specs.Notice.{change_symbols, changed_symbols, ended_symbols, fault_field, fault_ids_symbols, notice_symbols, optional_fault_symbols}
 use Rattle.records.specs.Operation.{act_word, op_symbols}
 use Rattle.records.specs.Register.{register_symbols, witness_symbols}
 use Rattle.records.specs.Run.{AreRecordsOfRun, RunNames, asked_records, broken_records, has_record, line_record, log_records, logs_records, records_of, register_record, registers_records, totals_of, what_record}
@@ -320,3 +326,53 @@ run_is names only status tower findings allowed logs asked =
 pub each_is_record : (names : RunNames) (only : Bool) (status : ℕ) (tower : TowerModel) (closed : List ClosedShard) (logs : List Log) (order : Option RegId) (records : List (List Symbol)) → AreRecordsOfRun names only status tower closed logs order records → All IsRecord records
 each_is_record names only status tower closed logs order records are =
     subst (λ (list : List (List Symbol)). All IsRecord list) (sym are.records_are) (run_is names only status tower are.findings are.allowed logs are.asked)
+
+-- notices
+
+ids_are : (fault : Fault) → IsRecord (fault_ids_symbols fault)
+ids_are (faults.Wrong read) =
+    between (field_is (codes "kind") (word (codes "wrong")) refl (field_is (codes "read") (place read.feeder read.event) refl no_field))
+ids_are (faults.Unwritten read) =
+    between (field_is (codes "kind") (word (codes "unwritten")) refl (field_is (codes "read") (place read.feeder read.event) refl no_field))
+ids_are (faults.Split first second) =
+    between
+    (field_is (codes "kind") (word (codes "split")) refl
+    (field_is (codes "first") (place first.feeder first.event) refl (field_is (codes "second") (place second.feeder second.event) refl no_field)))
+ids_are (faults.Early read write) =
+    between
+    (field_is (codes "kind") (word (codes "early")) refl
+    (field_is (codes "read") (place read.feeder read.event) refl (field_is (codes "write") (place write.feeder write.event) refl no_field)))
+ids_are (faults.Crossing a b c d) =
+    between
+    (field_is (codes "kind") (word (codes "conflict")) refl
+    (field_is (codes "a") (holder_symbol a) (whole_holder a)
+    (field_is (codes "b") (holder_symbol b) (whole_holder b)
+    (field_is (codes "c") (holder_symbol c) (whole_holder c) (field_is (codes "d") (holder_symbol d) (whole_holder d) no_field)))))
+
+optional_is : (fault : Option Fault) → IsOneValue (optional_fault_symbols fault)
+optional_is None = alone nothing refl
+optional_is (Some fault) = nested (ids_are fault)
+
+change_is : (name : List ℕ) (feeder event : ℕ) (change : VerdictChange) → IsRecord (change_symbols name feeder event change)
+unfolding change_symbols changed_symbols fault_field type_symbols place_symbols text_field word_symbols flag_symbols number_symbols
+change_is name feeder event change =
+    between
+    (field_is (codes "t") (word (codes "change")) refl
+    (field_is (codes "id") (place feeder event) refl
+    (field_is (codes "register") (text name) refl
+    (field_is (codes "kind") (word (kind_word change.kind)) refl
+    (field_is (codes "holds") (flag change.holds) refl
+    (field_is (codes "operations") (number (decimal change.operations)) refl (last_field_is (codes "fault") (optional_is change.fault))))))))
+
+ended_is : (feeder elements : ℕ) → IsRecord (ended_symbols feeder elements)
+unfolding ended_symbols type_symbols number_symbols
+ended_is feeder elements =
+    between
+    (field_is (codes "t") (word (codes "ended")) refl
+    (field_is (codes "trace") (number (decimal feeder)) refl (field_is (codes "elements") (number (decimal elements)) refl no_field)))
+
+pub notice_is : (registers : List Register) (notice : Notice) → IsRecord (notice_symbols registers notice)
+notice_is registers (notices.Changed feeder event change) = change_is (register_name registers change.register) feeder event change
+notice_is registers (notices.Refused feeder event code) = refused_is feeder event code
+notice_is registers (notices.Broke feeder broken) = broken_is feeder broken
+notice_is registers (notices.Ended feeder elements) = ended_is feeder elements

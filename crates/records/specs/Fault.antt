@@ -1,5 +1,6 @@
 -- The record of a fault.
 use Rattle.std.specs.Prelude.{ℕ, List, [], ◌∷◌, ◌++◌, Option, Some, None, codes, flat_map}
+use Rattle.intervals.specs.declared.claim.Holder.{Holder}
 use Rattle.intervals.specs.declared.operation.OpId.{OpId}
 use Rattle.intervals.specs.declared.operation.Value.{Value}
 use Rattle.intervals.specs.declared.operation.Value.TheVariants.{Nil}
@@ -30,9 +31,8 @@ two_symbols name one other_name other =
     key name ∷ place one.feeder one.event ∷ key other_name ∷ place other.feeder other.event ∷ end_record ∷ []
 
 -- two sides of a conflict under these names
-abbrev pub pair_symbols : List ℕ → Side → List ℕ → Side → List Symbol
-pair_symbols name one other_name other =
-    key name ∷ holder_symbol (side_holder one) ∷ key other_name ∷ holder_symbol (side_holder other) ∷ []
+abbrev pub pair_symbols : List ℕ → Holder → List ℕ → Holder → List Symbol
+pair_symbols name one other_name other = key name ∷ holder_symbol one ∷ key other_name ∷ holder_symbol other ∷ []
 
 -- a read, and that what it might have returned comes next
 abbrev pub read_symbols : OpId → List Symbol
@@ -66,5 +66,5 @@ fault_symbols allowed (Unwritten read) = unwritten_symbols read.id
 fault_symbols allowed (Split first second) = split_symbols first.id second.id
 fault_symbols allowed (Early read write) = early_symbols read.id write.id
 fault_symbols allowed (Crossing a b c d) =
-    kind_symbols (codes "conflict") ++ pair_symbols (codes "a") a (codes "b") b ++ pair_symbols (codes "c") c (codes "d") d
-    ++ values_symbols d b
+    kind_symbols (codes "conflict") ++ pair_symbols (codes "a") (side_holder a) (codes "b") (side_holder b)
+    ++ pair_symbols (codes "c") (side_holder c) (codes "d") (side_holder d) ++ values_symbols d b

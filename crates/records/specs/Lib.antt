@@ -12,6 +12,7 @@ pub mod Register
 pub mod Log
 pub mod Ends
 pub mod Explained
+pub mod Notice
 pub mod Run
 pub mod Told
 pub mod Grammar

@@ -1,4 +1,4 @@
--- What a record says: its tokens, and its text in JSON.
+-- What a record says: its symbols.
 use Rattle.std.specs.Prelude.{ℕ, Bool, List, map}
 use Rattle.std.specs.Fmt.{decimal, signed_decimal}
 use Rattle.records.specs.declared.token.Token.{Token}

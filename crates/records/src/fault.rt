@@ -28,8 +28,8 @@ pub fn add_fault<'a>(
         Witness::Early { read, write } => add_early(tokens, read.id, write.id),
         Witness::Crossing { a, b, c, d } => {
             add_kind(tokens, "conflict")?;
-            add_pair(tokens, "a", a, "b", b)?;
-            add_pair(tokens, "c", c, "d", d)?;
+            add_pair(tokens, "a", holder_of(a), "b", holder_of(b))?;
+            add_pair(tokens, "c", holder_of(c), "d", holder_of(d))?;
             add_values(tokens, d, b)
         }
     }
@@ -60,28 +60,36 @@ fn add_read<'a>(tokens: &mut Vec<Token<'a>>, read: OpId) -> Result<(), AllocErro
     ])
 }
 
-fn add_unwritten<'a>(tokens: &mut Vec<Token<'a>>, read: OpId) -> Result<(), AllocError>
+/// Adds the record of a read of a value that nothing wrote.
+pub fn add_unwritten<'a>(tokens: &mut Vec<Token<'a>>, read: OpId) -> Result<(), AllocError>
     ensures { OnOk result (symbols_of tokens.new.items ≡ symbols_of tokens.old.items ++ unwritten_symbols read) }
 {
     add_kind(tokens, "unwritten")?;
     tokens.extend_from_slice(&[Token::Key("read"), Token::Id(read), Token::EndRecord])
 }
 
-fn add_split<'a>(tokens: &mut Vec<Token<'a>>, first: OpId, second: OpId) -> Result<(), AllocError>
+/// Adds the record of two reads of values that nothing wrote, which differ.
+pub fn add_split<'a>(
+    tokens: &mut Vec<Token<'a>>,
+    first: OpId,
+    second: OpId,
+) -> Result<(), AllocError>
     ensures { OnOk result (symbols_of tokens.new.items ≡ symbols_of tokens.old.items ++ split_symbols first second) }
 {
     add_kind(tokens, "split")?;
     add_two(tokens, "first", first, "second", second)
 }
 
-fn add_early<'a>(tokens: &mut Vec<Token<'a>>, read: OpId, write: OpId) -> Result<(), AllocError>
+/// Adds the record of a read that ended before the write of its value began.
+pub fn add_early<'a>(tokens: &mut Vec<Token<'a>>, read: OpId, write: OpId) -> Result<(), AllocError>
     ensures { OnOk result (symbols_of tokens.new.items ≡ symbols_of tokens.old.items ++ early_symbols read write) }
 {
     add_kind(tokens, "early")?;
     add_two(tokens, "read", read, "write", write)
 }
 
-fn add_kind<'a>(tokens: &mut Vec<Token<'a>>, kind: &'static str) -> Result<(), AllocError>
+/// The beginning of a fault's record, with its kind.
+pub fn add_kind<'a>(tokens: &mut Vec<Token<'a>>, kind: &'static str) -> Result<(), AllocError>
     ensures { OnOk result (symbols_of tokens.new.items ≡ symbols_of tokens.old.items ++ kind_symbols kind.now) }
 {
     tokens.extend_from_slice(&[Token::BeginRecord, Token::Key("kind"), Token::Word(kind)])
@@ -105,20 +113,21 @@ fn add_two<'a>(
     ])
 }
 
-fn add_pair<'a>(
+/// Two sides of a conflict.
+pub fn add_pair<'a>(
     tokens: &mut Vec<Token<'a>>,
     name: &'static str,
-    one: &Side,
+    one: Holder,
     other_name: &'static str,
-    other: &Side,
+    other: Holder,
 ) -> Result<(), AllocError>
-    ensures { OnOk result (symbols_of tokens.new.items ≡ symbols_of tokens.old.items ++ pair_symbols name.now one.now other_name.now other.now) }
+    ensures { OnOk result (symbols_of tokens.new.items ≡ symbols_of tokens.old.items ++ pair_symbols name.now one other_name.now other) }
 {
     tokens.extend_from_slice(&[
         Token::Key(name),
-        holder_token(holder_of(one)),
+        holder_token(one),
         Token::Key(other_name),
-        holder_token(holder_of(other)),
+        holder_token(other),
     ])
 }
 

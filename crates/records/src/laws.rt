@@ -2,11 +2,13 @@
 
 ghost use Rattle.std.specs.Prelude.{ℕ, Bool, false, List, Option, All};
 ghost use Rattle.intervals.specs.declared.operation.RegId.{RegId};
-ghost use Rattle.tower_file.specs.Contents.{TowerModel};
+ghost use Rattle.tower_file.specs.Contents.{Register, TowerModel};
 ghost use Rattle.shards.specs.Closing.{ClosedShard};
 ghost use Rattle.feeders.specs.declared.log.Log.{Log};
+ghost use Rattle.feeders.specs.declared.watcher.Notice.{Notice};
 ghost use Rattle.report.specs.Report.{IsReport};
 ghost use Rattle.records.specs.Grammar.{IsRecord};
+ghost use Rattle.records.specs.Notice.{notice_symbols};
 ghost use Rattle.records.specs.Run.{AreRecordsOfRun, RunNames};
 ghost use Rattle.records.specs.Symbol.{Symbol};
 ghost use Rattle.records.specs.Told.{report_of};
@@ -19,9 +21,10 @@ pub fn the_records_tell_the_report()
         → IsReport tower closed logs order (report_of records) }
 {}
 
-/// Each record of a run is one by the grammar: its brackets match, and each key has a value.
+/// Each record of a run, and that of each notice, is one by the grammar: its brackets match, and each key has a value.
 pub fn each_record_is_whole()
-    ensures { (names : RunNames) (only : Bool) (status : ℕ) (tower : TowerModel) (closed : List ClosedShard)
+    ensures run { (names : RunNames) (only : Bool) (status : ℕ) (tower : TowerModel) (closed : List ClosedShard)
         → (logs : List Log) (order : Option RegId) (records : List (List Symbol))
         → AreRecordsOfRun names only status tower closed logs order records → All IsRecord records }
+    ensures notices { (registers : List Register) (notice : Notice) → IsRecord (notice_symbols registers notice) }
 {}

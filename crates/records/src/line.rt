@@ -1,6 +1,6 @@
 //! The line of a record.
 
-ghost use Rattle.std.specs.Prelude.{◌≡◌, ◌++◌, IfOk};
+ghost use Rattle.std.specs.Prelude.{◌≡◌, ◌++◌, IfOk, OnOk};
 ghost use Rattle.records.specs.Line.{record_line, record_text};
 ghost use Rattle.records.specs.Symbol.{symbols_of};
 
@@ -16,8 +16,21 @@ pub enum Notation {
     Edn,
 }
 
+/// Adds a record, on a line of its own.
+pub fn push_record(
+    alloc: Global,
+    notation: Notation,
+    text: &mut Vec<u8>,
+    tokens: &[Token],
+) -> Result<(), AllocError>
+    ensures { OnOk result (text.new.items ≡ text.old.items ++ record_line notation (symbols_of tokens.now)) }
+{
+    let line = with_line(alloc, notation, Vec::new(alloc), tokens)?;
+    text.extend_from_slice(&line)
+}
+
 /// The text with the line of a record added.
-pub fn with_line(
+fn with_line(
     alloc: Global,
     notation: Notation,
     text: Vec<u8>,

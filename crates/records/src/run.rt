@@ -15,7 +15,7 @@ ghost use Rattle.records.specs.Symbol.{symbols_of};
 use crate::allowed::Allowed;
 use crate::ends::{Totals, add_head, add_last, add_order};
 use crate::explained::explain_all;
-use crate::line::{Notation, with_line};
+use crate::line::{Notation, push_record};
 use crate::log::{add_answer, add_broken, add_refused};
 use crate::register::add_register;
 use crate::token::Token;
@@ -164,8 +164,7 @@ impl RecordWriter {
     fn push(self, text: &mut Vec<u8>, tokens: &[Token]) -> Result<(), AllocError>
         ensures { OnOk result (text.new.items ≡ text.old.items ++ record_line self.notation (symbols_of tokens.now)) }
     {
-        let line = with_line(self.alloc, self.notation, Vec::new(self.alloc), tokens)?;
-        text.extend_from_slice(&line)
+        push_record(self.alloc, self.notation, text, tokens)
     }
 
     fn push_head(self, text: &mut Vec<u8>, form: &Form, tower: &Tower) -> Result<(), AllocError>

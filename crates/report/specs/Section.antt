@@ -29,14 +29,18 @@ abbrev pub holder_text : Holder → List ℕ
 holder_text (holders.Op id) = id_text id
 holder_text holders.Initial = codes "initial"
 
--- the line of a fault: its word, and the ids of the operations that show it
+-- a fault as it is printed: its word, and the ids of the operations that show it
+abbrev pub fault_text : Fault → List ℕ
+fault_text (faults.Wrong read) = codes "wrong " ++ id_text read
+fault_text (faults.Unwritten read) = codes "unwritten " ++ id_text read
+fault_text (faults.Split first second) = codes "unwritten " ++ id_text first ++ codes " and " ++ id_text second
+fault_text (faults.Early read write) = codes "early " ++ id_text read ++ codes " before " ++ id_text write
+fault_text (faults.Crossing a b c d) =
+    codes "conflict " ++ holder_text a ++ codes " " ++ holder_text b ++ codes " " ++ holder_text c ++ codes " " ++ holder_text d
+
+-- the line of a fault
 abbrev pub fault_line : Fault → List ℕ
-fault_line (faults.Wrong read) = codes "  wrong " ++ id_text read ++ 10 ∷ []
-fault_line (faults.Unwritten read) = codes "  unwritten " ++ id_text read ++ 10 ∷ []
-fault_line (faults.Split first second) = codes "  unwritten " ++ id_text first ++ codes " and " ++ id_text second ++ 10 ∷ []
-fault_line (faults.Early read write) = codes "  early " ++ id_text read ++ codes " before " ++ id_text write ++ 10 ∷ []
-fault_line (faults.Crossing a b c d) =
-    codes "  conflict " ++ holder_text a ++ codes " " ++ holder_text b ++ codes " " ++ holder_text c ++ codes " " ++ holder_text d ++ 10 ∷ []
+fault_line fault = codes "  " ++ fault_text fault ++ 10 ∷ []
 
 -- the line of a lent text, which begins with a bar
 abbrev pub part_line : List ℕ → List ℕ

@@ -37,5 +37,5 @@ pub use listing::{level_name, tower_text};
 pub use names::{kind_word, name_of, printed_char, push_printed, verdict_word};
 pub use order::order_of;
 pub use refused::count_refused;
-pub use section::{push_fault, push_register, push_section, shown_of};
+pub use section::{push_fault, push_fault_text, push_register, push_section, shown_of};
 pub use text::report;

@@ -6,7 +6,7 @@ ghost use Rattle.std.specs.Option.{option_map_or, option_to_list};
 ghost use Rattle.intervals.specs.Table.{ops_in_slots};
 ghost use Rattle.register_book.specs.Fault.{ops_at};
 ghost use Rattle.report.specs.Names.{id_text};
-ghost use Rattle.report.specs.Section.{fault_line, holder_text, is_one, part_line, part_line_of, part_lines, register_line, section_text, shown_of, witness_text};
+ghost use Rattle.report.specs.Section.{fault_line, fault_text, holder_text, is_one, part_line, part_line_of, part_lines, register_line, section_text, shown_of, witness_text};
 
 use crate::finding::Finding;
 use crate::names::{kind_word, push_id, push_printed, verdict_word};
@@ -125,25 +125,34 @@ fn push_ops(text: &mut String, ops: &[Option<Op>]) -> Result<(), AllocError>
     Ok(())
 }
 
-/// The line of a fault: its word, and the ids of the operations that show it.
+/// The line of a fault. Where memory is refused, the text may have got a prefix of it.
 pub fn push_fault(text: &mut String, fault: Fault) -> Result<(), AllocError>
     ensures { OnOk result (string_bytes text.new ≡ string_bytes text.old ++ fault_line fault) }
 {
+    text.push_str("  ")?;
+    push_fault_text(text, fault)?;
+    text.push_str("\n")
+}
+
+/// A fault as it is printed: its word, and the ids of the operations that show it. Where memory is refused, the text
+/// may have got a prefix of it.
+pub fn push_fault_text(text: &mut String, fault: Fault) -> Result<(), AllocError>
+    ensures { OnOk result (string_bytes text.new ≡ string_bytes text.old ++ fault_text fault) }
+{
     match fault {
-        Fault::Wrong(read) => push_read(text, "  wrong ", read),
-        Fault::Unwritten(read) => push_read(text, "  unwritten ", read),
-        Fault::Split { first, second } => push_two(text, "  unwritten ", first, " and ", second),
-        Fault::Early { read, write } => push_two(text, "  early ", read, " before ", write),
+        Fault::Wrong(read) => push_read(text, "wrong ", read),
+        Fault::Unwritten(read) => push_read(text, "unwritten ", read),
+        Fault::Split { first, second } => push_two(text, "unwritten ", first, " and ", second),
+        Fault::Early { read, write } => push_two(text, "early ", read, " before ", write),
         Fault::Crossing { a, b, c, d } => push_conflict(text, a, b, c, d),
     }
 }
 
 fn push_read(text: &mut String, word: &str, read: OpId) -> Result<(), AllocError>
-    ensures { OnOk result (string_bytes text.new ≡ string_bytes text.old ++ word.now ++ id_text read ++ 10 ∷ []) }
+    ensures { OnOk result (string_bytes text.new ≡ string_bytes text.old ++ word.now ++ id_text read) }
 {
     text.push_str(word)?;
-    push_id(text, read)?;
-    text.push_str("\n")
+    push_id(text, read)
 }
 
 fn push_two(
@@ -153,13 +162,12 @@ fn push_two(
     between: &str,
     other: OpId,
 ) -> Result<(), AllocError>
-    ensures { OnOk result (string_bytes text.new ≡ string_bytes text.old ++ word.now ++ id_text one ++ between.now ++ id_text other ++ 10 ∷ []) }
+    ensures { OnOk result (string_bytes text.new ≡ string_bytes text.old ++ word.now ++ id_text one ++ between.now ++ id_text other) }
 {
     text.push_str(word)?;
     push_id(text, one)?;
     text.push_str(between)?;
-    push_id(text, other)?;
-    text.push_str("\n")
+    push_id(text, other)
 }
 
 fn push_conflict(
@@ -169,13 +177,12 @@ fn push_conflict(
     c: Holder,
     d: Holder,
 ) -> Result<(), AllocError>
-    ensures { OnOk result (string_bytes text.new ≡ string_bytes text.old ++ fault_line (Fault.Crossing a b c d)) }
+    ensures { OnOk result (string_bytes text.new ≡ string_bytes text.old ++ fault_text (Fault.Crossing a b c d)) }
 {
-    text.push_str("  conflict ")?;
+    text.push_str("conflict ")?;
     push_pair(text, a, b)?;
     text.push_str(" ")?;
-    push_pair(text, c, d)?;
-    text.push_str("\n")
+    push_pair(text, c, d)
 }
 
 fn push_pair(text: &mut String, a: Holder, b: Holder) -> Result<(), AllocError>

@@ -11,7 +11,7 @@ use intervals::{Act, Change, Edit, Lent, Moment, Op, OpId, Parts, RegId, Value};
 use register_book::{Fault, RegisterBook, Reply};
 use shards::{
     Answer, Auditor, Closed, Entry, Gate, NoGate, Opening, Pass, Receipt, Seen, ShardFault,
-    Unfinished,
+    Unfinished, VerdictChange,
 };
 use std::alloc::{AllocError, Global};
 use std::marker::Brand;
@@ -226,6 +226,31 @@ fn tell_journal(told: &mut String, closed: &Closed, shard: u32) -> Result<(), Al
     Ok(())
 }
 
+/// Adds the number, the register, the verdict, how many operations stand, and the fault.
+fn tell_change(told: &mut String, change: &VerdictChange) -> Result<(), AllocError> {
+    let verdict = if change.holds { "holds" } else { "fails" };
+    write!(
+        told,
+        " {} x{} {verdict} {}",
+        change.number, change.register.0, change.operations
+    )?;
+    if let Some(fault) = change.fault {
+        tell_fault(told, fault)?;
+    }
+    told.push(',')
+}
+
+/// Adds the changes of verdicts in each shard, and in one that is not there.
+fn tell_changes(told: &mut String, many: Many, closed: &Closed) -> Result<(), AllocError> {
+    for shard in 0..many.shards {
+        write!(told, " {shard}:")?;
+        for change in closed.changes(shard) {
+            tell_change(told, change)?;
+        }
+    }
+    write!(told, " {} more", closed.changes(many.shards).len())
+}
+
 fn tell_book(told: &mut String, book: Option<&RegisterBook>) -> Result<(), AllocError> {
     let Some(book) = book else {
         return told.push_str(" none");
@@ -396,6 +421,7 @@ fn tell_finish<O: Opening>(
             told.push_str("closed")?;
             match word {
                 "close" => tell_sizes(told, many, &closed)?,
+                "changes" => tell_changes(told, many, &closed)?,
                 _ => tell_closed(told, many, &closed)?,
             }
             Ok(Ok(()))
@@ -453,6 +479,16 @@ fn tell_counts(told: &mut String, gate: &Counting) -> Result<(), AllocError> {
     Ok(())
 }
 
+/// How many changes the gate was told of, and the last one.
+fn tell_told(told: &mut String, gate: &Counting) -> Result<(), AllocError> {
+    let verdict = match gate.holds.load(SeqCst) {
+        0 => "fails",
+        _ => "holds",
+    };
+    let (changes, number) = (gate.changes.load(SeqCst), gate.number.load(SeqCst));
+    write!(told, "{changes} changes, the last at {number} {verdict}")
+}
+
 /// A call of one pass, as `0 asks x0`.
 fn tell_one<O: Opening, R: Wait + Abort>(
     rt: &R,
@@ -469,6 +505,9 @@ fn tell_one<O: Opening, R: Wait + Abort>(
     }
     if place == "gate" {
         tell_counts(told, gate)?;
+    }
+    if place == "told" {
+        tell_told(told, gate)?;
     }
     let Some(pass) = pass_at(passes, place) else {
         return Ok(());
@@ -502,7 +541,7 @@ fn tell_with<O: Opening + Send + Sync, R: Threads + Wait + AllocGlobal + Abort +
         return Ok(Some(auditor));
     };
     let mut given = taken(alloc, &mut table.passes, places)?;
-    if word != "finish" && word != "finish some" && word != "close" {
+    if !["finish", "finish some", "close", "changes"].contains(&word) {
         tell_threads(rt, told, alloc, &auditor, &mut given, word)?;
         put_back(&mut table.passes, places, given);
         return Ok(Some(auditor));
@@ -736,7 +775,10 @@ five 7 2 2 | 1 writes x3 1 0-1; 0 writes x3 1 0-1; 0 writes x3 2 0-9; 0 withdraw
     1/10 fails; fails 2 1:8 of 11; 8; 3; 0; closed 0: 1: 1 x3 + 1:0 X6 NotAWriter, 0 x3 + 0:0 holds, 0 x3 + 0:0 X2 \
     OpTaken, 0 x3 - 0:9 X1 UnknownOp, 0 x3 + 0:3 X3 EndNotAfterBegin, 0 x3 + 0:1 X4 MomentTaken, 0 x3 + 0:5 holds, 0 \
     x3 ~ 0:5 holds, 1 x3 + 1:8 fails, 1 x3 ~ 1:8 holds, 0 x3 - 0:5 fails, 2: holds 0, holds 0, holds 0, fails 2, \
-    holds 0, none";
+    holds 0, none
+five 7 2 2 | 0 writes x3 1 0-1; 1 reads x3 8 8-9; 1 writes x3 1 20-21; told; 1 sets x3 1:8 1; 0 writes x3 2 10-11; \
+    told; changes with 0 1 => 1/0 holds; 1/1 fails; 1/2 X6 NotAWriter; 1 changes, the last at 1 fails; 1/3 holds; \
+    1/4 holds; 2 changes, the last at 3 holds; closed 0: 1: 1 x3 fails 2 1:8, 3 x3 holds 2, 0 more";
 
 /// A register that is not there, and passes of another opening or of a feeder whose pass is there already.
 const FOREIGN: &str =

@@ -12,7 +12,7 @@ use Rattle.register_book.specs.BookModel.{claimed_of}
 use Rattle.shards.specs.Plan.{Plan}
 use Rattle.shards.specs.Journal.{IsJournalOf, left_by}
 use Rattle.shards.specs.Pass.{PassModel}
-use Rattle.shards.specs.Closing.{AreComplete, AreItsPasses, ShardModel, ClosedShard, IsClosed, IsClosedWithSome, IsClosingFault, IsSettledJournal, IsUnfinished, books_of, journal_of}
+use Rattle.shards.specs.Closing.{AreComplete, AreItsPasses, ShardModel, ClosedShard, IsClosed, IsClosedWithSome, IsClosingFault, IsSettledJournal, IsUnfinished, books_of, changes_of, journal_of}
 use Rattle.shards.specs.Shard.{IsShardOf, IsSettledFor, ended_of, held_of}
 use Rattle.shards.proofs.Others.{all_passes}
 
@@ -34,6 +34,9 @@ ended_at shards place shard e = slice_get-map ended_of shards place ∙ ap (opti
 
 journal_at : (shards : List Shard) (place : ℕ) (shard : Shard) → slice_get shards place ≡ Some shard → journal_of (map ended_of shards) place ≡ shard.journal.items
 journal_at shards place shard e = ap (λ (found : Option ClosedShard). unwrap_or (option_map (λ one. one.journal) found) []) (ended_at shards place shard e)
+
+changes_at : (shards : List Shard) (place : ℕ) (shard : Shard) → slice_get shards place ≡ Some shard → changes_of (map ended_of shards) place ≡ shard.changes.items
+changes_at shards place shard e = ap (λ (found : Option ClosedShard). unwrap_or (option_map (λ one. one.changes) found) []) (ended_at shards place shard e)
 
 books_at : (shards : List Shard) (place : ℕ) (shard : Shard) → slice_get shards place ≡ Some shard → books_of (map ended_of shards) place ≡ map claimed_of shard.books.items
 books_at shards place shard e = ap (λ (found : Option ClosedShard). unwrap_or (option_map (λ one. one.books) found) []) (ended_at shards place shard e)
@@ -63,6 +66,11 @@ closed plan passes shards many some kept whole finished =
       finished = λ place within.
           let there = one_at shards place (omega (arith, many, many')) in
           rw (journal_at shards place there.one there.is) ((held place there).1);
+      changes = λ place within.
+          let below : place < length shards = omega (arith, many, many') in
+          let there = one_at shards place below in
+          rw (journal_at shards place there.one there.is, changes_at shards place there.one there.is)
+          ((subst (IsShardOf plan) there.read (kept place there.one below)).changes);
       books = λ register.
           let place = register % plan.shards in
           let within : place < length shards = omega (arith, many, mod_below register plan.shards some) in

@@ -1,24 +1,29 @@
 -- A shard one entry later is still one of the plan, and its replies and answers are those of its journal.
-use Rattle.std.proofs.Common.{◌≡◌, ℕ, zero, suc, ◌+◌, ◌*◌, ◌/◌, ◌%◌, ◌<◌, List, [], ◌∷◌, ◌++◌, set, length, get_or, Option, Some, None, refl, sym, ap, subst, ◌∙◌, inl, inr, arith}
-use Rattle.std.specs.Prelude.{map, ◌↔◌, option_map, IfSome, IsNone, IsTrue}
+use Rattle.std.proofs.Common.{◌≡◌, ℕ, zero, suc, ◌+◌, ◌*◌, ◌/◌, ◌%◌, ◌<◌, List, [], ◌∷◌, ◌++◌, set, length, get_or, Option, Some, None, Bool, refl, sym, ap, subst, ◌∙◌, inl, inr, arith}
+use Rattle.std.specs.Prelude.{map, ◌↔◌, option_map, IfSome, IsNone, IsSomeAnd, IsTrue, is_some, if◌then◌else◌}
 use Rattle.std.specs.List.{slice_get}
 use Rattle.std.proofs.lemmas.Bool.{cases_eq}
 use Rattle.std.proofs.lemmas.Option.{slice_get_within, get_or_from_slice_get}
 use Rattle.std.proofs.lemmas.List.{length-set, length-map, get_or-map}
 use Rattle.std.proofs.lemmas.List.Elements.{All-push}
 use Rattle.intervals.specs.Terms.{ClaimModel, RegisterState}
-use Rattle.intervals.specs.Refusal.{after_edit}
+use Rattle.intervals.specs.declared.edit.Edit.{Edit}
+use Rattle.intervals.specs.declared.refusal.Refusal.{Refusal}
+use Rattle.intervals.specs.Refusal.{after_edit, carried_out}
 use Rattle.intervals.specs.Kind.{Holds}
 use Rattle.register_book.specs.BookModel.{BookModel, claimed_of}
+use Rattle.register_book.specs.declared.reply.Reply.{Reply}
+use Rattle.register_book.specs.declared.reply.Reply.TheVariants.{Accepted, Refused}
 use Rattle.register_book.specs.Reply.{IsReply}
 use Rattle.register_book.specs.Fault.{IsWitness, ids_of}
 use Rattle.shards.specs.declared.entry.Answer.{Answer}
 use Rattle.shards.specs.declared.entry.Entry.{Entry}
 use Rattle.shards.specs.declared.shard.Shard.{Shard}
 use Rattle.shards.specs.Plan.{Plan}
-use Rattle.shards.specs.Journal.{IsAnswered, IsJournalOf, left_by, count_by}
+use Rattle.shards.specs.Journal.{HoldsAfter, IsAnswered, IsJournalOf, left_by, count_by}
+use Rattle.shards.specs.VerdictChange.{AreVerdictChanges}
 use Rattle.shards.specs.Steps.{IsStanding}
-use Rattle.shards.specs.Shard.{AreBooks, AreEntryCounts, IsShardOf}
+use Rattle.shards.specs.Shard.{AreBooks, AreEntryCounts, IsShardOf, holds_after}
 use Rattle.shards.proofs.Slots.{register_of, slot_of, some_within, get_set_same, get_set_other}
 use Rattle.shards.proofs.Journals.{each_after_push, left_push_own, left_push_other, count_push_own, count_push_other}
 
@@ -36,7 +41,7 @@ pub record HasBook (plan : Plan) (shard : Shard) (register : ℕ) : Type 0 where
   pub known : slice_get plan.claims register ≡ Some claim
   pub book : slice_get (map claimed_of shard.books.items) (register / shard.shards) ≡ Some (left_by shard.journal.items register claim)
 
-has_book : (plan : Plan) (shard : Shard) (register : ℕ) → IsShardOf plan shard → register % plan.shards ≡ shard.at → register < length plan.claims → HasBook plan shard register
+pub has_book : (plan : Plan) (shard : Shard) (register : ℕ) → IsShardOf plan shard → register % plan.shards ≡ shard.at → register < length plan.claims → HasBook plan shard register
 has_book plan shard register kept here known =
     let found : (claim : ClaimModel) × (slice_get plan.claims register ≡ Some claim) = some_within plan.claims register known in
     record {
@@ -50,7 +55,7 @@ slot_within plan shard register kept here known =
     let has : HasBook plan shard register = has_book plan shard register kept here known in
     omega (arith, length-map shard.books.items claimed_of, slice_get_within (map claimed_of shard.books.items) (register / shard.shards) (left_by shard.journal.items register has.claim) has.book)
 
-same_book : (plan : Plan) (shard : Shard) (register : ℕ) (book : BookModel) (has : HasBook plan shard register) → book ≡ get_or shard.books.items (register / shard.shards) book → claimed_of book ≡ left_by shard.journal.items register has.claim
+pub same_book : (plan : Plan) (shard : Shard) (register : ℕ) (book : BookModel) (has : HasBook plan shard register) → book ≡ get_or shard.books.items (register / shard.shards) book → claimed_of book ≡ left_by shard.journal.items register has.claim
 same_book plan shard register book has is =
     ap claimed_of is
     ∙ sym (get_or-map claimed_of shard.books.items (register / shard.shards) book (claimed_of book) (omega (arith, length-map shard.books.items claimed_of, slice_get_within (map claimed_of shard.books.items) (register / shard.shards) (left_by shard.journal.items register has.claim) has.book)))
@@ -132,8 +137,9 @@ pub kept_push : (plan : Plan) (old new : Shard) (entry : Entry) (book edited : B
     → new.at ≡ old.at → new.shards ≡ old.shards → new.journal.items ≡ old.journal.items ++ entry ∷ []
     → claimed_of edited ≡ after_edit (claimed_of book) entry.edit → new.books.items ≡ set old.books.items (entry.register.0 / old.shards) edited
     → new.counts.items ≡ set old.counts.items entry.feeder (count + 1)
+    → AreVerdictChanges plan new.journal.items new.changes.items
     → IsShardOf plan new
-kept_push plan old new entry book edited count kept here known feeder is reply count_is at_is shards_is journal_is edited_to books_are counts_are =
+kept_push plan old new entry book edited count kept here known feeder is reply count_is at_is shards_is journal_is edited_to books_are counts_are changes =
     let has : HasBook plan old entry.register.0 = has_book plan old entry.register.0 kept here known in
     let held : claimed_of book ≡ left_by old.journal.items entry.register.0 has.claim = same_book plan old entry.register.0 book has is in
     let answered : IsAnswered plan old.at old.journal.items entry = answered_by plan old entry book kept here known is reply in
@@ -153,6 +159,7 @@ kept_push plan old new entry book edited count kept here known feeder is reply c
           (subst (λ (b : RegisterState). IsReply b entry.edit entry.reply) held reply) edited_is)));
       counts = subst (λ (journal : List Entry). AreEntryCounts plan journal new.counts.items) (sym journal_is)
           (subst (AreEntryCounts plan longer) (sym counts_are) (counts_push plan old.journal.items old.counts.items entry (count + 1) kept.counts feeder (ap (λ (n : ℕ). n + 1) (count_of_feeder plan old entry.feeder count kept feeder count_is))));
+      changes = changes;
     }
 
 -- the answer from a book is that of the register as the journal leaves it
@@ -174,3 +181,38 @@ answer_by plan shard register book answer kept here known is verdict operations 
       fault = fault;
       number = number;
     }
+
+-- a verdict on what a journal leaves of a register
+pub holds_by : (plan : Plan) (journal : List Entry) (register : ℕ) (claim : ClaimModel) (left : RegisterState) (verdict : Bool) → slice_get plan.claims register ≡ Some claim → left ≡ left_by journal register claim
+    → IsTrue verdict ↔ Holds left.claim left.ops
+    → IsTrue verdict ↔ HoldsAfter plan register journal
+holds_by plan journal register claim left verdict known is holds =
+    subst (λ (found : Option ClaimModel). IsTrue verdict ↔ IsSomeAnd found (λ terms. Holds (left_by journal register terms).claim (left_by journal register terms).ops)) (sym known)
+    (subst (λ (state : RegisterState). IsTrue verdict ↔ Holds state.claim state.ops) is holds)
+
+-- the verdict after an edit, by its reply
+holds_by_reply : (state : RegisterState) (edit : Edit) (reply : Reply) (held : Bool) → IsReply state edit reply → IsTrue held ↔ Holds state.claim state.ops
+    → IsTrue (holds_after held reply) ↔ Holds (after_edit state edit).claim (after_edit state edit).ops
+holds_by_reply state edit (Accepted holds) held is before = is.1
+holds_by_reply state edit (Refused refusal) held is before =
+    subst (λ (after : RegisterState). IsTrue held ↔ Holds after.claim after.ops) (sym (ap (λ (found : Option Refusal). if is_some found then state else carried_out state edit) is)) before
+
+-- the verdicts on a register before an entry and with it
+pub verdicts_by : (plan : Plan) (shard : Shard) (journal : List Entry) (entry : Entry) (book : BookModel) (held holds : Bool) → IsShardOf plan shard → entry.register.0 % plan.shards ≡ shard.at → entry.register.0 < length plan.claims
+    → book ≡ get_or shard.books.items (entry.register.0 / shard.shards) book → IsReply (claimed_of book) entry.edit entry.reply
+    → journal ≡ shard.journal.items ++ entry ∷ []
+    → IsTrue held ↔ Holds book.claim book.ops → holds ≡ holds_after held entry.reply
+    → (IsTrue held ↔ HoldsAfter plan entry.register.0 shard.journal.items) × (IsTrue holds ↔ HoldsAfter plan entry.register.0 journal)
+verdicts_by plan shard journal entry book held holds kept here known is reply longer was is_after =
+    let has : HasBook plan shard entry.register.0 = has_book plan shard entry.register.0 kept here known in
+    let left : claimed_of book ≡ left_by shard.journal.items entry.register.0 has.claim = same_book plan shard entry.register.0 book has is in
+    let replied : IsReply (left_by shard.journal.items entry.register.0 has.claim) entry.edit entry.reply = subst (λ (state : RegisterState). IsReply state entry.edit entry.reply) left reply in
+    let after : after_edit (claimed_of book) entry.edit ≡ left_by journal entry.register.0 has.claim =
+    ap (λ (state : RegisterState). after_edit state entry.edit) left
+    ∙ sym (left_push_own has.claim shard.journal.items entry replied)
+    ∙ ap (λ (entries : List Entry). left_by entries entry.register.0 has.claim) (sym longer) in (
+      holds_by plan shard.journal.items entry.register.0 has.claim (claimed_of book) held has.known left was,
+      subst (λ (verdict : Bool). IsTrue verdict ↔ HoldsAfter plan entry.register.0 journal) (sym is_after)
+          (holds_by plan journal entry.register.0 has.claim (after_edit (claimed_of book) entry.edit) (holds_after held entry.reply) has.known after
+          (holds_by_reply (claimed_of book) entry.edit entry.reply held reply was)),
+    )

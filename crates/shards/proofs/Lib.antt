@@ -3,6 +3,8 @@ mod Slots
 mod Journals
 mod Opened
 mod Kept
+mod Changed
+mod EachChange
 -- laws of legal journals: prefixes, edits and replies, and a lone feeder
 mod Legal
 mod Lone

@@ -13,6 +13,7 @@ use Rattle.shards.specs.declared.entry.Entry.{Entry}
 use Rattle.shards.specs.declared.shard.Shard.{Shard}
 use Rattle.shards.specs.Plan.{Plan}
 use Rattle.shards.specs.Journal.{IsJournalOf}
+use Rattle.shards.specs.VerdictChange.{AreVerdictChanges, no_entries}
 use Rattle.shards.specs.Shard.{AreBooks, AreEntryCounts, IsShardOf}
 use Rattle.shards.proofs.Slots.{get_push_below, get_push_at}
 
@@ -65,12 +66,13 @@ get_replicate : (n i x : ℕ) → i < n → slice_get (replicate n x) i ≡ Some
 get_replicate n i x below = slice_get-get_or (replicate n x) i x (omega (arith, below, length-replicate n x)) ∙ ap Some (get_or-replicate n i x x below)
 
 -- a shard with these books, no entries and counts of 0 is one of the plan
-pub opened : (plan : Plan) (shard : Shard) → shard.shards ≡ plan.shards → shard.at < plan.shards → shard.journal.items ≡ [] → AreBooks plan shard.at [] (map claimed_of shard.books.items) → shard.counts.items ≡ replicate plan.feeders 0 → IsShardOf plan shard
-opened plan shard shards here empty books counts = record {
+pub opened : (plan : Plan) (shard : Shard) → shard.shards ≡ plan.shards → shard.at < plan.shards → shard.journal.items ≡ [] → AreBooks plan shard.at [] (map claimed_of shard.books.items) → shard.counts.items ≡ replicate plan.feeders 0 → shard.changes.items ≡ [] → IsShardOf plan shard
+opened plan shard shards here empty books counts unchanged = record {
   shards = shards;
   here = here;
   of_shard = subst (IsJournalOf plan shard.at) (sym empty) (record { legal = tt; feeders = All-nil (λ (entry : Entry). entry.feeder < plan.feeders) });
   books = subst (λ (journal : List Entry). AreBooks plan shard.at journal (map claimed_of shard.books.items)) (sym empty) books;
   counts = subst (λ (journal : List Entry). AreEntryCounts plan journal shard.counts.items) (sym empty)
       (subst (AreEntryCounts plan []) (sym counts) (length-replicate plan.feeders 0, λ feeder below. get_replicate plan.feeders feeder 0 below));
+  changes = subst (λ (journal : List Entry). AreVerdictChanges plan journal shard.changes.items) (sym empty) (subst (AreVerdictChanges plan []) (sym unchanged) no_entries);
 }

@@ -2,12 +2,14 @@
 use Rattle.std.specs.Prelude.{◌≡◌, ◌≢◌, ◌⊎◌, ◌<◌, ◌%◌, ◌/◌, ℕ, List, [], ◌++◌, length, Option, Some, option_map, unwrap_or, All, Any, Contains, EachIndex}
 use Rattle.std.specs.List.{slice_get, AllPairs}
 use Rattle.intervals.specs.Terms.{RegisterState}
+use Rattle.shards.specs.declared.entry.VerdictChange.{VerdictChange}
 use Rattle.shards.specs.declared.entry.Entry.{Entry}
 use Rattle.shards.specs.declared.entry.NumberedEntry.{NumberedEntry}
 use Rattle.shards.specs.declared.fault.ShardFault.{ShardFault}
 use Rattle.shards.specs.declared.fault.ShardFault.TheVariants.{UnknownRegister, Memory, JournalBehind, PassMissing, Stranger, ForeignPass}
 use Rattle.shards.specs.Plan.{Plan}
 use Rattle.shards.specs.Journal.{left_by, IsJournalOf}
+use Rattle.shards.specs.VerdictChange.{AreVerdictChanges}
 use Rattle.shards.specs.Pass.{PassModel, IsPassOf, IsInKeeping, IsBehind, HasFarthest}
 use Rattle.shards.specs.Merge.{IsMerge, IsStranger, numbered}
 
@@ -16,14 +18,20 @@ pub record ShardModel : Type 0 where
   pub at : ℕ
   pub journal : List Entry
 
--- a closed shard: its journal, and the books of its registers in the order of their numbers
+-- a closed shard: its journal, the books of its registers in the order of their numbers, and the changes of verdicts
+-- by the entries of its journal
 pub record ClosedShard : Type 0 where
   pub journal : List Entry
   pub books : List RegisterState
+  pub changes : List VerdictChange
 
 -- the journal of the closed shard of this number, empty where there is no such shard
 abbrev pub journal_of : List ClosedShard → ℕ → List Entry
 journal_of shards at = unwrap_or (option_map (λ shard. shard.journal) (slice_get shards at)) []
+
+-- the changes of verdicts in the closed shard of this number, none where there is no such shard
+abbrev pub changes_of : List ClosedShard → ℕ → List VerdictChange
+changes_of shards at = unwrap_or (option_map (λ shard. shard.changes) (slice_get shards at)) []
 
 -- the books in the closed shard of this number, none where there is no such shard
 abbrev pub books_of : List ClosedShard → ℕ → List RegisterState
@@ -54,12 +62,14 @@ abbrev pub AreComplete : ℕ → List PassModel → Type 0
 AreComplete feeders passes = (feeder : ℕ) → feeder < feeders → HasPassOf passes feeder
 
 -- the passes are the plan's, one for each feeder; there are as many shards as the plan has, each with a settled
--- journal (`IsSettledJournal`); and the book of each register is what its shard's journal leaves of it
+-- journal (`IsSettledJournal`) and the changes of verdicts by its entries; and the book of each register is what its
+-- shard's journal leaves of it
 pub record IsClosed (plan : Plan) (passes : List PassModel) (shards : List ClosedShard) : Type 0 where
   pub of_plan : AreItsPasses plan passes
   pub complete : AreComplete plan.feeders passes
   pub many : length shards ≡ plan.shards
   pub finished : EachIndex shards (λ at. IsSettledJournal plan passes at (journal_of shards at))
+  pub changes : EachIndex shards (λ at. AreVerdictChanges plan (journal_of shards at) (changes_of shards at))
   pub books : (register : ℕ) → book_of shards register ≡ option_map (left_by (journal_of shards (register % plan.shards)) register) (slice_get plan.claims register)
 
 -- the shards are closed (`IsClosed`) with these passes and some others, which are of the feeders that have none here

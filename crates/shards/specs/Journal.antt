@@ -1,11 +1,12 @@
 -- The journal of a shard: the edits that were answered with a receipt, with their replies, in order.
-use Rattle.std.specs.Prelude.{◌≡◌, ◌<◌, ◌%◌, ◌==◌, ◌&&◌, ℕ, Bool, true, false, List, [], ◌∷◌, ◌++◌, map, filter, length, Some, All}
+use Rattle.std.specs.Prelude.{◌≡◌, ◌<◌, ◌%◌, ◌==◌, ◌&&◌, ℕ, Bool, true, false, List, [], ◌∷◌, ◌++◌, map, filter, length, Some, All, IsSomeAnd}
 use Rattle.std.specs.List.{slice_get}
 use Rattle.intervals.specs.declared.operation.Op.{Op}
 use Rattle.intervals.specs.declared.operation.RegId.{RegId}
 use Rattle.intervals.specs.declared.edit.Edit.{Edit}
 use Rattle.intervals.specs.Terms.{ClaimModel, RegisterState}
 use Rattle.intervals.specs.Edit.{edited, claim_after}
+use Rattle.intervals.specs.Kind.{Holds}
 use Rattle.register_book.specs.declared.reply.Reply.{Reply}
 use Rattle.register_book.specs.declared.reply.Reply.TheVariants.{Accepted, Refused}
 use Rattle.register_book.specs.Reply.{IsReply}
@@ -55,6 +56,10 @@ claim_by claim (edit ∷ edits) = claim_by (claim_after claim edit) edits
 -- that stand
 abbrev pub left_by : List Entry → ℕ → ClaimModel → RegisterState
 left_by journal register claim = record { claim = claim_by claim (accepted_edits register journal); ops = standing_of register journal }
+
+-- a register of the plan holds after a journal: as the journal leaves it, it keeps its claim
+abbrev pub HoldsAfter : Plan → ℕ → List Entry → Type 0
+HoldsAfter plan register journal = IsSomeAnd (slice_get plan.claims register) (λ claim. Holds (left_by journal register claim).claim (left_by journal register claim).ops)
 
 -- the register of an entry is in this shard and in the plan, and the reply is that of the register as the entries
 -- before leave it

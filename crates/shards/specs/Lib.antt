@@ -2,6 +2,7 @@
 pub mod Plan
 pub mod Plain
 pub mod Journal
+pub mod VerdictChange
 pub mod Pass
 pub mod Steps
 pub mod Merge

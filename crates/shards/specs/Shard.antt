@@ -1,13 +1,21 @@
 -- The fields of a shard, passes in step, and what closing has gone through; for private clauses alone.
-use Rattle.std.specs.Prelude.{◌≡◌, ◌⊎◌, ◌<◌, ◌+◌, ◌*◌, ℕ, List, [], ◌∷◌, length, Option, Some, option_map, map, unwrap_or, slice_index_or, All, IfSome, IsSomeAnd}
+use Rattle.std.specs.Prelude.{◌≡◌, ◌≢◌, ◌↔◌, ◌⊎◌, ◌<◌, ◌+◌, ◌*◌, ℕ, Bool, List, [], ◌∷◌, length, Option, Some, option_map, map, unwrap_or, slice_index_or, All, IfSome, IsNone, IsSomeAnd, IsTrue}
 use Rattle.std.specs.List.{AllByRecursion, AllWithin, slice_get}
 use Rattle.intervals.specs.Terms.{RegisterState}
-use Rattle.register_book.specs.BookModel.{claimed_of}
+use Rattle.intervals.specs.declared.operation.RegId.{RegId}
+use Rattle.intervals.specs.Kind.{Holds}
+use Rattle.register_book.specs.BookModel.{BookModel, claimed_of}
+use Rattle.register_book.specs.declared.fault.Witness.{Witness}
+use Rattle.register_book.specs.Fault.{IsWitness, ids_of}
+use Rattle.register_book.specs.declared.reply.Reply.{Reply}
+use Rattle.register_book.specs.declared.reply.Reply.TheVariants.{Accepted, Refused}
+use Rattle.shards.specs.declared.entry.VerdictChange.{VerdictChange}
 use Rattle.shards.specs.declared.entry.Entry.{Entry}
 use Rattle.shards.specs.declared.entry.NumberedEntry.{NumberedEntry}
 use Rattle.shards.specs.declared.shard.Shard.{Shard}
 use Rattle.shards.specs.Plan.{Plan}
 use Rattle.shards.specs.Journal.{left_by, IsJournalOf, count_by}
+use Rattle.shards.specs.VerdictChange.{AreVerdictChanges}
 use Rattle.shards.specs.Plain.{plain_numbered}
 use Rattle.shards.specs.Pass.{HasFarthest, PassModel, farthest_in, last_in, own_entries}
 use Rattle.shards.specs.Merge.{SubmittedAt, entries_of, numbered}
@@ -24,13 +32,14 @@ abbrev pub AreEntryCounts : Plan → List Entry → List ℕ → Type 0
 AreEntryCounts plan journal counts = (length counts ≡ plan.feeders) × ((feeder : ℕ) → feeder < plan.feeders → slice_get counts feeder ≡ Some (count_by feeder journal))
 
 -- a shard of the plan: its journal is one of that shard, its books are what the journal leaves, and its counts are
--- those of the entries by feeder
+-- those of the entries by feeder, and its changes those of its journal
 pub record IsShardOf (plan : Plan) (shard : Shard) : Type 0 where
   pub shards : shard.shards ≡ plan.shards
   pub here : shard.at < plan.shards
   pub of_shard : IsJournalOf plan shard.at shard.journal.items
   pub books : AreBooks plan shard.at shard.journal.items (map claimed_of shard.books.items)
   pub counts : AreEntryCounts plan shard.journal.items shard.counts.items
+  pub changes : AreVerdictChanges plan shard.journal.items shard.changes.items
 
 -- the model of a shard under its lock: its number and its journal
 abbrev pub held_of : Shard → ShardModel
@@ -38,7 +47,24 @@ held_of shard = record { at = shard.at; journal = shard.journal.items }
 
 -- the model of a closed shard: its journal, and the claim and the operations of each book
 abbrev pub ended_of : Shard → ClosedShard
-ended_of shard = record { journal = shard.journal.items; books = map claimed_of shard.books.items }
+ended_of shard = record { journal = shard.journal.items; books = map claimed_of shard.books.items; changes = shard.changes.items }
+
+-- whether a register holds after an edit with this reply, where the first value says whether it held before
+abbrev pub holds_after : Bool → Reply → Bool
+holds_after held (Accepted holds) = holds
+holds_after held (Refused refusal) = held
+
+-- the change has this register and number and is to the verdict of a book, which is another than before, where the
+-- last value says what it was
+pub record IsVerdictChangeTo (book : BookModel) (register : RegId) (number : ℕ) (held : Bool) (change : VerdictChange) : Type 0 where
+  pub number_is : change.number ≡ number
+  pub register_is : change.register ≡ register
+  pub differs : change.holds ≢ held
+  pub kind : change.kind ≡ book.claim.kind
+  pub verdict : IsTrue change.holds ↔ Holds book.claim book.ops
+  pub operations : change.operations ≡ length book.ops
+  pub fault : IfSome change.fault (λ fault. (witness : Witness) × IsWitness book.claim book.ops witness × (ids_of witness ≡ fault))
+  pub none : IsNone change.fault ↔ Holds book.claim book.ops
 
 -- the numbers of the entries rise
 abbrev pub Rises : List NumberedEntry → Type 0

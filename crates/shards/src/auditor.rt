@@ -210,7 +210,11 @@ impl<'t, O: Opening> Auditor<'t, O> {
         if state.at() != shard {
             return Err(misplaced(shard));
         }
-        state.submit(pass, register, *edit)
+        let answered = state.submit(pass, register, *edit);
+        if let Ok(receipt) = &answered {
+            state.tell(gate, pass.feeder(), receipt);
+        }
+        answered
     }
 
     /// Answers a question from a shard, whose lock it holds meanwhile.

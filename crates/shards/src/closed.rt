@@ -2,11 +2,11 @@
 
 ghost use Rattle.std.specs.Prelude.{◌≡◌, [], map, option_map};
 ghost use Rattle.register_book.specs.BookModel.{claimed_of};
-ghost use Rattle.shards.specs.Closing.{book_of, journal_of};
+ghost use Rattle.shards.specs.Closing.{book_of, changes_of, journal_of};
 ghost use Rattle.shards.specs.Shard.{ended_of};
 
-use crate::Entry;
 use crate::shard::Shard;
+use crate::{Entry, VerdictChange};
 use intervals::RegId;
 use register_book::RegisterBook;
 use std::marker::Model;
@@ -49,6 +49,16 @@ impl<'t> Closed<'t> {
         }
     }
 
+    /// The changes of verdicts by the entries of a shard's journal, in order; none where there is no such shard.
+    pub fn changes(&self, shard: u32) -> &[VerdictChange]
+        ensures { result.now ≡ changes_of self.now shard }
+    {
+        match self.shards.get(shard as usize) {
+            Some(shard) => shard.changes.as_slice(),
+            None => no_changes(self),
+        }
+    }
+
     /// The journal of a shard; empty where there is no such shard.
     pub fn journal(&self, shard: u32) -> &[Entry<'t>]
         ensures { result.now ≡ journal_of self.now shard }
@@ -61,6 +71,12 @@ impl<'t> Closed<'t> {
 }
 
 fn nothing<'a, 't>(_closed: &'a Closed<'t>) -> &'a [Entry<'t>]
+    ensures { result.now ≡ [] }
+{
+    &[]
+}
+
+fn no_changes<'a>(_closed: &'a Closed<'_>) -> &'a [VerdictChange]
     ensures { result.now ≡ [] }
 {
     &[]

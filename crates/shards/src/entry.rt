@@ -1,6 +1,6 @@
 //! What is entered in a journal, and what a call returns.
 
-use intervals::{Edit, RegId};
+use intervals::{Edit, Kind, RegId};
 use register_book::{Fault, Reply, Witness};
 
 /// An edit that was answered with a receipt, as a journal keeps it: who submitted what, and the reply.
@@ -19,13 +19,15 @@ pub struct NumberedEntry<'t> {
     pub entry: Entry<'t>,
 }
 
-/// What a feeder gets for an edit: where it was entered, and the reply. An edit that the register refused is
-/// entered too.
+/// What a feeder gets for an edit: where it was entered, the reply, and the verdict on the register before the entry
+/// and with it. An edit that the register refused is entered too.
 #[derive(Clone, Copy, Debug, PartialEq, Eq)]
 pub struct Receipt {
     pub shard: u32,
     pub number: u64,
     pub reply: Reply,
+    pub held: bool,
+    pub holds: bool,
 }
 
 /// The answer to a question: the verdict on a register at that time.
@@ -38,4 +40,18 @@ pub struct Answer<'t> {
     pub witness: Option<Witness<'t>>,
     /// How many entries the journal of the register's shard has at that time.
     pub number: u64,
+}
+
+/// A change of the verdict on a register: it holds after an entry and failed before, or it fails and held before.
+#[derive(Clone, Copy, Debug, PartialEq, Eq)]
+pub struct VerdictChange {
+    /// The number of the entry in the journal of the register's shard.
+    pub number: u64,
+    pub register: RegId,
+    /// The kind that the register claims to be after the entry.
+    pub kind: Kind,
+    pub holds: bool,
+    /// How many operations stand after the entry, unfinished ones among them.
+    pub operations: u64,
+    pub fault: Option<Fault>,
 }

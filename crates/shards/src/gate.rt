@@ -1,10 +1,16 @@
-//! Hooks at the locks, from which a caller may watch a feeder or hold it.
+//! Hooks at the locks, from which a caller may watch a feeder or hold it, and is told of each change of a verdict.
 
-/// Hooks that are called while a feeder holds a shard's lock and after it has released it. Where `inside` calls the
-/// auditor for a register of that shard, the call waits for ever.
+use crate::VerdictChange;
+
+/// Hooks that are called while a feeder holds a shard's lock and after it has released it. Where `inside` or `changed`
+/// calls the auditor for a register of that shard, the call waits for ever.
 pub trait Gate: Sync {
     /// Called once while the feeder holds the shard's lock.
     fn inside(&self, shard: u32, feeder: u32);
+
+    /// Called while the feeder still holds the shard's lock, once for each change of a verdict that its edit made: so
+    /// the changes in a shard come in the order of its journal.
+    fn changed(&self, _feeder: u32, _change: &VerdictChange) {}
 
     /// Called once after the feeder has released the lock.
     fn outside(&self, feeder: u32);

@@ -1,12 +1,14 @@
 //! Laws of journals, passes and closing, which hold of any plan. Each is proved, and does nothing.
 
-ghost use Rattle.std.specs.Prelude.{◌≡◌, ◌%◌, ℕ, List, [], ◌++◌, map, Some, All, filter, ◌≢◌, ◌<◌, ◌∷◌, Option, length, ◌≤◌, IfSome, IsSomeAnd};
-ghost use Rattle.std.specs.List.{slice_get};
+ghost use Rattle.std.specs.Prelude.{◌≡◌, ◌%◌, ℕ, List, [], ◌++◌, map, Some, All, filter, ◌≢◌, ◌<◌, ◌∷◌, Option, length, ◌≤◌, IfSome, IsSomeAnd, Contains};
+ghost use Rattle.std.specs.List.{AllPairs, slice_get};
 ghost use Rattle.intervals.specs.Terms.{ClaimModel, unedited};
 ghost use Rattle.intervals.specs.Refusal.{standing};
 ghost use Rattle.shards.specs.declared.entry.Entry.{Entry};
 ghost use Rattle.shards.specs.Plan.{Plan};
 ghost use Rattle.shards.specs.Journal.{IsJournalOf, IsLegalJournal, asked_in, edits_of, left_by, is_by};
+ghost use Rattle.shards.specs.declared.entry.VerdictChange.{VerdictChange};
+ghost use Rattle.shards.specs.VerdictChange.{AreVerdictChanges, IsAsBefore, IsVerdictChangeBy};
 ghost use Rattle.shards.specs.Plain.{plain_entry};
 ghost use Rattle.shards.specs.Pass.{PassModel, own_entries, IsPassOf, SeenModel, new_pass, learnt, with_own, with_seen, IsBehind, IsInKeeping, farthest_in, farthest_of};
 ghost use Rattle.shards.specs.Merge.{IsMerge};
@@ -56,6 +58,18 @@ pub fn a_lone_feeder_has_all_entries()
         → IsSubmitted plan pass register edit receipt → receipt.number ≡ length (own_entries pass receipt.shard) }
     ensures live { (plan : Plan) (pass pass' : PassModel) (register : ℕ) (answer : Answer) → plan.feeders ≡ 1
         → IsLive plan pass pass' register answer → answer.number ≡ length (own_entries pass (register % plan.shards)) }
+{}
+
+/// The changes of verdicts in a journal are exactly its entries after which the verdict on their register is another
+/// than before, in their order: each such entry has its change, each change is by such an entry, and the numbers rise.
+pub fn changes_are_the_entries_that_change_a_verdict()
+    ensures each { (plan : Plan) (journal : List Entry) (changes : List VerdictChange) → AreVerdictChanges plan journal changes
+        → (front rest : List Entry) (entry : Entry) → journal ≡ front ++ entry ∷ rest → ¬ IsAsBefore plan front entry
+        → (change : VerdictChange) × Contains changes change × IsVerdictChangeBy plan front entry change }
+    ensures only { (plan : Plan) (journal : List Entry) (changes : List VerdictChange) → AreVerdictChanges plan journal changes
+        → All (λ change. (front : List Entry) × (rest : List Entry) × (entry : Entry) × (journal ≡ front ++ entry ∷ rest) × IsVerdictChangeBy plan front entry change) changes }
+    ensures rise { (plan : Plan) (journal : List Entry) (changes : List VerdictChange) → AreVerdictChanges plan journal changes
+        → AllPairs (λ a b. a.number < b.number) changes }
 {}
 
 /// A list of shards and a list of passes have at most one closing fault, however many passes are wanted.

@@ -42,7 +42,7 @@ mod submitted;
 
 pub use auditor::{Auditor, Unfinished};
 pub use closed::Closed;
-pub use entry::{Answer, Entry, NumberedEntry, Receipt};
+pub use entry::{Answer, Entry, NumberedEntry, Receipt, VerdictChange};
 pub use fault::ShardFault;
 pub use gate::{Gate, NoGate};
 pub use opening::Opening;

@@ -1,19 +1,20 @@
 //! The registers of one shard, with the journal of their edits.
 
-ghost use Rattle.std.specs.Prelude.{◌≡◌, ◌<◌, ◌%◌, ◌/◌, ◌++◌, ◌∷◌, [], ℕ, IfOk, IfErr, OnOk, OnErr, length, replicate, map, option_map, option_to_list};
+ghost use Rattle.std.specs.Prelude.{◌≡◌, ◌<◌, ◌%◌, ◌/◌, ◌++◌, ◌∷◌, [], ℕ, ◌↔◌, IfOk, IfErr, IfSome, IsNone, IsTrue, OnOk, OnErr, length, replicate, map, option_map, option_to_list, vec_len, vec_capacity};
 ghost use Rattle.std.specs.List.{slice_get};
 ghost use Rattle.shards.specs.declared.fault.ShardFault.TheVariants.{Memory};
 ghost use Rattle.intervals.specs.Terms.{unedited};
+ghost use Rattle.intervals.specs.Kind.{Holds};
 ghost use Rattle.register_book.specs.Fault.{ids_of};
 ghost use Rattle.register_book.specs.BookModel.{claimed_of};
 ghost use Rattle.shards.specs.Plan.{plan_of, claims_of};
 ghost use Rattle.shards.specs.Journal.{IsAnswered, count_by};
-ghost use Rattle.shards.specs.Shard.{AreBooks, IsShardOf, held_of};
-ghost use Rattle.shards.specs.Steps.{IsStanding, entry_of};
+ghost use Rattle.shards.specs.Shard.{AreBooks, IsVerdictChangeTo, IsShardOf, held_of, holds_after};
+ghost use Rattle.shards.specs.Steps.{AreVerdicts, IsStanding, entry_of};
 
-use crate::{Answer, Entry, Opening, Receipt, ShardFault};
+use crate::{Answer, Entry, Opening, Receipt, ShardFault, VerdictChange};
 use intervals::{Edit, RegId};
-use register_book::{Fault, RegisterBook, Witness};
+use register_book::{Fault, RegisterBook, Reply, Witness};
 use std::alloc::Global;
 use tower_file::Tower;
 
@@ -26,6 +27,7 @@ pub struct Shard<'t> {
     pub counts: Vec<usize>,
     pub books: Vec<RegisterBook<'t>>,
     pub journal: Vec<Entry<'t>>,
+    pub changes: Vec<VerdictChange>,
 }
 
 impl<'t> Shard<'t> {
@@ -48,6 +50,7 @@ impl<'t> Shard<'t> {
             counts: no_counts(alloc, feeders)?,
             books: open_books(alloc, tower, at, shards)?,
             journal: Vec::new(alloc),
+            changes: Vec::new(alloc),
         })
     }
 
@@ -66,24 +69,32 @@ impl<'t> Shard<'t> {
         ensures journal { IfOk result (λ receipt. held_of self.new ≡ record { at = self.old.at; journal = self.old.journal.items ++ entry_of feeder register edit.now receipt.reply ∷ [] }) }
         ensures answered { IfOk result (λ receipt. IsAnswered O.plan self.old.at self.old.journal.items (entry_of feeder register edit.now receipt.reply)) }
         ensures receipt { IfOk result (λ receipt. (receipt.shard ≡ self.old.at) × (receipt.number ≡ length self.old.journal.items)) }
+        ensures verdicts { IfOk result (AreVerdicts O.plan register self.old.journal.items self.new.journal.items) }
         ensures memory { IfErr result (λ fault. fault ≡ Memory) }
         ensures err { OnErr result (held_of self.new ≡ held_of self.old) }
     {
         let number = self.journal.len() as u64;
         self.journal.reserve(1)?;
+        self.changes.reserve(1)?;
         let slot = (register.0 / self.shards) as usize;
-        let reply = self.books[slot].apply(*edit)?;
+        let book = &mut self.books[slot];
+        let held = book.holds();
+        let reply = book.apply(*edit)?;
+        let change = change_to(book, register, number, held);
         self.journal.push_reserved(Entry {
             feeder,
             register,
             edit: *edit,
             reply,
         });
+        note(&mut self.changes, change);
         self.counts[feeder as usize] += 1;
         Ok(Receipt {
             shard: self.at,
             number,
             reply,
+            held,
+            holds: holds_after(held, reply),
         })
     }
 
@@ -113,6 +124,46 @@ impl<'t> Shard<'t> {
         ensures { result ≡ count_by feeder self.now.journal.items }
     {
         self.counts[feeder as usize] as u64
+    }
+}
+
+/// The change of the verdict on a register by the entry of this number; none where it is as before. `held` says what
+/// it was.
+fn change_to(book: &RegisterBook, register: RegId, number: u64, held: bool) -> Option<VerdictChange>
+    ensures change { IfSome result (IsVerdictChangeTo book.now register number held) }
+    ensures none { IsNone result → IsTrue held ↔ Holds book.now.claim book.now.ops }
+{
+    let holds = book.holds();
+    if holds == held {
+        return None;
+    }
+    Some(VerdictChange {
+        number,
+        register,
+        kind: book.kind(),
+        holds,
+        operations: book.len() as u64,
+        fault: book.fault(),
+    })
+}
+
+/// Adds a change, where there is one, into room that is there for it.
+fn note(changes: &mut Vec<VerdictChange>, change: Option<VerdictChange>)
+    requires room { vec_len changes.old < vec_capacity changes.old }
+    ensures { changes.new.items ≡ changes.old.items ++ option_to_list change }
+{
+    if let Some(change) = change {
+        changes.push_reserved(change);
+    }
+}
+
+/// Whether a register holds after an edit with this reply; `held` says whether it did before.
+fn holds_after(held: bool, reply: Reply) -> bool
+    ensures { result ≡ holds_after held reply }
+{
+    match reply {
+        Reply::Accepted { holds } => holds,
+        Reply::Refused(_) => held,
     }
 }
 

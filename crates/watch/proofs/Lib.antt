@@ -20,3 +20,7 @@ pub mod Unfailed
 pub mod Elements
 -- worked edits
 pub mod Worked
+-- what notices tell of a shard, also as the changes of its journal; what a watch leaves
+pub mod ToldChanges
+pub mod ToldAll
+pub mod Concluding

@@ -1,6 +1,7 @@
-//! Laws of a register whose edits come in the order of time. Each is the contract of a function that does nothing.
+//! Laws of what a watch wrote, and of a register whose edits come in the order of time. Each is the contract of a function
+//! that does nothing.
 
-ghost use Rattle.std.specs.Prelude.{◌≡◌, ◌⊎◌, ◌++◌, ◌∷◌, [], ℕ, All, List, Result, true, None};
+ghost use Rattle.std.specs.Prelude.{◌≡◌, ◌⊎◌, ◌<◌, ◌++◌, ◌∷◌, [], ℕ, All, List, Option, Result, true, false, None};
 ghost use Rattle.intervals.specs.declared.edit.Edit.{Edit};
 ghost use Rattle.intervals.specs.declared.edit.Edit.TheVariants.{Withdraw, Claim as ToKind};
 ghost use Rattle.intervals.specs.declared.operation.Value.TheVariants.{Nil};
@@ -12,10 +13,29 @@ ghost use Rattle.intervals.specs.Kind.{Holds};
 ghost use Rattle.intervals.specs.Histories.{place};
 ghost use Rattle.jepsen_form.specs.declared.fault.FormFault.{FormFault};
 ghost use Rattle.jepsen_form.specs.declared.item.Item.{Item};
+ghost use Rattle.tower_file.specs.Contents.{TowerModel};
+ghost use Rattle.shards.specs.declared.entry.VerdictChange.{VerdictChange};
+ghost use Rattle.shards.specs.Closing.{ClosedShard, journal_of};
+ghost use Rattle.shards.specs.VerdictChange.{AreVerdictChanges};
+ghost use Rattle.feeders.specs.declared.log.Log.{Log};
+ghost use Rattle.feeders.specs.Run.{plan_of_run};
 ghost use Rattle.feeders.specs.Steps.{steps_behind, steps_of};
 ghost use Rattle.watch.specs.Coming.{ComesLast, ComeInOrder, LeavesReadValues, LeaveReadValues};
 ghost use Rattle.watch.specs.Trace.{IsNoFail, IsPlainTrace, edits_among};
+ghost use Rattle.watch.specs.declared.run.Terms.{Terms};
+ghost use Rattle.watch.specs.Watched.{IsWatched, changes_in};
 ghost use Rattle.watch.specs.Healing.{of_unknown_initial, of_one_process, answered_at, read_then_invoked, write_withdrawn, read_of_one, older_write, seven_within_write};
+
+/// What was told of a shard is the changes of verdicts by the entries of its journal, in order: all of them, or the
+/// first ones where a register that failed ended the watch.
+pub fn what_was_told_is_what_changed()
+    ensures all { (tower : TowerModel) (terms : Terms) (left : List (Option (List ℕ))) (closed : List ClosedShard) (logs : List Log) (old new : Option (List ℕ))
+        → (watched : IsWatched tower terms left closed logs false old new) → (at : ℕ) → at < terms.shards
+        → AreVerdictChanges (plan_of_run tower terms.shards watched.traces) (journal_of closed at) (changes_in terms.shards at watched.notices) }
+    ensures first { (tower : TowerModel) (terms : Terms) (left : List (Option (List ℕ))) (closed : List ClosedShard) (logs : List Log) (old new : Option (List ℕ))
+        → (watched : IsWatched tower terms left closed logs true old new) → (at : ℕ) → at < terms.shards
+        → (rest : List VerdictChange) × AreVerdictChanges (plan_of_run tower terms.shards watched.traces) (journal_of closed at) (changes_in terms.shards at watched.notices ++ rest) }
+{}
 
 /// A register that fails never holds again under later edits that come in the order of time, whatever the edits
 /// before were: where its initial value is known, and else where none of them withdraws a write whose value a

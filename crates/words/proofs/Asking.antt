@@ -9,7 +9,8 @@ use Rattle.words.specs.declared.completion.Shell.TheVariants.{Bash, Zsh, Fish}
 use Rattle.words.specs.declared.lint.LintForm.TheVariants as lint_forms
 use Rattle.words.specs.declared.show.Picture.TheVariants as pictures
 use Rattle.words.specs.declared.show.Theme.TheVariants.{Auto, Dark}
-use Rattle.words.specs.Words.{Check, Completion, Explain, Lint, Manual, Safe, Show, Tower, Version, asked, command_line, is_no_option}
+use Rattle.words.specs.declared.watch.LineForm.TheVariants as line_forms
+use Rattle.words.specs.Words.{Check, Completion, Explain, Lint, Manual, Safe, Show, Tower, Version, Watch, asked, command_line, is_no_option}
 
 pub input : (program : Text) → asked (program ∷ codes "safe" ∷ []) ≡ Some (Safe None)
 unfolding clap_on_literals
@@ -166,6 +167,47 @@ no_records program = (refl, refl, refl)
 pub no_shell : (program : Text) → asked (program ∷ codes "completion" ∷ codes "csh" ∷ []) ≡ None
 unfolding clap_on_literals
 no_shell program = refl
+
+pub plain_watch : (program : Text) → asked (program ∷ codes "watch" ∷ codes "--tower" ∷ codes "t" ∷ codes "a" ∷ [])
+    ≡ Some (Watch (record { tower = codes "t"; shards = 1; moments = Index; form = line_forms.Text; until_fail = false; traces = codes "a" ∷ [] }))
+unfolding clap_on_literals
+plain_watch program = refl
+
+pub whole_watch : (program : Text) → asked (program ∷ codes "watch" ∷ codes "--tower=t" ∷ codes "--moment" ∷ codes "time" ∷ codes "--shards" ∷ codes "64" ∷ codes "--as" ∷ codes "json" ∷ codes "--until-fail" ∷ codes "a" ∷ codes "b" ∷ [])
+    ≡ Some (Watch (record { tower = codes "t"; shards = 64; moments = Time; form = line_forms.Json; until_fail = true; traces = codes "a" ∷ codes "b" ∷ [] }))
+unfolding clap_on_literals
+whole_watch program = refl
+
+pub any_names_to_watch : (program tower trace : Text) → asked (program ∷ codes "watch" ∷ (codes "--tower=" ++ tower) ∷ codes "--" ∷ trace ∷ [])
+    ≡ Some (Watch (record { tower = tower; shards = 1; moments = Index; form = line_forms.Text; until_fail = false; traces = trace ∷ [] }))
+unfolding clap_on_literals
+any_names_to_watch program tower trace = refl
+
+pub no_tower_to_watch : (program : Text) → asked (program ∷ codes "watch" ∷ codes "a" ∷ []) ≡ None
+unfolding clap_on_literals
+no_tower_to_watch program = refl
+
+pub no_trace_to_watch : (program : Text) → asked (program ∷ codes "watch" ∷ codes "--tower" ∷ codes "t" ∷ []) ≡ None
+unfolding clap_on_literals
+no_trace_to_watch program = refl
+
+pub no_moment_to_watch : (program : Text) → asked (program ∷ codes "watch" ∷ codes "--tower=t" ∷ codes "--moment=now" ∷ codes "a" ∷ []) ≡ None
+unfolding clap_on_literals
+no_moment_to_watch program = refl
+
+pub no_line_form : (program : Text) → (asked (program ∷ codes "watch" ∷ codes "--tower=t" ∷ codes "--as=summary" ∷ codes "a" ∷ []) ≡ None)
+    × (asked (program ∷ codes "watch" ∷ codes "--tower=t" ∷ codes "--as=edn" ∷ codes "a" ∷ []) ≡ None)
+unfolding clap_on_literals
+no_line_form program = (refl, refl)
+
+pub refused_shards_to_watch : (takes command_line (codes "regaudit" ∷ codes "watch" ∷ codes "--tower=t" ∷ codes "--shards=0" ∷ codes "a" ∷ []) ≡ false)
+    × (takes command_line (codes "regaudit" ∷ codes "watch" ∷ codes "--tower=t" ∷ codes "--shards=65" ∷ codes "a" ∷ []) ≡ false)
+unfolding clap_on_literals
+refused_shards_to_watch = (refl, refl)
+
+pub taken_watch : takes command_line (codes "regaudit" ∷ codes "watch" ∷ codes "--tower=t" ∷ codes "--shards=64" ∷ codes "--until-fail" ∷ codes "a" ∷ codes "b" ∷ []) ≡ true
+unfolding clap_on_literals
+taken_watch = refl
 
 pub plain_show : (program : Text) → asked (program ∷ codes "show" ∷ codes "--tower" ∷ codes "t" ∷ codes "a" ∷ [])
     ≡ Some (Show (record { tower = codes "t"; moments = Index; register = None; picture = pictures.Text; around = 3; all = false; width = None; theme = Auto; traces = codes "a" ∷ [] }))

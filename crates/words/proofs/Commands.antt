@@ -11,7 +11,8 @@ use Rattle.words.specs.declared.check.MomentKey.{MomentKey}
 use Rattle.words.specs.declared.lint.LintForm.{LintForm}
 use Rattle.words.specs.declared.show.Picture.{Picture}
 use Rattle.words.specs.declared.show.Theme.{Theme}
-use Rattle.words.specs.Words.{Asked, AskedCheck, AskedLint, AskedShow, asked_by, check_by, command_by, command_line, count_in, form_in, is_set, lint_by, lint_form_in, moments_in, only_by, picture_by, said_in, shards_in, show_by, theme_in, traces_in}
+use Rattle.words.specs.declared.watch.LineForm.{LineForm}
+use Rattle.words.specs.Words.{Asked, AskedCheck, AskedLint, AskedShow, AskedWatch, asked_by, check_by, command_by, command_line, count_in, form_in, is_set, line_form_in, lint_by, lint_form_in, moments_in, only_by, picture_by, said_in, shards_in, show_by, theme_in, traces_in, watch_by}
 
 one_by_one : {A B C : Type 0} (f : B → C) (g : A → B) (found : Option A) → option_map f (option_map g found) ≡ option_map (λ a. f (g a)) found
 one_by_one f g None = refl
@@ -44,6 +45,17 @@ is_check rows tower shards moments order form only_failing least least_each trac
 
 pub no_tower : (rows : List Row) → first_of (codes "tower") rows ≡ None → ◌≡◌ {A = Option AskedCheck} None (check_by rows)
 no_tower rows none = rw none refl
+
+-- a watch whose arguments are all there
+pub is_watch : (rows : List Row) (tower : Text) (moments : MomentKey) (shards : ℕ) (form : LineForm) (until_fail : Bool) (traces : List Text) → first_of (codes "tower") rows ≡ Some tower → Some moments ≡ said_in moments_in (codes "moment") rows
+    → Some shards ≡ said_in shards_in (codes "shards") rows → Some form ≡ said_in line_form_in (codes "as") rows → until_fail ≡ is_set (codes "until-fail") rows
+    → traces ≡ traces_in rows → (length traces == 0) ≡ false
+    → ◌≡◌ {A = Option AskedWatch} (Some (record { tower = tower; shards = shards; moments = moments; form = form; until_fail = until_fail; traces = traces })) (watch_by rows)
+is_watch rows tower moments shards form until_fail traces tower_is moments_is shards_is form_is until_is traces_are some =
+    rw (tower_is, ← moments_is, ← shards_is, ← form_is, ← traces_are, some, ← until_is) refl
+
+pub no_tower_to_watch : (rows : List Row) → first_of (codes "tower") rows ≡ None → ◌≡◌ {A = Option AskedWatch} None (watch_by rows)
+no_tower_to_watch rows none = rw none refl
 
 -- a picture whose arguments are all there
 pub is_show : (rows : List Row) (tower : Text) (moments : MomentKey) (register : Option Text) (picture : Picture) (around : ℕ) (all : Bool) (width : Option ℕ) (theme : Theme) (traces : List Text) → first_of (codes "tower") rows ≡ Some tower → Some moments ≡ said_in moments_in (codes "moment") rows

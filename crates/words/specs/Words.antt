@@ -25,6 +25,9 @@ use Rattle.words.specs.declared.show.Picture.TheVariants as pictures
 use Rattle.words.specs.declared.show.Show.{Show as HeldShow}
 use Rattle.words.specs.declared.show.Theme.{Theme}
 use Rattle.words.specs.declared.show.Theme.TheVariants.{Auto, Light, Dark}
+use Rattle.words.specs.declared.watch.LineForm.{LineForm}
+use Rattle.words.specs.declared.watch.LineForm.TheVariants as line_forms
+use Rattle.words.specs.declared.watch.Watch.{Watch as HeldWatch}
 use Rattle.words.specs.declared.completion.Shell.{Shell}
 use Rattle.words.specs.Completion.{shell_named}
 use Rattle.words.specs.declared.words.Command.{Command}
@@ -46,7 +49,7 @@ moment_rule = record (new_rule (codes "moment")) { long = Some (codes "moment");
 abbrev pub order_rule : Rule
 order_rule = record (new_rule (codes "order")) { long = Some (codes "order"); value_names = 1 }
 
--- the option `--as FORM` of `check`; `text` where it is not given
+-- the option `--as FORM` of `check` and of `watch`; `text` where it is not given
 abbrev pub form_rule : Rule
 form_rule = record (new_rule (codes "as")) { long = Some (codes "as"); value_names = 1; defaults = codes "text" ∷ [] }
 
@@ -71,13 +74,21 @@ with_counts options = with_rule (with_rule (with_rule options (count_rule (codes
 abbrev pub check_line : App
 check_line = with_counts (with_rule (with_rule (with_rule (with_rule (with_rule (with_rule (new_app (codes "check")) tower_rule) shards_rule) moment_rule) order_rule) form_rule) only_rule)
 
--- the option `--register NAME`
-abbrev pub register_rule : Rule
-register_rule = record (new_rule (codes "register")) { long = Some (codes "register"); value_names = 1 }
-
 -- the flag `--NAME` of this name
 abbrev pub flag_rule : Text → Rule
 flag_rule name = record (new_rule name) { long = Some name; action = Some SetTrue }
+
+-- a command, with `--as`, `--until-fail` and `TRACE..` added
+abbrev pub with_watch_options : App → App
+with_watch_options options = with_rule (with_rule (with_rule options form_rule) (flag_rule (codes "until-fail"))) traces_rule
+
+-- `watch --tower FILE [--moment FIELD] [--shards N] [--as FORM] [--until-fail] TRACE..`
+abbrev pub watch_line : App
+watch_line = with_watch_options (with_rule (with_rule (with_rule (new_app (codes "watch")) tower_rule) moment_rule) shards_rule)
+
+-- the option `--register NAME`
+abbrev pub register_rule : Rule
+register_rule = record (new_rule (codes "register")) { long = Some (codes "register"); value_names = 1 }
 
 -- the option `--width N`, from 20 to 1000000
 abbrev pub width_rule : Rule
@@ -165,9 +176,9 @@ with_files line = with_subcommand (with_subcommand line safe_line.top) tower_lin
 abbrev pub with_texts : App → App
 with_texts line = with_subcommand (with_subcommand (with_subcommand line explain_line.top) version_line.top) manual_line.top
 
--- a line, with the commands `check`, `show` and `lint` added
+-- a line, with the commands `check`, `watch`, `show` and `lint` added
 abbrev pub with_audits : App → App
-with_audits line = with_subcommand (with_subcommand (with_subcommand line check_line.top) show_line.top) lint_line.top
+with_audits line = with_subcommand (with_subcommand (with_subcommand (with_subcommand line check_line.top) watch_line.top) show_line.top) lint_line.top
 
 -- the whole command line: the program and its commands
 abbrev pub command_line : App
@@ -191,6 +202,15 @@ pub record AskedCheck : Type 0 where
   pub only_failing : Bool
   pub least : ℕ
   pub least_each : ℕ
+  pub traces : List Text
+
+-- what the words of `watch` ask for
+pub record AskedWatch : Type 0 where
+  pub tower : Text
+  pub shards : ℕ
+  pub moments : MomentKey
+  pub form : LineForm
+  pub until_fail : Bool
   pub traces : List Text
 
 -- what the words of `show` ask for
@@ -219,6 +239,7 @@ pub record AskedLint : Type 0 where
 pub data Asked : Type 0 where
   Safe : (trace : Option Text) → Asked
   Check : (check : AskedCheck) → Asked
+  Watch : (watch : AskedWatch) → Asked
   Show : (show : AskedShow) → Asked
   Lint : (lint : AskedLint) → Asked
   Tower : (file : Text) → Asked
@@ -277,6 +298,10 @@ lint_form_in text =
     else (if bytes_eq text (codes "github") then Some lint_forms.GitHub
     else (if bytes_eq text (codes "json") then Some lint_forms.Json else None)))
 
+-- what the lines of `watch` are that a text names: `text`, lines for people, or `json`
+abbrev pub line_form_in : Text → Option LineForm
+line_form_in text = if bytes_eq text (codes "text") then Some line_forms.Text else (if bytes_eq text (codes "json") then Some line_forms.Json else None)
+
 -- the number that a text gives: digits, after a plus or none, below 2^64
 abbrev pub count_in : Text → Option ℕ
 count_in text = if is_unsigned_in 0 (2 ^ 64 - 1) text then Some (digits_value 10 (without_leading_plus text)) else None
@@ -318,6 +343,22 @@ check_by rows =
     (said_in shards_in (codes "shards") rows))
     (first_of (codes "tower") rows)
 
+-- what `watch` asks for by these values and the other arguments; none where they name no trace
+abbrev pub watch_of : Text → MomentKey → ℕ → LineForm → List Row → Option AskedWatch
+watch_of tower moments shards form rows =
+    if length (traces_in rows) == 0 then None
+    else Some (record { tower = tower; shards = shards; moments = moments; form = form; until_fail = is_set (codes "until-fail") rows; traces = traces_in rows })
+
+-- what `watch` asks for by these arguments, or none
+abbrev pub watch_by : List Row → Option AskedWatch
+watch_by rows =
+    option_and_then (λ tower. option_and_then (λ moments. option_and_then (λ shards. option_and_then (λ form.
+    watch_of tower moments shards form rows)
+    (said_in line_form_in (codes "as") rows))
+    (said_in shards_in (codes "shards") rows))
+    (said_in moments_in (codes "moment") rows))
+    (first_of (codes "tower") rows)
+
 -- the picture that the flags among the arguments ask for; none where two are set
 abbrev pub picture_by : List Row → Option Picture
 picture_by rows = picture_in (is_set (codes "svg") rows) (is_set (codes "html") rows) (is_set (codes "ascii") rows)
@@ -357,6 +398,7 @@ lint_by rows =
 abbrev pub command_by : Text → List Row → Option Asked
 command_by name rows =
     if bytes_eq name (codes "check") then option_map Check (check_by rows)
+    else (if bytes_eq name (codes "watch") then option_map Watch (watch_by rows)
     else (if bytes_eq name (codes "show") then option_map Show (show_by rows)
     else (if bytes_eq name (codes "lint") then option_map Lint (lint_by rows)
     else (if bytes_eq name (codes "safe") then Some (Safe (first_of (codes "TRACE") rows))
@@ -364,7 +406,7 @@ command_by name rows =
     else (if bytes_eq name (codes "explain") then Some (Explain (first_of (codes "CODE") rows))
     else (if bytes_eq name (codes "version") then Some Version
     else (if bytes_eq name (codes "manual") then Some Manual
-    else option_map Completion (said_in shell_named (codes "SHELL") rows))))))))
+    else option_map Completion (said_in shell_named (codes "SHELL") rows)))))))))
 
 -- the command that was found in the words, with what its arguments ask for, or none
 abbrev pub asked_by : Option (Text × List Row) → Option Asked
@@ -402,6 +444,17 @@ asked_check check = record {
   traces = map (λ name. name.now) check.traces.items;
 }
 
+-- what the program's value of `watch` asks for
+abbrev pub asked_watch : HeldWatch → AskedWatch
+asked_watch watch = record {
+  tower = watch.tower.now;
+  shards = watch.shards;
+  moments = watch.moments;
+  form = watch.form;
+  until_fail = watch.until_fail;
+  traces = map (λ name. name.now) watch.traces.items;
+}
+
 -- what the program's value of `show` asks for
 abbrev pub asked_show : HeldShow → AskedShow
 asked_show show = record {
@@ -431,6 +484,7 @@ asked_lint lint = record {
 abbrev pub asked_of : Command → Asked
 asked_of (commands.Safe trace) = Safe (option_map (λ name. name.now) trace)
 asked_of (commands.Check check) = Check (asked_check check)
+asked_of (commands.Watch watch) = Watch (asked_watch watch)
 asked_of (commands.Show show) = Show (asked_show show)
 asked_of (commands.Lint lint) = Lint (asked_lint lint)
 asked_of (commands.Tower file) = Tower file.now
@@ -439,14 +493,16 @@ asked_of commands.Version = Version
 asked_of commands.Manual = Manual
 asked_of (commands.Completion shell) = Completion shell
 
--- a check has from 1 to 64 shards
+-- a check, or a watch, has from 1 to 64 shards
 abbrev pub HasShards : Command → Type 0
 HasShards (commands.Check check) = (1 ≤ check.shards) × (check.shards ≤ 64)
+HasShards (commands.Watch watch) = (1 ≤ watch.shards) × (watch.shards ≤ 64)
 HasShards _ = ⊤
 
--- a check or a picture has one trace or more
+-- a check, a watch or a picture has one trace or more
 abbrev pub HasTraces : Command → Type 0
 HasTraces (commands.Check check) = 0 < length check.traces.items
+HasTraces (commands.Watch watch) = 0 < length watch.traces.items
 HasTraces (commands.Show show) = 0 < length show.traces.items
 HasTraces _ = ⊤
 

@@ -108,7 +108,7 @@ pub(crate) fn check_of<'a>(
     }))
 }
 
-fn shards_of(found: &ArgMatches<'_>) -> Option<u32>
+pub(crate) fn shards_of(found: &ArgMatches<'_>) -> Option<u32>
     ensures asks { result ≡ said_in shards_in (codes "shards") (rows_of (found_of found.now)) }
     ensures range { IfSome result (λ shards. (1 ≤ shards) × (shards ≤ 64)) }
 {

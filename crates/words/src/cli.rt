@@ -3,7 +3,7 @@
 ghost use Rattle.std.specs.Prelude.{◌≡◌, codes, false, IfOk};
 ghost use Rattle.clap.specs.Words.{App, app_of, rule_of};
 ghost use Rattle.words.specs.declared.cli.Vocabulary.TheVariants.{Open};
-ghost use Rattle.words.specs.Words.{IsFlag, IsLine, amiss_rule, any_tower_rule, any_traces_rule, check_line, command_line, completion_line, count_rule, deny_rule, explain_line, flag_rule, form_rule, lint_line, manual_line, moment_rule, only_rule, order_rule, register_rule, safe_line, shards_rule, shell_rule, show_line, theme_rule, tower_line, tower_rule, traces_rule, version_line, width_rule, with_audits, with_counts, with_files, with_lint_options, with_pictures, with_show_options, with_texts};
+ghost use Rattle.words.specs.Words.{IsFlag, IsLine, amiss_rule, any_tower_rule, any_traces_rule, check_line, command_line, completion_line, count_rule, deny_rule, explain_line, flag_rule, form_rule, lint_line, manual_line, moment_rule, only_rule, order_rule, register_rule, safe_line, shards_rule, shell_rule, show_line, theme_rule, tower_line, tower_rule, traces_rule, version_line, watch_line, width_rule, with_audits, with_counts, with_files, with_lint_options, with_pictures, with_show_options, with_texts, with_watch_options};
 
 use clap::builder::ValueParser;
 use clap::{Arg, ArgAction, Command};
@@ -38,6 +38,34 @@ The lines of the report:
 
 An ID is TRACE:PLACE, the number of a trace and of an element in it, each from 0.";
 
+/// What `watch` does, and what its lines mean.
+const WATCH: &str =
+    "Judges the registers of a tower while traces are read, and says when a verdict changes
+
+At first every register holds. Each line is written as soon as what it says is known:
+  fails NAME KIND N at ID: FAULT   a register fails, and why, in the words of the report
+  holds NAME KIND N at ID          a register that failed holds again
+  refused ID CODE                  an element that was not taken, and why
+  broken TRACE CODE at BYTE        a trace that could not be read on, and why
+  end TRACE N                      a trace ended or broke after N elements
+
+In the first two lines N operations stand in the register, and ID is the element whose edit
+changed the verdict. An ID is TRACE:PLACE, the number of a trace and of an element in it, each
+from 0. The tower file, KIND, FAULT and CODE are those of check.
+
+A trace is read to its end. A file that still grows comes through a pipe:
+  tail -n +1 -F run.edn | regaudit watch --tower tower.edn /dev/stdin";
+
+/// The end of the help of `watch`.
+const WATCH_STATUSES: &str =
+    "Exit status, which is 1 at the first register that fails where --until-fail is given:
+  0  every register holds and nothing was refused
+  1  a register fails
+  2  a trace is broken, or nothing could be read, judged or written
+  3  no register fails, and an element was refused
+
+docs/FORMATS.md describes traces, tower files and what is printed.";
+
 /// The end of the help of `lint`.
 const LINT_STATUSES: &str = "Exit status:
   0  nothing is amiss, or notes alone are
@@ -63,6 +91,8 @@ static FORMS: [&str; 4] = ["text", "summary", "json", "edn"];
 
 static ONLY: [&str; 1] = ["failing"];
 
+static LINE_FORMS: [&str; 2] = ["text", "json"];
+
 static THEMES: [&str; 3] = ["auto", "light", "dark"];
 
 static LINT_FORMS: [&str; 4] = ["human", "short", "github", "json"];
@@ -87,7 +117,7 @@ pub(crate) fn command_line<'a>(
     line.subcommand(completion)
 }
 
-/// Adds the commands `check`, `show` and `lint`.
+/// Adds the commands `check`, `watch`, `show` and `lint`.
 fn add_audits<'a>(
     alloc: Global,
     line: Command<'a>,
@@ -97,6 +127,8 @@ fn add_audits<'a>(
 {
     let check = check_line(alloc, vocabulary)?;
     let line = line.subcommand(check)?;
+    let watch = watch_line(alloc, vocabulary)?;
+    let line = line.subcommand(watch)?;
     let show = show_line(alloc, vocabulary)?;
     let line = line.subcommand(show)?;
     let lint = lint_line(alloc, vocabulary)?;
@@ -179,6 +211,21 @@ fn only<'a>(alloc: Global, vocabulary: Vocabulary) -> Arg<'a>
     }
 }
 
+fn line_form<'a>(alloc: Global, vocabulary: Vocabulary) -> Arg<'a>
+    ensures rule { vocabulary ≡ Open → rule_of result ≡ form_rule }
+    ensures local { vocabulary ≡ Open → result.global ≡ false }
+{
+    let arg = Arg::new(alloc, "as")
+        .long("as")
+        .value_name("FORM")
+        .default_value("text")
+        .help("What is written: lines as text, or a record a line in json");
+    match vocabulary {
+        Vocabulary::Open => arg,
+        Vocabulary::Closed => arg.value_parser(LINE_FORMS.as_slice()),
+    }
+}
+
 fn theme<'a>(alloc: Global, vocabulary: Vocabulary) -> Arg<'a>
     ensures rule { vocabulary ≡ Open → rule_of result ≡ theme_rule }
     ensures local { vocabulary ≡ Open → result.global ≡ false }
@@ -257,6 +304,33 @@ fn add_counts<'a>(alloc: Global, line: Command<'a>) -> Result<Command<'a>, Alloc
         "Ends with status 4 where fewer operations stand in some register",
     );
     let line = line.arg(least_each)?;
+    line.arg(traces(alloc))
+}
+
+fn watch_line<'a>(alloc: Global, vocabulary: Vocabulary) -> Result<Command<'a>, AllocError>
+    ensures { vocabulary ≡ Open → IfOk result (IsLine watch_line) }
+{
+    let line = Command::new(alloc, "watch")
+        .about("Judges the registers while traces are read, and says when a verdict changes")
+        .long_about(WATCH)
+        .after_help(WATCH_STATUSES)
+        .arg(tower(alloc))?
+        .arg(moment(alloc, vocabulary))?
+        .arg(shards(alloc))?;
+    add_watch_options(alloc, line, vocabulary)
+}
+
+/// Adds `--as`, `--until-fail` and `TRACE..`.
+fn add_watch_options<'a>(
+    alloc: Global,
+    line: Command<'a>,
+    vocabulary: Vocabulary,
+) -> Result<Command<'a>, AllocError>
+    ensures { vocabulary ≡ Open → (app : App) → IsLine app line.entry → IfOk result (IsLine (with_watch_options app)) }
+{
+    let line = line.arg(line_form(alloc, vocabulary))?;
+    let until_fail = flag(alloc, "until-fail", "Ends at the first register that fails");
+    let line = line.arg(until_fail)?;
     line.arg(traces(alloc))
 }
 

@@ -78,18 +78,19 @@ _regaudit() {
         before=${COMP_WORDS[COMP_CWORD - 2]}
     fi
     if ((COMP_CWORD == 1)); then
-        words='check show lint safe tower explain version manual completion --help --version'
+        words='check watch show lint safe tower explain version manual completion --help --version'
     else
         case ${COMP_WORDS[1]}:$before in
             check:--order | show:--register)
                 _regaudit_registers "$1" "$begun"
                 return
                 ;;
-            check:--tower | show:--tower | lint:--tower) ;;
-            check:--shards) words='1 2 4 8 16 32 64' ;;
-            check:--moment | show:--moment | lint:--moment) words='index time' ;;
+            check:--tower | watch:--tower | show:--tower | lint:--tower) ;;
+            check:--shards | watch:--shards) words='1 2 4 8 16 32 64' ;;
+            check:--moment | watch:--moment | show:--moment | lint:--moment) words='index time' ;;
             check:--as) words='text summary json edn' ;;
             check:--only) words=failing ;;
+            watch:--as) words='text json' ;;
             show:--theme) words='auto light dark' ;;
             lint:--as) words='human short github json' ;;
             lint:--deny) words='L1 L2 L3 L4 L5 L6 L7 L8' ;;
@@ -98,6 +99,11 @@ _regaudit() {
             check:*)
                 if [[ $begun == -* ]]; then
                     words='--tower --shards --moment --order --as --only --least --least-each --help'
+                fi
+                ;;
+            watch:*)
+                if [[ $begun == -* ]]; then
+                    words='--tower --moment --shards --as --until-fail --help'
                 fi
                 ;;
             show:*)
@@ -155,6 +161,7 @@ _regaudit() {
     local -a commands
     commands=(
         'check:judges the registers of a tower by traces'
+        'watch:judges registers while traces are read'
         'show:draws a register'
         'lint:says what is amiss in a tower file and in traces'
         'safe:judges a trace of one safe register'
@@ -179,6 +186,16 @@ _regaudit() {
                         '--only=[which registers have a record]:registers:(failing)' \
                         '--least=[status 4 where fewer operations stand]:number: ' \
                         '--least-each=[status 4 where fewer stand in a register]:number: ' \
+                        '(- *)'{-h,--help}'[prints help]' \
+                        '*:trace:_files'
+                    ;;
+                watch)
+                    _arguments \
+                        '--tower=[the tower file]:tower file:_files' \
+                        '--moment=[the field that moments stand under]:field:(index time)' \
+                        '--shards=[over how many shards the registers are spread]:number:(1 2 4 8 16 32 64)' \
+                        '--as=[what is written]:form:(text json)' \
+                        '--until-fail[ends at the first register that fails]' \
                         '(- *)'{-h,--help}'[prints help]' \
                         '*:trace:_files'
                     ;;
@@ -257,6 +274,7 @@ complete -c regaudit -s h -l help -d 'prints help'
 complete -c regaudit -n __fish_use_subcommand -s V -l version -d 'prints the version'
 
 complete -c regaudit -n __fish_use_subcommand -a check -d 'judges the registers of a tower by traces'
+complete -c regaudit -n __fish_use_subcommand -a watch -d 'judges registers while traces are read'
 complete -c regaudit -n __fish_use_subcommand -a show -d 'draws a register'
 complete -c regaudit -n __fish_use_subcommand -a lint -d 'says what is amiss in a tower file and in traces'
 complete -c regaudit -n __fish_use_subcommand -a safe -d 'judges a trace of one safe register'
@@ -266,7 +284,7 @@ complete -c regaudit -n __fish_use_subcommand -a version -d 'says which build th
 complete -c regaudit -n __fish_use_subcommand -a manual -d 'prints all helps and the tables of codes'
 complete -c regaudit -n __fish_use_subcommand -a completion -d 'prints a script that completes the words'
 
-complete -c regaudit -n '__regaudit_is check show lint safe tower' -F
+complete -c regaudit -n '__regaudit_is check watch show lint safe tower' -F
 complete -c regaudit -n '__regaudit_is check' -l tower -rF -d 'the tower file'
 complete -c regaudit -n '__regaudit_is check' -l shards -x -a '1 2 4 8 16 32 64' -d 'over how many shards the registers are spread'
 complete -c regaudit -n '__regaudit_is check' -l moment -x -a 'index time' -d 'the field that moments stand under'
@@ -275,6 +293,11 @@ complete -c regaudit -n '__regaudit_is check' -l as -x -a 'text summary json edn
 complete -c regaudit -n '__regaudit_is check' -l only -x -a failing -d 'which registers have a record'
 complete -c regaudit -n '__regaudit_is check' -l least -x -d 'status 4 where fewer operations stand'
 complete -c regaudit -n '__regaudit_is check' -l least-each -x -d 'status 4 where fewer stand in a register'
+complete -c regaudit -n '__regaudit_is watch' -l tower -rF -d 'the tower file'
+complete -c regaudit -n '__regaudit_is watch' -l moment -x -a 'index time' -d 'the field that moments stand under'
+complete -c regaudit -n '__regaudit_is watch' -l shards -x -a '1 2 4 8 16 32 64' -d 'over how many shards the registers are spread'
+complete -c regaudit -n '__regaudit_is watch' -l as -x -a 'text json' -d 'what is written'
+complete -c regaudit -n '__regaudit_is watch' -l until-fail -d 'ends at the first register that fails'
 complete -c regaudit -n '__regaudit_is show' -l tower -rF -d 'the tower file'
 complete -c regaudit -n '__regaudit_is show' -l moment -x -a 'index time' -d 'the field that moments stand under'
 complete -c regaudit -n '__regaudit_is show' -l register -x -a '(__regaudit_registers)' -d 'the register that is drawn'

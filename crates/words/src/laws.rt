@@ -8,7 +8,8 @@ ghost use Rattle.words.specs.declared.completion.Shell.TheVariants.{Bash, Zsh, F
 ghost use Rattle.words.specs.declared.lint.LintForm.TheVariants as lint_forms;
 ghost use Rattle.words.specs.declared.show.Picture.TheVariants as pictures;
 ghost use Rattle.words.specs.declared.show.Theme.TheVariants.{Auto, Dark};
-ghost use Rattle.words.specs.Words.{Check, Completion, Explain, Lint, Manual, Safe, Show, Tower, Version, asked, command_line, is_no_option};
+ghost use Rattle.words.specs.declared.watch.LineForm.TheVariants as line_forms;
+ghost use Rattle.words.specs.Words.{Check, Completion, Explain, Lint, Manual, Safe, Show, Tower, Version, Watch, asked, command_line, is_no_option};
 
 /// What words ask for, whatever the program's name is: after it comes the command, and then its file. A file whose
 /// name begins with a hyphen comes after `--`.
@@ -51,6 +52,25 @@ pub fn checks_in_turn()
         ≡ Some (Check (record { tower = codes "t"; shards = 64; moments = Time; order = Some (codes "x"); form = Edn; only_failing = true; least = 7; least_each = 1; traces = codes "a" ∷ [] })) }
     ensures any_names { (program tower order trace : Text) → asked (program ∷ codes "check" ∷ (codes "--tower=" ++ tower) ∷ (codes "--order=" ++ order) ∷ codes "--" ∷ trace ∷ [])
         ≡ Some (Check (record { tower = tower; shards = 1; moments = Index; order = Some order; form = Report; only_failing = false; least = 0; least_each = 0; traces = trace ∷ [] })) }
+{}
+
+/// What `watch` asks for: `index`, one shard, lines for people, and every trace to its end, where nothing else is said.
+/// Its lines have no other form than these and records in JSON, and a tower and a trace are named.
+pub fn watches_in_turn()
+    ensures plain { (program : Text) → asked (program ∷ codes "watch" ∷ codes "--tower" ∷ codes "t" ∷ codes "a" ∷ [])
+        ≡ Some (Watch (record { tower = codes "t"; shards = 1; moments = Index; form = line_forms.Text; until_fail = false; traces = codes "a" ∷ [] })) }
+    ensures whole { (program : Text) → asked (program ∷ codes "watch" ∷ codes "--tower=t" ∷ codes "--moment" ∷ codes "time" ∷ codes "--shards" ∷ codes "64" ∷ codes "--as" ∷ codes "json" ∷ codes "--until-fail" ∷ codes "a" ∷ codes "b" ∷ [])
+        ≡ Some (Watch (record { tower = codes "t"; shards = 64; moments = Time; form = line_forms.Json; until_fail = true; traces = codes "a" ∷ codes "b" ∷ [] })) }
+    ensures any_names { (program tower trace : Text) → asked (program ∷ codes "watch" ∷ (codes "--tower=" ++ tower) ∷ codes "--" ∷ trace ∷ [])
+        ≡ Some (Watch (record { tower = tower; shards = 1; moments = Index; form = line_forms.Text; until_fail = false; traces = trace ∷ [] })) }
+    ensures no_tower { (program : Text) → asked (program ∷ codes "watch" ∷ codes "a" ∷ []) ≡ None }
+    ensures no_trace { (program : Text) → asked (program ∷ codes "watch" ∷ codes "--tower" ∷ codes "t" ∷ []) ≡ None }
+    ensures no_moment { (program : Text) → asked (program ∷ codes "watch" ∷ codes "--tower=t" ∷ codes "--moment=now" ∷ codes "a" ∷ []) ≡ None }
+    ensures no_form { (program : Text) → (asked (program ∷ codes "watch" ∷ codes "--tower=t" ∷ codes "--as=summary" ∷ codes "a" ∷ []) ≡ None)
+        × (asked (program ∷ codes "watch" ∷ codes "--tower=t" ∷ codes "--as=edn" ∷ codes "a" ∷ []) ≡ None) }
+    ensures refused_shards { (takes command_line (codes "regaudit" ∷ codes "watch" ∷ codes "--tower=t" ∷ codes "--shards=0" ∷ codes "a" ∷ []) ≡ false)
+        × (takes command_line (codes "regaudit" ∷ codes "watch" ∷ codes "--tower=t" ∷ codes "--shards=65" ∷ codes "a" ∷ []) ≡ false) }
+    ensures taken { takes command_line (codes "regaudit" ∷ codes "watch" ∷ codes "--tower=t" ∷ codes "--shards=64" ∷ codes "--until-fail" ∷ codes "a" ∷ codes "b" ∷ []) ≡ true }
 {}
 
 /// What `show` asks for: lines of a terminal, three operations around each one that shows why a register fails, and the

@@ -3,6 +3,7 @@
 //! ```text
 //! regaudit check --tower FILE [--shards N] [--moment index|time] [--order NAME]
 //!     [--as text|summary|json|edn] [--only failing] [--least N] [--least-each N] TRACE..
+//! regaudit watch --tower FILE [--moment index|time] [--shards N] [--as text|json] [--until-fail] TRACE..
 //! regaudit show --tower FILE [--moment index|time] [--register NAME] [--svg|--html|--ascii] [--around N] [--all]
 //!     [--width N] [--theme auto|light|dark] TRACE..
 //! regaudit lint [--tower FILE] [--moment index|time] [--as human|short|github|json] [--max N] [--deny CODES]
@@ -43,6 +44,7 @@ pub mod laws;
 mod lint;
 mod manual;
 mod show;
+mod watch;
 mod words;
 
 pub use check::{Check, MomentKey, ReportForm};
@@ -50,4 +52,5 @@ pub use completion::Shell;
 pub use lint::{Lint, LintForm};
 pub use manual::help_of_all;
 pub use show::{Picture, Show, Theme};
+pub use watch::{LineForm, Watch};
 pub use words::{Command, no_text, read_words};

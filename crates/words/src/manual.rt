@@ -3,8 +3,9 @@
 use crate::cli::{Vocabulary, command_line};
 use std::alloc::{AllocError, Global};
 
-static COMMANDS: [&str; 9] = [
+static COMMANDS: [&str; 10] = [
     "check",
+    "watch",
     "show",
     "lint",
     "safe",

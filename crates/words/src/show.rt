@@ -114,7 +114,7 @@ fn picture_in(svg: bool, html: bool, ascii: bool) -> Option<Picture>
 }
 
 /// Whether the flag of this name is among the arguments.
-fn is_set(found: &ArgMatches<'_>, name: &str) -> bool
+pub(crate) fn is_set(found: &ArgMatches<'_>, name: &str) -> bool
     ensures { result ≡ is_set name.now (rows_of (found_of found.now)) }
 {
     match found.get_str(name) {

@@ -15,6 +15,7 @@ use crate::cli::{Vocabulary, command_line};
 use crate::completion::Shell;
 use crate::lint::{Lint, lint_of};
 use crate::show::{Show, show_of};
+use crate::watch::{Watch, watch_of};
 use clap::error::ErrorKind;
 use clap::{ArgMatches, Error};
 use std::alloc::{AllocError, Global};
@@ -27,6 +28,8 @@ pub enum Command<'a> {
     Safe(Option<&'a str>),
     /// Judges traces by a tower.
     Check(Check<'a>),
+    /// Judges traces by a tower while they are read.
+    Watch(Watch<'a>),
     /// Draws a register.
     Show(Show<'a>),
     /// Finds what is amiss in a tower file and in traces.
@@ -140,6 +143,12 @@ fn command_of<'a>(
             None => None,
         });
     }
+    if name == "watch" {
+        return Ok(match watch_of(alloc, found)? {
+            Some(watch) => Some(Command::Watch(watch)),
+            None => None,
+        });
+    }
     if name == "show" {
         return Ok(match show_of(alloc, found)? {
             Some(show) => Some(Command::Show(show)),
@@ -155,9 +164,10 @@ fn command_of<'a>(
     Ok(other_command(name, found))
 }
 
-/// The command of this name, other than `check`, `show` and `lint`.
+/// The command of this name, other than `check`, `watch`, `show` and `lint`.
 fn other_command<'a>(name: &str, found: &ArgMatches<'a>) -> Option<Command<'a>>
     requires check { bytes_eq name.now (codes "check") ≡ false }
+    requires watch { bytes_eq name.now (codes "watch") ≡ false }
     requires show { bytes_eq name.now (codes "show") ≡ false }
     requires lint { bytes_eq name.now (codes "lint") ≡ false }
     ensures asks { option_map asked_of result ≡ command_by name.now (rows_of (found_of found.now)) }

@@ -1,5 +1,6 @@
 //! A gate that watches the feeders of a run, or holds them until others come.
 
+use feeders::Watcher;
 use shards::Gate;
 use std::sync::atomic::AtomicU64;
 use std::sync::atomic::Ordering::SeqCst;
@@ -101,3 +102,5 @@ impl Gate for Watch {
         }
     }
 }
+
+impl Watcher for Watch {}

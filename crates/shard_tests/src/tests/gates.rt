@@ -1,6 +1,6 @@
 //! Gates that count their calls, and gates that hold a feeder until another comes.
 
-use shards::Gate;
+use shards::{Gate, VerdictChange};
 use std::sync::atomic::AtomicU64;
 use std::sync::atomic::Ordering::SeqCst;
 use std::thread::yield_now;
@@ -16,7 +16,8 @@ pub fn is_reached(count: &AtomicU64, wanted: u64) -> bool {
     false
 }
 
-/// Counts the calls, and notes the shard and the feeder of the last one inside and the feeder of the last one outside.
+/// Counts the calls, and notes the shard and the feeder of the last one inside, the feeder of the last one outside, and
+/// the number and the verdict of the last change.
 #[derive(Drop)]
 pub struct Counting {
     pub inside: AtomicU64,
@@ -24,6 +25,9 @@ pub struct Counting {
     pub shard: AtomicU64,
     pub feeder: AtomicU64,
     pub left: AtomicU64,
+    pub changes: AtomicU64,
+    pub number: AtomicU64,
+    pub holds: AtomicU64,
 }
 
 impl Counting {
@@ -34,6 +38,9 @@ impl Counting {
             shard: AtomicU64::new(0),
             feeder: AtomicU64::new(0),
             left: AtomicU64::new(0),
+            changes: AtomicU64::new(0),
+            number: AtomicU64::new(0),
+            holds: AtomicU64::new(0),
         }
     }
 }
@@ -43,6 +50,12 @@ impl Gate for Counting {
         self.inside.fetch_add(1, SeqCst);
         self.shard.store(u64::from(shard), SeqCst);
         self.feeder.store(u64::from(feeder), SeqCst);
+    }
+
+    fn changed(&self, _feeder: u32, change: &VerdictChange) {
+        self.changes.fetch_add(1, SeqCst);
+        self.number.store(change.number, SeqCst);
+        self.holds.store(u64::from(change.holds), SeqCst);
     }
 
     fn outside(&self, feeder: u32) {

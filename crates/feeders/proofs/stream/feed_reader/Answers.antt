@@ -46,11 +46,11 @@ returns-then-count-eq0-clause-fed g c =
     let state = c.loop-count.invariant in
     let so_far = state.so_far in
     let left = g.S.Read.remaining c.args.reader in
-    subst (λ (tower : TowerModel). IsReadAndFed (setting_of plan tower c.args.site.field start) left c.into_fed.result) state.tower
-    (subst (λ (chosen : MomentField). IsReadAndFed (setting_of plan old.tower chosen start) left c.into_fed.result) state.chosen
-    (read_whole (setting_of plan old.tower old.chosen start) left so_far.bytes c.end.new.self.intake c.end.new.pass c.into_fed.result
+    subst (λ (tower : TowerModel). IsReadAndFed (setting_of plan tower c.args.site.field start) left c.close.result) state.tower
+    (subst (λ (chosen : MomentField). IsReadAndFed (setting_of plan old.tower chosen start) left c.close.result) state.chosen
+    (read_whole (setting_of plan old.tower old.chosen start) left so_far.bytes c.end.new.self.intake c.end.new.pass c.close.result
     (c.in-Ok.ensures.end (ap Ok c.if-count-eq0.true) left so_far.bytes so_far.given)
-    (c.in_ok-end-in-Ok.ensures.fed start so_far.bytes so_far.fed) c.into_fed.ensures.0 c.into_fed.ensures.1))
+    (c.in_ok-end-in-Ok.ensures.fed start so_far.bytes so_far.fed) c.close.ensures.0 c.close.ensures.1))
 
 pub returns-then-has_broken-clause-fed : goal.returns-then-has_broken-clause-fed
 returns-then-has_broken-clause-fed g c =
@@ -63,12 +63,12 @@ returns-then-has_broken-clause-fed g c =
     let piece = take c.in-Ok.count c.next.new.buffer in
     let bytes = so_far.bytes ++ piece in
     let fed = c.in_default.ensures.fed start so_far.bytes (open_next plan start so_far.bytes piece c.loop-count.feeder c.loop-count.pass state.going so_far.fed) in
-    subst (λ (tower : TowerModel). IsReadAndFed (setting_of plan tower c.args.site.field start) left c.into_fed-then-has_broken.result) (c.in_default.ensures.read.1 ∙ state.tower)
-    (subst (λ (chosen : MomentField). IsReadAndFed (setting_of plan old.tower chosen start) left c.into_fed-then-has_broken.result) (c.in_default.ensures.read.0 ∙ state.chosen)
-    (broke_within (setting_of plan old.tower old.chosen start) left (g.S.Read.remaining c.next.new.self.reader) c.next.new.self.past bytes old.intake c.feed.new.pass c.into_fed-then-has_broken.result
+    subst (λ (tower : TowerModel). IsReadAndFed (setting_of plan tower c.args.site.field start) left c.close-then-has_broken.result) (c.in_default.ensures.read.1 ∙ state.tower)
+    (subst (λ (chosen : MomentField). IsReadAndFed (setting_of plan old.tower chosen start) left c.close-then-has_broken.result) (c.in_default.ensures.read.0 ∙ state.chosen)
+    (broke_within (setting_of plan old.tower old.chosen start) left (g.S.Read.remaining c.next.new.self.reader) c.next.new.self.past bytes old.intake c.feed.new.pass c.close-then-has_broken.result
     (c.in-Ok.ensures.given left so_far.bytes so_far.given)
     (by_course plan start bytes [] old c.feed.new.pass Broke (c.has_broken.ensures.0 c.if-has_broken.true) fed)
-    c.into_fed-then-has_broken.ensures.0 c.into_fed-then-has_broken.ensures.1))
+    c.close-then-has_broken.ensures.0 c.close-then-has_broken.ensures.1))
 
 pub returns-in-Err-clause-fed : goal.returns-in-Err-clause-fed
 returns-in-Err-clause-fed g c =
@@ -78,9 +78,9 @@ returns-in-Err-clause-fed g c =
     let state = c.loop-count.invariant in
     let so_far = state.so_far in
     let left = g.S.Read.remaining c.args.reader in
-    subst (λ (tower : TowerModel). IsReadAndFed (setting_of plan tower c.args.site.field start) left c.into_fed-in-Err.result) state.tower
-    (subst (λ (chosen : MomentField). IsReadAndFed (setting_of plan old.tower chosen start) left c.into_fed-in-Err.result) state.chosen
+    subst (λ (tower : TowerModel). IsReadAndFed (setting_of plan tower c.args.site.field start) left c.close-in-Err.result) state.tower
+    (subst (λ (chosen : MomentField). IsReadAndFed (setting_of plan old.tower chosen start) left c.close-in-Err.result) state.chosen
     (read_up_to (setting_of plan old.tower old.chosen start) left (g.S.Read.remaining c.next.new.self.reader) c.next.new.self.past so_far.bytes
-    (record { code = c.in-Err.code; place = old.intake.splitter.taken }) c.break_off.new.self.intake c.loop-count.pass c.into_fed-in-Err.result
+    (record { code = c.in-Err.code; place = old.intake.splitter.taken }) c.break_off.new.self.intake c.loop-count.pass c.close-in-Err.result
     (c.in-Err.ensures.none_given left so_far.bytes so_far.given) (code_of_reading c.in-Err.code c.in-Err.ensures.code) c.break_off.ensures.broken
-    (c.break_off.ensures.fed plan start so_far.bytes c.loop-count.pass so_far.fed) c.into_fed-in-Err.ensures.0 c.into_fed-in-Err.ensures.1))
+    (c.break_off.ensures.fed plan start so_far.bytes c.loop-count.pass so_far.fed) c.close-in-Err.ensures.0 c.close-in-Err.ensures.1))

@@ -1,8 +1,6 @@
 //! What no row of data shows: readings and writings that fail or are cut, limits, and refused memory.
 
-use crate::commands::{conclude, run, run_safe, run_words};
-use crate::fault::CommandFault;
-use crate::files::{Files, Missing};
+use commands::{CommandFault, Files, Missing, conclude, run, run_safe, run_words};
 use feeders::{read_whole, run_traces};
 use intervals::{Memory, RegId};
 use jepsen_form::MomentField;

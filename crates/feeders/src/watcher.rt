@@ -1,0 +1,81 @@
+//! What a watcher is told while traces are read.
+
+use crate::log::{Broken, Code};
+use shards::{Gate, NoGate, VerdictChange};
+
+/// What a watcher is told while traces are read. A trace is given by its number, and an element by its place in it.
+#[derive(Clone, Copy, Debug, PartialEq, Eq)]
+pub enum Notice {
+    /// An edit by this element changed the verdict on a register.
+    Changed {
+        feeder: u32,
+        place: u64,
+        change: VerdictChange,
+    },
+    /// This element was refused.
+    Refused {
+        feeder: u32,
+        place: u64,
+        code: Code,
+    },
+    /// The trace broke.
+    Broke {
+        feeder: u32,
+        broken: Broken,
+    },
+    /// The trace ended or broke, after so many elements.
+    Ended {
+        feeder: u32,
+        elements: u64,
+    },
+}
+
+/// A gate that is told what happens while traces are read.
+pub trait Watcher: Gate {
+    /// Called once for each notice, by the feeder that it is of: for a change of a verdict while that feeder holds the
+    /// lock of the register's shard, so that the changes in a shard come in the order of its journal; for all else
+    /// while it holds none.
+    fn told(&self, _notice: Notice) {}
+}
+
+impl Watcher for NoGate {}
+
+/// Tells that a trace broke, if it did, and then that it is over, after so many elements.
+pub(crate) fn tell_end<G: Watcher>(gate: &G, feeder: u32, broken: Option<Broken>, elements: u64) {
+    if let Some(broken) = broken {
+        gate.told(Notice::Broke { feeder, broken });
+    }
+    gate.told(Notice::Ended { feeder, elements });
+}
+
+/// The gate of one edit: it gives the place of the edit's element to a watcher.
+#[derive(Drop)]
+pub(crate) struct Placed<'a, G> {
+    gate: &'a G,
+    place: u64,
+}
+
+impl<'a, G: Watcher> Placed<'a, G> {
+    /// The gate of an edit whose element is at this place.
+    pub(crate) fn new(gate: &'a G, place: u64) -> Placed<'a, G> {
+        Placed { gate, place }
+    }
+}
+
+impl<G: Watcher> Gate for Placed<'_, G> {
+    fn inside(&self, shard: u32, feeder: u32) {
+        self.gate.inside(shard, feeder);
+    }
+
+    fn changed(&self, feeder: u32, change: &VerdictChange) {
+        self.gate.told(Notice::Changed {
+            feeder,
+            place: self.place,
+            change: *change,
+        });
+    }
+
+    fn outside(&self, feeder: u32) {
+        self.gate.outside(feeder);
+    }
+}

@@ -1,0 +1,64 @@
+-- The record of what a watcher is told.
+use Rattle.std.specs.Prelude.{ℕ, List, [], ◌∷◌, ◌++◌, Option, Some, None, codes}
+use Rattle.intervals.specs.declared.claim.Holder.{Holder}
+use Rattle.intervals.specs.declared.operation.OpId.{OpId}
+use Rattle.tower_file.specs.Contents.{Register}
+use Rattle.register_book.specs.declared.fault.Fault.{Fault}
+use Rattle.register_book.specs.declared.fault.Fault.TheVariants.{Wrong, Unwritten, Split, Early, Crossing}
+use Rattle.shards.specs.declared.entry.VerdictChange.{VerdictChange}
+use Rattle.feeders.specs.declared.watcher.Notice.{Notice}
+use Rattle.feeders.specs.declared.watcher.Notice.TheVariants.{Changed, Refused, Broke, Ended}
+use Rattle.report.specs.Names.{kind_word, register_name}
+use Rattle.records.specs.Fault.{early_symbols, kind_symbols, pair_symbols, split_symbols, unwritten_symbols}
+use Rattle.records.specs.Field.{flag_symbols, number_symbols, place_symbols, text_field, type_symbols, word_symbols}
+use Rattle.records.specs.Log.{broken_symbols, refused_symbols}
+use Rattle.records.specs.Symbol.{Symbol, end_record, key, nothing, place}
+
+-- the record of a wrong read by its id alone
+abbrev pub wrong_id_symbols : OpId → List Symbol
+wrong_id_symbols read = kind_symbols (codes "wrong") ++ key (codes "read") ∷ place read.feeder read.event ∷ end_record ∷ []
+
+-- the record of a conflict by its ids alone
+abbrev pub conflict_ids_symbols : Holder → Holder → Holder → Holder → List Symbol
+conflict_ids_symbols a b c d =
+    kind_symbols (codes "conflict") ++ pair_symbols (codes "a") a (codes "b") b ++ pair_symbols (codes "c") c (codes "d") d ++ end_record ∷ []
+
+-- the record of a fault by its ids alone
+abbrev pub fault_ids_symbols : Fault → List Symbol
+fault_ids_symbols (Wrong read) = wrong_id_symbols read
+fault_ids_symbols (Unwritten read) = unwritten_symbols read
+fault_ids_symbols (Split first second) = split_symbols first second
+fault_ids_symbols (Early read write) = early_symbols read write
+fault_ids_symbols (Crossing a b c d) = conflict_ids_symbols a b c d
+
+-- a fault by its ids, or that there is none
+abbrev pub optional_fault_symbols : Option Fault → List Symbol
+optional_fault_symbols None = nothing ∷ []
+optional_fault_symbols (Some fault) = fault_ids_symbols fault
+
+-- a register as a change of its verdict left it: its name, its kind, whether it holds, and how many operations stand
+unfoldable pub changed_symbols : List ℕ → VerdictChange → List Symbol
+changed_symbols name change =
+    text_field (codes "register") name ++ word_symbols (codes "kind") (kind_word change.kind)
+    ++ flag_symbols (codes "holds") change.holds ++ number_symbols (codes "operations") change.operations
+
+-- the fault of a register, or that it has none, under its name
+unfoldable pub fault_field : Option Fault → List Symbol
+fault_field fault = (key (codes "fault") ∷ []) ++ optional_fault_symbols fault
+
+-- the record of a change of a verdict, with the place of the element that made it
+unfoldable pub change_symbols : List ℕ → ℕ → ℕ → VerdictChange → List Symbol
+change_symbols name feeder event change =
+    type_symbols (codes "change") ++ place_symbols feeder event ++ changed_symbols name change ++ fault_field change.fault ++ end_record ∷ []
+
+-- the record of the end of a trace: its number, and how many elements it had
+unfoldable pub ended_symbols : ℕ → ℕ → List Symbol
+ended_symbols feeder elements =
+    type_symbols (codes "ended") ++ number_symbols (codes "trace") feeder ++ number_symbols (codes "elements") elements ++ end_record ∷ []
+
+-- the record of a notice
+abbrev pub notice_symbols : List Register → Notice → List Symbol
+notice_symbols registers (Changed feeder event change) = change_symbols (register_name registers change.register) feeder event change
+notice_symbols registers (Refused feeder event code) = refused_symbols feeder event code
+notice_symbols registers (Broke feeder broken) = broken_symbols feeder broken
+notice_symbols registers (Ended feeder elements) = ended_symbols feeder elements

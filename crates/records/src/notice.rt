@@ -1,0 +1,164 @@
+//! The records of what a watcher is told.
+
+ghost use Rattle.std.specs.Prelude.{◌≡◌, ◌++◌, ◌∷◌, [], OnOk};
+ghost use Rattle.report.specs.Names.{register_name};
+ghost use Rattle.records.specs.Json.{json_text};
+ghost use Rattle.records.specs.Notice.{change_symbols, changed_symbols, conflict_ids_symbols, ended_symbols, fault_field, fault_ids_symbols, notice_symbols, optional_fault_symbols, wrong_id_symbols};
+ghost use Rattle.records.specs.Symbol.{symbols_of};
+
+use crate::fault::{add_early, add_kind, add_pair, add_split, add_unwritten};
+use crate::field::{add_flag, add_number, add_place, add_text, add_type, add_word};
+use crate::line::{Notation, push_record};
+use crate::log::{add_broken, add_refused};
+use crate::token::Token;
+use feeders::Notice;
+use intervals::{Holder, OpId};
+use register_book::Fault;
+use report::{kind_word, name_of};
+use shards::VerdictChange;
+use std::alloc::{AllocError, Global};
+use tower_file::Tower;
+
+/// Adds the record of a notice in JSON, with its line end.
+pub fn push_notice(
+    alloc: Global,
+    text: &mut Vec<u8>,
+    tower: &Tower,
+    notice: &Notice,
+) -> Result<(), AllocError>
+    ensures { OnOk result (text.new.items ≡ text.old.items ++ json_text (notice_symbols tower.now.registers notice.now) ++ 10 ∷ []) }
+{
+    let mut tokens = Vec::new(alloc);
+    add_notice(&mut tokens, tower, notice)?;
+    push_record(alloc, Notation::Json, text, &tokens)
+}
+
+fn add_notice<'a>(
+    tokens: &mut Vec<Token<'a>>,
+    tower: &'a Tower,
+    notice: &Notice,
+) -> Result<(), AllocError>
+    ensures { OnOk result (symbols_of tokens.new.items ≡ symbols_of tokens.old.items ++ notice_symbols tower.now.registers notice.now) }
+{
+    match notice {
+        Notice::Changed {
+            feeder,
+            place,
+            change,
+        } => {
+            let name = name_of(tower, change.register);
+            add_change(tokens, name, u64::from(*feeder), *place, change)
+        }
+        Notice::Refused {
+            feeder,
+            place,
+            code,
+        } => add_refused(tokens, u64::from(*feeder), *place, code),
+        Notice::Broke { feeder, broken } => add_broken(tokens, u64::from(*feeder), *broken),
+        Notice::Ended { feeder, elements } => add_ended(tokens, u64::from(*feeder), *elements),
+    }
+}
+
+/// Adds the record of a change of a verdict.
+#[tactic(auto, unfolding(crate::specs::Notice::change_symbols))]
+fn add_change<'a>(
+    tokens: &mut Vec<Token<'a>>,
+    name: &'a [u8],
+    feeder: u64,
+    event: u64,
+    change: &VerdictChange,
+) -> Result<(), AllocError>
+    ensures { OnOk result (symbols_of tokens.new.items ≡ symbols_of tokens.old.items ++ change_symbols name.now feeder event change.now) }
+{
+    add_type(tokens, "change")?;
+    add_place(tokens, feeder, event)?;
+    add_changed(tokens, name, change)?;
+    add_fault_field(tokens, change.fault)?;
+    tokens.push(Token::EndRecord)?;
+    Ok(())
+}
+
+/// A register as a change of its verdict left it.
+#[tactic(auto, unfolding(crate::specs::Notice::changed_symbols))]
+fn add_changed<'a>(
+    tokens: &mut Vec<Token<'a>>,
+    name: &'a [u8],
+    change: &VerdictChange,
+) -> Result<(), AllocError>
+    ensures { OnOk result (symbols_of tokens.new.items ≡ symbols_of tokens.old.items ++ changed_symbols name.now change.now) }
+{
+    add_text(tokens, "register", name)?;
+    add_word(tokens, "kind", kind_word(change.kind))?;
+    add_flag(tokens, "holds", change.holds)?;
+    add_number(tokens, "operations", change.operations)
+}
+
+#[tactic(auto, unfolding(crate::specs::Notice::fault_field))]
+fn add_fault_field<'a>(tokens: &mut Vec<Token<'a>>, fault: Option<Fault>) -> Result<(), AllocError>
+    ensures { OnOk result (symbols_of tokens.new.items ≡ symbols_of tokens.old.items ++ fault_field fault) }
+{
+    tokens.push(Token::Key("fault"))?;
+    add_optional_fault(tokens, fault)
+}
+
+fn add_optional_fault<'a>(
+    tokens: &mut Vec<Token<'a>>,
+    fault: Option<Fault>,
+) -> Result<(), AllocError>
+    ensures { OnOk result (symbols_of tokens.new.items ≡ symbols_of tokens.old.items ++ optional_fault_symbols fault) }
+{
+    match fault {
+        Some(fault) => add_fault_ids(tokens, fault),
+        None => {
+            tokens.push(Token::Nothing)?;
+            Ok(())
+        }
+    }
+}
+
+fn add_fault_ids<'a>(tokens: &mut Vec<Token<'a>>, fault: Fault) -> Result<(), AllocError>
+    ensures { OnOk result (symbols_of tokens.new.items ≡ symbols_of tokens.old.items ++ fault_ids_symbols fault) }
+{
+    match fault {
+        Fault::Wrong(read) => add_wrong_id(tokens, read),
+        Fault::Unwritten(read) => add_unwritten(tokens, read),
+        Fault::Split { first, second } => add_split(tokens, first, second),
+        Fault::Early { read, write } => add_early(tokens, read, write),
+        Fault::Crossing { a, b, c, d } => add_conflict_ids(tokens, a, b, c, d),
+    }
+}
+
+fn add_wrong_id<'a>(tokens: &mut Vec<Token<'a>>, read: OpId) -> Result<(), AllocError>
+    ensures { OnOk result (symbols_of tokens.new.items ≡ symbols_of tokens.old.items ++ wrong_id_symbols read) }
+{
+    add_kind(tokens, "wrong")?;
+    tokens.extend_from_slice(&[Token::Key("read"), Token::Id(read), Token::EndRecord])
+}
+
+fn add_conflict_ids<'a>(
+    tokens: &mut Vec<Token<'a>>,
+    a: Holder,
+    b: Holder,
+    c: Holder,
+    d: Holder,
+) -> Result<(), AllocError>
+    ensures { OnOk result (symbols_of tokens.new.items ≡ symbols_of tokens.old.items ++ conflict_ids_symbols a b c d) }
+{
+    add_kind(tokens, "conflict")?;
+    add_pair(tokens, "a", a, "b", b)?;
+    add_pair(tokens, "c", c, "d", d)?;
+    tokens.push(Token::EndRecord)?;
+    Ok(())
+}
+
+/// Adds the record of the end of a trace.
+#[tactic(auto, unfolding(crate::specs::Notice::ended_symbols))]
+fn add_ended<'a>(tokens: &mut Vec<Token<'a>>, feeder: u64, elements: u64) -> Result<(), AllocError>
+    ensures { OnOk result (symbols_of tokens.new.items ≡ symbols_of tokens.old.items ++ ended_symbols feeder elements) }
+{
+    add_type(tokens, "ended")?;
+    add_number(tokens, "trace", feeder)?;
+    add_number(tokens, "elements", elements)?;
+    tokens.push(Token::EndRecord)?;
+    Ok(())
+}

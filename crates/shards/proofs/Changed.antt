@@ -1,0 +1,95 @@
+-- The changes of verdicts by the entries of a journal that is one entry longer.
+use Rattle.std.proofs.Common.{◌≡◌, ◌≢◌, ℕ, ◌/◌, ◌%◌, ◌<◌, List, [], ◌∷◌, ◌++◌, length, get_or, Option, Some, None, Bool, true, false, refl, sym, ap, subst, ◌∙◌, append-nil}
+use Rattle.std.specs.Prelude.{◌↔◌, IfSome, IsNone, IsTrue, option_to_list}
+use Rattle.std.specs.List.{slice_get}
+use Rattle.intervals.specs.Terms.{ClaimModel, RegisterState}
+use Rattle.intervals.specs.Refusal.{after_edit}
+use Rattle.intervals.specs.Kind.{Holds}
+use Rattle.register_book.specs.BookModel.{BookModel, claimed_of}
+use Rattle.register_book.specs.declared.fault.Fault.{Fault}
+use Rattle.register_book.specs.declared.fault.Witness.{Witness}
+use Rattle.register_book.specs.Fault.{IsWitness, ids_of}
+use Rattle.register_book.specs.Reply.{IsReply}
+use Rattle.shards.specs.declared.entry.VerdictChange.{VerdictChange}
+use Rattle.shards.specs.declared.entry.Entry.{Entry}
+use Rattle.shards.specs.declared.shard.Shard.{Shard}
+use Rattle.shards.specs.Plan.{Plan}
+use Rattle.shards.specs.Journal.{HoldsAfter, left_by}
+use Rattle.shards.specs.VerdictChange.{AreVerdictChanges, IsAsBefore, IsVerdictChangeBy, as_before, one_changed}
+use Rattle.shards.specs.Shard.{IsVerdictChangeTo, IsShardOf}
+use Rattle.shards.proofs.Journals.{left_push_own}
+use Rattle.shards.proofs.Kept.{HasBook, has_book, holds_by, same_book}
+
+-- two tests of one thing are the same
+same_tests : (a b : Bool) (P : Type 0) → IsTrue a ↔ P → IsTrue b ↔ P → a ≡ b
+same_tests true true P first second = refl
+same_tests false false P first second = refl
+same_tests true false P first second = sym (second.1 (first.0 refl))
+same_tests false true P first second = first.1 (second.0 refl)
+
+-- a test of one thing and another that agree
+through : {a : Bool} {P Q : Type 0} → IsTrue a ↔ P → IsTrue a ↔ Q → P ↔ Q
+through {a = a} {P = P} {Q = Q} first second = (λ p. second.0 (first.1 p), λ q. first.0 (second.1 q))
+
+flipped : {P Q : Type 0} → P ↔ Q → Q ↔ P
+flipped {P = P} {Q = Q} same = (same.1, same.0)
+
+both : {a : Bool} {P Q : Type 0} → IsTrue a ↔ P → P ↔ Q → IsTrue a ↔ Q
+both {a = a} {P = P} {Q = Q} test same = (λ t. same.0 (test.0 t), λ q. test.1 (same.1 q))
+
+-- a change to the verdict of a book that an entry leaves is one by the entry
+changed_by : (plan : Plan) (before : List Entry) (entry : Entry) (claim : ClaimModel) (edited : BookModel) (held : Bool) (change : VerdictChange)
+    → slice_get plan.claims entry.register.0 ≡ Some claim
+    → claimed_of edited ≡ left_by (before ++ entry ∷ []) entry.register.0 claim
+    → IsTrue held ↔ HoldsAfter plan entry.register.0 before
+    → IsVerdictChangeTo edited entry.register (length before) held change
+    → IsVerdictChangeBy plan before entry change
+changed_by plan before entry claim edited held change known left was is = record {
+  number = is.number_is;
+  register = is.register_is;
+  differs = λ same. is.differs (same_tests change.holds held (HoldsAfter plan entry.register.0 (before ++ entry ∷ []))
+      (holds_by plan (before ++ entry ∷ []) entry.register.0 claim (claimed_of edited) change.holds known left is.verdict)
+      (both was same));
+  claim = claim;
+  known = known;
+  kind = is.kind ∙ ap (λ (s : RegisterState). s.claim.kind) left;
+  verdict = subst (λ (s : RegisterState). IsTrue change.holds ↔ Holds s.claim s.ops) left is.verdict;
+  operations = is.operations ∙ ap (λ (s : RegisterState). length s.ops) left;
+  fault = subst (λ (s : RegisterState). IfSome change.fault (λ fault. (witness : Witness) × IsWitness s.claim s.ops witness × (ids_of witness ≡ fault))) left is.fault;
+  none = subst (λ (s : RegisterState). IsNone change.fault ↔ Holds s.claim s.ops) left is.none;
+}
+
+changes_more : (plan : Plan) (journal : List Entry) (told : List VerdictChange) (entry : Entry) (claim : ClaimModel) (edited : BookModel) (held : Bool) (change : Option VerdictChange)
+    → slice_get plan.claims entry.register.0 ≡ Some claim
+    → claimed_of edited ≡ left_by (journal ++ entry ∷ []) entry.register.0 claim
+    → IsTrue held ↔ HoldsAfter plan entry.register.0 journal
+    → IfSome change (IsVerdictChangeTo edited entry.register (length journal) held)
+    → (IsNone change → IsTrue held ↔ Holds edited.claim edited.ops)
+    → AreVerdictChanges plan journal told
+    → AreVerdictChanges plan (journal ++ entry ∷ []) (told ++ option_to_list change)
+changes_more plan journal told entry claim edited held None known left was some none are =
+    subst (AreVerdictChanges plan (journal ++ entry ∷ [])) (sym (append-nil told))
+    (as_before journal told entry are (through was (holds_by plan (journal ++ entry ∷ []) entry.register.0 claim (claimed_of edited) held known left (none refl))))
+changes_more plan journal told entry claim edited held (Some change) known left was some none are =
+    one_changed journal told entry change are (changed_by plan journal entry claim edited held change known left was some)
+
+-- the changes of a shard with one more entry
+pub changes_push : (plan : Plan) (shard : Shard) (entry : Entry) (book edited : BookModel) (held : Bool) (change : Option VerdictChange) (journal : List Entry) (told : List VerdictChange)
+    → IsShardOf plan shard → entry.register.0 % plan.shards ≡ shard.at → entry.register.0 < length plan.claims
+    → book ≡ get_or shard.books.items (entry.register.0 / shard.shards) book → IsReply (claimed_of book) entry.edit entry.reply → claimed_of edited ≡ after_edit (claimed_of book) entry.edit
+    → IsTrue held ↔ Holds book.claim book.ops
+    → IfSome change (IsVerdictChangeTo edited entry.register (length shard.journal.items) held)
+    → (IsNone change → IsTrue held ↔ Holds edited.claim edited.ops)
+    → journal ≡ shard.journal.items ++ entry ∷ [] → told ≡ shard.changes.items ++ option_to_list change
+    → AreVerdictChanges plan journal told
+changes_push plan shard entry book edited held change journal told kept here known is reply edited_to was some none longer more =
+    let has : HasBook plan shard entry.register.0 = has_book plan shard entry.register.0 kept here known in
+    let left : claimed_of book ≡ left_by shard.journal.items entry.register.0 has.claim = same_book plan shard entry.register.0 book has is in
+    let replied : IsReply (left_by shard.journal.items entry.register.0 has.claim) entry.edit entry.reply = subst (λ (state : RegisterState). IsReply state entry.edit entry.reply) left reply in
+    let after : claimed_of edited ≡ left_by (shard.journal.items ++ entry ∷ []) entry.register.0 has.claim =
+    edited_to ∙ ap (λ (state : RegisterState). after_edit state entry.edit) left ∙ sym (left_push_own has.claim shard.journal.items entry replied) in
+    subst (λ (entries : List Entry). AreVerdictChanges plan entries told) (sym longer)
+    (subst (AreVerdictChanges plan (shard.journal.items ++ entry ∷ [])) (sym more)
+    (changes_more plan shard.journal.items shard.changes.items entry has.claim edited held change has.known after
+    (holds_by plan shard.journal.items entry.register.0 has.claim (claimed_of book) held has.known left was)
+    some none kept.changes))

@@ -1,0 +1,11 @@
+-- the output, what it has, and the terms
+use Rattle.watch.proofs.run.watch_readers.Given as goal
+
+abbrev pub ghosts-watch_in : goal.ghosts-watch_in
+ghosts-watch_in g a = record {
+  output = a.output.out.ghost_name;
+  before = g.W.Write.contents a.output.out.now;
+  registers = a.tower.now.registers;
+  form = a.terms.now.form;
+  until_fail = a.terms.now.until_fail;
+}

@@ -1,0 +1,43 @@
+-- The texts of notices.
+use Rattle.std.specs.Prelude.{ℕ, List, [], ◌∷◌, ◌++◌, Option, Some, None, codes, flat_map}
+use Rattle.std.specs.Fmt.{decimal}
+use Rattle.register_book.specs.declared.fault.Fault.{Fault}
+use Rattle.tower_file.specs.Contents.{Register}
+use Rattle.shards.specs.declared.entry.VerdictChange.{VerdictChange}
+use Rattle.feeders.specs.Code.{refused_code}
+use Rattle.feeders.specs.declared.watcher.Notice.{Notice}
+use Rattle.feeders.specs.declared.watcher.Notice.TheVariants.{Changed, Refused, Broke, Ended}
+use Rattle.report.specs.Names.{kind_word, place_text, printed, register_name, verdict_word}
+use Rattle.report.specs.Notes.{broken_line}
+use Rattle.report.specs.Section.{fault_text}
+use Rattle.records.specs.Json.{json_text}
+use Rattle.records.specs.Notice.{notice_symbols}
+use Rattle.watch.specs.declared.text.NoticeForm.{NoticeForm}
+use Rattle.watch.specs.declared.text.NoticeForm.TheVariants as forms
+
+-- why a register fails: a colon and the fault; empty where it holds
+abbrev pub fault_part : Option Fault → List ℕ
+fault_part None = []
+fault_part (Some fault) = codes ": " ++ fault_text fault
+
+-- a register whose verdict changed: the verdict, its name, its kind and how many operations stand
+abbrev pub changed_text : List Register → VerdictChange → List ℕ
+changed_text registers change =
+    verdict_word change.holds ++ codes " " ++ printed (register_name registers change.register) ++ codes " " ++ kind_word change.kind ++ codes " " ++ decimal change.operations
+
+-- the line of a notice: a change of a verdict, with the place of the element whose edit made it and why the register
+-- fails; a refusal; where a trace broke; or that it ended, with how many elements
+abbrev pub line_of_notice : List Register → Notice → List ℕ
+line_of_notice registers (Changed feeder place change) = changed_text registers change ++ codes " at " ++ place_text feeder place ++ fault_part change.fault ++ 10 ∷ []
+line_of_notice registers (Refused feeder place code) = codes "refused " ++ place_text feeder place ++ codes " " ++ refused_code code ++ 10 ∷ []
+line_of_notice registers (Broke feeder broken) = broken_line feeder (Some broken)
+line_of_notice registers (Ended feeder elements) = codes "end " ++ decimal feeder ++ codes " " ++ decimal elements ++ 10 ∷ []
+
+-- the text of a notice, with its line end: a line for people, or a record in JSON
+unfoldable pub text_of_notice : NoticeForm → List Register → Notice → List ℕ
+text_of_notice forms.Line registers notice = line_of_notice registers notice
+text_of_notice forms.Record registers notice = json_text (notice_symbols registers notice) ++ 10 ∷ []
+
+-- the texts of notices, one after the other
+abbrev pub text_of_notices : NoticeForm → List Register → List Notice → List ℕ
+text_of_notices form registers notices = flat_map (text_of_notice form registers) notices

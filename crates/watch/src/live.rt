@@ -1,0 +1,38 @@
+//! The watcher of a run, which tells what it is told.
+
+use crate::teller::{Beginning, Teller};
+use feeders::{Notice, Watcher};
+use shards::Gate;
+use std::io::Write;
+use std::sync::atomic::{AtomicBool, Ordering};
+use std::sync::{Mutex, Wait};
+
+/// A watcher that tells each notice by a teller under a lock. Where that takes no more, it is over.
+#[derive(Drop)]
+pub struct Live<'r, 'a, 't, R, W: Write, B: Beginning> {
+    rt: &'r R,
+    teller: &'r Mutex<Teller<'a, 't, W, B>>,
+    over: &'r AtomicBool,
+}
+
+impl<'r, 'a, 't, R, W: Write, B: Beginning> Live<'r, 'a, 't, R, W, B> {
+    pub fn new(rt: &'r R, teller: &'r Mutex<Teller<'a, 't, W, B>>, over: &'r AtomicBool) -> Self {
+        Live { rt, teller, over }
+    }
+}
+
+impl<R: Wait + Sync, W: Write + Send, B: Beginning + Send> Gate for Live<'_, '_, '_, R, W, B> {
+    fn inside(&self, _shard: u32, _feeder: u32) {}
+
+    fn outside(&self, _feeder: u32) {}
+}
+
+impl<R: Wait + Sync, W: Write + Send, B: Beginning + Send> Watcher for Live<'_, '_, '_, R, W, B> {
+    fn told(&self, notice: Notice) {
+        let mut teller = self.teller.lock(self.rt);
+        teller.tell(notice);
+        if !teller.goes_on() {
+            self.over.store(true, Ordering::SeqCst);
+        }
+    }
+}

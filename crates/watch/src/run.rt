@@ -1,0 +1,181 @@
+//! A watch, from its readers to its end.
+
+ghost use Rattle.std.specs.Prelude.{◌≡◌, ◌≢◌, ◌≤◌, ℕ, Bool, List, Ok, IfErr, IfOk, map, vec_len};
+ghost use Rattle.std.specs.Io.KnownBytes.{Appends};
+ghost use Rattle.feeders.specs.declared.watcher.Notice.{Notice as ANotice};
+ghost use Rattle.feeders.specs.Readers.{AreReadOf};
+ghost use Rattle.feeders.specs.Run.{IsRun};
+ghost use Rattle.watch.specs.Teller.{HasWritten, IsStateAfter};
+ghost use Rattle.watch.specs.Text.{text_of_notices};
+ghost use Rattle.watch.specs.Watched.{AreByEntries, AreTold, IsEnd, IsWatched};
+
+use crate::compare::are_told;
+use crate::fault::WatchFault;
+use crate::live::Live;
+use crate::stoppable::stopped_by;
+use crate::teller::{Beginning, Output, Teller, TellerState};
+use crate::text::NoticeForm;
+use feeders::{Notice, Pages, Run, RunFault, run_readers};
+use jepsen_form::MomentField;
+use std::alloc::Global;
+use std::io::{Read, Write};
+use std::marker::Brand;
+use std::sync::atomic::AtomicBool;
+use std::sync::{Mutex, Wait};
+use std::thread::Threads;
+use tower_file::Tower;
+
+/// How registers are watched.
+#[derive(Clone, Copy, Debug)]
+pub struct Terms {
+    /// The field that has the moments.
+    pub field: MomentField,
+    /// From 1 to 64.
+    pub shards: u32,
+    pub form: NoticeForm,
+    /// Whether the first register that fails ends the watch.
+    pub until_fail: bool,
+}
+
+/// What a watch leaves: the run over what was read, and whether a register that failed ended it.
+#[derive(Drop)]
+pub struct Watched<'t> {
+    pub run: Run<'t>,
+    pub stopped: bool,
+}
+
+/// Feeds what each reader gives, each by a thread of its own, and writes a notice, flushed, as soon as the verdict on a
+/// register changes, an element is refused, or a trace breaks or ends. A feeder that waits in a read call is not woken:
+/// where the watch is over its thread ends when that call returns.
+pub fn watch_readers<'t, R: Threads + Wait + Sync, S: Read + Drop + Send, W: Write + Send>(
+    rt: &R,
+    alloc: Global,
+    tower: &'t Tower,
+    readers: Vec<S>,
+    pages: &'t Pages,
+    terms: &Terms,
+    out: &mut W,
+) -> Result<Watched<'t>, WatchFault>
+    requires readers { (1 ≤ vec_len readers) × (vec_len readers ≤ 256) }
+    requires shards { (1 ≤ terms.now.shards) × (terms.now.shards ≤ 64) }
+    ensures watched { IfOk result (λ watched. IsWatched tower.now terms.now (map S.remaining readers.items) watched.run.closed watched.run.logs.items watched.stopped (W.contents out.old) (W.contents out.new)) }
+    ensures whole { IfErr result (λ fault. fault ≢ WatchFault.Write → (notices : List ANotice) × Appends (W.contents out.old) (W.contents out.new) (text_of_notices terms.now.form tower.now.registers notices)) }
+{
+    let mut outcome = Err(WatchFault::Memory);
+    let _output = watch_in::<R, S, W, Brand>(
+        rt,
+        alloc,
+        tower,
+        readers,
+        pages,
+        terms,
+        Output { out },
+        &mut outcome,
+    );
+    outcome
+}
+
+/// `watch_readers` from the beginning `B`.
+fn watch_in<
+    'a,
+    't,
+    R: Threads + Wait + Sync,
+    S: Read + Drop + Send,
+    W: Write + Send,
+    B: Beginning + Send + Sync,
+>(
+    rt: &R,
+    alloc: Global,
+    tower: &'t Tower,
+    readers: Vec<S>,
+    pages: &'t Pages,
+    terms: &Terms,
+    output: Output<'a, W>,
+    outcome: &mut Result<Watched<'t>, WatchFault>,
+) -> Output<'a, W>
+    requires readers { (1 ≤ vec_len readers) × (vec_len readers ≤ 256) }
+    requires shards { (1 ≤ terms.now.shards) × (terms.now.shards ≤ 64) }
+    requires output { output.out.ghost_name ≡ B.output }
+    requires before { W.contents output.out.now ≡ B.before }
+    requires registers { tower.now.registers ≡ B.registers }
+    requires form { terms.now.form ≡ B.form }
+    requires until_fail { terms.now.until_fail ≡ B.until_fail }
+    ensures same_reference { result.out.ghost_name ≡ output.entry.out.ghost_name }
+    ensures watched { IfOk outcome.new (λ watched. IsWatched tower.now terms.now (map S.remaining readers.items) watched.run.closed watched.run.logs.items watched.stopped B.before (W.contents result.out.now)) }
+    ensures whole { IfErr outcome.new (λ fault. fault ≢ WatchFault.Write → (notices : List ANotice) × Appends B.before (W.contents result.out.now) (text_of_notices terms.now.form tower.now.registers notices)) }
+{
+    let teller: Mutex<Teller<'a, 't, W, B>> = Mutex::new(Teller::new(
+        alloc,
+        tower,
+        terms.form,
+        terms.until_fail,
+        output,
+    ));
+    let run = run_told(rt, alloc, tower, readers, pages, terms, &teller);
+    let told = teller.into_inner().end();
+    *outcome = concluded(run, told.told.as_slice(), told.state, terms.shards);
+    told.output
+}
+
+/// Feeds what each reader gives, with a teller that is told what happens.
+fn run_told<
+    'a,
+    't,
+    R: Threads + Wait + Sync,
+    S: Read + Drop + Send,
+    W: Write + Send,
+    B: Beginning + Send + Sync,
+>(
+    rt: &R,
+    alloc: Global,
+    tower: &'t Tower,
+    readers: Vec<S>,
+    pages: &'t Pages,
+    terms: &Terms,
+    teller: &Mutex<Teller<'a, 't, W, B>>,
+) -> Result<Run<'t>, RunFault>
+    requires readers { (1 ≤ vec_len readers) × (vec_len readers ≤ 256) }
+    requires shards { (1 ≤ terms.now.shards) × (terms.now.shards ≤ 64) }
+    ensures run { IfOk result (λ run. (traces : List (List ℕ)) × AreReadOf (map S.remaining readers.items) run.logs.items traces × IsRun tower.now terms.now.field terms.now.shards traces run.closed run.logs.items) }
+{
+    let over = AtomicBool::new(false);
+    let live = Live::new(rt, teller, &over);
+    let readers = stopped_by(alloc, readers, &over)?;
+    run_readers(
+        rt,
+        alloc,
+        tower,
+        readers,
+        pages,
+        terms.field,
+        terms.shards,
+        &live,
+    )
+}
+
+/// What a watch leaves, given its run and what was told of it; or why it broke off.
+fn concluded<'t>(
+    run: Result<Run<'t>, RunFault>,
+    notices: &[Notice],
+    state: TellerState,
+    shards: u32,
+) -> Result<Watched<'t>, WatchFault>
+    requires some { 1 ≤ shards }
+    ensures run { IfOk result (λ watched. run.entry ≡ Ok watched.run) }
+    ensures told { IfOk result (λ watched. AreTold shards watched.run.closed watched.stopped notices.now × AreByEntries shards watched.run.closed notices.now) }
+    ensures end { IfOk result (λ watched. (until_fail : Bool) → IsStateAfter until_fail notices.now state → IsEnd until_fail notices.now watched.stopped) }
+    ensures state { IfOk result (λ watched. HasWritten state) }
+    ensures write { IfErr result (λ fault. fault ≢ WatchFault.Write → HasWritten state) }
+{
+    let stopped = match state {
+        TellerState::Going => false,
+        TellerState::Stopped => true,
+        TellerState::OutOfMemory => return Err(WatchFault::Memory),
+        TellerState::Unwritable => return Err(WatchFault::Write),
+    };
+    let run = run?;
+    if !are_told(notices, &run.closed, shards, stopped) {
+        return Err(WatchFault::Untold);
+    }
+    Ok(Watched { run, stopped })
+}

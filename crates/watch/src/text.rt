@@ -1,0 +1,100 @@
+//! The text of a notice.
+
+ghost use Rattle.std.specs.Prelude.{◌≡◌, ◌++◌, OnOk, IfOk, string_bytes};
+ghost use Rattle.watch.specs.Text.{changed_text, fault_part, line_of_notice, text_of_notice};
+
+use feeders::Notice;
+use records::push_notice;
+use register_book::Fault;
+use report::{kind_word, name_of, push_fault_text, push_printed, verdict_word};
+use shards::VerdictChange;
+use std::alloc::{AllocError, Global};
+use tower_file::Tower;
+
+/// How a notice is written.
+#[derive(Clone, Copy, Debug, PartialEq, Eq)]
+pub enum NoticeForm {
+    /// As a line for people.
+    Line,
+    /// As a record in JSON.
+    Record,
+}
+
+/// The text of a notice, with its line end.
+#[tactic(auto, unfolding(crate::specs::Text::text_of_notice))]
+pub fn notice_text(
+    alloc: Global,
+    tower: &Tower,
+    form: NoticeForm,
+    notice: &Notice,
+) -> Result<Vec<u8>, AllocError>
+    ensures { IfOk result (λ text. text.items ≡ text_of_notice form tower.now.registers notice.now) }
+{
+    match form {
+        NoticeForm::Line => {
+            let mut line = String::new(alloc);
+            push_line(&mut line, tower, notice)?;
+            Ok(line.into_bytes())
+        }
+        NoticeForm::Record => {
+            let mut record = Vec::new(alloc);
+            push_notice(alloc, &mut record, tower, notice)?;
+            Ok(record)
+        }
+    }
+}
+
+fn push_line(text: &mut String, tower: &Tower, notice: &Notice) -> Result<(), AllocError>
+    ensures { OnOk result (string_bytes text.new ≡ string_bytes text.old ++ line_of_notice tower.now.registers notice.now) }
+{
+    match notice {
+        Notice::Changed {
+            feeder,
+            place,
+            change,
+        } => {
+            push_changed(text, tower, change)?;
+            write!(text, " at {feeder}:{place}")?;
+            push_fault_part(text, change.fault)?;
+            text.push_str("\n")
+        }
+        Notice::Refused {
+            feeder,
+            place,
+            code,
+        } => {
+            write!(text, "refused {feeder}:{place} ")?;
+            text.push_str(code.code())?;
+            text.push_str("\n")
+        }
+        Notice::Broke { feeder, broken } => {
+            write!(text, "broken {feeder} ")?;
+            text.push_str(broken.code.code())?;
+            write!(text, " at {}\n", broken.place)
+        }
+        Notice::Ended { feeder, elements } => write!(text, "end {feeder} {elements}\n"),
+    }
+}
+
+fn push_changed(text: &mut String, tower: &Tower, change: &VerdictChange) -> Result<(), AllocError>
+    ensures { OnOk result (string_bytes text.new ≡ string_bytes text.old ++ changed_text tower.now.registers change.now) }
+{
+    text.push_str(verdict_word(change.holds))?;
+    text.push_str(" ")?;
+    push_printed(text, name_of(tower, change.register))?;
+    text.push_str(" ")?;
+    text.push_str(kind_word(change.kind))?;
+    write!(text, " {}", change.operations)
+}
+
+fn push_fault_part(text: &mut String, fault: Option<Fault>) -> Result<(), AllocError>
+    ensures { OnOk result (string_bytes text.new ≡ string_bytes text.old ++ fault_part fault) }
+{
+    match fault {
+        Some(fault) => {
+            text.push_str(": ")?;
+            push_fault_text(text, fault)
+        }
+        None => Ok(()),
+    }
+}
