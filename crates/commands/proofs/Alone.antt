@@ -17,7 +17,7 @@ use Rattle.shards.specs.Pass.{PassModel, IsPassOf}
 use Rattle.shards.specs.Closing.{ClosedShard, IsClosed, IsSettledJournal, book_of, journal_of}
 use Rattle.feeders.specs.declared.log.Broken.{Broken}
 use Rattle.feeders.specs.declared.log.Log.{Log}
-use Rattle.feeders.specs.Steps.{AreItemsOfTrace, StepResult, steps_of}
+use Rattle.feeders.specs.Steps.{AreItemsOfTrace, StepResult, edits_among, steps_of}
 use Rattle.feeders.specs.Doings.{taken_of, lines_from}
 use Rattle.feeders.specs.Readers.{AreReadOf, IsReadOf}
 use Rattle.feeders.specs.Run.{IsTraced, IsRun}
@@ -27,7 +27,7 @@ use Rattle.commands.specs.Status.{has_refused}
 use Rattle.commands.specs.Verdict.{HasRefused, standing_after}
 use Rattle.commands.specs.Audit.{IsAudit, IsAuditOf}
 use Rattle.commands.proofs.AloneRefusals.{refusals}
-use Rattle.commands.proofs.AloneJournal.{alone_plan, edits_after, Runs, runs_alone}
+use Rattle.commands.proofs.AloneJournal.{alone_plan, Runs, runs_alone}
 
 joined : (P Q R : Type 0) → P ↔ Q → Q ↔ R → P ↔ R
 joined P Q R a b = ((λ p. b.0 (a.0 p)), (λ r. a.1 (b.1 r)))
@@ -83,7 +83,7 @@ module _
       let told : RegisterState = standing_after (map taken_of traced.doings) in
       let held_is : held ≡ edited = stands_alone journal settled.of_shard.legal in
       let book : book_of closed 0 ≡ Some held = finished.books 0 in
-      let same = alike alone_claim (edits_of 0 journal) (edits_after (map taken_of traced.doings)) runs.edits in
+      let same = alike alone_claim (edits_of 0 journal) (edits_among 0 (map taken_of traced.doings)) runs.edits in
       let refused_is : audit.refused ≡ list_any is_refused_line (lines_from 0 traced.doings) = says.refused log refl ∙ ap (list_any is_refused_line) traced.done.noted in (
         traced.items,
         subst (λ (b : Option Broken). AreItemsOfTrace alone_tower Index trace b traced.items) (sym (says.broken log refl)) traced.are,

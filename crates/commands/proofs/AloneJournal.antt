@@ -23,19 +23,15 @@ use Rattle.shards.specs.Plain.{PlainEntry, plain_numbered}
 use Rattle.shards.specs.Journal.{IsAnswered, IsLegalJournal, edits_of, is_of, is_accepted, left_by}
 use Rattle.shards.specs.Merge.{numbered, is_numbered_by, entries_of}
 use Rattle.shards.specs.Steps.{entry_of, numbered_entry}
-use Rattle.feeders.specs.Steps.{StepResult}
+use Rattle.feeders.specs.Steps.{StepResult, edit_on, edits_among}
 use Rattle.feeders.specs.Doings.{Doing, refused, nothing, entered, answered, taken_of, entered_in}
-use Rattle.commands.specs.Verdict.{edit_to, standing_after, IsRefused}
+use Rattle.commands.specs.Verdict.{standing_after, IsRefused}
 use Rattle.commands.proofs.AloneReplies.{same_bare, refusal_of, reply_after, one_reply, after_front, front_of}
 use Rattle.commands.proofs.AloneRefusals.{AreReplied, is_refusing}
 
 -- the plan of one feeder, one shard and the one register
 abbrev pub alone_plan : Plan
 alone_plan = plan_of 0 alone_tower 1 1
-
--- the edits of steps
-abbrev pub edits_after : List StepResult → List Edit
-edits_after taken = filter_map (edit_to 0) taken
 
 -- all are of the one register
 known_is : (n : ℕ) (claim : ClaimModel) → slice_get alone_plan.claims n ≡ Some claim → (n ≡ 0) × (claim ≡ alone_claim)
@@ -61,23 +57,23 @@ edits_pushed front entry own =
     ∙ ap (λ (same : Bool). edits_of 0 front ++ map (λ (e : Entry). e.edit) (if same then entry ∷ [] else [])) (eq-eqb entry.register.0 0 own)
 
 -- a step without an edit adds none
-edits_kept : (before : List StepResult) (step : StepResult) → edit_to 0 step ≡ None → edits_after (before ++ step ∷ []) ≡ edits_after before
+edits_kept : (before : List StepResult) (step : StepResult) → edit_on 0 step ≡ None → edits_among 0 (before ++ step ∷ []) ≡ edits_among 0 before
 edits_kept before step none =
-    filter_map-append (edit_to 0) before (step ∷ [])
-    ∙ ap (λ (o : Option Edit). edits_after before ++ cons_option o []) none
-    ∙ append-nil (edits_after before)
+    filter_map-append (edit_on 0) before (step ∷ [])
+    ∙ ap (λ (o : Option Edit). edits_among 0 before ++ cons_option o []) none
+    ∙ append-nil (edits_among 0 before)
 
-edits_more : (before : List StepResult) (step : StepResult) (edit : Edit) → edit_to 0 step ≡ Some edit → edits_after (before ++ step ∷ []) ≡ edits_after before ++ edit ∷ []
+edits_more : (before : List StepResult) (step : StepResult) (edit : Edit) → edit_on 0 step ≡ Some edit → edits_among 0 (before ++ step ∷ []) ≡ edits_among 0 before ++ edit ∷ []
 edits_more before step edit some =
-    filter_map-append (edit_to 0) before (step ∷ [])
-    ∙ ap (λ (o : Option Edit). edits_after before ++ cons_option o []) some
+    filter_map-append (edit_on 0) before (step ∷ [])
+    ∙ ap (λ (o : Option Edit). edits_among 0 before ++ cons_option o []) some
 
 entered_first : (register : RegId) (edit : Edit) (number : ℕ) (reply : Reply) (doings : List Doing)
     → entered_in 1 0 0 (entered register edit number reply ∷ doings) ≡ numbered_entry number (entry_of 0 register edit reply) ∷ entered_in 1 0 0 doings
 entered_first register edit number reply doings =
     ap (λ (here : Bool). cons_option (if here then Some (numbered_entry number (entry_of 0 register edit reply)) else None) (entered_in 1 0 0 doings)) (eq-eqb (register.0 % 1) 0 (left_by_one register.0))
 
-edit_here : (register : RegId) (edit : Edit) → register.0 ≡ 0 → edit_to 0 (Ok (Some (steps.Edit register edit))) ≡ Some edit
+edit_here : (register : RegId) (edit : Edit) → register.0 ≡ 0 → edit_on 0 (Ok (Some (steps.Edit register edit))) ≡ Some edit
 edit_here register edit own = ap (λ (here : Bool). if here then Some edit else None) (eq-eqb register.0 0 own)
 
 -- what an entry of a journal and the doing that it reads as say of each other
@@ -105,7 +101,7 @@ own_entry front entry rest legal =
 -- the edits of the journal are those of the steps, but for their texts; and each doing is a refusal where its
 -- step is refused
 pub record Runs (before : List StepResult) (front journal : List Entry) (doings : List Doing) : Type 0 where
-  pub edits : map bare_edit (edits_of 0 (front ++ journal)) ≡ map bare_edit (edits_after (before ++ map taken_of doings))
+  pub edits : map bare_edit (edits_of 0 (front ++ journal)) ≡ map bare_edit (edits_among 0 (before ++ map taken_of doings))
   pub replied : AreReplied before doings
 
 later : (before : List StepResult) (step : StepResult) (steps : List StepResult) → (before ++ step ∷ []) ++ steps ≡ before ++ step ∷ steps
@@ -114,19 +110,19 @@ later before step steps = append_assoc before (step ∷ []) steps
 without : (before : List StepResult) (front journal : List Entry) (doing : Doing) (doings : List Doing) → (IsTrue (is_refusing doing) ↔ IsRefused before (taken_of doing))
     → Runs (before ++ taken_of doing ∷ []) front journal doings → Runs before front journal (doing ∷ doings)
 without before front journal doing doings here runs = record {
-  edits = runs.edits ∙ ap (λ (t : List StepResult). map bare_edit (edits_after t)) (later before (taken_of doing) (map taken_of doings));
+  edits = runs.edits ∙ ap (λ (t : List StepResult). map bare_edit (edits_among 0 t)) (later before (taken_of doing) (map taken_of doings));
   replied = (here, runs.replied);
 }
 
 pushed : (before : List StepResult) (front : List Entry) (entry : Entry) (register : RegId) (edit : Edit) (number : ℕ) (reply : Reply)
-    → map bare_edit (edits_of 0 front) ≡ map bare_edit (edits_after before) → IsOne entry register edit reply
-    → map bare_edit (edits_of 0 (front ++ entry ∷ [])) ≡ map bare_edit (edits_after (before ++ taken_of (entered register edit number reply) ∷ []))
+    → map bare_edit (edits_of 0 front) ≡ map bare_edit (edits_among 0 before) → IsOne entry register edit reply
+    → map bare_edit (edits_of 0 (front ++ entry ∷ [])) ≡ map bare_edit (edits_among 0 (before ++ taken_of (entered register edit number reply) ∷ []))
 pushed before front entry register edit number reply edits one =
     ap (map bare_edit) (edits_pushed front entry one.own)
     ∙ map-append bare_edit (edits_of 0 front) (entry.edit ∷ [])
     ∙ ap (λ (l : List Edit). l ++ bare_edit entry.edit ∷ []) edits
-    ∙ ap (λ (e : Edit). map bare_edit (edits_after before) ++ e ∷ []) one.alike
-    ∙ sym (map-append bare_edit (edits_after before) (edit ∷ []))
+    ∙ ap (λ (e : Edit). map bare_edit (edits_among 0 before) ++ e ∷ []) one.alike
+    ∙ sym (map-append bare_edit (edits_among 0 before) (edit ∷ []))
     ∙ ap (map bare_edit) (sym (edits_more before (taken_of (entered register edit number reply)) edit (edit_here register edit one.own')))
 
 module _
@@ -144,27 +140,27 @@ module _
       ∙ ap (λ (held : RegisterState). is_some (reply_after held entry.edit)) (stands front (front_of (IsAnswered alone_plan 0) [] front (entry ∷ rest) legal))
 
   entering : (before : List StepResult) (front : List Entry) (entry : Entry) (journal : List Entry) (register : RegId) (edit : Edit) (number : ℕ) (reply : Reply) (doings : List Doing)
-      → IsLegalJournal alone_plan 0 (front ++ entry ∷ journal) → map bare_edit (edits_of 0 front) ≡ map bare_edit (edits_after before) → IsOne entry register edit reply
+      → IsLegalJournal alone_plan 0 (front ++ entry ∷ journal) → map bare_edit (edits_of 0 front) ≡ map bare_edit (edits_among 0 before) → IsOne entry register edit reply
       → Runs (before ++ taken_of (entered register edit number reply) ∷ []) (front ++ entry ∷ []) journal doings
       → Runs before front (entry ∷ journal) (entered register edit number reply ∷ doings)
   entering before front entry journal register edit number reply doings legal edits one rest =
       let same : not (is_accepted reply) ≡ is_some (reply_after (standing_after before) edit) =
       ap (λ (r : Reply). not (is_accepted r)) (sym one.replies)
       ∙ replied_entry front entry journal legal
-      ∙ ap is_some (one_reply alone_claim reply_is stood (edits_of 0 front) (edits_after before) entry.edit edit edits one.alike) in
+      ∙ ap is_some (one_reply alone_claim reply_is stood (edits_of 0 front) (edits_among 0 before) entry.edit edit edits one.alike) in
       record {
         edits = ap (λ (l : List Entry). map bare_edit (edits_of 0 l)) (sym (append_assoc front (entry ∷ []) journal))
             ∙ rest.edits
-            ∙ ap (λ (t : List StepResult). map bare_edit (edits_after t)) (later before (taken_of (entered register edit number reply)) (map taken_of doings));
+            ∙ ap (λ (t : List StepResult). map bare_edit (edits_among 0 t)) (later before (taken_of (entered register edit number reply)) (map taken_of doings));
         replied = (((λ is. sym same ∙ is), (λ is. same ∙ is)), rest.replied);
       }
 
   runs : (place : ℕ) (before : List StepResult) (front journal : List Entry) (doings : List Doing) → IsLegalJournal alone_plan 0 (front ++ journal)
-      → map bare_edit (edits_of 0 front) ≡ map bare_edit (edits_after before)
+      → map bare_edit (edits_of 0 front) ≡ map bare_edit (edits_among 0 before)
       → map plain_numbered (numbered place journal) ≡ map plain_numbered (entered_in 1 0 0 doings)
       → Runs before front journal doings
   runs place before front [] [] legal edits same = record {
-    edits = ap (λ (l : List Entry). map bare_edit (edits_of 0 l)) (append-nil front) ∙ edits ∙ ap (λ (t : List StepResult). map bare_edit (edits_after t)) (sym (append-nil before));
+    edits = ap (λ (l : List Entry). map bare_edit (edits_of 0 l)) (append-nil front) ∙ edits ∙ ap (λ (t : List StepResult). map bare_edit (edits_among 0 t)) (sym (append-nil before));
     replied = tt;
   }
   runs place before front (entry ∷ journal) [] legal edits same = cc

@@ -46,10 +46,11 @@ moment_word Time = codes "time"
 abbrev pub record_names : AskedCheck → RunNames
 record_names asked = record { tower = asked.tower; traces = asked.traces; moments = moment_word asked.moments }
 
--- the text has the records of a run in this notation
+-- the text has the records of a run in this notation, with the lines and the bytes of elements in the texts that were
+-- kept of the traces
 abbrev pub ArePrinted : Notation → AskedCheck → ℕ → TowerModel → List ClosedShard → List Log → Option RegId → List ℕ → Type 0
 ArePrinted notation asked status tower closed logs order text =
-    IsTextOfRecords notation (record_names asked) asked.only_failing status tower closed logs order text
+    (kept : List (List ℕ)) × IsTextOfRecords notation (record_names asked) asked.only_failing status tower closed logs order kept text
 
 -- the text is what is printed of a run in this form: the report, with the order that is asked for, the summary, or the
 -- records
@@ -71,6 +72,11 @@ pub record IsStatus (tower : TowerModel) (closed : List ClosedShard) (logs : Lis
   pub few : Bool
   pub few_is : IsTrue few ↔ HasTooFew tower closed least least_each
   pub status_is : status ≡ status_of (list_any is_broken logs) fails (list_any has_refused logs) few
+
+-- a run of a tower over what was read of readers with these bytes left, with moments under this key and so many shards
+abbrev pub IsRunOver : TowerModel → MomentKey → ℕ → List (Option (List ℕ)) → List ClosedShard → List Log → Type 0
+IsRunOver tower moments shards left closed logs =
+    (read : List (List ℕ)) × AreReadOf left logs read × IsRun tower (chosen_field moments) shards read closed logs
 
 -- what `check` did: a feeder for each trace fed it to the registers of the file's tower, as far as it was read (all,
 -- or a prefix where the reading broke off), and what is printed of that run was written

@@ -1,8 +1,7 @@
 -- What the command `safe` prints of a trace, and its status.
-use Rattle.std.specs.Prelude.{◌≡◌, ◌↔◌, ◌==◌, ℕ, Bool, false, not, List, [], ◌∷◌, ◌++◌, length, filter_map, Option, Some, None, Result, Ok, Err, IsSome, IsTrue, is_some, codes, if◌then◌else◌}
+use Rattle.std.specs.Prelude.{◌≡◌, ◌↔◌, ℕ, Bool, false, not, List, [], ◌∷◌, ◌++◌, length, Option, Some, None, Result, Ok, Err, IsSome, IsTrue, is_some, codes}
 use Rattle.std.specs.Io.KnownBytes.{Appends}
 use Rattle.intervals.specs.declared.claim.Kind.{Kind}
-use Rattle.intervals.specs.declared.edit.Edit.{Edit}
 use Rattle.intervals.specs.Terms.{RegisterState, unedited}
 use Rattle.intervals.specs.Kind.{Holds}
 use Rattle.intervals.specs.Refusal.{reply_to, standing}
@@ -13,20 +12,13 @@ use Rattle.pairing.specs.declared.step.Step.TheVariants as steps
 use Rattle.tower_file.specs.Alone.{alone_claim, alone_tower}
 use Rattle.feeders.specs.declared.log.Broken.{Broken}
 use Rattle.feeders.specs.Readers.{IsReadOf}
-use Rattle.feeders.specs.Steps.{AreItemsOfTrace, StepResult, steps_of}
+use Rattle.feeders.specs.Steps.{AreItemsOfTrace, StepResult, edits_among, steps_of}
 use Rattle.report.specs.Section.{register_line}
 use Rattle.commands.specs.Status.{status_of}
 
--- the edit of a step, where the step is an edit of the register of this number
-abbrev pub edit_to : ℕ → StepResult → Option Edit
-edit_to number (Err code) = None
-edit_to number (Ok None) = None
-edit_to number (Ok (Some (steps.Edit register edit))) = if register.0 == number then Some edit else None
-edit_to number (Ok (Some (steps.Ask register))) = None
-
 -- the one register as steps leave it: its claim, and the operations that stand
 abbrev pub standing_after : List StepResult → RegisterState
-standing_after taken = standing (unedited alone_claim) (filter_map (edit_to 0) taken)
+standing_after taken = standing (unedited alone_claim) (edits_among 0 taken)
 
 -- a step after these is refused: for its element's form, by the pairing, or by the register as it is then
 abbrev pub IsRefused : List StepResult → StepResult → Type 0

@@ -27,7 +27,7 @@ notice_form Json = Record
 
 -- how the registers are watched
 abbrev pub watch_terms : AskedWatch → Terms
-watch_terms asked = record { field = chosen_field asked.moments; shards = asked.shards; form = notice_form asked.form; until_fail = asked.until_fail }
+watch_terms asked = record { field = chosen_field asked.moments; shards = asked.shards; form = notice_form asked.form; until_fail = asked.until_fail; settle = asked.settle }
 
 -- the fault of a command whose watch broke off
 abbrev pub unfollowed : WatchFault → CommandFault

@@ -33,7 +33,7 @@ pub enum CommandFault<'a> {
     Shard(ShardFault),
     Memory,
     Unwritable,
-    /// The notices of a watch are not those of the closed journals.
+    /// The notices of a watch are not those of the closed journals, or of the logs.
     Untold,
 }
 

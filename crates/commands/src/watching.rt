@@ -64,6 +64,7 @@ fn watch_terms(asked: &Watch<'_>) -> Terms
         shards: asked.shards,
         form: notice_form(asked.form),
         until_fail: asked.until_fail,
+        settle: asked.settle,
     }
 }
 

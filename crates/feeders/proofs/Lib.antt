@@ -11,7 +11,7 @@ pub mod Naming
 -- the element that waits: it is read, paired and carried out; the prefix of a chunk with which it ended
 pub mod Settling
 pub mod Fronts
--- a trace that is in memory as a whole, what a pass has after a call, halves, and what a run leaves
+-- a trace that is in memory as a whole, what a pass has after a call, passes with what their feeders are given, and what a run leaves
 pub mod Reading
 pub mod Telling
 pub mod Split

@@ -1,87 +1,114 @@
--- Passes and traces that are fed in two parts are fed.
-use Rattle.std.proofs.Common.{◌≡◌, ℕ, zero, suc, ◌+◌, ◌-◌, ◌≤◌, ◌<◌, slice_get, Some, List, [], ◌∷◌, ◌++◌, length, map, take, drop, Result, Ok, Err, OnOk, IfErr, IfOk, refl, sym, ap, subst, ◌∙◌, arith}
-use Rattle.std.specs.List.{range_with_len}
+-- Passes and what their feeders are given, one by one.
+use Rattle.std.proofs.Common.{append-nil, ◌≡◌, ℕ, zero, suc, ◌+◌, ◌≤◌, ◌<◌, List, [], ◌∷◌, ◌++◌, length, map, Result, Ok, Err, IfOk, All, get_or, refl, sym, ap, subst, ◌∙◌, arith}
+use Rattle.std.specs.List.{AllByRecursion, range_with_len}
+use Rattle.std.proofs.lemmas.List.{append_assoc, length-map}
 use Rattle.shards.specs.Plan.{Plan}
 use Rattle.shards.specs.Pass.{PassModel, new_pass}
 use Rattle.feeders.specs.declared.outcome.FeederOutcome.{FeederOutcome}
-use Rattle.feeders.specs.Progress.{AreFedBy, AreFresh}
-
-pub fresh_take : (plan : Plan) (n : ℕ) (passes : List PassModel) → AreFresh plan passes → AreFresh plan (take n passes)
-fresh_take plan zero passes are = tt
-fresh_take plan (suc n) [] are = tt
-fresh_take plan (suc n) (pass ∷ passes) are = (are.0, are.1, fresh_take plan n passes are.2)
-
-pub fresh_drop : (plan : Plan) (n : ℕ) (passes : List PassModel) → AreFresh plan passes → AreFresh plan (drop n passes)
-fresh_drop plan zero passes are = are
-fresh_drop plan (suc n) [] are = tt
-fresh_drop plan (suc n) (pass ∷ passes) are = fresh_drop plan n passes are.2
-
--- fresh passes in two parts, where a call made the parts
-pub fresh_parts : {V E : Type 0} (plan : Plan) (n : ℕ) (before front : List PassModel) (back : V → List PassModel) (result : Result V E) → AreFresh plan before
-    → OnOk result (front ≡ take n before) → IfOk result (λ rest. back rest ≡ drop n before) → IfOk result (λ rest. AreFresh plan front × AreFresh plan (back rest))
-fresh_parts plan n before front back (Ok rest) are is_front is_back = (
-  subst (AreFresh plan) (sym is_front) (fresh_take plan n before are),
-  subst (AreFresh plan) (sym is_back) (fresh_drop plan n before are),
-)
-fresh_parts plan n before front back (Err fault) are is_front is_back = tt
+use Rattle.feeders.specs.Progress.{AreFedBy, AreFresh, IsFresh}
 
 -- the passes that an auditor gives are fresh
 pub fresh_all : (plan : Plan) (first n : ℕ) → first + n ≤ plan.feeders → AreFresh plan (map (new_pass plan) (range_with_len first n))
 fresh_all plan first zero within = tt
-fresh_all plan first (suc n) within = (refl, omega arith, fresh_all plan (first + 1) n (omega arith))
+fresh_all plan first (suc n) within = ((refl, omega arith), fresh_all plan (first + 1) n (omega arith))
 
-module _ {X : Type 0} (IsFedOf : ℕ → X → FeederOutcome → Type 0) where
-  -- the outcomes of the first part, and then those of the second
-  fed_halves : (n : ℕ) (passes : List PassModel) (traces : List X) (front back : List FeederOutcome)
-      → AreFedBy IsFedOf (take n passes) (take n traces) front → AreFedBy IsFedOf (drop n passes) (drop n traces) back
-      → AreFedBy IsFedOf passes traces (front ++ back)
-  fed_halves zero passes traces [] back first rest = rest
-  fed_halves zero passes traces (fed ∷ front) back first rest = absurd first
-  fed_halves (suc n) [] [] [] back first rest = rest
-  fed_halves (suc n) [] [] (fed ∷ front) back first rest = absurd first
-  fed_halves (suc n) [] (trace ∷ traces) [] back first rest = absurd first
-  fed_halves (suc n) [] (trace ∷ traces) (fed ∷ front) back first rest = absurd first
-  fed_halves (suc n) (pass ∷ passes) [] [] back first rest = absurd first
-  fed_halves (suc n) (pass ∷ passes) [] (fed ∷ front) back first rest = absurd first
-  fed_halves (suc n) (pass ∷ passes) (trace ∷ traces) [] back first rest = absurd first
-  fed_halves (suc n) (pass ∷ passes) (trace ∷ traces) (fed ∷ front) back first rest = (first.0, fed_halves n passes traces front back first.1 rest)
+-- what a feeder left, behind what others left before it
+moved : {V E : Type 0} (before : List V) (fed : V) (rest : List (Result V E)) → map Ok before ++ Ok fed ∷ rest ≡ map Ok (before ++ fed ∷ []) ++ rest
+moved [] fed rest = refl
+moved {V} {E} (one ∷ before) fed rest = ap (λ (ended : List (Result V E)). Ok one ∷ ended) (moved before fed rest)
 
-  -- the outcomes of two parts, where the parts were made before
-  pub fed_parts : (n : ℕ) (passes front_passes back_passes : List PassModel) (traces front_traces back_traces : List X) (front back all : List FeederOutcome)
-      → front_passes ≡ take (length front_traces) passes → back_passes ≡ drop (length front_traces) passes → length front_traces ≡ n
-      → front_traces ≡ take n traces → back_traces ≡ drop n traces → all ≡ front ++ back
-      → AreFedBy IsFedOf front_passes front_traces front → AreFedBy IsFedOf back_passes back_traces back → AreFedBy IsFedOf passes traces all
-  fed_parts n passes front_passes back_passes traces front_traces back_traces front back all is_front is_back long is_front_of is_back_of is first rest =
-      let first_passes : front_passes ≡ take n passes = is_front ∙ ap (λ (k : ℕ). take k passes) long in
-      let rest_passes : back_passes ≡ drop n passes = is_back ∙ ap (λ (k : ℕ). drop k passes) long in
-      let first_part : AreFedBy IsFedOf (take n passes) (take n traces) front =
-      subst (λ (ps : List PassModel). AreFedBy IsFedOf ps (take n traces) front) first_passes
-      (subst (λ (ts : List X). AreFedBy IsFedOf front_passes ts front) is_front_of first) in
-      let rest_part : AreFedBy IsFedOf (drop n passes) (drop n traces) back =
-      subst (λ (ps : List PassModel). AreFedBy IsFedOf ps (drop n traces) back) rest_passes
-      (subst (λ (ts : List X). AreFedBy IsFedOf back_passes ts back) is_back_of rest) in
-      subst (AreFedBy IsFedOf passes traces) (sym is) (fed_halves n passes traces front back first_part rest_part)
+pub grown : {V E : Type 0} (ended : List (Result V E)) (before all : List V) (left rest : List (Result V E)) (one : Result V E) (fed : V) → ended ≡ map Ok before ++ left → left ≡ one ∷ rest → one ≡ Ok fed → all ≡ before ++ fed ∷ []
+    → ended ≡ map Ok all ++ rest
+grown {V} {E} ended before all left rest one fed are is_left is_one are_all =
+    are ∙ ap (λ (l : List (Result V E)). map Ok before ++ l) (is_left ∙ ap (λ (o : Result V E). o ∷ rest) is_one) ∙ moved before fed rest ∙ ap (λ (xs : List V). map Ok xs ++ rest) (sym are_all)
 
--- what two halves gave, joined; nothing where one of them failed
-pub joined_ok : {V E : Type 0} (items : V → List FeederOutcome) (out_of_memory : E) {IsFront IsBack IsAll : V → Type 0} (first second result : Result V E)
-    → IfOk first (λ front. IfOk second (λ back. IfOk result (λ all. items all ≡ items front ++ items back) × IfErr result (λ fault. fault ≡ out_of_memory)))
-    → IfErr first (λ fault. result ≡ Err fault) → OnOk first (IfErr second (λ fault. result ≡ Err fault)) → IfOk first IsFront → IfOk second IsBack
-    → ((front back all : V) → items all ≡ items front ++ items back → IsFront front → IsBack back → IsAll all) → IfOk result IsAll
-joined_ok items memory (Ok front) (Ok back) (Ok all) both least greater is_front is_back join = join front back all both.0 is_front is_back
-joined_ok items memory (Ok front) (Ok back) (Err fault) both least greater is_front is_back join = tt
-joined_ok items memory (Ok front) (Err other) (Ok all) both least greater is_front is_back join = absurd cc
-joined_ok items memory (Ok front) (Err other) (Err fault) both least greater is_front is_back join = tt
-joined_ok items memory (Err other) second (Ok all) both least greater is_front is_back join = absurd cc
-joined_ok items memory (Err other) second (Err fault) both least greater is_front is_back join = tt
+-- what holds of all holds of all but the first
+pub all_but_first : {X : Type 0} (P : X → Type 0) (left rest : List X) (one : X) → All P left → left ≡ one ∷ rest → All P rest
+all_but_first P left rest one all is = λ k d below. (subst (All P) is all) (suc k) d (omega arith)
 
--- one trace with its pass
-pub fed_alone : {X : Type 0} (IsFedOf : ℕ → X → FeederOutcome → Type 0) (passes : List PassModel) (traces : List X) (pass : PassModel) (trace : X) (fed : FeederOutcome) → length passes ≡ length traces → length traces < 2
-    → slice_get passes (length passes - 1) ≡ Some pass → slice_get traces 0 ≡ Some trace → IsFedOf pass.feeder trace fed → AreFedBy IsFedOf passes traces (fed ∷ [])
-fed_alone IsFedOf [] traces pass trace fed same few last first is = absurd cc
-fed_alone IsFedOf (p ∷ []) [] pass trace fed same few last first is = absurd (omega arith)
-fed_alone {X} IsFedOf (p ∷ []) (t ∷ []) pass trace fed same few last first is =
-    let pass_is : pass ≡ p = cc in
-    let trace_is : trace ≡ t = cc in
-    (subst (λ (x : X). IsFedOf p.feeder x fed) trace_is (subst (λ (q : PassModel). IsFedOf q.feeder trace fed) pass_is is), tt)
-fed_alone IsFedOf (p ∷ []) (t ∷ u ∷ traces) pass trace fed same few last first is = absurd (omega arith)
-fed_alone IsFedOf (p ∷ q ∷ passes) traces pass trace fed same few last first is = absurd (omega arith)
+fresh_in : {X : Type 0} (plan : Plan) (pairs : List (PassModel × X)) → AreFresh plan (map (λ pair. pair.0) pairs) → (i : ℕ) (pair : PassModel × X) → i < length pairs → pair ≡ get_or pairs i pair → IsFresh plan pair.0
+fresh_in plan [] are i pair below is = absurd (omega arith)
+fresh_in {X} plan (first ∷ pairs) are zero pair below is = subst (λ (p : PassModel × X). IsFresh plan p.0) (sym is) are.0
+fresh_in plan (first ∷ pairs) are (suc i) pair below is = fresh_in plan pairs are.1 i pair (omega arith) is
+
+-- each pair has a fresh pass
+pub fresh_at : {X : Type 0} (plan : Plan) (pairs : List (PassModel × X)) (passes : List PassModel) → map (λ pair. pair.0) pairs ≡ passes → AreFresh plan passes → (i : ℕ) (pair : PassModel × X) → i < length pairs → pair ≡ get_or pairs i pair → IsFresh plan pair.0
+fresh_at plan pairs passes is are = fresh_in plan pairs (subst (AreFresh plan) (sym is) are)
+
+-- what the feeder that was given the pair at this place may have ended with
+pub record Ends {X Y E : Type 0} (of : X → Y) (IsFedOf : ℕ → Y → FeederOutcome → Type 0) (pairs : List (PassModel × X)) (i : ℕ) (one : Result FeederOutcome E) : Type 0 where
+  pub pair : PassModel × X
+  pub is : (d : PassModel × X) → get_or pairs i d ≡ pair
+  pub fed : IfOk one (IsFedOf pair.0.feeder (of pair.1))
+
+module _ {X Y E : Type 0} (of : X → Y) (IsFedOf : ℕ → Y → FeederOutcome → Type 0) where
+  fed_each : (pairs : List (PassModel × X)) (outcomes : List FeederOutcome) → length outcomes ≡ length pairs
+      → ((i : ℕ) (d : Result FeederOutcome E) → i < length pairs → Ends of IsFedOf pairs i (get_or (map Ok outcomes) i d)) → AreFedBy IsFedOf (map (λ pair. pair.0) pairs) (map (λ pair. of pair.1) pairs) outcomes
+  fed_each [] [] same each = tt
+  fed_each [] (fed ∷ outcomes) same each = absurd (omega arith)
+  fed_each (pair ∷ pairs) [] same each = absurd (omega arith)
+  fed_each (pair ∷ pairs) (fed ∷ outcomes) same each =
+      let one = each 0 (Ok fed) (omega arith) in
+      let is : pair ≡ one.pair = one.is pair in (
+        subst (λ (p : PassModel × X). IsFedOf p.0.feeder (of p.1) fed) (sym is) one.fed,
+        fed_each pairs outcomes (omega arith) (λ i d below. let rest = each (suc i) d (omega arith) in record { pair = rest.pair; is = rest.is; fed = rest.fed }),
+      )
+
+  -- each feeder was given its pass and what stands at its place, and none failed
+  pub fed_all : (pairs : List (PassModel × X)) (passes : List PassModel) (given : List Y) (ended : List (Result FeederOutcome E)) (outcomes : List FeederOutcome) → map (λ pair. pair.0) pairs ≡ passes → map (λ pair. of pair.1) pairs ≡ given
+      → length ended ≡ length pairs → ((i : ℕ) (d : Result FeederOutcome E) → i < length pairs → Ends of IsFedOf pairs i (get_or ended i d)) → map Ok outcomes ≡ ended → AreFedBy IsFedOf passes given outcomes
+  fed_all pairs passes given ended outcomes are_passes are_given same each are =
+      let many : length outcomes ≡ length pairs = sym (length-map outcomes (λ (fed : FeederOutcome). Ok fed)) ∙ ap length are ∙ same in
+      let fed = fed_each pairs outcomes many (λ i d below. subst (λ (es : List (Result FeederOutcome E)). Ends of IsFedOf pairs i (get_or es i d)) (sym are) (each i d below)) in
+      subst (λ (ps : List PassModel). AreFedBy IsFedOf ps given outcomes) are_passes
+      (subst (λ (xs : List Y). AreFedBy IsFedOf (map (λ (pair : PassModel × X). pair.0) pairs) xs outcomes) are_given fed)
+
+-- what is said of the second parts of pairs
+of_pairs : {X Y : Type 0} (of : X → Y) (pairs : List (PassModel × X)) → map (λ pair. of pair.1) pairs ≡ map of (map (λ pair. pair.1) pairs)
+of_pairs of [] = refl
+of_pairs {X} {Y} of (pair ∷ pairs) = ap (λ (ys : List Y). of pair.1 ∷ ys) (of_pairs of pairs)
+
+pub of_given : {X Y : Type 0} (of : X → Y) (pairs : List (PassModel × X)) (given : List X) → map (λ pair. pair.1) pairs ≡ given → map (λ pair. of pair.1) pairs ≡ map of given
+of_given of pairs given are = of_pairs of pairs ∙ ap (map of) are
+
+pub ok_then : {V E : Type 0} {P Q : V → Type 0} (result : Result V E) → IfOk result P → ((v : V) → P v → Q v) → IfOk result Q
+ok_then (Ok v) is then = then v is
+ok_then (Err fault) is then = tt
+
+-- what is said of each in two parts
+pub fed_parts : {X : Type 0} (IsFedOf : ℕ → X → FeederOutcome → Type 0) (P : FeederOutcome → Type 0) (passes : List PassModel) (given : List X) (outcomes : List FeederOutcome)
+    → AreFedBy (λ feeder one fed. IsFedOf feeder one fed × P fed) passes given outcomes → AreFedBy IsFedOf passes given outcomes × AllByRecursion P outcomes
+fed_parts IsFedOf P [] [] [] are = (tt, tt)
+fed_parts IsFedOf P [] [] (fed ∷ outcomes) are = absurd are
+fed_parts IsFedOf P [] (one ∷ given) outcomes are = absurd are
+fed_parts IsFedOf P (pass ∷ passes) [] outcomes are = absurd are
+fed_parts IsFedOf P (pass ∷ passes) (one ∷ given) [] are = absurd are
+fed_parts IsFedOf P (pass ∷ passes) (one ∷ given) (fed ∷ outcomes) are =
+    let rest = fed_parts IsFedOf P passes given outcomes are.1 in
+    ((are.0.0, rest.0), (are.0.1, rest.1))
+
+-- what is still to be fed, and what each feeder leaves behind what others left before it
+pub record Goes {X Y : Type 0} (of : X → Y) (IsFedOf : ℕ → Y → FeederOutcome → Type 0) (plan : Plan) (passes : List PassModel) (given : List Y) (before : List FeederOutcome) (left : List (PassModel × X)) : Type 0 where
+  pub fresh : AreFresh plan (map (λ pair. pair.0) left)
+  pub fed : (rest : List FeederOutcome) → AreFedBy IsFedOf (map (λ pair. pair.0) left) (map (λ pair. of pair.1) left) rest → AreFedBy IsFedOf passes given (before ++ rest)
+
+module _ {X Y : Type 0} (of : X → Y) (IsFedOf : ℕ → Y → FeederOutcome → Type 0) (plan : Plan) (passes : List PassModel) (given : List Y) where
+  pub begins : (pairs : List (PassModel × X)) → map (λ pair. pair.0) pairs ≡ passes → map (λ pair. of pair.1) pairs ≡ given → AreFresh plan passes → Goes of IsFedOf plan passes given [] pairs
+  begins pairs are_passes are_given fresh = record {
+    fresh = subst (AreFresh plan) (sym are_passes) fresh;
+    fed = λ rest are. subst (λ (ps : List PassModel). AreFedBy IsFedOf ps given rest) are_passes
+        (subst (λ (xs : List Y). AreFedBy IsFedOf (map (λ (pair : PassModel × X). pair.0) pairs) xs rest) are_given are);
+  }
+
+  pub goes_on : (before after : List FeederOutcome) (left more : List (PassModel × X)) (pair : PassModel × X) (fed : FeederOutcome) → Goes of IsFedOf plan passes given before left → left ≡ pair ∷ more → IsFedOf pair.0.feeder (of pair.1) fed
+      → after ≡ before ++ fed ∷ [] → Goes of IsFedOf plan passes given after more
+  goes_on before after left more pair fed goes is fed_is after_is =
+      let here : Goes of IsFedOf plan passes given before (pair ∷ more) = subst (Goes of IsFedOf plan passes given before) is goes in
+      subst (λ (done : List FeederOutcome). Goes of IsFedOf plan passes given done more) (sym after_is) (record {
+        fresh = here.fresh.1;
+        fed = λ rest are. subst (AreFedBy IsFedOf passes given) (sym (append_assoc before (fed ∷ []) rest)) (here.fed (fed ∷ rest) (fed_is, are));
+      })
+
+  pub ends : (before : List FeederOutcome) (left : List (PassModel × X)) → Goes of IsFedOf plan passes given before left → length left ≡ 0 → AreFedBy IsFedOf passes given before
+  ends before [] goes none = subst (AreFedBy IsFedOf passes given) (append-nil before) (goes.fed [] tt)
+  ends before (pair ∷ left) goes none = absurd (omega arith)

@@ -1,5 +1,5 @@
 -- How far a feeder has come, and what it leaves. Only private clauses speak of it.
-use Rattle.std.specs.Prelude.{◌≡◌, ◌<◌, ◌≤◌, ℕ, List, [], ◌∷◌, ◌++◌, length, Option, Result}
+use Rattle.std.specs.Prelude.{◌≡◌, ◌<◌, ◌≤◌, ℕ, List, [], ◌∷◌, ◌++◌, length, map, Option, Result, Ok, Err}
 use Rattle.std.specs.Borrow.{Bor}
 use Rattle.std.specs.Option.{ForSome}
 use Rattle.tower_file.specs.Contents.{TowerModel}
@@ -9,6 +9,7 @@ use Rattle.jepsen_form.specs.declared.item.MomentField.{MomentField}
 use Rattle.pairing.specs.Known.{KnowsItems}
 use Rattle.shards.specs.Plan.{Plan}
 use Rattle.shards.specs.Pass.{IsPassOf, PassModel, new_pass, own_entries}
+use Rattle.feeders.specs.declared.fault.RunFault.{RunFault}
 use Rattle.feeders.specs.declared.outcome.FeederOutcome.{FeederOutcome}
 use Rattle.feeders.specs.declared.log.Line.{Line}
 use Rattle.feeders.specs.declared.log.Log.{Log}
@@ -88,7 +89,15 @@ AreFed plan tower chosen passes traces outcomes = AreFedBy (λ feeder trace fed.
 abbrev pub AreReadAndFed : Plan → TowerModel → MomentField → List PassModel → List (Option (List ℕ)) → List FeederOutcome → Type 0
 AreReadAndFed plan tower chosen passes lefts outcomes = AreFedBy (λ feeder. IsReadAndFed (setting_of plan tower chosen (first_start feeder))) passes lefts outcomes
 
+-- nothing was done with this pass, which is of one of the plan's feeders
+abbrev pub IsFresh : Plan → PassModel → Type 0
+IsFresh plan pass = (pass ≡ new_pass plan pass.feeder) × (pass.feeder < plan.feeders)
+
 -- nothing was done with any of these passes, each of one of the plan's feeders
 abbrev pub AreFresh : Plan → List PassModel → Type 0
 AreFresh plan [] = Unit {0}
-AreFresh plan (pass ∷ passes) = (pass ≡ new_pass plan pass.feeder) × (pass.feeder < plan.feeders) × AreFresh plan passes
+AreFresh plan (pass ∷ passes) = IsFresh plan pass × AreFresh plan passes
+
+-- of what feeders ended with, in order, this is the first fault: those before left an outcome
+abbrev pub IsFirstFault : List (Result FeederOutcome RunFault) → RunFault → Type 0
+IsFirstFault ended fault = (before : List FeederOutcome) × (rest : List (Result FeederOutcome RunFault)) × (ended ≡ map Ok before ++ Err fault ∷ rest)

@@ -1,7 +1,8 @@
 -- The steps of a trace: what each of its elements comes to, given those before it.
-use Rattle.std.specs.Prelude.{ℕ, ◌+◌, ◌<◌, List, [], ◌∷◌, ◌++◌, length, Option, Some, None, Result, Ok, Err}
+use Rattle.std.specs.Prelude.{ℕ, ◌+◌, ◌<◌, ◌==◌, List, [], ◌∷◌, ◌++◌, length, filter_map, Option, Some, None, Result, Ok, Err, if◌then◌else◌}
 use Rattle.std.specs.List.{AllZip}
 use Rattle.edn_reader.specs.Grammar.{ElementModel}
+use Rattle.intervals.specs.declared.edit.Edit.{Edit}
 use Rattle.tower_file.specs.Contents.{TowerModel}
 use Rattle.jepsen_form.specs.declared.fault.FormFault.{FormFault}
 use Rattle.jepsen_form.specs.declared.item.Item.{Item}
@@ -59,6 +60,17 @@ steps_behind feeder before (item ∷ items) = step_behind feeder before item ∷
 -- the steps of a feeder's trace, one for each of its elements, in order; the place of a step is that of its element
 abbrev pub steps_of : ℕ → List (Result Item FormFault) → List StepResult
 steps_of feeder items = steps_behind feeder [] items
+
+-- the edit of what an element comes to, where that is a step on the register of this number; else none
+abbrev pub edit_on : ℕ → StepResult → Option Edit
+edit_on number (Err code) = None
+edit_on number (Ok None) = None
+edit_on number (Ok (Some (steps.Edit register edit))) = if register.0 == number then Some edit else None
+edit_on number (Ok (Some (steps.Ask register))) = None
+
+-- the edits of the register of this number among these steps, in order
+abbrev pub edits_among : ℕ → List StepResult → List Edit
+edits_among number steps = filter_map (edit_on number) steps
 
 -- the register of the step, where there is a step, is one of the plan's
 abbrev pub IsKnownStep : Plan → StepResult → Type 0

@@ -14,7 +14,6 @@
 
 mod fault;
 mod feeder;
-mod halves;
 mod intake;
 pub mod laws;
 mod log;
@@ -25,6 +24,7 @@ mod paging;
 mod pending;
 mod progress;
 mod run;
+mod several;
 mod site;
 mod source;
 mod stream;

@@ -103,6 +103,7 @@ impl<'t> Progress<'t> {
             }
         }
         self.place += 1;
+        site.gate.took(pass.feeder());
         Ok(())
     }
 

@@ -7,9 +7,9 @@ ghost use Rattle.feeders.specs.Readers.{AreReadOf, IsNotOfReading};
 ghost use Rattle.feeders.specs.Run.{IsRun};
 
 use crate::fault::RunFault;
-use crate::halves::{feed_all, read_all, read_in_turn, unzipped};
 use crate::log::Log;
 use crate::pages::Pages;
+use crate::several::{feed_all, read_all, read_in_turn, unzipped};
 use crate::site::Site;
 use crate::watcher::Watcher;
 use jepsen_form::MomentField;

@@ -36,6 +36,9 @@ pub trait Watcher: Gate {
     /// lock of the register's shard, so that the changes in a shard come in the order of its journal; for all else
     /// while it holds none.
     fn told(&self, _notice: Notice) {}
+
+    /// Called once for each element, by its feeder, after all that was told of it and while that holds no lock.
+    fn took(&self, _feeder: u32) {}
 }
 
 impl Watcher for NoGate {}

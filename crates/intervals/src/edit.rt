@@ -1,7 +1,7 @@
 //! Edits of a register, and what a change makes of an operation.
 
 ghost use Rattle.std.specs.Prelude.{◌≡◌};
-ghost use Rattle.intervals.specs.Edit.{changed, amended, edit_id, act_with, parts_with};
+ghost use Rattle.intervals.specs.Edit.{changed, edit_id, act_with, parts_with};
 
 use crate::{Act, Kind, Moment, Op, OpId, Parts, Value};
 
@@ -57,17 +57,6 @@ pub fn changed<'t>(op: &Op<'t>, change: &Change<'t>) -> Op<'t>
         begin: change.begin.unwrap_or(op.begin),
         end: change.end.unwrap_or(op.end),
         parts: with_part(op.parts, change.lent),
-    }
-}
-
-/// The operation after the change where it has that id, else as it is.
-pub fn amended<'t>(op: &Op<'t>, id: OpId, change: &Change<'t>) -> Op<'t>
-    ensures { result ≡ amended id change.now op.now }
-{
-    if op.has_id(id) {
-        changed(op, change)
-    } else {
-        *op
     }
 }
 

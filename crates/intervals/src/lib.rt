@@ -42,7 +42,7 @@ mod target;
 
 pub use book::OpBook;
 pub use claim::{Claim, Holder, Initial, Kind, Writers};
-pub use edit::{Change, Edit, Lent, amended, changed};
+pub use edit::{Change, Edit, Lent, changed};
 pub use operation::{
     Act, Memory, Moment, Op, OpId, Parts, RegId, Value, is_same_value, overlaps, precedes,
 };

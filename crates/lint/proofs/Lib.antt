@@ -1,5 +1,3 @@
--- lines, columns and spots are those of the text
-pub mod Places
 -- the lines of a log are of elements of the text
 pub mod Named
 -- what is found in each trace is found in all

@@ -11,9 +11,9 @@ use Rattle.feeders.specs.declared.log.What.TheVariants as whats
 use Rattle.lint.specs.declared.finding.Amiss.TheVariants as amiss
 use Rattle.lint.specs.declared.finding.Finding.{Finding}
 use Rattle.lint.specs.declared.finding.TraceFindings.{TraceFindings}
-use Rattle.lint.specs.declared.location.Location.{Location}
-use Rattle.lint.specs.LineColumn.{first_place}
-use Rattle.lint.specs.Location.{element_spot, spot_of_byte}
+use Rattle.places.specs.declared.location.Location.{Location}
+use Rattle.places.specs.LineColumn.{first_place}
+use Rattle.places.specs.Location.{element_spot, spot_of_byte}
 
 -- the spot of the element of this number, which has to be there
 abbrev pub spot_at : List Location → ℕ → Location

@@ -2,7 +2,7 @@
 use Rattle.std.specs.Prelude.{ℕ, List, ◌++◌, codes}
 use Rattle.std.specs.Fmt.{decimal}
 use Rattle.lint.specs.declared.finding.Amiss.{Amiss}
-use Rattle.lint.specs.declared.location.Location.{Location}
+use Rattle.places.specs.declared.location.Location.{Location}
 use Rattle.lint.specs.Grade.{finding_code, grade_of, grade_word}
 use Rattle.lint.specs.Message.{message_of}
 

@@ -1,6 +1,4 @@
 -- words of the public clauses
-pub mod LineColumn
-pub mod Location
 pub mod Found
 pub mod Grade
 pub mod Message

@@ -5,9 +5,9 @@ use Rattle.tower_file.specs.declared.fault.TowerFault.{TowerFault}
 use Rattle.lint.specs.declared.finding.Amiss.TheVariants.{Tower}
 use Rattle.lint.specs.declared.finding.Finding.{Finding}
 use Rattle.lint.specs.declared.finding.TraceFindings.{TraceFindings}
-use Rattle.lint.specs.declared.location.Location.{Location}
-use Rattle.lint.specs.LineColumn.{place_of_byte}
-use Rattle.lint.specs.Location.{spot_of_byte}
+use Rattle.places.specs.declared.location.Location.{Location}
+use Rattle.places.specs.LineColumn.{place_of_byte}
+use Rattle.places.specs.Location.{spot_of_byte}
 
 -- the spot of these bytes; that of the first byte of the text where none are given
 abbrev pub spot_of_span : List ℕ → Option (ℕ × ℕ) → Location

@@ -11,13 +11,13 @@ ghost use Rattle.feeders.specs.Run.{IsRun};
 ghost use Rattle.lint.specs.Found.{AreFoundIn, IsFoundIn, NamesElements, found_of_break, found_of_line};
 
 use crate::finding::{Amiss, Finding, Findings, TraceFindings};
-use crate::location::{Location, elements_of, spot_of_one};
 use crate::notes::{Look, Noted, notes_of};
 use crate::suspect::Suspects;
 use edn_reader::laws::elements_of_a_prefix;
 use feeders::{Broken, Line, Log, Pages, RunFault, What, run_in_turn};
 use intervals::RegId;
 use jepsen_form::MomentField;
+use places::{Location, elements_of, spot_of_one};
 use shards::{Closed, NoGate};
 use std::alloc::{AllocError, Global};
 use std::sync::Wait;

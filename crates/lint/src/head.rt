@@ -4,9 +4,9 @@ ghost use Rattle.std.specs.Prelude.{◌≡◌, ◌++◌, OnOk, string_bytes};
 ghost use Rattle.lint.specs.Head.{finding_head_text, position_text};
 
 use crate::finding::Amiss;
-use crate::location::Location;
 use crate::message::push_message;
 use crate::source::SourceText;
+use places::Location;
 use std::alloc::AllocError;
 
 /// The file, the line and the column: `run.edn:3:1`.

@@ -4,7 +4,6 @@ use crate::bracket::{innermost_open, next_map_line};
 use crate::finding::{Amiss, Finding, Findings, Grade, Note};
 use crate::head::{push_head, push_place};
 use crate::hint::hint_of;
-use crate::location::{Location, spot_of_one};
 use crate::message::{field_word, push_id, tower_word};
 use crate::snippet::{Underline, push_blanks, push_margin, push_mark, push_plain, width_of};
 use crate::source::SourceText;
@@ -14,6 +13,7 @@ use edn_reader::EdnFault;
 use feeders::{BreakCode, Code};
 use intervals::{Holder, OpId, Refusal};
 use jepsen_form::FormFault;
+use places::{Location, spot_of_one};
 use std::alloc::{AllocError, Global};
 use tower_file::TowerFault;
 

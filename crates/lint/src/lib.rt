@@ -16,9 +16,9 @@
 //! `tower.rt` at the tower file, whose fault it makes a finding.
 //!
 //! Begin with `find::lint`: its clause names the run (`specs/Run.antt` of `feeders`) and what is found by its logs
-//! (`specs/Found.antt`): one finding for each refusal and for each break, and no others. `specs/LineColumn.antt` has
-//! lines and columns, `specs/Location.antt` the spot of an element, `specs/Grade.antt` the status, and
-//! `specs/Short.antt` the form with a line for each finding. The other forms are tested by `rows`.
+//! (`specs/Found.antt`): one finding for each refusal and for each break, and no others. `specs/Grade.antt` has the
+//! status, and `specs/Short.antt` the form with a line for each finding; `places` has lines, columns and the spot of an
+//! element. The other forms are tested by `rows`.
 #![tactic(auto)]
 
 mod bracket;
@@ -29,8 +29,6 @@ mod head;
 mod hint;
 mod human;
 mod json;
-mod line_column;
-mod location;
 mod message;
 mod nearest;
 mod notes;
@@ -46,8 +44,6 @@ mod tower;
 
 pub use find::lint;
 pub use finding::{Amiss, Finding, Findings, Grade, Note, TraceFindings};
-pub use line_column::LineColumn;
-pub use location::Location;
 pub use print::{Format, push_findings};
 pub use source::SourceText;
 pub use tower::{lint_fault, lint_tower};

@@ -3,14 +3,13 @@
 ghost use Rattle.std.specs.Prelude.{◌≡◌, length};
 
 use crate::finding::{Amiss, Finding, Note};
-use crate::line_column::Cursor;
-use crate::location::{Elements, Location, spot_in, spot_of_one};
 use crate::nearest::{Absent, is_absent, meant_by};
 use crate::suspect::Suspects;
 use edn_reader::{Element, Field, MapView};
 use feeders::{Line, What};
 use intervals::OpId;
 use jepsen_form::{Action, Event, Item, MomentField, Stage, read_item};
+use places::{Cursor, Elements, Location, spot_in, spot_of_one};
 use std::alloc::{AllocError, Global};
 use std::collections::{BTreeMap, BTreeSet};
 use tower_file::Tower;

@@ -1,9 +1,9 @@
 //! A line of a file, with a mark under some of its bytes.
 
-use crate::location::Location;
 use crate::source::SourceText;
 use bstr::ByteSlice;
 use memchr::memchr;
+use places::Location;
 use std::alloc::AllocError;
 use unicode_width::UnicodeWidthChar;
 

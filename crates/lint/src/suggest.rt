@@ -1,6 +1,5 @@
 //! Words that may have been meant where another one is written.
 
-use crate::location::Location;
 use crate::message::tower_word;
 use crate::nearest::{distance, is_close};
 use crate::snippet::part_of;
@@ -8,6 +7,7 @@ use crate::tower::names_in;
 use edn_reader::{Element, Field, Reader};
 use feeders::Code;
 use jepsen_form::FormFault;
+use places::Location;
 use std::alloc::{AllocError, Global};
 use tower_file::{TowerFault, TowerField};
 

@@ -4,12 +4,11 @@ ghost use Rattle.std.specs.Prelude.{◌≡◌, IfOk, IfErr};
 ghost use Rattle.lint.specs.Tower.{HasNotesAlone, IsOneFault, IsOneFile, spot_of_span};
 
 use crate::finding::{Amiss, Finding, Findings, Note, TraceFindings};
-use crate::line_column::Cursor;
-use crate::location::{Location, spot_in, spot_of_one};
 use crate::message::tower_word;
 use crate::nearest::is_near;
 use edn_reader::{Element, Field, MapView, Reader, VectorView};
 use feeders::RunFault;
+use places::{Cursor, Location, spot_in, spot_of_one};
 use std::alloc::{AllocError, Global};
 use std::collections::BTreeSet;
 use tower_file::{TowerFault, TowerField};

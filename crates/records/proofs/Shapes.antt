@@ -34,6 +34,8 @@ use Rattle.register_book.specs.declared.fault.Fault.TheVariants as faults
 use Rattle.register_book.specs.declared.fault.Witness.{Witness}
 use Rattle.register_book.specs.declared.fault.Witness.TheVariants.{Wrong, Unwritten, Split, Early, Crossing}
 use Rattle.register_book.specs.Fault.{side_holder}
+use Rattle.places.specs.declared.location.Location.{Location}
+use Rattle.places.specs.Spots.{PlacesModel, line_of_byte, located}
 use Rattle.report.specs.declared.finding.Finding.{Finding}
 use Rattle.report.specs.Culprit.{is_culprit}
 use Rattle.report.specs.Finding.{fails_of}
@@ -44,16 +46,17 @@ use Rattle.records.specs.declared.allowed.Allowed.{Allowed}
 use Rattle.records.specs.declared.allowed.Source.{Source}
 use Rattle.records.specs.declared.allowed.Source.TheVariants as sources
 use Rattle.records.specs.declared.ends.Totals.{Totals}
-use Rattle.records.specs.Allowed.{allowed_symbols, source_symbol}
+use Rattle.records.specs.Allowed.{allowed_symbols, source_spot, source_symbol}
 use Rattle.records.specs.Ends.{end_of_records, format_symbols, head_record, order_symbols, tower_symbols, traces_symbols}
 use Rattle.records.specs.Fault.{fault_symbols, side_value}
 use Rattle.records.specs.Field.{end_symbols, flag_symbols, list_symbols, number_symbols, place_symbols, text_field, type_symbols, word_symbols}
 use Rattle.records.specs.Grammar.{AreFields, AreValues, IsOneValue, IsRecord, alone, between, is_whole_value, listed, more_fields, more_values, nested, no_field, no_value}
-use Rattle.records.specs.Log.{answer_symbols, broken_symbols, met_by, refused_symbols}
+use Rattle.records.specs.Log.{answer_symbols, break_symbols, broken_symbols, met_by, met_places, placed_break, placed_refusal, refusal_end, refusal_symbols, refused_symbols}
 use Rattle.records.specs.Notice.{change_symbols, changed_symbols, ended_symbols, fault_field, fault_ids_symbols, notice_symbols, optional_fault_symbols}
-use Rattle.records.specs.Operation.{act_word, op_symbols}
+use Rattle.records.specs.Operation.{act_word, op_spot, op_symbols}
 use Rattle.records.specs.Register.{register_symbols, witness_symbols}
 use Rattle.records.specs.Run.{AreRecordsOfRun, RunNames, asked_records, broken_records, has_record, line_record, log_records, logs_records, records_of, register_record, registers_records, totals_of, what_record}
+use Rattle.records.specs.Spot.{byte_symbol, holder_record, holder_spot, known_symbol, line_symbol, spot_record, spot_symbols}
 use Rattle.records.specs.Symbol.{Symbol, begin_list, begin_record, end_list, end_record, flag, key, nothing, number, place, text, word}
 use Rattle.records.specs.Value.{end_symbol, holder_symbol, part_symbol, value_symbol}
 
@@ -80,6 +83,18 @@ whole_holder : (holder : Holder) → is_whole_value (holder_symbol holder) ≡ t
 whole_holder (holders.Op id) = refl
 whole_holder holders.Initial = refl
 
+whole_line : (spot : Option Location) → is_whole_value (line_symbol spot) ≡ true
+whole_line None = refl
+whole_line (Some spot) = refl
+
+whole_byte : (spot : Option Location) → is_whole_value (byte_symbol spot) ≡ true
+whole_byte None = refl
+whole_byte (Some spot) = refl
+
+whole_known : (n : Option ℕ) → is_whole_value (known_symbol n) ≡ true
+whole_known None = refl
+whole_known (Some n) = refl
+
 -- fields
 
 field_is : (name : List ℕ) (symbol : Symbol) → {rest : List Symbol} → is_whole_value symbol ≡ true → AreFields rest → AreFields (key name ∷ symbol ∷ rest)
@@ -91,11 +106,21 @@ last_field_is name {value = value} is = subst (λ (symbols : List Symbol). AreFi
 last_list_is : (name : List ℕ) → {values : List Symbol} → AreValues values → AreFields (key name ∷ begin_list ∷ (values ++ end_list ∷ []))
 last_list_is name are = last_field_is name (listed are)
 
+spot_fields : (spot : Option Location) → {rest : List Symbol} → AreFields rest → AreFields (key (codes "line") ∷ line_symbol spot ∷ key (codes "byte") ∷ byte_symbol spot ∷ rest)
+spot_fields spot rest =
+    field_is (codes "line") (line_symbol spot) (whole_line spot) (field_is (codes "byte") (byte_symbol spot) (whole_byte spot) rest)
+
+spot_is : (spot : Option Location) → IsOneValue (spot_record spot)
+spot_is None = alone nothing refl
+spot_is (Some spot) =
+    nested
+    (between (field_is (codes "line") (number (decimal spot.place.line)) refl (field_is (codes "byte") (number (decimal spot.start)) refl no_field)))
+
 -- operations
 
-op_is : (op : Op) → IsRecord (op_symbols op)
-unfolding op_symbols
-op_is op =
+op_is : (places : PlacesModel) (op : Op) → IsRecord (op_symbols places op)
+unfolding op_symbols spot_symbols
+op_is places op =
     between
     (field_is (codes "id") (place op.id.feeder op.id.event) refl
     (field_is (codes "process") (number (signed_decimal op.process)) refl
@@ -105,43 +130,44 @@ op_is op =
     (field_is (codes "end") (end_symbol op.end) (whole_end op.end)
     (field_is (codes "invocation") (text op.parts.invocation.now) refl
     (field_is (codes "answer") (part_symbol op.parts.answer) (whole_part op.parts.answer)
-    (field_is (codes "amendment") (part_symbol op.parts.amendment) (whole_part op.parts.amendment) no_field)))))))))
+    (field_is (codes "amendment") (part_symbol op.parts.amendment) (whole_part op.parts.amendment) (spot_fields (op_spot places op) no_field))))))))))
 
-ops_are : (ops : List Op) → AreValues (flat_map op_symbols ops)
-ops_are [] = no_value
-ops_are (op ∷ ops) = more_values (nested (op_is op)) (ops_are ops)
+ops_are : (places : PlacesModel) (ops : List Op) → AreValues (flat_map (op_symbols places) ops)
+ops_are places [] = no_value
+ops_are places (op ∷ ops) = more_values (nested (op_is places op)) (ops_are places ops)
 
 -- faults
 
-allowed_is : (allowed : Allowed) → IsRecord (allowed_symbols allowed)
-allowed_is allowed =
+allowed_is : (places : PlacesModel) (allowed : Allowed) → IsRecord (allowed_symbols places allowed)
+unfolding spot_symbols
+allowed_is places allowed =
     between
     (field_is (codes "value") (value_symbol allowed.value) (whole_value allowed.value)
-    (field_is (codes "id") (source_symbol allowed.source) (whole_source allowed.source) no_field))
+    (field_is (codes "id") (source_symbol allowed.source) (whole_source allowed.source) (spot_fields (source_spot places allowed.source) no_field)))
 
-allowed_are : (allowed : List Allowed) → AreValues (flat_map allowed_symbols allowed)
-allowed_are [] = no_value
-allowed_are (one ∷ allowed) = more_values (nested (allowed_is one)) (allowed_are allowed)
+allowed_are : (places : PlacesModel) (allowed : List Allowed) → AreValues (flat_map (allowed_symbols places) allowed)
+allowed_are places [] = no_value
+allowed_are places (one ∷ allowed) = more_values (nested (allowed_is places one)) (allowed_are places allowed)
 
-fault_is : (allowed : List Allowed) (witness : Witness) → IsRecord (fault_symbols allowed witness)
+fault_is : (places : PlacesModel) (allowed : List Allowed) (witness : Witness) → IsRecord (fault_symbols places allowed witness)
 unfolding end_symbols
-fault_is allowed (Wrong read) =
+fault_is places allowed (Wrong read) =
     subst (λ (tail : List Symbol). IsRecord (begin_record ∷ key (codes "kind") ∷ word (codes "wrong") ∷ key (codes "read") ∷ place read.id.feeder read.id.event ∷ key (codes "allowed") ∷ begin_list ∷ tail))
-    (append_assoc (flat_map allowed_symbols allowed) (end_list ∷ []) (end_record ∷ []))
+    (append_assoc (flat_map (allowed_symbols places) allowed) (end_list ∷ []) (end_record ∷ []))
     (between
     (field_is (codes "kind") (word (codes "wrong")) refl
-    (field_is (codes "read") (place read.id.feeder read.id.event) refl (last_list_is (codes "allowed") (allowed_are allowed)))))
-fault_is allowed (Unwritten read) =
+    (field_is (codes "read") (place read.id.feeder read.id.event) refl (last_list_is (codes "allowed") (allowed_are places allowed)))))
+fault_is places allowed (Unwritten read) =
     between (field_is (codes "kind") (word (codes "unwritten")) refl (field_is (codes "read") (place read.id.feeder read.id.event) refl no_field))
-fault_is allowed (Split first second) =
+fault_is places allowed (Split first second) =
     between
     (field_is (codes "kind") (word (codes "split")) refl
     (field_is (codes "first") (place first.id.feeder first.id.event) refl (field_is (codes "second") (place second.id.feeder second.id.event) refl no_field)))
-fault_is allowed (Early read write) =
+fault_is places allowed (Early read write) =
     between
     (field_is (codes "kind") (word (codes "early")) refl
     (field_is (codes "read") (place read.id.feeder read.id.event) refl (field_is (codes "write") (place write.id.feeder write.id.event) refl no_field)))
-fault_is allowed (Crossing a b c d) =
+fault_is places allowed (Crossing a b c d) =
     between
     (field_is (codes "kind") (word (codes "conflict")) refl
     (field_is (codes "a") (holder_symbol (side_holder a)) (whole_holder (side_holder a))
@@ -167,21 +193,21 @@ register_fields n level name finding culprit rest =
 regrouped : (fault witness shown : List Symbol) → fault ++ (witness ++ (shown ++ end_list ∷ [])) ++ end_record ∷ [] ≡ fault ++ witness ++ shown ++ end_list ∷ end_record ∷ []
 regrouped fault witness shown = simp append_assoc
 
-found_is : (n : ℕ) (level name : List ℕ) (kind : Kind) (operations : ℕ) (found : Option Witness) (culprit : Bool) (allowed : List Allowed) → IsRecord (register_symbols n level name (record { kind = kind; operations = operations; witness = found }) culprit allowed)
+found_is : (places : PlacesModel) (n : ℕ) (level name : List ℕ) (kind : Kind) (operations : ℕ) (found : Option Witness) (culprit : Bool) (allowed : List Allowed) → IsRecord (register_symbols places n level name (record { kind = kind; operations = operations; witness = found }) culprit allowed)
 unfolding register_symbols witness_symbols type_symbols number_symbols text_field word_symbols flag_symbols list_symbols end_symbols
-found_is n level name kind operations None culprit allowed =
+found_is places n level name kind operations None culprit allowed =
     between
     (register_fields n level name (record { kind = kind; operations = operations; witness = None }) culprit
     (field_is (codes "fault") nothing refl (last_list_is (codes "witness") no_value)))
-found_is n level name kind operations (Some witness) culprit allowed =
+found_is places n level name kind operations (Some witness) culprit allowed =
     subst (λ (tail : List Symbol). IsRecord (begin_record ∷ key (codes "t") ∷ word (codes "register") ∷ key (codes "number") ∷ number (decimal n) ∷ key (codes "level") ∷ text level ∷ key (codes "name") ∷ text name ∷ key (codes "kind") ∷ word (kind_word kind) ∷ key (codes "holds") ∷ flag false ∷ key (codes "operations") ∷ number (decimal operations) ∷ key (codes "culprit") ∷ flag culprit ∷ key (codes "fault") ∷ tail))
-    (regrouped (fault_symbols allowed witness) (key (codes "witness") ∷ begin_list ∷ []) (flat_map op_symbols (shown_of witness)))
+    (regrouped (fault_symbols places allowed witness) (key (codes "witness") ∷ begin_list ∷ []) (flat_map (op_symbols places) (shown_of witness)))
     (between
     (register_fields n level name (record { kind = kind; operations = operations; witness = Some witness }) culprit
-    (more_fields (codes "fault") (nested (fault_is allowed witness)) (last_list_is (codes "witness") (ops_are (shown_of witness))))))
+    (more_fields (codes "fault") (nested (fault_is places allowed witness)) (last_list_is (codes "witness") (ops_are places (shown_of witness))))))
 
-register_is : (n : ℕ) (level name : List ℕ) (finding : Finding) (culprit : Bool) (allowed : List Allowed) → IsRecord (register_symbols n level name finding culprit allowed)
-register_is n level name finding culprit allowed = found_is n level name finding.kind finding.operations finding.witness culprit allowed
+register_is : (places : PlacesModel) (n : ℕ) (level name : List ℕ) (finding : Finding) (culprit : Bool) (allowed : List Allowed) → IsRecord (register_symbols places n level name finding culprit allowed)
+register_is places n level name finding culprit allowed = found_is places n level name finding.kind finding.operations finding.witness culprit allowed
 
 -- the traces
 
@@ -190,7 +216,7 @@ holders_are [] = no_value
 holders_are (holder ∷ holders) = more_values (alone (holder_symbol holder) (whole_holder holder)) (holders_are holders)
 
 refused_is : (feeder event : ℕ) (code : Code) → IsRecord (refused_symbols feeder event code)
-unfolding refused_symbols type_symbols place_symbols word_symbols list_symbols end_symbols
+unfolding refused_symbols refusal_symbols type_symbols place_symbols word_symbols list_symbols end_symbols
 refused_is feeder event code =
     subst (λ (tail : List Symbol). IsRecord (begin_record ∷ key (codes "t") ∷ word (codes "refused") ∷ key (codes "id") ∷ place feeder event ∷ key (codes "code") ∷ word (refused_code code) ∷ key (codes "with") ∷ begin_list ∷ tail))
     (append_assoc (map holder_symbol (met_by code)) (end_list ∷ []) (end_record ∷ []))
@@ -199,22 +225,52 @@ refused_is feeder event code =
     (field_is (codes "id") (place feeder event) refl
     (field_is (codes "code") (word (refused_code code)) refl (last_list_is (codes "with") (holders_are (met_by code)))))))
 
-answer_is : (feeder event : ℕ) (name : List ℕ) (holds : Bool) (operations : ℕ) → IsRecord (answer_symbols feeder event name holds operations)
-unfolding answer_symbols type_symbols place_symbols text_field flag_symbols number_symbols
-answer_is feeder event name holds operations =
+met_are : (places : PlacesModel) (holders : List Holder) → AreValues (flat_map (holder_record places) holders)
+met_are places [] = no_value
+met_are places (holder ∷ holders) = more_values (spot_is (holder_spot places holder)) (met_are places holders)
+
+grouped : (met spot with' found : List Symbol) → (met ++ end_list ∷ []) ++ (spot ++ with' ++ (found ++ end_list ∷ [])) ++ end_record ∷ [] ≡ (met ++ end_list ∷ []) ++ (spot ++ with' ++ found ++ end_list ∷ end_record ∷ [])
+grouped met spot with' found = simp append_assoc
+
+placed_refusal_is : (places : PlacesModel) (feeder event : ℕ) (code : Code) → IsRecord (placed_refusal places feeder event code)
+unfolding placed_refusal refusal_end refusal_symbols type_symbols place_symbols word_symbols list_symbols spot_symbols end_symbols
+placed_refusal_is places feeder event code =
+    let spot = located places feeder event in
+    subst (λ (tail : List Symbol). IsRecord (begin_record ∷ key (codes "t") ∷ word (codes "refused") ∷ key (codes "id") ∷ place feeder event ∷ key (codes "code") ∷ word (refused_code code) ∷ key (codes "with") ∷ begin_list ∷ tail))
+    (grouped (map holder_symbol (met_by code)) (key (codes "line") ∷ line_symbol spot ∷ key (codes "byte") ∷ byte_symbol spot ∷ []) (key (codes "with_places") ∷ begin_list ∷ []) (met_places places code))
+    (between
+    (field_is (codes "t") (word (codes "refused")) refl
+    (field_is (codes "id") (place feeder event) refl
+    (field_is (codes "code") (word (refused_code code)) refl
+    (more_fields (codes "with") (listed (holders_are (met_by code)))
+    (spot_fields spot (last_list_is (codes "with_places") (met_are places (met_by code)))))))))
+
+answer_is : (places : PlacesModel) (feeder event : ℕ) (name : List ℕ) (holds : Bool) (operations : ℕ) → IsRecord (answer_symbols places feeder event name holds operations)
+unfolding answer_symbols type_symbols place_symbols text_field flag_symbols number_symbols spot_symbols
+answer_is places feeder event name holds operations =
     between
     (field_is (codes "t") (word (codes "answer")) refl
     (field_is (codes "id") (place feeder event) refl
     (field_is (codes "register") (text name) refl
-    (field_is (codes "holds") (flag holds) refl (field_is (codes "operations") (number (decimal operations)) refl no_field)))))
+    (field_is (codes "holds") (flag holds) refl (field_is (codes "operations") (number (decimal operations)) refl (spot_fields (located places feeder event) no_field))))))
 
 broken_is : (feeder : ℕ) (broken : Broken) → IsRecord (broken_symbols feeder broken)
-unfolding broken_symbols type_symbols number_symbols word_symbols
+unfolding broken_symbols break_symbols type_symbols number_symbols word_symbols
 broken_is feeder broken =
     between
     (field_is (codes "t") (word (codes "broken")) refl
     (field_is (codes "trace") (number (decimal feeder)) refl
     (field_is (codes "code") (word (break_code_of broken.code)) refl (field_is (codes "byte") (number (decimal broken.place)) refl no_field))))
+
+placed_break_is : (places : PlacesModel) (feeder : ℕ) (broken : Broken) → IsRecord (placed_break places feeder broken)
+unfolding placed_break break_symbols type_symbols number_symbols word_symbols
+placed_break_is places feeder broken =
+    let line = line_of_byte places feeder broken.place in
+    between
+    (field_is (codes "t") (word (codes "broken")) refl
+    (field_is (codes "trace") (number (decimal feeder)) refl
+    (field_is (codes "code") (word (break_code_of broken.code)) refl
+    (field_is (codes "byte") (number (decimal broken.place)) refl (field_is (codes "line") (known_symbol line) (whole_known line) no_field)))))
 
 -- the order, the first and the last record
 
@@ -265,67 +321,67 @@ where_shown : (shown : Bool) (records : List (List Symbol)) → All IsRecord rec
 where_shown true records are = are
 where_shown false records are = All-nil IsRecord
 
-record_of : (tower : TowerModel) (failing : List Bool) (n : ℕ) (found : Option Register) (finding : Finding) (allowed : List Allowed) → All IsRecord (option_map_or (λ register. register_symbols n (level_name tower.levels register.level) register.name finding (is_culprit failing n register) allowed ∷ []) found [])
-record_of tower failing n None finding allowed = All-nil IsRecord
-record_of tower failing n (Some register) finding allowed =
+record_of : (places : PlacesModel) (tower : TowerModel) (failing : List Bool) (n : ℕ) (found : Option Register) (finding : Finding) (allowed : List Allowed) → All IsRecord (option_map_or (λ register. register_symbols places n (level_name tower.levels register.level) register.name finding (is_culprit failing n register) allowed ∷ []) found [])
+record_of places tower failing n None finding allowed = All-nil IsRecord
+record_of places tower failing n (Some register) finding allowed =
     let level = level_name tower.levels register.level in
     let culprit = is_culprit failing n register in
-    one_record (register_symbols n level register.name finding culprit allowed) (register_is n level register.name finding culprit allowed)
+    one_record (register_symbols places n level register.name finding culprit allowed) (register_is places n level register.name finding culprit allowed)
 
-registers_are : (tower : TowerModel) (failing : List Bool) (only : Bool) (n : ℕ) (findings : List Finding) (others : List (List Allowed)) → All IsRecord (registers_records tower failing only n findings others)
-registers_are tower failing only n [] others = All-nil IsRecord
-registers_are tower failing only n (finding ∷ findings) [] = All-nil IsRecord
-registers_are tower failing only n (finding ∷ findings) (allowed ∷ others) =
-    let here = register_record tower failing n finding allowed in
+registers_are : (places : PlacesModel) (tower : TowerModel) (failing : List Bool) (only : Bool) (n : ℕ) (findings : List Finding) (others : List (List Allowed)) → All IsRecord (registers_records places tower failing only n findings others)
+registers_are places tower failing only n [] others = All-nil IsRecord
+registers_are places tower failing only n (finding ∷ findings) [] = All-nil IsRecord
+registers_are places tower failing only n (finding ∷ findings) (allowed ∷ others) =
+    let here = register_record places tower failing n finding allowed in
     let shown = has_record only finding in
-    All-append IsRecord (if shown then here else []) (registers_records tower failing only (n + 1) findings others)
-    (where_shown shown here (record_of tower failing n (slice_get tower.registers n) finding allowed))
-    (registers_are tower failing only (n + 1) findings others)
+    All-append IsRecord (if shown then here else []) (registers_records places tower failing only (n + 1) findings others)
+    (where_shown shown here (record_of places tower failing n (slice_get tower.registers n) finding allowed))
+    (registers_are places tower failing only (n + 1) findings others)
 
-what_is : (registers : List Register) (feeder event : ℕ) (what : What) → IsRecord (what_record registers feeder event what)
-what_is registers feeder event (Refused code) = refused_is feeder event code
-what_is registers feeder event (Answered register answer) = answer_is feeder event (register_name registers register) answer.holds answer.operations
+what_is : (places : PlacesModel) (registers : List Register) (feeder event : ℕ) (what : What) → IsRecord (what_record places registers feeder event what)
+what_is places registers feeder event (Refused code) = placed_refusal_is places feeder event code
+what_is places registers feeder event (Answered register answer) = answer_is places feeder event (register_name registers register) answer.holds answer.operations
 
-lines_are : (registers : List Register) (feeder : ℕ) (lines : List Line) → All IsRecord (map (line_record registers feeder) lines)
-lines_are registers feeder [] = All-nil IsRecord
-lines_are registers feeder (line ∷ lines) =
-    All-cons IsRecord (line_record registers feeder line) (map (line_record registers feeder) lines) (what_is registers feeder line.event line.what) (lines_are registers feeder lines)
+lines_are : (places : PlacesModel) (registers : List Register) (feeder : ℕ) (lines : List Line) → All IsRecord (map (line_record places registers feeder) lines)
+lines_are places registers feeder [] = All-nil IsRecord
+lines_are places registers feeder (line ∷ lines) =
+    All-cons IsRecord (line_record places registers feeder line) (map (line_record places registers feeder) lines) (what_is places registers feeder line.event line.what) (lines_are places registers feeder lines)
 
-breaks_are : (feeder : ℕ) (broken : Option Broken) → All IsRecord (broken_records feeder broken)
-breaks_are feeder None = All-nil IsRecord
-breaks_are feeder (Some broken) = one_record (broken_symbols feeder broken) (broken_is feeder broken)
+breaks_are : (places : PlacesModel) (feeder : ℕ) (broken : Option Broken) → All IsRecord (broken_records places feeder broken)
+breaks_are places feeder None = All-nil IsRecord
+breaks_are places feeder (Some broken) = one_record (placed_break places feeder broken) (placed_break_is places feeder broken)
 
-logs_are : (registers : List Register) (feeder : ℕ) (logs : List Log) → All IsRecord (logs_records registers feeder logs)
-logs_are registers feeder [] = All-nil IsRecord
-logs_are registers feeder (log ∷ logs) =
-    let lines = map (line_record registers feeder) log.lines.items in
-    All-append IsRecord (log_records registers feeder log) (logs_records registers (feeder + 1) logs)
-    (All-append IsRecord lines (broken_records feeder log.broken) (lines_are registers feeder log.lines.items) (breaks_are feeder log.broken))
-    (logs_are registers (feeder + 1) logs)
+logs_are : (places : PlacesModel) (registers : List Register) (feeder : ℕ) (logs : List Log) → All IsRecord (logs_records places registers feeder logs)
+logs_are places registers feeder [] = All-nil IsRecord
+logs_are places registers feeder (log ∷ logs) =
+    let lines = map (line_record places registers feeder) log.lines.items in
+    All-append IsRecord (log_records places registers feeder log) (logs_records places registers (feeder + 1) logs)
+    (All-append IsRecord lines (broken_records places feeder log.broken) (lines_are places registers feeder log.lines.items) (breaks_are places feeder log.broken))
+    (logs_are places registers (feeder + 1) logs)
 
 asked_are : (registers : List Register) (asked : Option (RegId × Option (List OpId))) → All IsRecord (asked_records registers asked)
 asked_are registers None = All-nil IsRecord
 asked_are registers (Some found) =
     one_record (order_symbols (register_name registers found.0) found.1) (order_is (register_name registers found.0) found.1)
 
-run_is : (names : RunNames) (only : Bool) (status : ℕ) (tower : TowerModel) (findings : List Finding) (allowed : List (List Allowed)) (logs : List Log) (asked : Option (RegId × Option (List OpId))) → All IsRecord (records_of names only status tower findings allowed logs asked)
-run_is names only status tower findings allowed logs asked =
+run_is : (places : PlacesModel) (names : RunNames) (only : Bool) (status : ℕ) (tower : TowerModel) (findings : List Finding) (allowed : List (List Allowed)) (logs : List Log) (asked : Option (RegId × Option (List OpId))) → All IsRecord (records_of places names only status tower findings allowed logs asked)
+run_is places names only status tower findings allowed logs asked =
     let first = head_record names.tower (length tower.registers) names.traces names.moments in
     let last = end_of_records status (totals_of tower findings logs) in
-    let of_registers = registers_records tower (fails_of findings) only 0 findings allowed in
-    let of_logs = logs_records tower.registers 0 logs in
+    let of_registers = registers_records places tower (fails_of findings) only 0 findings allowed in
+    let of_logs = logs_records places tower.registers 0 logs in
     let of_asked = asked_records tower.registers asked in
     let middle = of_registers ++ of_logs ++ of_asked in
     All-cons IsRecord first (middle ++ last ∷ []) (head_is names.tower (length tower.registers) names.traces names.moments)
     (All-append IsRecord middle (last ∷ [])
     (All-append IsRecord (of_registers ++ of_logs) of_asked
-    (All-append IsRecord of_registers of_logs (registers_are tower (fails_of findings) only 0 findings allowed) (logs_are tower.registers 0 logs))
+    (All-append IsRecord of_registers of_logs (registers_are places tower (fails_of findings) only 0 findings allowed) (logs_are places tower.registers 0 logs))
     (asked_are tower.registers asked))
     (one_record last (end_is status (totals_of tower findings logs))))
 
-pub each_is_record : (names : RunNames) (only : Bool) (status : ℕ) (tower : TowerModel) (closed : List ClosedShard) (logs : List Log) (order : Option RegId) (records : List (List Symbol)) → AreRecordsOfRun names only status tower closed logs order records → All IsRecord records
-each_is_record names only status tower closed logs order records are =
-    subst (λ (list : List (List Symbol)). All IsRecord list) (sym are.records_are) (run_is names only status tower are.findings are.allowed logs are.asked)
+pub each_is_record : (names : RunNames) (only : Bool) (status : ℕ) (tower : TowerModel) (closed : List ClosedShard) (logs : List Log) (order : Option RegId) (texts : List (List ℕ)) (records : List (List Symbol)) → AreRecordsOfRun names only status tower closed logs order texts records → All IsRecord records
+each_is_record names only status tower closed logs order texts records are =
+    subst (λ (list : List (List Symbol)). All IsRecord list) (sym are.records_are) (run_is are.places names only status tower are.findings are.allowed logs are.asked)
 
 -- notices
 

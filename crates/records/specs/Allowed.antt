@@ -8,6 +8,9 @@ use Rattle.intervals.specs.Operation.{value_of}
 use Rattle.records.specs.declared.allowed.Allowed.{Allowed}
 use Rattle.records.specs.declared.allowed.Source.{Source}
 use Rattle.records.specs.declared.allowed.Source.TheVariants as sources
+use Rattle.places.specs.declared.location.Location.{Location}
+use Rattle.places.specs.Spots.{PlacesModel, located}
+use Rattle.records.specs.Spot.{spot_symbols}
 use Rattle.records.specs.Symbol.{Symbol, begin_record, end_record, key, place, word}
 use Rattle.records.specs.Value.{value_symbol}
 
@@ -48,7 +51,17 @@ source_symbol (sources.Write id) = place id.feeder id.event
 source_symbol sources.Initial = word (codes "initial")
 source_symbol sources.Domain = word (codes "domain")
 
+-- where the element is that a value comes from: the invocation of its write; none where it comes from no write
+abbrev pub source_spot : PlacesModel → Source → Option Location
+source_spot places (sources.Write id) = located places id.feeder id.event
+source_spot places sources.Initial = None
+source_spot places sources.Domain = None
+
+-- a value that might have been returned, and where it comes from
+abbrev pub value_fields : Allowed → List Symbol
+value_fields allowed = key (codes "value") ∷ value_symbol allowed.value ∷ key (codes "id") ∷ source_symbol allowed.source ∷ []
+
 -- the record of a value that might have been returned
-abbrev pub allowed_symbols : Allowed → List Symbol
-allowed_symbols allowed =
-    begin_record ∷ key (codes "value") ∷ value_symbol allowed.value ∷ key (codes "id") ∷ source_symbol allowed.source ∷ end_record ∷ []
+abbrev pub allowed_symbols : PlacesModel → Allowed → List Symbol
+allowed_symbols places allowed =
+    (begin_record ∷ []) ++ value_fields allowed ++ spot_symbols (source_spot places allowed.source) ++ end_record ∷ []

@@ -10,6 +10,7 @@ use Rattle.register_book.specs.declared.fault.Side.TheVariants as sides
 use Rattle.register_book.specs.declared.fault.Witness.{Witness}
 use Rattle.register_book.specs.declared.fault.Witness.TheVariants.{Wrong, Unwritten, Split, Early, Crossing}
 use Rattle.register_book.specs.Fault.{side_holder}
+use Rattle.places.specs.Spots.{PlacesModel}
 use Rattle.records.specs.declared.allowed.Allowed.{Allowed}
 use Rattle.records.specs.Allowed.{allowed_symbols}
 use Rattle.records.specs.Field.{end_symbols}
@@ -39,8 +40,8 @@ abbrev pub read_symbols : OpId → List Symbol
 read_symbols read = key (codes "read") ∷ place read.feeder read.event ∷ key (codes "allowed") ∷ begin_list ∷ []
 
 -- the record of a wrong read, with what it might have returned
-abbrev pub wrong_symbols : List Allowed → OpId → List Symbol
-wrong_symbols allowed read = kind_symbols (codes "wrong") ++ read_symbols read ++ flat_map allowed_symbols allowed ++ end_symbols
+abbrev pub wrong_symbols : PlacesModel → List Allowed → OpId → List Symbol
+wrong_symbols places allowed read = kind_symbols (codes "wrong") ++ read_symbols read ++ flat_map (allowed_symbols places) allowed ++ end_symbols
 
 -- the record of a read of a value that nothing wrote
 abbrev pub unwritten_symbols : OpId → List Symbol
@@ -60,11 +61,11 @@ values_symbols first second =
     key (codes "first") ∷ value_symbol (side_value first) ∷ key (codes "second") ∷ value_symbol (side_value second) ∷ end_record ∷ []
 
 -- the record of a fault, with what a wrong read might have returned
-abbrev pub fault_symbols : List Allowed → Witness → List Symbol
-fault_symbols allowed (Wrong read) = wrong_symbols allowed read.id
-fault_symbols allowed (Unwritten read) = unwritten_symbols read.id
-fault_symbols allowed (Split first second) = split_symbols first.id second.id
-fault_symbols allowed (Early read write) = early_symbols read.id write.id
-fault_symbols allowed (Crossing a b c d) =
+abbrev pub fault_symbols : PlacesModel → List Allowed → Witness → List Symbol
+fault_symbols places allowed (Wrong read) = wrong_symbols places allowed read.id
+fault_symbols places allowed (Unwritten read) = unwritten_symbols read.id
+fault_symbols places allowed (Split first second) = split_symbols first.id second.id
+fault_symbols places allowed (Early read write) = early_symbols read.id write.id
+fault_symbols places allowed (Crossing a b c d) =
     kind_symbols (codes "conflict") ++ pair_symbols (codes "a") (side_holder a) (codes "b") (side_holder b)
     ++ pair_symbols (codes "c") (side_holder c) (codes "d") (side_holder d) ++ values_symbols d b

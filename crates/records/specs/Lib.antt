@@ -1,5 +1,6 @@
 -- words of the public clauses
 pub mod Symbol
+pub mod Spot
 pub mod Json
 pub mod Edn
 pub mod Line

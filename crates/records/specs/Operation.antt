@@ -5,6 +5,9 @@ use Rattle.std.specs.Borrow.{Bor}
 use Rattle.intervals.specs.declared.operation.Op.{Op}
 use Rattle.intervals.specs.declared.operation.OpId.{OpId}
 use Rattle.intervals.specs.Operation.{is_write, value_of}
+use Rattle.places.specs.declared.location.Location.{Location}
+use Rattle.places.specs.Spots.{PlacesModel, located}
+use Rattle.records.specs.Spot.{spot_symbols}
 use Rattle.records.specs.Symbol.{Symbol, begin_record, end_record, key, number, place, text, word}
 use Rattle.records.specs.Value.{end_symbol, part_symbol, value_symbol}
 
@@ -39,6 +42,13 @@ text_symbols op =
     ++ part_symbols (codes "answer") op.parts.answer
     ++ part_symbols (codes "amendment") op.parts.amendment
 
--- the record of an operation: its id, its process, what it does, its value, its moments and its texts
-unfoldable pub op_symbols : Op → List Symbol
-op_symbols op = head_symbols op.id ++ process_symbols op.process ++ act_symbols op ++ moment_symbols op ++ text_symbols op ++ end_record ∷ []
+-- where the invocation of an operation is
+abbrev pub op_spot : PlacesModel → Op → Option Location
+op_spot places op = located places op.id.feeder op.id.event
+
+-- the record of an operation: its id, its process, what it does, its value, its moments, its texts, and where its
+-- invocation is
+unfoldable pub op_symbols : PlacesModel → Op → List Symbol
+op_symbols places op =
+    head_symbols op.id ++ process_symbols op.process ++ act_symbols op ++ moment_symbols op ++ text_symbols op
+    ++ spot_symbols (op_spot places op) ++ end_record ∷ []

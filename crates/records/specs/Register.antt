@@ -4,6 +4,7 @@ use Rattle.register_book.specs.declared.fault.Witness.{Witness}
 use Rattle.report.specs.declared.finding.Finding.{Finding}
 use Rattle.report.specs.Names.{kind_word}
 use Rattle.report.specs.Section.{shown_of}
+use Rattle.places.specs.Spots.{PlacesModel}
 use Rattle.records.specs.declared.allowed.Allowed.{Allowed}
 use Rattle.records.specs.Fault.{fault_symbols}
 use Rattle.records.specs.Field.{end_symbols, flag_symbols, list_symbols, number_symbols, text_field, type_symbols, word_symbols}
@@ -11,15 +12,15 @@ use Rattle.records.specs.Operation.{op_symbols}
 use Rattle.records.specs.Symbol.{Symbol, begin_list, end_list, end_record, key, nothing}
 
 -- the end of a register's record, where it fails: the fault, and the operations that show it
-unfoldable pub witness_symbols : List Allowed → Witness → List Symbol
-witness_symbols allowed witness =
-    (key (codes "fault") ∷ []) ++ fault_symbols allowed witness ++ list_symbols (codes "witness")
-    ++ flat_map op_symbols (shown_of witness) ++ end_symbols
+unfoldable pub witness_symbols : PlacesModel → List Allowed → Witness → List Symbol
+witness_symbols places allowed witness =
+    (key (codes "fault") ∷ []) ++ fault_symbols places allowed witness ++ list_symbols (codes "witness")
+    ++ flat_map (op_symbols places) (shown_of witness) ++ end_symbols
 
 -- the end of a register's record: its fault with the operations that show it, or none
-abbrev pub found_symbols : List Allowed → Option Witness → List Symbol
-found_symbols allowed None = key (codes "fault") ∷ nothing ∷ key (codes "witness") ∷ begin_list ∷ end_list ∷ end_record ∷ []
-found_symbols allowed (Some witness) = witness_symbols allowed witness
+abbrev pub found_symbols : PlacesModel → List Allowed → Option Witness → List Symbol
+found_symbols places allowed None = key (codes "fault") ∷ nothing ∷ key (codes "witness") ∷ begin_list ∷ end_list ∷ end_record ∷ []
+found_symbols places allowed (Some witness) = witness_symbols places allowed witness
 
 -- the number of a register, the name of its level, and its name
 abbrev pub register_names : ℕ → List ℕ → List ℕ → List Symbol
@@ -34,6 +35,7 @@ abbrev pub blame_symbols : ℕ → Bool → List Symbol
 blame_symbols operations culprit = number_symbols (codes "operations") operations ++ flag_symbols (codes "culprit") culprit
 
 -- the record of a register
-unfoldable pub register_symbols : ℕ → List ℕ → List ℕ → Finding → Bool → List Allowed → List Symbol
-register_symbols n level name finding culprit allowed =
-    type_symbols (codes "register") ++ register_names n level name ++ verdict_symbols finding ++ blame_symbols finding.operations culprit ++ found_symbols allowed finding.witness
+unfoldable pub register_symbols : PlacesModel → ℕ → List ℕ → List ℕ → Finding → Bool → List Allowed → List Symbol
+register_symbols places n level name finding culprit allowed =
+    type_symbols (codes "register") ++ register_names n level name ++ verdict_symbols finding ++ blame_symbols finding.operations culprit
+    ++ found_symbols places allowed finding.witness

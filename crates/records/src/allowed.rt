@@ -2,12 +2,14 @@
 
 ghost use Rattle.std.specs.Prelude.{◌≡◌, ◌++◌, ◌∷◌, [], IfOk, OnOk, List, flat_map, map, option_map};
 ghost use Rattle.intervals.specs.declared.operation.Value.{Value as AValue};
-ghost use Rattle.records.specs.Allowed.{allowed_by, allowed_symbols, may_return_any, of_domain, of_initial, of_last, of_write, source_symbol};
+ghost use Rattle.records.specs.Allowed.{allowed_by, allowed_symbols, may_return_any, of_domain, of_initial, of_last, of_write, source_spot, source_symbol, value_fields};
 ghost use Rattle.records.specs.Symbol.{symbol_of, symbols_of};
 
+use crate::spot::add_spot;
 use crate::token::Token;
 use crate::value::value_token;
 use intervals::{Kind, Op, OpId, Value};
+use places::{Location, Places};
 use std::alloc::{AllocError, Global};
 
 /// Where a value comes from: a write, the register before any write, or its domain.
@@ -106,20 +108,51 @@ fn of_last(initial: Value, last: &Option<Op>) -> Allowed
 }
 
 /// Adds the records of values.
-pub fn add_allowed<'a>(tokens: &mut Vec<Token<'a>>, allowed: &[Allowed]) -> Result<(), AllocError>
-    ensures { OnOk result (symbols_of tokens.new.items ≡ symbols_of tokens.old.items ++ flat_map allowed_symbols allowed.now) }
+pub fn add_allowed<'a>(
+    tokens: &mut Vec<Token<'a>>,
+    places: &Places,
+    allowed: &[Allowed],
+) -> Result<(), AllocError>
+    ensures { OnOk result (symbols_of tokens.new.items ≡ symbols_of tokens.old.items ++ flat_map (allowed_symbols places.now) allowed.now) }
 {
     for one in allowed {
-        tokens.extend_from_slice(&[
-            Token::BeginRecord,
-            Token::Key("value"),
-            value_token(one.value),
-            Token::Key("id"),
-            source_token(one.source),
-            Token::EndRecord,
-        ])?;
+        add_one(tokens, places, one)?;
     }
     Ok(())
+}
+
+fn add_one<'a>(
+    tokens: &mut Vec<Token<'a>>,
+    places: &Places,
+    one: &Allowed,
+) -> Result<(), AllocError>
+    ensures { OnOk result (symbols_of tokens.new.items ≡ symbols_of tokens.old.items ++ allowed_symbols places.now one.now) }
+{
+    tokens.push(Token::BeginRecord)?;
+    add_value(tokens, one)?;
+    add_spot(tokens, spot_of_source(places, one.source))?;
+    tokens.push(Token::EndRecord)?;
+    Ok(())
+}
+
+fn add_value<'a>(tokens: &mut Vec<Token<'a>>, one: &Allowed) -> Result<(), AllocError>
+    ensures { OnOk result (symbols_of tokens.new.items ≡ symbols_of tokens.old.items ++ value_fields one.now) }
+{
+    tokens.extend_from_slice(&[
+        Token::Key("value"),
+        value_token(one.value),
+        Token::Key("id"),
+        source_token(one.source),
+    ])
+}
+
+fn spot_of_source(places: &Places, source: Source) -> Option<Location>
+    ensures { result ≡ source_spot places.now source }
+{
+    match source {
+        Source::Write(id) => places.locate(u64::from(id.feeder), id.event),
+        Source::Initial | Source::Domain => None,
+    }
 }
 
 fn source_token<'a>(source: Source) -> Token<'a>

@@ -10,19 +10,21 @@ use crate::field::add_end;
 use crate::token::Token;
 use crate::value::{holder_token, value_token};
 use intervals::{Holder, OpId, Value};
+use places::Places;
 use register_book::{Side, Witness};
 use std::alloc::AllocError;
 
 /// Adds the record of a fault, with what a wrong read might have returned.
 pub fn add_fault<'a>(
     tokens: &mut Vec<Token<'a>>,
+    places: &Places,
     allowed: &[Allowed],
     witness: &Witness,
 ) -> Result<(), AllocError>
-    ensures { OnOk result (symbols_of tokens.new.items ≡ symbols_of tokens.old.items ++ fault_symbols allowed.now witness.now) }
+    ensures { OnOk result (symbols_of tokens.new.items ≡ symbols_of tokens.old.items ++ fault_symbols places.now allowed.now witness.now) }
 {
     match witness {
-        Witness::Wrong(read) => add_wrong(tokens, allowed, read.id),
+        Witness::Wrong(read) => add_wrong(tokens, places, allowed, read.id),
         Witness::Unwritten(read) => add_unwritten(tokens, read.id),
         Witness::Split { first, second } => add_split(tokens, first.id, second.id),
         Witness::Early { read, write } => add_early(tokens, read.id, write.id),
@@ -37,14 +39,15 @@ pub fn add_fault<'a>(
 
 fn add_wrong<'a>(
     tokens: &mut Vec<Token<'a>>,
+    places: &Places,
     allowed: &[Allowed],
     read: OpId,
 ) -> Result<(), AllocError>
-    ensures { OnOk result (symbols_of tokens.new.items ≡ symbols_of tokens.old.items ++ wrong_symbols allowed.now read) }
+    ensures { OnOk result (symbols_of tokens.new.items ≡ symbols_of tokens.old.items ++ wrong_symbols places.now allowed.now read) }
 {
     add_kind(tokens, "wrong")?;
     add_read(tokens, read)?;
-    add_allowed(tokens, allowed)?;
+    add_allowed(tokens, places, allowed)?;
     add_end(tokens)
 }
 

@@ -16,15 +16,15 @@ ghost use Rattle.records.specs.Told.{report_of};
 /// The records of a run determine the text of its report.
 pub fn the_records_tell_the_report()
     ensures { (names : RunNames) (status : ℕ) (tower : TowerModel) (closed : List ClosedShard) (logs : List Log)
-        → (order : Option RegId) (records : List (List Symbol))
-        → AreRecordsOfRun names false status tower closed logs order records
+        → (order : Option RegId) (texts : List (List ℕ)) (records : List (List Symbol))
+        → AreRecordsOfRun names false status tower closed logs order texts records
         → IsReport tower closed logs order (report_of records) }
 {}
 
 /// Each record of a run, and that of each notice, is one by the grammar: its brackets match, and each key has a value.
 pub fn each_record_is_whole()
     ensures run { (names : RunNames) (only : Bool) (status : ℕ) (tower : TowerModel) (closed : List ClosedShard)
-        → (logs : List Log) (order : Option RegId) (records : List (List Symbol))
-        → AreRecordsOfRun names only status tower closed logs order records → All IsRecord records }
+        → (logs : List Log) (order : Option RegId) (texts : List (List ℕ)) (records : List (List Symbol))
+        → AreRecordsOfRun names only status tower closed logs order texts records → All IsRecord records }
     ensures notices { (registers : List Register) (notice : Notice) → IsRecord (notice_symbols registers notice) }
 {}

@@ -4,36 +4,50 @@ ghost use Rattle.std.specs.Prelude.{◌≡◌, ◌++◌, OnOk, flat_map};
 ghost use Rattle.intervals.specs.Operation.{is_write};
 ghost use Rattle.intervals.specs.Table.{ops_in_slots};
 ghost use Rattle.records.specs.Symbol.{symbols_of};
-ghost use Rattle.records.specs.Operation.{act_symbols, act_word, head_symbols, moment_symbols, op_symbols, part_symbols, process_symbols, text_symbols};
+ghost use Rattle.records.specs.Operation.{act_symbols, act_word, head_symbols, moment_symbols, op_spot, op_symbols, part_symbols, process_symbols, text_symbols};
 
+use crate::spot::add_spot;
 use crate::token::Token;
 use crate::value::{end_token, integer_token, part_token, value_token};
 use intervals::{Op, OpId};
+use places::{Location, Places};
 use std::alloc::AllocError;
 
 /// Adds the record of each operation in the slots.
-pub fn add_ops<'a>(tokens: &mut Vec<Token<'a>>, slots: &[Option<Op<'a>>]) -> Result<(), AllocError>
-    ensures { OnOk result (symbols_of tokens.new.items ≡ symbols_of tokens.old.items ++ flat_map op_symbols (ops_in_slots slots.now)) }
+pub fn add_ops<'a>(
+    tokens: &mut Vec<Token<'a>>,
+    places: &Places,
+    slots: &[Option<Op<'a>>],
+) -> Result<(), AllocError>
+    ensures { OnOk result (symbols_of tokens.new.items ≡ symbols_of tokens.old.items ++ flat_map (op_symbols places.now) (ops_in_slots slots.now)) }
 {
     for slot in slots {
         if let Some(op) = slot {
-            add_op(tokens, op)?;
+            add_op(tokens, places, op)?;
         }
     }
     Ok(())
 }
 
 #[tactic(auto, unfolding(crate::specs::Operation::op_symbols))]
-fn add_op<'a>(tokens: &mut Vec<Token<'a>>, op: &Op<'a>) -> Result<(), AllocError>
-    ensures { OnOk result (symbols_of tokens.new.items ≡ symbols_of tokens.old.items ++ op_symbols op.now) }
+fn add_op<'a>(tokens: &mut Vec<Token<'a>>, places: &Places, op: &Op<'a>) -> Result<(), AllocError>
+    ensures { OnOk result (symbols_of tokens.new.items ≡ symbols_of tokens.old.items ++ op_symbols places.now op.now) }
 {
     add_head(tokens, op.id)?;
     add_process(tokens, op.process)?;
     add_act(tokens, op)?;
     add_moments(tokens, op)?;
     add_texts(tokens, op)?;
+    add_spot(tokens, spot_of(places, op))?;
     tokens.push(Token::EndRecord)?;
     Ok(())
+}
+
+/// Where the invocation of an operation is.
+fn spot_of(places: &Places, op: &Op) -> Option<Location>
+    ensures { result ≡ op_spot places.now op.now }
+{
+    places.locate(u64::from(op.id.feeder), op.id.event)
 }
 
 fn add_head<'a>(tokens: &mut Vec<Token<'a>>, id: OpId) -> Result<(), AllocError>

@@ -9,6 +9,7 @@ use crate::fault::add_fault;
 use crate::field::{add_end, add_flag, add_list, add_number, add_text, add_type, add_word};
 use crate::operation::add_ops;
 use crate::token::Token;
+use places::Places;
 use register_book::Witness;
 use report::{Finding, kind_word, shown_of};
 use std::alloc::AllocError;
@@ -18,6 +19,7 @@ use std::alloc::AllocError;
 #[tactic(auto, unfolding(crate::specs::Register::register_symbols))]
 pub fn add_register<'a>(
     tokens: &mut Vec<Token<'a>>,
+    places: &Places,
     number: u64,
     level: &'a [u8],
     name: &'a [u8],
@@ -25,13 +27,13 @@ pub fn add_register<'a>(
     culprit: bool,
     allowed: &[Allowed],
 ) -> Result<(), AllocError>
-    ensures { OnOk result (symbols_of tokens.new.items ≡ symbols_of tokens.old.items ++ register_symbols number level.now name.now finding.now culprit allowed.now) }
+    ensures { OnOk result (symbols_of tokens.new.items ≡ symbols_of tokens.old.items ++ register_symbols places.now number level.now name.now finding.now culprit allowed.now) }
 {
     add_type(tokens, "register")?;
     add_names(tokens, number, level, name)?;
     add_verdict(tokens, finding)?;
     add_blame(tokens, finding.operations, culprit)?;
-    add_found(tokens, allowed, &finding.witness)
+    add_found(tokens, places, allowed, &finding.witness)
 }
 
 fn add_names<'a>(
@@ -67,13 +69,14 @@ fn add_blame<'a>(
 
 fn add_found<'a>(
     tokens: &mut Vec<Token<'a>>,
+    places: &Places,
     allowed: &[Allowed],
     witness: &Option<Witness<'a>>,
 ) -> Result<(), AllocError>
-    ensures { OnOk result (symbols_of tokens.new.items ≡ symbols_of tokens.old.items ++ found_symbols allowed.now witness.now) }
+    ensures { OnOk result (symbols_of tokens.new.items ≡ symbols_of tokens.old.items ++ found_symbols places.now allowed.now witness.now) }
 {
     match witness {
-        Some(witness) => add_witness(tokens, allowed, witness),
+        Some(witness) => add_witness(tokens, places, allowed, witness),
         None => tokens.extend_from_slice(&[
             Token::Key("fault"),
             Token::Nothing,
@@ -88,14 +91,15 @@ fn add_found<'a>(
 #[tactic(auto, unfolding(crate::specs::Register::witness_symbols))]
 fn add_witness<'a>(
     tokens: &mut Vec<Token<'a>>,
+    places: &Places,
     allowed: &[Allowed],
     witness: &Witness<'a>,
 ) -> Result<(), AllocError>
-    ensures { OnOk result (symbols_of tokens.new.items ≡ symbols_of tokens.old.items ++ witness_symbols allowed.now witness.now) }
+    ensures { OnOk result (symbols_of tokens.new.items ≡ symbols_of tokens.old.items ++ witness_symbols places.now allowed.now witness.now) }
 {
     tokens.push(Token::Key("fault"))?;
-    add_fault(tokens, allowed, witness)?;
+    add_fault(tokens, places, allowed, witness)?;
     add_list(tokens, "witness")?;
-    add_ops(tokens, &shown_of(witness))?;
+    add_ops(tokens, places, &shown_of(witness))?;
     add_end(tokens)
 }

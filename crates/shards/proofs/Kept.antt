@@ -1,19 +1,15 @@
 -- A shard one entry later is still one of the plan, and its replies and answers are those of its journal.
 use Rattle.std.proofs.Common.{◌≡◌, ℕ, zero, suc, ◌+◌, ◌*◌, ◌/◌, ◌%◌, ◌<◌, List, [], ◌∷◌, ◌++◌, set, length, get_or, Option, Some, None, Bool, refl, sym, ap, subst, ◌∙◌, inl, inr, arith}
-use Rattle.std.specs.Prelude.{map, ◌↔◌, option_map, IfSome, IsNone, IsSomeAnd, IsTrue, is_some, if◌then◌else◌}
+use Rattle.std.specs.Prelude.{map, ◌↔◌, option_map, IfSome, IsNone, IsSomeAnd, IsTrue}
 use Rattle.std.specs.List.{slice_get}
 use Rattle.std.proofs.lemmas.Bool.{cases_eq}
 use Rattle.std.proofs.lemmas.Option.{slice_get_within, get_or_from_slice_get}
 use Rattle.std.proofs.lemmas.List.{length-set, length-map, get_or-map}
 use Rattle.std.proofs.lemmas.List.Elements.{All-push}
 use Rattle.intervals.specs.Terms.{ClaimModel, RegisterState}
-use Rattle.intervals.specs.declared.edit.Edit.{Edit}
-use Rattle.intervals.specs.declared.refusal.Refusal.{Refusal}
-use Rattle.intervals.specs.Refusal.{after_edit, carried_out}
+use Rattle.intervals.specs.Refusal.{after_edit}
 use Rattle.intervals.specs.Kind.{Holds}
 use Rattle.register_book.specs.BookModel.{BookModel, claimed_of}
-use Rattle.register_book.specs.declared.reply.Reply.{Reply}
-use Rattle.register_book.specs.declared.reply.Reply.TheVariants.{Accepted, Refused}
 use Rattle.register_book.specs.Reply.{IsReply}
 use Rattle.register_book.specs.Fault.{IsWitness, ids_of}
 use Rattle.shards.specs.declared.entry.Answer.{Answer}
@@ -23,7 +19,7 @@ use Rattle.shards.specs.Plan.{Plan}
 use Rattle.shards.specs.Journal.{HoldsAfter, IsAnswered, IsJournalOf, left_by, count_by}
 use Rattle.shards.specs.VerdictChange.{AreVerdictChanges}
 use Rattle.shards.specs.Steps.{IsStanding}
-use Rattle.shards.specs.Shard.{AreBooks, AreEntryCounts, IsShardOf, holds_after}
+use Rattle.shards.specs.Shard.{AreBooks, AreEntryCounts, IsShardOf}
 use Rattle.shards.proofs.Slots.{register_of, slot_of, some_within, get_set_same, get_set_other}
 use Rattle.shards.proofs.Journals.{each_after_push, left_push_own, left_push_other, count_push_own, count_push_other}
 
@@ -189,30 +185,3 @@ pub holds_by : (plan : Plan) (journal : List Entry) (register : ℕ) (claim : Cl
 holds_by plan journal register claim left verdict known is holds =
     subst (λ (found : Option ClaimModel). IsTrue verdict ↔ IsSomeAnd found (λ terms. Holds (left_by journal register terms).claim (left_by journal register terms).ops)) (sym known)
     (subst (λ (state : RegisterState). IsTrue verdict ↔ Holds state.claim state.ops) is holds)
-
--- the verdict after an edit, by its reply
-holds_by_reply : (state : RegisterState) (edit : Edit) (reply : Reply) (held : Bool) → IsReply state edit reply → IsTrue held ↔ Holds state.claim state.ops
-    → IsTrue (holds_after held reply) ↔ Holds (after_edit state edit).claim (after_edit state edit).ops
-holds_by_reply state edit (Accepted holds) held is before = is.1
-holds_by_reply state edit (Refused refusal) held is before =
-    subst (λ (after : RegisterState). IsTrue held ↔ Holds after.claim after.ops) (sym (ap (λ (found : Option Refusal). if is_some found then state else carried_out state edit) is)) before
-
--- the verdicts on a register before an entry and with it
-pub verdicts_by : (plan : Plan) (shard : Shard) (journal : List Entry) (entry : Entry) (book : BookModel) (held holds : Bool) → IsShardOf plan shard → entry.register.0 % plan.shards ≡ shard.at → entry.register.0 < length plan.claims
-    → book ≡ get_or shard.books.items (entry.register.0 / shard.shards) book → IsReply (claimed_of book) entry.edit entry.reply
-    → journal ≡ shard.journal.items ++ entry ∷ []
-    → IsTrue held ↔ Holds book.claim book.ops → holds ≡ holds_after held entry.reply
-    → (IsTrue held ↔ HoldsAfter plan entry.register.0 shard.journal.items) × (IsTrue holds ↔ HoldsAfter plan entry.register.0 journal)
-verdicts_by plan shard journal entry book held holds kept here known is reply longer was is_after =
-    let has : HasBook plan shard entry.register.0 = has_book plan shard entry.register.0 kept here known in
-    let left : claimed_of book ≡ left_by shard.journal.items entry.register.0 has.claim = same_book plan shard entry.register.0 book has is in
-    let replied : IsReply (left_by shard.journal.items entry.register.0 has.claim) entry.edit entry.reply = subst (λ (state : RegisterState). IsReply state entry.edit entry.reply) left reply in
-    let after : after_edit (claimed_of book) entry.edit ≡ left_by journal entry.register.0 has.claim =
-    ap (λ (state : RegisterState). after_edit state entry.edit) left
-    ∙ sym (left_push_own has.claim shard.journal.items entry replied)
-    ∙ ap (λ (entries : List Entry). left_by entries entry.register.0 has.claim) (sym longer) in (
-      holds_by plan shard.journal.items entry.register.0 has.claim (claimed_of book) held has.known left was,
-      subst (λ (verdict : Bool). IsTrue verdict ↔ HoldsAfter plan entry.register.0 journal) (sym is_after)
-          (holds_by plan journal entry.register.0 has.claim (after_edit (claimed_of book) entry.edit) (holds_after held entry.reply) has.known after
-          (holds_by_reply (claimed_of book) entry.edit entry.reply held reply was)),
-    )

@@ -1,6 +1,6 @@
 -- What an edit and a question come to, while the lock of the register's shard is held.
 use Rattle.std.specs.Prelude.{◌≡◌, ◌≢◌, ◌<◌, ◌%◌, ◌++◌, ◌∷◌, [], ℕ, length, Result, Ok, Err, IfOk, IfErr, OnOk, OnErr}
-use Rattle.std.proofs.Common.{◌∙◌, inr, subst}
+use Rattle.std.proofs.Common.{◌∙◌, inr}
 use Rattle.intervals.specs.declared.operation.RegId.{RegId}
 use Rattle.intervals.specs.declared.edit.Edit.{Edit}
 use Rattle.shards.specs.declared.entry.Answer.{Answer}
@@ -11,7 +11,7 @@ use Rattle.shards.specs.Plan.{Plan}
 use Rattle.shards.specs.Journal.{IsJournalOf}
 use Rattle.shards.specs.Pass.{PassModel, IsPassOf, IsInKeeping, with_seen}
 use Rattle.shards.specs.Closing.{ShardModel}
-use Rattle.shards.specs.Steps.{AreVerdicts, IsLive, IsQuestionRefusal, IsRefusal, IsStanding, IsStateRefusal, IsSubmitted, entry_of, last_entry}
+use Rattle.shards.specs.Steps.{IsLive, IsQuestionRefusal, IsRefusal, IsStanding, IsStateRefusal, IsSubmitted, entry_of, last_entry}
 
 -- an edit that a shard entered is submitted
 pub submitted : (plan : Plan) (pass : PassModel) (register : RegId) (edit : Edit) (answered : Result Receipt ShardFault) (old new : ShardModel)
@@ -22,9 +22,8 @@ pub submitted : (plan : Plan) (pass : PassModel) (register : RegId) (edit : Edit
     → IsJournalOf plan new.at new.journal
     → IfOk answered (λ receipt. (receipt.shard ≡ old.at) × (receipt.number ≡ length old.journal))
     → OnOk answered (IsInKeeping old.at pass old.journal)
-    → IfOk answered (AreVerdicts plan register old.journal new.journal)
     → IfOk answered (IsSubmitted plan pass register edit)
-submitted plan pass register edit (Ok receipt) old new of_plan known here journal of_shard receipt_is keeping verdicts = record {
+submitted plan pass register edit (Ok receipt) old new of_plan known here journal of_shard receipt_is keeping = record {
   of_plan = of_plan;
   known = known;
   shard = receipt_is.0 ∙ here;
@@ -32,9 +31,8 @@ submitted plan pass register edit (Ok receipt) old new of_plan known here journa
   of_shard = rw (receipt_is.0) (rw journal at of_shard);
   number = receipt_is.1;
   keeping = rw (receipt_is.0) keeping;
-  verdicts = subst (λ (state : ShardModel). AreVerdicts plan register old.journal state.journal receipt) journal verdicts;
 }
-submitted plan pass register edit (Err fault) old new of_plan known here journal of_shard receipt_is keeping verdicts = tt
+submitted plan pass register edit (Err fault) old new of_plan known here journal of_shard receipt_is keeping = tt
 
 -- a question that a shard answered is live
 pub live : (plan : Plan) (pass pass' : PassModel) (register : ℕ) (answered : Result Answer ShardFault) (held : ShardModel)

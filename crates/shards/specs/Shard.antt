@@ -7,8 +7,6 @@ use Rattle.intervals.specs.Kind.{Holds}
 use Rattle.register_book.specs.BookModel.{BookModel, claimed_of}
 use Rattle.register_book.specs.declared.fault.Witness.{Witness}
 use Rattle.register_book.specs.Fault.{IsWitness, ids_of}
-use Rattle.register_book.specs.declared.reply.Reply.{Reply}
-use Rattle.register_book.specs.declared.reply.Reply.TheVariants.{Accepted, Refused}
 use Rattle.shards.specs.declared.entry.VerdictChange.{VerdictChange}
 use Rattle.shards.specs.declared.entry.Entry.{Entry}
 use Rattle.shards.specs.declared.entry.NumberedEntry.{NumberedEntry}
@@ -48,11 +46,6 @@ held_of shard = record { at = shard.at; journal = shard.journal.items }
 -- the model of a closed shard: its journal, and the claim and the operations of each book
 abbrev pub ended_of : Shard → ClosedShard
 ended_of shard = record { journal = shard.journal.items; books = map claimed_of shard.books.items; changes = shard.changes.items }
-
--- whether a register holds after an edit with this reply, where the first value says whether it held before
-abbrev pub holds_after : Bool → Reply → Bool
-holds_after held (Accepted holds) = holds
-holds_after held (Refused refusal) = held
 
 -- the change has this register and number and is to the verdict of a book, which is another than before, where the
 -- last value says what it was

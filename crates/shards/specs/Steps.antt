@@ -14,7 +14,7 @@ use Rattle.shards.specs.declared.entry.Receipt.{Receipt}
 use Rattle.shards.specs.declared.fault.ShardFault.{ShardFault}
 use Rattle.shards.specs.declared.fault.ShardFault.TheVariants.{UnknownRegister, Memory, JournalBehind, ForeignPass}
 use Rattle.shards.specs.Plan.{Plan}
-use Rattle.shards.specs.Journal.{HoldsAfter, left_by, IsJournalOf}
+use Rattle.shards.specs.Journal.{left_by, IsJournalOf}
 use Rattle.shards.specs.Pass.{PassModel, IsPassOf, IsInKeeping, IsBehind, last_in, with_own, with_seen}
 
 -- an entry by its parts: a feeder's edit of a register, with its reply
@@ -46,13 +46,8 @@ pub record IsStanding (plan : Plan) (register : ℕ) (journal : List Entry) (ans
   pub fault : answer.fault ≡ option_map ids_of answer.witness
   pub number : answer.number ≡ length journal
 
--- a receipt says whether the register held after the first journal, and whether it holds after the second
-abbrev pub AreVerdicts : Plan → RegId → List Entry → List Entry → Receipt → Type 0
-AreVerdicts plan register before after receipt = (IsTrue receipt.held ↔ HoldsAfter plan register.0 before) × (IsTrue receipt.holds ↔ HoldsAfter plan register.0 after)
-
 -- some journal of the register's shard has the edit with its reply as the last entry, at the receipt's number, and
--- without it is in keeping with the pass; the receipt has the verdicts before the entry and with it; pass and register
--- are the plan's
+-- without it is in keeping with the pass; pass and register are the plan's
 pub record IsSubmitted (plan : Plan) (pass : PassModel) (register : RegId) (edit : Edit) (receipt : Receipt) : Type 0 where
   pub of_plan : IsPassOf plan pass
   pub known : register.0 < length plan.claims
@@ -61,7 +56,6 @@ pub record IsSubmitted (plan : Plan) (pass : PassModel) (register : RegId) (edit
   pub of_shard : IsJournalOf plan receipt.shard (before ++ entry_of pass.feeder register edit receipt.reply ∷ [])
   pub number : receipt.number ≡ length before
   pub keeping : IsInKeeping receipt.shard pass before
-  pub verdicts : AreVerdicts plan register before (before ++ entry_of pass.feeder register edit receipt.reply ∷ []) receipt
 
 -- some journal of the register's shard is in keeping with the pass, and this is the answer from it; afterwards the
 -- pass has seen its last entry; the pass is the plan's

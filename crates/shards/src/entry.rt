@@ -19,15 +19,13 @@ pub struct NumberedEntry<'t> {
     pub entry: Entry<'t>,
 }
 
-/// What a feeder gets for an edit: where it was entered, the reply, and the verdict on the register before the entry
-/// and with it. An edit that the register refused is entered too.
+/// What a feeder gets for an edit: where it was entered, and the reply. An edit that the register refused is
+/// entered too.
 #[derive(Clone, Copy, Debug, PartialEq, Eq)]
 pub struct Receipt {
     pub shard: u32,
     pub number: u64,
     pub reply: Reply,
-    pub held: bool,
-    pub holds: bool,
 }
 
 /// The answer to a question: the verdict on a register at that time.

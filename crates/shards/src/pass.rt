@@ -6,7 +6,7 @@ ghost use Rattle.shards.specs.declared.fault.ShardFault.TheVariants.{ForeignPass
 ghost use Rattle.shards.specs.Journal.{IsAnswered};
 ghost use Rattle.shards.specs.Pass.{AreOfOneAuditor, IsInKeeping, IsPassOf, farthest_of, last_in, learnt, own_entries, unseen, with_own, with_seen};
 ghost use Rattle.shards.specs.Shard.{IsShardOf, IsReached, Rises, held_of};
-ghost use Rattle.shards.specs.Steps.{AreVerdicts, entered, entry_of, last_entry, numbered_entry};
+ghost use Rattle.shards.specs.Steps.{entered, entry_of, last_entry, numbered_entry};
 
 use crate::shard::Shard;
 use crate::submitted::Submitted;
@@ -149,7 +149,6 @@ impl<'t> Pass<'t> {
         ensures journal { IfOk result (λ receipt. held_of shard.new ≡ record { at = shard.old.at; journal = shard.old.journal.items ++ entry_of self.old.feeder register edit.now receipt.reply ∷ [] }) }
         ensures answered { IfOk result (λ receipt. IsAnswered O.plan shard.old.at shard.old.journal.items (entry_of self.old.feeder register edit.now receipt.reply)) }
         ensures receipt { IfOk result (λ receipt. (receipt.shard ≡ shard.old.at) × (receipt.number ≡ length shard.old.journal.items)) }
-        ensures verdicts { IfOk result (AreVerdicts O.plan register shard.old.journal.items shard.new.journal.items) }
         ensures told { IfOk result (λ receipt. self.new ≡ entered self.old register edit.now receipt) }
         ensures memory { IfErr result (λ fault. fault ≡ Memory) }
         ensures err { OnErr result ((held_of shard.new ≡ held_of shard.old) × (self.new ≡ self.old)) }

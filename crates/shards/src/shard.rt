@@ -9,12 +9,12 @@ ghost use Rattle.register_book.specs.Fault.{ids_of};
 ghost use Rattle.register_book.specs.BookModel.{claimed_of};
 ghost use Rattle.shards.specs.Plan.{plan_of, claims_of};
 ghost use Rattle.shards.specs.Journal.{IsAnswered, count_by};
-ghost use Rattle.shards.specs.Shard.{AreBooks, IsVerdictChangeTo, IsShardOf, held_of, holds_after};
-ghost use Rattle.shards.specs.Steps.{AreVerdicts, IsStanding, entry_of};
+ghost use Rattle.shards.specs.Shard.{AreBooks, IsVerdictChangeTo, IsShardOf, held_of};
+ghost use Rattle.shards.specs.Steps.{IsStanding, entry_of};
 
 use crate::{Answer, Entry, Opening, Receipt, ShardFault, VerdictChange};
 use intervals::{Edit, RegId};
-use register_book::{Fault, RegisterBook, Reply, Witness};
+use register_book::{Fault, RegisterBook, Witness};
 use std::alloc::Global;
 use tower_file::Tower;
 
@@ -69,7 +69,6 @@ impl<'t> Shard<'t> {
         ensures journal { IfOk result (λ receipt. held_of self.new ≡ record { at = self.old.at; journal = self.old.journal.items ++ entry_of feeder register edit.now receipt.reply ∷ [] }) }
         ensures answered { IfOk result (λ receipt. IsAnswered O.plan self.old.at self.old.journal.items (entry_of feeder register edit.now receipt.reply)) }
         ensures receipt { IfOk result (λ receipt. (receipt.shard ≡ self.old.at) × (receipt.number ≡ length self.old.journal.items)) }
-        ensures verdicts { IfOk result (AreVerdicts O.plan register self.old.journal.items self.new.journal.items) }
         ensures memory { IfErr result (λ fault. fault ≡ Memory) }
         ensures err { OnErr result (held_of self.new ≡ held_of self.old) }
     {
@@ -93,8 +92,6 @@ impl<'t> Shard<'t> {
             shard: self.at,
             number,
             reply,
-            held,
-            holds: holds_after(held, reply),
         })
     }
 
@@ -154,16 +151,6 @@ fn note(changes: &mut Vec<VerdictChange>, change: Option<VerdictChange>)
 {
     if let Some(change) = change {
         changes.push_reserved(change);
-    }
-}
-
-/// Whether a register holds after an edit with this reply; `held` says whether it did before.
-fn holds_after(held: bool, reply: Reply) -> bool
-    ensures { result ≡ holds_after held reply }
-{
-    match reply {
-        Reply::Accepted { holds } => holds,
-        Reply::Refused(_) => held,
     }
 }
 

@@ -4,7 +4,7 @@ ghost use Rattle.std.specs.Prelude.{◌≡◌, ◌<◌, ◌%◌, ◌++◌, ◌�
 ghost use Rattle.shards.specs.Journal.{IsAnswered, IsJournalOf};
 ghost use Rattle.shards.specs.Pass.{IsInKeeping, IsPassOf, with_own, with_seen};
 ghost use Rattle.shards.specs.Shard.{IsShardOf, held_of};
-ghost use Rattle.shards.specs.Steps.{AreVerdicts, entered, IsQuestionRefusal, IsStanding, IsStateRefusal, entry_of, last_entry, numbered_entry};
+ghost use Rattle.shards.specs.Steps.{entered, IsQuestionRefusal, IsStanding, IsStateRefusal, entry_of, last_entry, numbered_entry};
 
 use crate::keeping::first_lack;
 use crate::shard::Shard;
@@ -82,7 +82,6 @@ impl<'t, O: Opening> ShardState<'t, O> {
         ensures of_shard { IsJournalOf O.plan self.new.at self.new.journal }
         ensures answered { IfOk result (λ receipt. IsAnswered O.plan self.old.at self.old.journal (entry_of pass.old.feeder register edit.entry receipt.reply)) }
         ensures receipt { IfOk result (λ receipt. (receipt.shard ≡ self.old.at) × (receipt.number ≡ length self.old.journal)) }
-        ensures verdicts { IfOk result (AreVerdicts O.plan register self.old.journal self.new.journal) }
         ensures told { IfOk result (λ receipt. pass.new ≡ entered pass.old register edit.entry receipt) }
         ensures keeping { OnOk result (IsInKeeping self.old.at pass.old self.old.journal) }
         ensures refused { IfErr result (IsStateRefusal self.old.at pass.old self.old.journal) }

@@ -20,7 +20,13 @@ pub mod Unfailed
 pub mod Elements
 -- worked edits
 pub mod Worked
--- what notices tell of a shard, also as the changes of its journal; what a watch leaves
-pub mod ToldChanges
+-- what notices give, as the front of what they are to give; what they tell of a shard, as the changes of its journal;
+-- what a watch leaves
+pub mod Fronts
 pub mod ToldAll
 pub mod Concluding
+-- what is settled of what is told; what a teller was told and wrote; what is written of a register, as the changes of
+-- its shard's journal
+pub mod Passing
+pub mod Telling
+pub mod SettledAll

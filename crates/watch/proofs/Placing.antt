@@ -12,9 +12,9 @@ use Rattle.jepsen_form.specs.declared.item.Item.{Item}
 use Rattle.pairing.specs.Accepted.{Placed, accepted}
 use Rattle.pairing.specs.Step.{step_of}
 use Rattle.pairing.specs.declared.step.Step.TheVariants as steps
-use Rattle.feeders.specs.Steps.{StepResult, by_pairing, placed, placed_from, steps_behind, steps_of}
+use Rattle.feeders.specs.Steps.{StepResult, by_pairing, edit_on, edits_among, placed, placed_from, steps_behind, steps_of}
 use Rattle.feeders.proofs.Items.{placed_on, not_placed}
-use Rattle.watch.specs.Trace.{IsNoEdit, item_moment, EditsNothing, IsNotAfter, IsInOrderWith, IsPlainTrace, edit_on, edits_among}
+use Rattle.watch.specs.Trace.{IsNoEdit, item_moment, EditsNothing, IsNotAfter, IsInOrderWith, IsPlainTrace}
 
 -- the edit of what an element comes to, as a list, where it is a step on the register; else none
 abbrev pub edit_list : RegId → StepResult → List AnEdit

@@ -3,6 +3,9 @@ pub mod Coming
 pub mod Trace
 pub mod Healing
 pub mod Text
+pub mod Settling
+pub mod Noted
 pub mod Watched
--- words of private clauses: what a teller is seen as
+-- words of private clauses: what a teller is seen as; what is left to be noted of a trace
 pub mod Teller
+pub mod Left

@@ -1,40 +1,109 @@
 -- What a teller is seen as.
-use Rattle.std.specs.Prelude.{ℕ, Bool, List, Result, Ok, Err, if◌then◌else◌, true, false}
+use Rattle.std.specs.Prelude.{◌≡◌, ◌⊎◌, ℕ, Bool, List, [], ◌∷◌, ◌++◌, Option, Result, Ok, Err, filter, map, if◌then◌else◌, true, false}
+use Rattle.std.specs.Io.KnownBytes.{Appends}
+use Rattle.tower_file.specs.Contents.{Register}
 use Rattle.feeders.specs.declared.watcher.Notice.{Notice}
+use Rattle.feeders.specs.declared.watcher.Notice.TheVariants.{Changed}
+use Rattle.watch.specs.declared.run.Terms.{Terms}
+use Rattle.watch.specs.declared.settling.Held.{Held}
 use Rattle.watch.specs.declared.teller.TellerState.{TellerState}
 use Rattle.watch.specs.declared.teller.TellerState.TheVariants.{Going, Stopped, OutOfMemory, Unwritable}
 use Rattle.watch.specs.declared.teller.Unwritten.{Unwritten}
 use Rattle.watch.specs.declared.teller.Unwritten.TheVariants as unwritten
+use Rattle.watch.specs.Settling.{AreWrittenOf, IsHeldBack, IsSettledUpTo, is_no_change, notices_of, says_fails}
+use Rattle.watch.specs.Text.{text_of_notices}
 use Rattle.watch.specs.Watched.{IsEnd, ends_at}
 
--- a teller as it is seen: the notices that were written, and whether it takes more
+-- a teller as it is seen: what it was told, what of that it holds back, and whether it takes more
 pub record TellerModel : Type 0 where
   pub told : List Notice
+  pub held : List Notice
   pub state : TellerState
 
--- the output has the texts of the notices that were told, and nothing more
+-- the output has the texts of the notices that were written, and nothing more
 abbrev pub HasWritten : TellerState → Type 0
 HasWritten Going = Unit {0}
 HasWritten Stopped = Unit {0}
 HasWritten OutOfMemory = Unit {0}
 HasWritten Unwritable = ⊥
 
--- each notice that was taken was told
+-- each notice that was taken was told, and is written, held back, or one of a pair that is neither
 abbrev pub HasTold : TellerState → Type 0
 HasTold Going = Unit {0}
 HasTold Stopped = Unit {0}
 HasTold OutOfMemory = ⊥
 HasTold Unwritable = ⊥
 
--- a teller that goes on was told nothing that ends the watch; one that stopped was told that last
+-- a teller that goes on wrote nothing that ends the watch; one that stopped wrote that last
 abbrev pub IsStateAfter : Bool → List Notice → TellerState → Type 0
-IsStateAfter until_fail told Going = IsEnd until_fail told false
-IsStateAfter until_fail told Stopped = IsEnd until_fail told true
-IsStateAfter until_fail told OutOfMemory = Unit {0}
-IsStateAfter until_fail told Unwritable = Unit {0}
+IsStateAfter until_fail written Going = IsEnd until_fail written false
+IsStateAfter until_fail written Stopped = IsEnd until_fail written true
+IsStateAfter until_fail written OutOfMemory = Unit {0}
+IsStateAfter until_fail written Unwritable = Unit {0}
 
 -- the state of a teller that took a notice and wrote it, or could not
 abbrev pub state_after : Result Unit Unwritten → Bool → Notice → TellerState
 state_after (Ok done) until_fail notice = if ends_at until_fail notice then Stopped else Going
 state_after (Err unwritten.Memory) until_fail notice = OutOfMemory
 state_after (Err unwritten.Write) until_fail notice = Unwritable
+
+-- the notice of a change that is held back
+abbrev pub held_notice : Held → Notice
+held_notice held = Changed held.feeder held.place held.change
+
+-- the notices of changes that are held back, in order
+abbrev pub held_notices : List Held → List Notice
+held_notices held = map held_notice held
+
+-- these notices were written, one after the other, and a teller that did so is in this state
+pub record IsWritten (terms : Terms) (registers : List Register) (written : List Notice) (state : TellerState) (old new : Option (List ℕ)) : Type 0 where
+  pub texts : HasWritten state → Appends old new (text_of_notices terms.form registers written)
+  pub after : IsStateAfter terms.until_fail written state
+
+-- what was written and what is held back of what was told: where no failure is to be held back none is, and all is
+-- written; else all refusals, breaks and ends are, in order, and of each register what is settled
+pub record IsWrittenOrHeld (settle : ℕ) (told held written : List Notice) : Type 0 where
+  pub at_once : settle ≡ 0 → (told ≡ written) × (held ≡ [])
+  pub others : filter is_no_change told ≡ filter is_no_change written
+  pub by_register : (register : ℕ) → IsSettledUpTo (notices_of register told) (notices_of register held) (notices_of register written)
+
+-- what a teller was told is written, or held back
+pub record IsTold (terms : Terms) (registers : List Register) (before now : Option (List ℕ)) (teller : TellerModel) : Type 0 where
+  pub written : List Notice
+  pub out : IsWritten terms registers written teller.state before now
+  pub told : HasTold teller.state → IsWrittenOrHeld terms.settle teller.told teller.held written
+
+-- a failure of one register that was held back and the change that heals it, of which nothing is written or left
+pub record IsHealed (held new written left : List Notice) : Type 0 where
+  pub failing : Notice
+  pub holding : Notice
+  pub held_is : held ≡ failing ∷ []
+  pub new_is : new ≡ holding ∷ []
+  pub fails : says_fails failing ≡ true
+  pub holds : says_fails holding ≡ false
+  pub none_written : written ≡ []
+  pub none_left : left ≡ []
+
+-- the changes of one register that were held back and the one that comes, if one does, are those that are written now
+-- and then those that are left, held back; or what comes heals what was held back, and nothing is left of both
+abbrev pub IsPassedOn : List Notice → List Notice → List Notice → List Notice → Type 0
+IsPassedOn held new written left = IsHeldBack left × ((held ++ new ≡ written ++ left) ⊎ IsHealed held new written left)
+
+-- what is written now, and what is held back from now on, given what was held back and what comes
+pub record ArePassedOn (settle : ℕ) (held new written left : List Notice) : Type 0 where
+  pub at_once : settle ≡ 0 → held ≡ [] → (new ≡ written) × (left ≡ [])
+  pub others : filter is_no_change new ≡ filter is_no_change written
+  pub by_register : (register : ℕ) → IsHeldBack (notices_of register held) → IsPassedOn (notices_of register held) (notices_of register new) (notices_of register written) (notices_of register left)
+
+-- what was written of what was told, where a teller in this state is over
+abbrev pub AreWrittenIn : TellerState → ℕ → List Notice → List Notice → Type 0
+AreWrittenIn Going settle told written = AreWrittenOf settle false told written
+AreWrittenIn Stopped settle told written = AreWrittenOf settle true told written
+AreWrittenIn OutOfMemory settle told written = Unit {0}
+AreWrittenIn Unwritable settle told written = Unit {0}
+
+-- what a teller leaves of what it was told
+pub record IsToldAll (terms : Terms) (registers : List Register) (before now : Option (List ℕ)) (told : List Notice) (state : TellerState) : Type 0 where
+  pub written : List Notice
+  pub out : IsWritten terms registers written state before now
+  pub settled : AreWrittenIn state terms.settle told written

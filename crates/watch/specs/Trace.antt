@@ -1,14 +1,11 @@
--- A trace that edits nothing, in the order of its moments, and the edits of a register among its steps.
-use Rattle.std.specs.Prelude.{◌≢◌, ◌≤◌, ◌==◌, List, Option, Some, None, Result, Ok, Err, All, IfSome, if◌then◌else◌, ℕ, filter_map}
+-- A trace that edits nothing, in the order of its moments.
+use Rattle.std.specs.Prelude.{◌≢◌, ◌≤◌, List, Option, Some, None, Result, Ok, Err, All, IfSome}
 use Rattle.std.specs.List.{AllPairs}
 use Rattle.intervals.specs.declared.operation.Moment.{Moment}
-use Rattle.intervals.specs.declared.edit.Edit.{Edit as AnEdit}
 use Rattle.jepsen_form.specs.declared.fault.FormFault.{FormFault}
 use Rattle.jepsen_form.specs.declared.item.Item.{Item}
 use Rattle.jepsen_form.specs.declared.item.Item.TheVariants.{Event, Amend, Withdraw, Claim, Ask, Skipped}
 use Rattle.jepsen_form.specs.declared.item.Stage.TheVariants.{Fail}
-use Rattle.pairing.specs.declared.step.Step.TheVariants.{Edit, Ask as AskOf}
-use Rattle.feeders.specs.Steps.{StepResult}
 
 -- the item amends, withdraws and claims nothing: it is an event, a question, or skipped
 abbrev pub IsNoEdit : Item → Type 0
@@ -64,14 +61,3 @@ IsNoFailItem Skipped = Unit {0}
 abbrev pub IsNoFail : Result Item FormFault → Type 0
 IsNoFail (Err fault) = Unit {0}
 IsNoFail (Ok item) = IsNoFailItem item
-
--- the edit of what an element comes to, where that is a step on the register of this number; else none
-abbrev pub edit_on : ℕ → StepResult → Option AnEdit
-edit_on register (Err code) = None
-edit_on register (Ok None) = None
-edit_on register (Ok (Some (Edit on edit))) = if on.0 == register then Some edit else None
-edit_on register (Ok (Some (AskOf on))) = None
-
--- the edits of the register of this number among these steps, in order
-abbrev pub edits_among : ℕ → List StepResult → List AnEdit
-edits_among register steps = filter_map (edit_on register) steps

@@ -16,6 +16,8 @@ use Rattle.feeders.specs.Run.{IsRun}
 use Rattle.watch.specs.declared.fault.WatchFault.{WatchFault}
 use Rattle.watch.specs.declared.fault.WatchFault.TheVariants.{Memory, Shard}
 use Rattle.watch.specs.declared.run.Terms.{Terms}
+use Rattle.watch.specs.Noted.{AreNoted, IsToldOf}
+use Rattle.watch.specs.Settling.{AreWrittenOf}
 use Rattle.watch.specs.Text.{text_of_notices}
 
 -- the fault of a watch by that of its run
@@ -54,11 +56,6 @@ change_in n at (Ended feeder elements) = None
 abbrev pub changes_in : ℕ → ℕ → List Notice → List VerdictChange
 changes_in n at notices = filter_map (change_in n at) notices
 
--- what was told of a shard is all of its changes; or, where the watch stopped, the first ones
-abbrev pub IsToldOf : Bool → List VerdictChange → List VerdictChange → Type 0
-IsToldOf true told own = (rest : List VerdictChange) × (own ≡ told ++ rest)
-IsToldOf false told own = own ≡ told
-
 -- the notices tell, of each of n shards, the changes of verdicts by the entries of its journal, in order
 abbrev pub AreTold : ℕ → List ClosedShard → Bool → List Notice → Type 0
 AreTold n closed stopped notices = (at : ℕ) → at < n → IsToldOf stopped (changes_in n at notices) (changes_of closed at)
@@ -78,15 +75,19 @@ IsByEntry n closed (Ended feeder elements) = Unit {0}
 abbrev pub AreByEntries : ℕ → List ClosedShard → List Notice → Type 0
 AreByEntries n closed notices = All (IsByEntry n closed) notices
 
--- what a watch did of what readers had left: a feeder for each fed what it gave to the registers of the tower, and the
--- texts of notices were written, which tell each change of a verdict in the order of its shard's journal, up to the
--- first register that failed, where that was to end it
+-- what a watch did of what readers had left: a feeder for each fed what it gave to the registers of the tower; it was
+-- told each change of a verdict in the order of its shard's journal, and each refusal, break and end in the order of its
+-- trace, up to the first register that failed, where that was to end it; and of what it was told the texts of those
+-- notices were written that are settled
 pub record IsWatched (tower : TowerModel) (terms : Terms) (left : List (Option (List ℕ))) (closed : List ClosedShard) (logs : List Log) (stopped : Bool) (old new : Option (List ℕ)) : Type 0 where
   pub notices : List Notice
   pub written : Appends old new (text_of_notices terms.form tower.registers notices)
   pub traces : List (List ℕ)
   pub are_read : AreReadOf left logs traces
   pub run : IsRun tower terms.field terms.shards traces closed logs
-  pub told : AreTold terms.shards closed stopped notices
-  pub by_entries : AreByEntries terms.shards closed notices
+  pub told : List Notice
+  pub are_told : AreTold terms.shards closed stopped told
+  pub by_entries : AreByEntries terms.shards closed told
+  pub are_noted : AreNoted logs stopped told
+  pub settled : AreWrittenOf terms.settle stopped told notices
   pub end : IsEnd terms.until_fail notices stopped

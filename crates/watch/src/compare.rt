@@ -3,7 +3,8 @@
 ghost use Rattle.std.specs.Prelude.{◌≡◌, ◌≢◌, ◌↔◌, ◌∷◌, ◌++◌, ◌<◌, List, IfSome, IsNone, IsTrue};
 ghost use Rattle.std.specs.Option.{option_to_list};
 ghost use Rattle.shards.specs.declared.entry.VerdictChange.{VerdictChange as AChange};
-ghost use Rattle.watch.specs.Watched.{AreTold, AreByEntries, HasEntryBy, IsByEntry, IsToldOf, change_in, changes_in};
+ghost use Rattle.watch.specs.Noted.{IsToldOf};
+ghost use Rattle.watch.specs.Watched.{AreTold, AreByEntries, HasEntryBy, IsByEntry, change_in, changes_in};
 
 use crate::same::is_same;
 use feeders::Notice;

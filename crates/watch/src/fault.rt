@@ -1,10 +1,10 @@
 //! Why a watch broke off.
 
 ghost use Rattle.std.specs.Prelude.{◌≡◌};
-ghost use Rattle.watch.specs.Watched.{unwatched};
 
 use feeders::RunFault;
 use shards::ShardFault;
+use std::alloc::AllocError;
 use thiserror::Error;
 
 /// Why a watch broke off.
@@ -19,9 +19,19 @@ pub enum WatchFault {
     /// A shard refused an edit, a question or the end.
     #[error("{0}")]
     Shard(ShardFault),
-    /// The notices are not those of the closed journals.
+    /// The notices are not those of the closed journals, or of the logs.
     #[error("Untold")]
     Untold,
+}
+
+impl From<AllocError> for WatchFault {
+    ghost use Rattle.watch.specs.declared.fault.WatchFault.TheVariants.{Memory as NoMemory};
+
+    ghost from_gives = { λ _ fault. fault ≡ NoMemory };
+
+    fn from(_fault: AllocError) -> WatchFault {
+        WatchFault::Memory
+    }
 }
 
 impl From<RunFault> for WatchFault {

@@ -1,7 +1,7 @@
 //! Laws of what a watch wrote, and of a register whose edits come in the order of time. Each is the contract of a function
 //! that does nothing.
 
-ghost use Rattle.std.specs.Prelude.{◌≡◌, ◌⊎◌, ◌<◌, ◌++◌, ◌∷◌, [], ℕ, All, List, Option, Result, true, false, None};
+ghost use Rattle.std.specs.Prelude.{◌≡◌, ◌⊎◌, ◌<◌, ◌%◌, ◌++◌, ◌∷◌, [], ℕ, All, List, Option, Result, true, false, None};
 ghost use Rattle.intervals.specs.declared.edit.Edit.{Edit};
 ghost use Rattle.intervals.specs.declared.edit.Edit.TheVariants.{Withdraw, Claim as ToKind};
 ghost use Rattle.intervals.specs.declared.operation.Value.TheVariants.{Nil};
@@ -19,10 +19,11 @@ ghost use Rattle.shards.specs.Closing.{ClosedShard, journal_of};
 ghost use Rattle.shards.specs.VerdictChange.{AreVerdictChanges};
 ghost use Rattle.feeders.specs.declared.log.Log.{Log};
 ghost use Rattle.feeders.specs.Run.{plan_of_run};
-ghost use Rattle.feeders.specs.Steps.{steps_behind, steps_of};
+ghost use Rattle.feeders.specs.Steps.{edits_among, steps_behind, steps_of};
 ghost use Rattle.watch.specs.Coming.{ComesLast, ComeInOrder, LeavesReadValues, LeaveReadValues};
-ghost use Rattle.watch.specs.Trace.{IsNoFail, IsPlainTrace, edits_among};
+ghost use Rattle.watch.specs.Trace.{IsNoFail, IsPlainTrace};
 ghost use Rattle.watch.specs.declared.run.Terms.{Terms};
+ghost use Rattle.watch.specs.Settling.{LessPairs, change_fails, changes_on};
 ghost use Rattle.watch.specs.Watched.{IsWatched, changes_in};
 ghost use Rattle.watch.specs.Healing.{of_unknown_initial, of_one_process, answered_at, read_then_invoked, write_withdrawn, read_of_one, older_write, seven_within_write};
 
@@ -31,10 +32,23 @@ ghost use Rattle.watch.specs.Healing.{of_unknown_initial, of_one_process, answer
 pub fn what_was_told_is_what_changed()
     ensures all { (tower : TowerModel) (terms : Terms) (left : List (Option (List ℕ))) (closed : List ClosedShard) (logs : List Log) (old new : Option (List ℕ))
         → (watched : IsWatched tower terms left closed logs false old new) → (at : ℕ) → at < terms.shards
-        → AreVerdictChanges (plan_of_run tower terms.shards watched.traces) (journal_of closed at) (changes_in terms.shards at watched.notices) }
+        → AreVerdictChanges (plan_of_run tower terms.shards watched.traces) (journal_of closed at) (changes_in terms.shards at watched.told) }
     ensures first { (tower : TowerModel) (terms : Terms) (left : List (Option (List ℕ))) (closed : List ClosedShard) (logs : List Log) (old new : Option (List ℕ))
         → (watched : IsWatched tower terms left closed logs true old new) → (at : ℕ) → at < terms.shards
-        → (rest : List VerdictChange) × AreVerdictChanges (plan_of_run tower terms.shards watched.traces) (journal_of closed at) (changes_in terms.shards at watched.notices ++ rest) }
+        → (rest : List VerdictChange) × AreVerdictChanges (plan_of_run tower terms.shards watched.traces) (journal_of closed at) (changes_in terms.shards at watched.told ++ rest) }
+{}
+
+/// What was written of a register by a watch that no failure ended: the changes of its shard's journal that are its own,
+/// less pairs of one to `fails` and the next one, to `holds`. Where no failure is held back it is all changes of the
+/// shard.
+pub fn only_what_heals_is_left_out()
+    ensures settled { (tower : TowerModel) (terms : Terms) (left : List (Option (List ℕ))) (closed : List ClosedShard) (logs : List Log) (old new : Option (List ℕ))
+        → (watched : IsWatched tower terms left closed logs false old new) → 0 < terms.shards → (register : ℕ)
+        → (changes : List VerdictChange) × AreVerdictChanges (plan_of_run tower terms.shards watched.traces) (journal_of closed (register % terms.shards)) changes
+        × LessPairs change_fails (changes_on register changes) (changes_on register (changes_in terms.shards (register % terms.shards) watched.notices)) }
+    ensures at_once { (tower : TowerModel) (terms : Terms) (left : List (Option (List ℕ))) (closed : List ClosedShard) (logs : List Log) (old new : Option (List ℕ))
+        → (watched : IsWatched tower terms left closed logs false old new) → terms.settle ≡ 0 → (at : ℕ) → at < terms.shards
+        → AreVerdictChanges (plan_of_run tower terms.shards watched.traces) (journal_of closed at) (changes_in terms.shards at watched.notices) }
 {}
 
 /// A register that fails never holds again under later edits that come in the order of time, whatever the edits

@@ -13,11 +13,23 @@ pub struct Live<'r, 'a, 't, R, W: Write, B: Beginning> {
     rt: &'r R,
     teller: &'r Mutex<Teller<'a, 't, W, B>>,
     over: &'r AtomicBool,
+    /// Whether failures are held back.
+    settles: bool,
 }
 
 impl<'r, 'a, 't, R, W: Write, B: Beginning> Live<'r, 'a, 't, R, W, B> {
-    pub fn new(rt: &'r R, teller: &'r Mutex<Teller<'a, 't, W, B>>, over: &'r AtomicBool) -> Self {
-        Live { rt, teller, over }
+    pub fn new(
+        rt: &'r R,
+        teller: &'r Mutex<Teller<'a, 't, W, B>>,
+        over: &'r AtomicBool,
+        settles: bool,
+    ) -> Self {
+        Live {
+            rt,
+            teller,
+            over,
+            settles,
+        }
     }
 }
 
@@ -31,6 +43,21 @@ impl<R: Wait + Sync, W: Write + Send, B: Beginning + Send> Watcher for Live<'_, 
     fn told(&self, notice: Notice) {
         let mut teller = self.teller.lock(self.rt);
         teller.tell(notice);
+        if let Notice::Ended { feeder, .. } = notice {
+            teller.end_feeder(feeder);
+        }
+        if !teller.goes_on() {
+            self.over.store(true, Ordering::SeqCst);
+        }
+    }
+
+    /// Where no failure is held back it counts nothing, and takes no lock.
+    fn took(&self, feeder: u32) {
+        if !self.settles {
+            return;
+        }
+        let mut teller = self.teller.lock(self.rt);
+        teller.count(feeder);
         if !teller.goes_on() {
             self.over.store(true, Ordering::SeqCst);
         }

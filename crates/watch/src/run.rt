@@ -5,19 +5,23 @@ ghost use Rattle.std.specs.Io.KnownBytes.{Appends};
 ghost use Rattle.feeders.specs.declared.watcher.Notice.{Notice as ANotice};
 ghost use Rattle.feeders.specs.Readers.{AreReadOf};
 ghost use Rattle.feeders.specs.Run.{IsRun};
-ghost use Rattle.watch.specs.Teller.{HasWritten, IsStateAfter};
+ghost use Rattle.watch.specs.Noted.{AreNoted};
+ghost use Rattle.watch.specs.Teller.{AreWrittenIn, HasWritten, IsStateAfter};
+ghost use Rattle.watch.specs.Settling.{AreWrittenOf};
 ghost use Rattle.watch.specs.Text.{text_of_notices};
 ghost use Rattle.watch.specs.Watched.{AreByEntries, AreTold, IsEnd, IsWatched};
 
 use crate::compare::are_told;
 use crate::fault::WatchFault;
 use crate::live::Live;
+use crate::noted::are_noted;
+use crate::settling::{Progress, at_the_beginning};
 use crate::stoppable::stopped_by;
 use crate::teller::{Beginning, Output, Teller, TellerState};
 use crate::text::NoticeForm;
 use feeders::{Notice, Pages, Run, RunFault, run_readers};
 use jepsen_form::MomentField;
-use std::alloc::Global;
+use std::alloc::{AllocError, Global};
 use std::io::{Read, Write};
 use std::marker::Brand;
 use std::sync::atomic::AtomicBool;
@@ -35,6 +39,8 @@ pub struct Terms {
     pub form: NoticeForm,
     /// Whether the first register that fails ends the watch.
     pub until_fail: bool,
+    /// For how many more elements of each trace a failure is held back.
+    pub settle: u64,
 }
 
 /// What a watch leaves: the run over what was read, and whether a register that failed ended it.
@@ -45,8 +51,9 @@ pub struct Watched<'t> {
 }
 
 /// Feeds what each reader gives, each by a thread of its own, and writes a notice, flushed, as soon as the verdict on a
-/// register changes, an element is refused, or a trace breaks or ends. A feeder that waits in a read call is not woken:
-/// where the watch is over its thread ends when that call returns.
+/// register changes, an element is refused, or a trace breaks or ends. A register that fails has its notice once each
+/// feeder has taken `settle` more elements or is over; where it holds again before, neither has one. A feeder that waits
+/// in a read call is not woken: where the watch is over its thread ends when that call returns.
 pub fn watch_readers<'t, R: Threads + Wait + Sync, S: Read + Drop + Send, W: Write + Send>(
     rt: &R,
     alloc: Global,
@@ -61,6 +68,7 @@ pub fn watch_readers<'t, R: Threads + Wait + Sync, S: Read + Drop + Send, W: Wri
     ensures watched { IfOk result (λ watched. IsWatched tower.now terms.now (map S.remaining readers.items) watched.run.closed watched.run.logs.items watched.stopped (W.contents out.old) (W.contents out.new)) }
     ensures whole { IfErr result (λ fault. fault ≢ WatchFault.Write → (notices : List ANotice) × Appends (W.contents out.old) (W.contents out.new) (text_of_notices terms.now.form tower.now.registers notices)) }
 {
+    let progress = begun(alloc, terms.settle, readers.len())?;
     let mut outcome = Err(WatchFault::Memory);
     let _output = watch_in::<R, S, W, Brand>(
         rt,
@@ -69,10 +77,20 @@ pub fn watch_readers<'t, R: Threads + Wait + Sync, S: Read + Drop + Send, W: Wri
         readers,
         pages,
         terms,
+        progress,
         Output { out },
         &mut outcome,
     );
     outcome
+}
+
+/// Feeders that have taken nothing; none are wanted where no failure is held back.
+fn begun(alloc: Global, settle: u64, feeders: usize) -> Result<Vec<Progress>, AllocError> {
+    if settle == 0 {
+        Ok(Vec::new(alloc))
+    } else {
+        at_the_beginning(alloc, feeders)
+    }
 }
 
 /// `watch_readers` from the beginning `B`.
@@ -90,6 +108,7 @@ fn watch_in<
     readers: Vec<S>,
     pages: &'t Pages,
     terms: &Terms,
+    progress: Vec<Progress>,
     output: Output<'a, W>,
     outcome: &mut Result<Watched<'t>, WatchFault>,
 ) -> Output<'a, W>
@@ -98,18 +117,13 @@ fn watch_in<
     requires output { output.out.ghost_name ≡ B.output }
     requires before { W.contents output.out.now ≡ B.before }
     requires registers { tower.now.registers ≡ B.registers }
-    requires form { terms.now.form ≡ B.form }
-    requires until_fail { terms.now.until_fail ≡ B.until_fail }
+    requires terms { terms.now ≡ B.terms }
     ensures same_reference { result.out.ghost_name ≡ output.entry.out.ghost_name }
     ensures watched { IfOk outcome.new (λ watched. IsWatched tower.now terms.now (map S.remaining readers.items) watched.run.closed watched.run.logs.items watched.stopped B.before (W.contents result.out.now)) }
     ensures whole { IfErr outcome.new (λ fault. fault ≢ WatchFault.Write → (notices : List ANotice) × Appends B.before (W.contents result.out.now) (text_of_notices terms.now.form tower.now.registers notices)) }
 {
     let teller: Mutex<Teller<'a, 't, W, B>> = Mutex::new(Teller::new(
-        alloc,
-        tower,
-        terms.form,
-        terms.until_fail,
-        output,
+        alloc, tower, *terms, progress, output,
     ));
     let run = run_told(rt, alloc, tower, readers, pages, terms, &teller);
     let told = teller.into_inner().end();
@@ -139,7 +153,7 @@ fn run_told<
     ensures run { IfOk result (λ run. (traces : List (List ℕ)) × AreReadOf (map S.remaining readers.items) run.logs.items traces × IsRun tower.now terms.now.field terms.now.shards traces run.closed run.logs.items) }
 {
     let over = AtomicBool::new(false);
-    let live = Live::new(rt, teller, &over);
+    let live = Live::new(rt, teller, &over, terms.settle != 0);
     let readers = stopped_by(alloc, readers, &over)?;
     run_readers(
         rt,
@@ -162,8 +176,9 @@ fn concluded<'t>(
 ) -> Result<Watched<'t>, WatchFault>
     requires some { 1 ≤ shards }
     ensures run { IfOk result (λ watched. run.entry ≡ Ok watched.run) }
-    ensures told { IfOk result (λ watched. AreTold shards watched.run.closed watched.stopped notices.now × AreByEntries shards watched.run.closed notices.now) }
-    ensures end { IfOk result (λ watched. (until_fail : Bool) → IsStateAfter until_fail notices.now state → IsEnd until_fail notices.now watched.stopped) }
+    ensures told { IfOk result (λ watched. AreTold shards watched.run.closed watched.stopped notices.now × AreByEntries shards watched.run.closed notices.now × AreNoted watched.run.logs.items watched.stopped notices.now) }
+    ensures end { IfOk result (λ watched. (until_fail : Bool) (written : List ANotice) → IsStateAfter until_fail written state → IsEnd until_fail written watched.stopped) }
+    ensures settled { IfOk result (λ watched. (settle : ℕ) (written : List ANotice) → AreWrittenIn state settle notices.now written → AreWrittenOf settle watched.stopped notices.now written) }
     ensures state { IfOk result (λ watched. HasWritten state) }
     ensures write { IfErr result (λ fault. fault ≢ WatchFault.Write → HasWritten state) }
 {
@@ -174,7 +189,9 @@ fn concluded<'t>(
         TellerState::Unwritable => return Err(WatchFault::Write),
     };
     let run = run?;
-    if !are_told(notices, &run.closed, shards, stopped) {
+    if !are_told(notices, &run.closed, shards, stopped)
+        || !are_noted(notices, run.logs.as_slice(), stopped)
+    {
         return Err(WatchFault::Untold);
     }
     Ok(Watched { run, stopped })

@@ -1,12 +1,17 @@
-//! A teller: an output, with the notices that were written to it.
+//! A teller: an output, with what it was told and what of that it holds back.
 
-ghost use Rattle.std.specs.Prelude.{◌≡◌, ◌≢◌, ◌++◌, ◌∷◌, [], List, ℕ, Bool, None, Err, OnOk, OnErr, IsTrue, ◌↔◌, false};
+ghost use Rattle.std.specs.Prelude.{◌≡◌, ◌≢◌, ◌<◌, ◌++◌, ◌∷◌, [], List, Err, IfOk, OnOk, IsTrue, ◌↔◌, length, vec_len};
+ghost use Rattle.std.specs.Option.{option_to_list};
 ghost use Rattle.std.specs.Io.KnownBytes.{Appends};
-ghost use Rattle.watch.specs.Teller.{HasTold, HasWritten, IsStateAfter, TellerModel, state_after};
-ghost use Rattle.watch.specs.Text.{text_of_notice, text_of_notices};
+ghost use Rattle.feeders.specs.declared.watcher.Notice.{Notice as ANotice};
+ghost use Rattle.watch.specs.declared.settling.Held.{Held as AHeld};
+ghost use Rattle.watch.specs.Teller.{HasTold, ArePassedOn, IsToldAll, IsWritten, TellerModel, held_notices, state_after};
+ghost use Rattle.watch.specs.Text.{text_of_notice};
 ghost use Rattle.watch.specs.Watched.{ends_at};
 ghost use Rattle.watch.specs.declared.teller.Unwritten.TheVariants.{Memory as OutOfMemory, Write as Refused};
 
+use crate::run::Terms;
+use crate::settling::{Held, Progress, count, note_end, passed_on};
 use crate::text::{NoticeForm, notice_text};
 use feeders::Notice;
 use std::alloc::{AllocError, Global};
@@ -15,13 +20,12 @@ use std::marker::{Brand, Model, PhantomData};
 use tower_file::Tower;
 
 /// What a lock forgets of a teller: which output it has and what that had before the first notice, whose registers the
-/// notices are about, how they are written, and whether the first register that fails ends it. So it is in the type of
-/// a teller, and whoever makes one picks it.
+/// notices are about, and how they are watched. So it is in the type of a teller, and whoever makes one picks it.
 pub trait Beginning {
     ghost use Rattle.std.specs.Borrow.{GName};
-    ghost use Rattle.std.specs.Prelude.{ℕ, Bool, List, Option};
+    ghost use Rattle.std.specs.Prelude.{ℕ, List, Option};
     ghost use Rattle.tower_file.specs.Contents.{Register};
-    ghost use Rattle.watch.specs.declared.text.NoticeForm.{NoticeForm as AForm};
+    ghost use Rattle.watch.specs.declared.run.Terms.{Terms as ATerms};
 
     ghost output: { GName };
 
@@ -29,13 +33,12 @@ pub trait Beginning {
 
     ghost registers: { List Register };
 
-    ghost form: { AForm };
-
-    ghost until_fail: { Bool };
+    ghost terms: { ATerms };
 }
 
 impl Beginning for Brand {
     ghost use Rattle.std.specs.Prelude.{None, [], false};
+    ghost use Rattle.jepsen_form.specs.declared.item.MomentField.TheVariants.{Index};
     ghost use Rattle.watch.specs.declared.text.NoticeForm.TheVariants.{Line};
 
     ghost output = { 0 };
@@ -44,9 +47,7 @@ impl Beginning for Brand {
 
     ghost registers = { [] };
 
-    ghost form = { Line };
-
-    ghost until_fail = { false };
+    ghost terms = { record { field = Index; shards = 1; form = Line; until_fail = false; settle = 0 } };
 }
 
 /// An output that is lent.
@@ -68,14 +69,15 @@ pub enum TellerState {
     Unwritable,
 }
 
-/// An output, and the notices that were written to it.
+/// An output, with what was told of and what is held back.
 #[derive(Drop)]
 pub struct Teller<'a, 't, W: Write, B: Beginning> {
     tower: &'t Tower,
-    form: NoticeForm,
-    until_fail: bool,
+    terms: Terms,
     out: &'a mut W,
     told: Vec<Notice>,
+    held: Vec<Held>,
+    progress: Vec<Progress>,
     alloc: Global,
     state: TellerState,
     of: PhantomData<B>,
@@ -83,48 +85,46 @@ pub struct Teller<'a, 't, W: Write, B: Beginning> {
 
 impl<'a, 't, W: Write, B: Beginning> Model for Teller<'a, 't, W, B> {
     ghost use Rattle.std.specs.Prelude.{◌≡◌};
-    ghost use Rattle.std.specs.Io.KnownBytes.{Appends};
-    ghost use Rattle.watch.specs.Teller.{HasWritten, IsStateAfter, TellerModel};
-    ghost use Rattle.watch.specs.Text.{text_of_notices};
+    ghost use Rattle.watch.specs.Teller.{IsTold, TellerModel, held_notices};
 
     ghost Value = { TellerModel };
 
-    ghost view = { λ t. record { told = t.told.items; state = t.state } };
+    ghost view = { λ t. record { told = t.told.items; held = held_notices t.held.items; state = t.state } };
 
-    ghost invariant = { λ t. (t.out.ghost_name ≡ B.output) × (t.tower.now.registers ≡ B.registers) × (t.form ≡ B.form) × (t.until_fail ≡ B.until_fail)
-        × (HasWritten t.state → Appends B.before (W.contents t.out.now) (text_of_notices B.form B.registers t.told.items)) × IsStateAfter B.until_fail t.told.items t.state };
+    ghost invariant = { λ t. (t.out.ghost_name ≡ B.output) × (t.tower.now.registers ≡ B.registers) × (t.terms ≡ B.terms)
+        × IsTold B.terms B.registers B.before (W.contents t.out.now) (record { told = t.told.items; held = held_notices t.held.items; state = t.state }) };
 }
 
 impl<'a, 't, W: Write, B: Beginning> Teller<'a, 't, W, B> {
-    /// A teller over an output, before the first notice.
+    /// A teller over an output, before the first notice, for feeders that have come so far.
     pub fn new(
         alloc: Global,
         tower: &'t Tower,
-        form: NoticeForm,
-        until_fail: bool,
+        terms: Terms,
+        progress: Vec<Progress>,
         output: Output<'a, W>,
     ) -> Self
         requires output { output.out.ghost_name ≡ B.output }
         requires before { W.contents output.out.now ≡ B.before }
         requires registers { tower.now.registers ≡ B.registers }
-        requires form { form ≡ B.form }
-        requires until_fail { until_fail ≡ B.until_fail }
-        ensures { result ≡ record { told = []; state = TellerState.Going } }
+        requires terms { terms ≡ B.terms }
+        ensures { result ≡ record { told = []; held = []; state = TellerState.Going } }
     {
         let Output { out } = output;
         Teller {
             tower,
-            form,
-            until_fail,
+            terms,
             out,
             told: Vec::new(alloc),
+            held: Vec::new(alloc),
+            progress,
             alloc,
             state: TellerState::Going,
             of: PhantomData,
         }
     }
 
-    /// Writes a notice and flushes it. Where it takes none nothing changes.
+    /// Takes a notice, and writes what is to be written then. Where it takes none nothing changes.
     pub fn tell(&mut self, notice: Notice)
         ensures told { self.old.state ≡ TellerState.Going → HasTold self.new.state → self.new.told ≡ self.old.told ++ notice ∷ [] }
         ensures over { self.old.state ≢ TellerState.Going → self.new ≡ self.old }
@@ -132,40 +132,84 @@ impl<'a, 't, W: Write, B: Beginning> Teller<'a, 't, W, B> {
         if !self.goes_on() {
             return;
         }
-        let written = write_notice(
+        self.state = take(
             self.out,
             &mut self.told,
+            &mut self.held,
+            self.progress.as_slice(),
             self.alloc,
             self.tower,
-            self.form,
+            &self.terms,
             notice,
         );
-        self.state = state_after(written, self.until_fail, &notice);
+    }
+
+    /// Counts an element that a feeder took, and writes what is then due of what is held back.
+    pub fn count(&mut self, feeder: u32)
+        ensures told { self.new.told ≡ self.old.told }
+        ensures over { self.old.state ≢ TellerState.Going → self.new ≡ self.old }
+    {
+        if !self.goes_on() {
+            return;
+        }
+        count(self.progress.as_mut_slice(), feeder);
+        self.state = write_due(
+            self.out,
+            &mut self.held,
+            self.progress.as_slice(),
+            self.alloc,
+            self.tower,
+            &self.terms,
+        );
+    }
+
+    /// Notes that a feeder is over, and writes what is then due of what is held back.
+    pub fn end_feeder(&mut self, feeder: u32)
+        ensures told { self.new.told ≡ self.old.told }
+        ensures over { self.old.state ≢ TellerState.Going → self.new ≡ self.old }
+    {
+        if !self.goes_on() {
+            return;
+        }
+        note_end(self.progress.as_mut_slice(), feeder);
+        self.state = write_due(
+            self.out,
+            &mut self.held,
+            self.progress.as_slice(),
+            self.alloc,
+            self.tower,
+            &self.terms,
+        );
     }
 
     /// Whether it takes notices.
     pub fn goes_on(&self) -> bool
         ensures { IsTrue result ↔ self.now.state ≡ TellerState.Going }
     {
-        match self.state {
-            TellerState::Going => true,
-            TellerState::Stopped | TellerState::OutOfMemory | TellerState::Unwritable => false,
-        }
+        is_going(self.state)
     }
 
-    /// The output, the notices that were written to it, and whether all were.
+    /// The output, what it was told, and whether all was written that is settled. What is still held back is written
+    /// before.
     pub fn end(self) -> Told<'a, W>
-        ensures told { (result.told.items ≡ self.entry.told) × (result.state ≡ self.entry.state) }
+        ensures told { result.told.items ≡ self.entry.told }
         ensures output { result.output.out.ghost_name ≡ B.output }
-        ensures written { HasWritten result.state → Appends B.before (W.contents result.output.out.now) (text_of_notices B.form B.registers result.told.items) }
-        ensures state { IsStateAfter B.until_fail result.told.items result.state }
+        ensures all { IsToldAll B.terms B.registers B.before (W.contents result.output.out.now) result.told.items result.state }
     {
         let Teller {
+            tower,
+            terms,
             out,
             told,
+            mut held,
+            alloc,
             state,
             ..
         } = self;
+        let state = match state {
+            TellerState::Going => write_left(out, &mut held, alloc, tower, &terms),
+            TellerState::Stopped | TellerState::OutOfMemory | TellerState::Unwritable => state,
+        };
         Told {
             output: Output { out },
             told,
@@ -180,6 +224,154 @@ pub struct Told<'a, W: Write> {
     pub output: Output<'a, W>,
     pub told: Vec<Notice>,
     pub state: TellerState,
+}
+
+/// Notes a notice, and writes what is to be written now that it comes.
+fn take<W: Write>(
+    out: &mut W,
+    told: &mut Vec<Notice>,
+    held: &mut Vec<Held>,
+    progress: &[Progress],
+    alloc: Global,
+    tower: &Tower,
+    terms: &Terms,
+    notice: Notice,
+) -> TellerState
+    ensures told { HasTold result → told.new.items ≡ told.old.items ++ notice ∷ [] }
+    ensures written { (written : List ANotice) × IsWritten terms.now tower.now.registers written result (W.contents out.old) (W.contents out.new)
+        × (HasTold result → ArePassedOn terms.now.settle (held_notices held.old.items) (notice ∷ []) written (held_notices held.new.items)) }
+{
+    match noted(told, held, progress, alloc, terms, notice) {
+        Ok(Some(now)) => write_one(out, alloc, tower, terms, &now),
+        Ok(None) => TellerState::Going,
+        Err(_) => TellerState::OutOfMemory,
+    }
+}
+
+/// Notes a notice, and finds what is to be written now that it comes.
+fn noted(
+    told: &mut Vec<Notice>,
+    held: &mut Vec<Held>,
+    progress: &[Progress],
+    alloc: Global,
+    terms: &Terms,
+    notice: Notice,
+) -> Result<Option<Notice>, AllocError>
+    ensures told { OnOk result (told.new.items ≡ told.old.items ++ notice ∷ []) }
+    ensures passed_on { IfOk result (λ now. ArePassedOn terms.now.settle (held_notices held.old.items) (notice ∷ []) (option_to_list now) (held_notices held.new.items)) }
+{
+    told.reserve(1)?;
+    let now = passed_on(alloc, held, progress, terms.settle, notice)?;
+    told.push_reserved(notice);
+    Ok(now)
+}
+
+/// Writes what is due of what is held back, the oldest first. They come to be due in the order in which they were held
+/// back.
+fn write_due<W: Write>(
+    out: &mut W,
+    held: &mut Vec<Held>,
+    progress: &[Progress],
+    alloc: Global,
+    tower: &Tower,
+    terms: &Terms,
+) -> TellerState
+    ensures { (written : List AHeld) × (held.old.items ≡ written ++ held.new.items) × IsWritten terms.now tower.now.registers (held_notices written) result (W.contents out.old) (W.contents out.new) }
+{
+    for _ in 0..held.len() {
+        if !has_due(held.as_slice(), progress) {
+            return TellerState::Going;
+        }
+        let state = write_first(out, held, alloc, tower, terms);
+        if !is_going(state) {
+            return state;
+        }
+    }
+    TellerState::Going
+}
+
+/// Writes all that is held back, the oldest first.
+fn write_left<W: Write>(
+    out: &mut W,
+    held: &mut Vec<Held>,
+    alloc: Global,
+    tower: &Tower,
+    terms: &Terms,
+) -> TellerState
+    ensures written { (written : List AHeld) × (held.old.items ≡ written ++ held.new.items) × IsWritten terms.now tower.now.registers (held_notices written) result (W.contents out.old) (W.contents out.new) }
+    ensures all { result ≡ TellerState.Going → held.new.items ≡ [] }
+{
+    let many = held.len();
+    for _ in 0..many {
+        let state = write_first(out, held, alloc, tower, terms);
+        if !is_going(state) {
+            return state;
+        }
+    }
+    TellerState::Going
+}
+
+/// Whether the oldest of what is held back is due.
+fn has_due(held: &[Held], progress: &[Progress]) -> bool
+    ensures { IsTrue result → 0 < length held.now }
+{
+    match held.first() {
+        Some(first) => first.is_due(progress),
+        None => false,
+    }
+}
+
+/// Writes the oldest of what is held back, which is then not held any longer.
+fn write_first<W: Write>(
+    out: &mut W,
+    held: &mut Vec<Held>,
+    alloc: Global,
+    tower: &Tower,
+    terms: &Terms,
+) -> TellerState
+    requires some { 0 < vec_len held.old }
+    ensures { (written : List AHeld) × (held.old.items ≡ written ++ held.new.items) × IsWritten terms.now tower.now.registers (held_notices written) result (W.contents out.old) (W.contents out.new)
+        × (HasTold result → length written ≡ 1) }
+{
+    let state = write_one(out, alloc, tower, terms, &held[0].notice());
+    if has_told(state) {
+        held.remove(0);
+    }
+    state
+}
+
+/// Whether each notice that was taken was told.
+fn has_told(state: TellerState) -> bool
+    ensures { IsTrue result ↔ HasTold state }
+{
+    match state {
+        TellerState::Going | TellerState::Stopped => true,
+        TellerState::OutOfMemory | TellerState::Unwritable => false,
+    }
+}
+
+fn is_going(state: TellerState) -> bool
+    ensures { IsTrue result ↔ state ≡ TellerState.Going }
+{
+    match state {
+        TellerState::Going => true,
+        TellerState::Stopped | TellerState::OutOfMemory | TellerState::Unwritable => false,
+    }
+}
+
+/// Writes a notice.
+fn write_one<W: Write>(
+    out: &mut W,
+    alloc: Global,
+    tower: &Tower,
+    terms: &Terms,
+    notice: &Notice,
+) -> TellerState
+    ensures told { HasTold result → IsWritten terms.now tower.now.registers (notice.now ∷ []) result (W.contents out.old) (W.contents out.new) }
+    ensures none { (¬ HasTold result) → IsWritten terms.now tower.now.registers [] result (W.contents out.old) (W.contents out.new) }
+{
+    let written = write_notice(out, alloc, tower, terms.form, notice);
+    state_after(written, terms.until_fail, notice)
 }
 
 /// The state of a teller that took a notice and wrote it, or could not.
@@ -209,25 +401,20 @@ fn ends_at(until_fail: bool, notice: &Notice) -> bool
     }
 }
 
-/// Writes a notice in one write, flushes it, and notes it.
+/// Writes a notice in one write, and flushes it.
 fn write_notice<W: Write>(
     out: &mut W,
-    told: &mut Vec<Notice>,
     alloc: Global,
     tower: &Tower,
     form: NoticeForm,
-    notice: Notice,
+    notice: &Notice,
 ) -> Result<(), Unwritten>
-    ensures written { OnOk result (Appends (W.contents out.old) (W.contents out.new) (text_of_notice form tower.now.registers notice)) }
-    ensures told { OnOk result (told.new.items ≡ told.old.items ++ notice ∷ []) }
-    ensures none { OnErr result (told.new.items ≡ told.old.items) }
+    ensures written { OnOk result (Appends (W.contents out.old) (W.contents out.new) (text_of_notice form tower.now.registers notice.now)) }
     ensures memory { result ≡ Err Unwritten.Memory → out.new ≡ out.old }
 {
-    told.reserve(1)?;
-    let text = notice_text(alloc, tower, form, &notice)?;
+    let text = notice_text(alloc, tower, form, notice)?;
     out.write_all(text.as_slice())?;
     out.flush()?;
-    told.push_reserved(notice);
     Ok(())
 }
 

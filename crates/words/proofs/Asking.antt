@@ -169,17 +169,17 @@ unfolding clap_on_literals
 no_shell program = refl
 
 pub plain_watch : (program : Text) → asked (program ∷ codes "watch" ∷ codes "--tower" ∷ codes "t" ∷ codes "a" ∷ [])
-    ≡ Some (Watch (record { tower = codes "t"; shards = 1; moments = Index; form = line_forms.Text; until_fail = false; traces = codes "a" ∷ [] }))
+    ≡ Some (Watch (record { tower = codes "t"; shards = 1; moments = Index; form = line_forms.Text; until_fail = false; settle = 0; traces = codes "a" ∷ [] }))
 unfolding clap_on_literals
 plain_watch program = refl
 
-pub whole_watch : (program : Text) → asked (program ∷ codes "watch" ∷ codes "--tower=t" ∷ codes "--moment" ∷ codes "time" ∷ codes "--shards" ∷ codes "64" ∷ codes "--as" ∷ codes "json" ∷ codes "--until-fail" ∷ codes "a" ∷ codes "b" ∷ [])
-    ≡ Some (Watch (record { tower = codes "t"; shards = 64; moments = Time; form = line_forms.Json; until_fail = true; traces = codes "a" ∷ codes "b" ∷ [] }))
+pub whole_watch : (program : Text) → asked (program ∷ codes "watch" ∷ codes "--tower=t" ∷ codes "--moment" ∷ codes "time" ∷ codes "--shards" ∷ codes "64" ∷ codes "--as" ∷ codes "json" ∷ codes "--until-fail" ∷ codes "--settle" ∷ codes "7" ∷ codes "a" ∷ codes "b" ∷ [])
+    ≡ Some (Watch (record { tower = codes "t"; shards = 64; moments = Time; form = line_forms.Json; until_fail = true; settle = 7; traces = codes "a" ∷ codes "b" ∷ [] }))
 unfolding clap_on_literals
 whole_watch program = refl
 
 pub any_names_to_watch : (program tower trace : Text) → asked (program ∷ codes "watch" ∷ (codes "--tower=" ++ tower) ∷ codes "--" ∷ trace ∷ [])
-    ≡ Some (Watch (record { tower = tower; shards = 1; moments = Index; form = line_forms.Text; until_fail = false; traces = trace ∷ [] }))
+    ≡ Some (Watch (record { tower = tower; shards = 1; moments = Index; form = line_forms.Text; until_fail = false; settle = 0; traces = trace ∷ [] }))
 unfolding clap_on_literals
 any_names_to_watch program tower trace = refl
 
@@ -205,7 +205,12 @@ pub refused_shards_to_watch : (takes command_line (codes "regaudit" ∷ codes "w
 unfolding clap_on_literals
 refused_shards_to_watch = (refl, refl)
 
-pub taken_watch : takes command_line (codes "regaudit" ∷ codes "watch" ∷ codes "--tower=t" ∷ codes "--shards=64" ∷ codes "--until-fail" ∷ codes "a" ∷ codes "b" ∷ []) ≡ true
+pub refused_settle : (takes command_line (codes "regaudit" ∷ codes "watch" ∷ codes "--tower=t" ∷ codes "--settle=x" ∷ codes "a" ∷ []) ≡ false)
+    × (takes command_line (codes "regaudit" ∷ codes "watch" ∷ codes "--tower=t" ∷ codes "--settle=18446744073709551616" ∷ codes "a" ∷ []) ≡ false)
+unfolding clap_on_literals
+refused_settle = (refl, refl)
+
+pub taken_watch : takes command_line (codes "regaudit" ∷ codes "watch" ∷ codes "--tower=t" ∷ codes "--shards=64" ∷ codes "--until-fail" ∷ codes "--settle=+18446744073709551615" ∷ codes "a" ∷ codes "b" ∷ []) ≡ true
 unfolding clap_on_literals
 taken_watch = refl
 

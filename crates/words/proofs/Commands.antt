@@ -47,12 +47,12 @@ pub no_tower : (rows : List Row) → first_of (codes "tower") rows ≡ None → 
 no_tower rows none = rw none refl
 
 -- a watch whose arguments are all there
-pub is_watch : (rows : List Row) (tower : Text) (moments : MomentKey) (shards : ℕ) (form : LineForm) (until_fail : Bool) (traces : List Text) → first_of (codes "tower") rows ≡ Some tower → Some moments ≡ said_in moments_in (codes "moment") rows
+pub is_watch : (rows : List Row) (tower : Text) (moments : MomentKey) (shards : ℕ) (form : LineForm) (until_fail : Bool) (settle : ℕ) (traces : List Text) → first_of (codes "tower") rows ≡ Some tower → Some moments ≡ said_in moments_in (codes "moment") rows
     → Some shards ≡ said_in shards_in (codes "shards") rows → Some form ≡ said_in line_form_in (codes "as") rows → until_fail ≡ is_set (codes "until-fail") rows
-    → traces ≡ traces_in rows → (length traces == 0) ≡ false
-    → ◌≡◌ {A = Option AskedWatch} (Some (record { tower = tower; shards = shards; moments = moments; form = form; until_fail = until_fail; traces = traces })) (watch_by rows)
-is_watch rows tower moments shards form until_fail traces tower_is moments_is shards_is form_is until_is traces_are some =
-    rw (tower_is, ← moments_is, ← shards_is, ← form_is, ← traces_are, some, ← until_is) refl
+    → Some settle ≡ said_in count_in (codes "settle") rows → traces ≡ traces_in rows → (length traces == 0) ≡ false
+    → ◌≡◌ {A = Option AskedWatch} (Some (record { tower = tower; shards = shards; moments = moments; form = form; until_fail = until_fail; settle = settle; traces = traces })) (watch_by rows)
+is_watch rows tower moments shards form until_fail settle traces tower_is moments_is shards_is form_is until_is settle_is traces_are some =
+    rw (tower_is, ← moments_is, ← shards_is, ← form_is, ← settle_is, ← traces_are, some, ← until_is) refl
 
 pub no_tower_to_watch : (rows : List Row) → first_of (codes "tower") rows ≡ None → ◌≡◌ {A = Option AskedWatch} None (watch_by rows)
 no_tower_to_watch rows none = rw none refl

@@ -78,11 +78,11 @@ check_line = with_counts (with_rule (with_rule (with_rule (with_rule (with_rule 
 abbrev pub flag_rule : Text → Rule
 flag_rule name = record (new_rule name) { long = Some name; action = Some SetTrue }
 
--- a command, with `--as`, `--until-fail` and `TRACE..` added
+-- a command, with `--as`, `--until-fail`, `--settle` and `TRACE..` added
 abbrev pub with_watch_options : App → App
-with_watch_options options = with_rule (with_rule (with_rule options form_rule) (flag_rule (codes "until-fail"))) traces_rule
+with_watch_options options = with_rule (with_rule (with_rule (with_rule options form_rule) (flag_rule (codes "until-fail"))) (count_rule (codes "settle") (codes "0"))) traces_rule
 
--- `watch --tower FILE [--moment FIELD] [--shards N] [--as FORM] [--until-fail] TRACE..`
+-- `watch --tower FILE [--moment FIELD] [--shards N] [--as FORM] [--until-fail] [--settle N] TRACE..`
 abbrev pub watch_line : App
 watch_line = with_watch_options (with_rule (with_rule (with_rule (new_app (codes "watch")) tower_rule) moment_rule) shards_rule)
 
@@ -211,6 +211,7 @@ pub record AskedWatch : Type 0 where
   pub moments : MomentKey
   pub form : LineForm
   pub until_fail : Bool
+  pub settle : ℕ
   pub traces : List Text
 
 -- what the words of `show` ask for
@@ -344,16 +345,17 @@ check_by rows =
     (first_of (codes "tower") rows)
 
 -- what `watch` asks for by these values and the other arguments; none where they name no trace
-abbrev pub watch_of : Text → MomentKey → ℕ → LineForm → List Row → Option AskedWatch
-watch_of tower moments shards form rows =
+abbrev pub watch_of : Text → MomentKey → ℕ → LineForm → ℕ → List Row → Option AskedWatch
+watch_of tower moments shards form settle rows =
     if length (traces_in rows) == 0 then None
-    else Some (record { tower = tower; shards = shards; moments = moments; form = form; until_fail = is_set (codes "until-fail") rows; traces = traces_in rows })
+    else Some (record { tower = tower; shards = shards; moments = moments; form = form; until_fail = is_set (codes "until-fail") rows; settle = settle; traces = traces_in rows })
 
 -- what `watch` asks for by these arguments, or none
 abbrev pub watch_by : List Row → Option AskedWatch
 watch_by rows =
     option_and_then (λ tower. option_and_then (λ moments. option_and_then (λ shards. option_and_then (λ form.
-    watch_of tower moments shards form rows)
+    option_and_then (λ settle. watch_of tower moments shards form settle rows)
+    (said_in count_in (codes "settle") rows))
     (said_in line_form_in (codes "as") rows))
     (said_in shards_in (codes "shards") rows))
     (said_in moments_in (codes "moment") rows))
@@ -452,6 +454,7 @@ asked_watch watch = record {
   moments = watch.moments;
   form = watch.form;
   until_fail = watch.until_fail;
+  settle = watch.settle;
   traces = map (λ name. name.now) watch.traces.items;
 }
 

@@ -320,7 +320,7 @@ fn watch_line<'a>(alloc: Global, vocabulary: Vocabulary) -> Result<Command<'a>, 
     add_watch_options(alloc, line, vocabulary)
 }
 
-/// Adds `--as`, `--until-fail` and `TRACE..`.
+/// Adds `--as`, `--until-fail`, `--settle` and `TRACE..`.
 fn add_watch_options<'a>(
     alloc: Global,
     line: Command<'a>,
@@ -331,6 +331,13 @@ fn add_watch_options<'a>(
     let line = line.arg(line_form(alloc, vocabulary))?;
     let until_fail = flag(alloc, "until-fail", "Ends at the first register that fails");
     let line = line.arg(until_fail)?;
+    let settle = count(
+        alloc,
+        "settle",
+        "0",
+        "Holds a failure back until each trace has had so many more elements",
+    );
+    let line = line.arg(settle)?;
     line.arg(traces(alloc))
 }
 

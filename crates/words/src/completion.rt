@@ -103,7 +103,7 @@ _regaudit() {
                 ;;
             watch:*)
                 if [[ $begun == -* ]]; then
-                    words='--tower --moment --shards --as --until-fail --help'
+                    words='--tower --moment --shards --as --until-fail --settle --help'
                 fi
                 ;;
             show:*)
@@ -196,6 +196,7 @@ _regaudit() {
                         '--shards=[over how many shards the registers are spread]:number:(1 2 4 8 16 32 64)' \
                         '--as=[what is written]:form:(text json)' \
                         '--until-fail[ends at the first register that fails]' \
+                        '--settle=[for how many elements a failure is held back]:number: ' \
                         '(- *)'{-h,--help}'[prints help]' \
                         '*:trace:_files'
                     ;;
@@ -298,6 +299,7 @@ complete -c regaudit -n '__regaudit_is watch' -l moment -x -a 'index time' -d 't
 complete -c regaudit -n '__regaudit_is watch' -l shards -x -a '1 2 4 8 16 32 64' -d 'over how many shards the registers are spread'
 complete -c regaudit -n '__regaudit_is watch' -l as -x -a 'text json' -d 'what is written'
 complete -c regaudit -n '__regaudit_is watch' -l until-fail -d 'ends at the first register that fails'
+complete -c regaudit -n '__regaudit_is watch' -l settle -x -d 'for how many elements a failure is held back'
 complete -c regaudit -n '__regaudit_is show' -l tower -rF -d 'the tower file'
 complete -c regaudit -n '__regaudit_is show' -l moment -x -a 'index time' -d 'the field that moments stand under'
 complete -c regaudit -n '__regaudit_is show' -l register -x -a '(__regaudit_registers)' -d 'the register that is drawn'

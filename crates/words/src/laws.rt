@@ -54,15 +54,16 @@ pub fn checks_in_turn()
         ≡ Some (Check (record { tower = tower; shards = 1; moments = Index; order = Some order; form = Report; only_failing = false; least = 0; least_each = 0; traces = trace ∷ [] })) }
 {}
 
-/// What `watch` asks for: `index`, one shard, lines for people, and every trace to its end, where nothing else is said.
+/// What `watch` asks for: `index`, one shard, lines for people, every trace to its end, and that no failure is held back,
+/// where nothing else is said.
 /// Its lines have no other form than these and records in JSON, and a tower and a trace are named.
 pub fn watches_in_turn()
     ensures plain { (program : Text) → asked (program ∷ codes "watch" ∷ codes "--tower" ∷ codes "t" ∷ codes "a" ∷ [])
-        ≡ Some (Watch (record { tower = codes "t"; shards = 1; moments = Index; form = line_forms.Text; until_fail = false; traces = codes "a" ∷ [] })) }
-    ensures whole { (program : Text) → asked (program ∷ codes "watch" ∷ codes "--tower=t" ∷ codes "--moment" ∷ codes "time" ∷ codes "--shards" ∷ codes "64" ∷ codes "--as" ∷ codes "json" ∷ codes "--until-fail" ∷ codes "a" ∷ codes "b" ∷ [])
-        ≡ Some (Watch (record { tower = codes "t"; shards = 64; moments = Time; form = line_forms.Json; until_fail = true; traces = codes "a" ∷ codes "b" ∷ [] })) }
+        ≡ Some (Watch (record { tower = codes "t"; shards = 1; moments = Index; form = line_forms.Text; until_fail = false; settle = 0; traces = codes "a" ∷ [] })) }
+    ensures whole { (program : Text) → asked (program ∷ codes "watch" ∷ codes "--tower=t" ∷ codes "--moment" ∷ codes "time" ∷ codes "--shards" ∷ codes "64" ∷ codes "--as" ∷ codes "json" ∷ codes "--until-fail" ∷ codes "--settle" ∷ codes "7" ∷ codes "a" ∷ codes "b" ∷ [])
+        ≡ Some (Watch (record { tower = codes "t"; shards = 64; moments = Time; form = line_forms.Json; until_fail = true; settle = 7; traces = codes "a" ∷ codes "b" ∷ [] })) }
     ensures any_names { (program tower trace : Text) → asked (program ∷ codes "watch" ∷ (codes "--tower=" ++ tower) ∷ codes "--" ∷ trace ∷ [])
-        ≡ Some (Watch (record { tower = tower; shards = 1; moments = Index; form = line_forms.Text; until_fail = false; traces = trace ∷ [] })) }
+        ≡ Some (Watch (record { tower = tower; shards = 1; moments = Index; form = line_forms.Text; until_fail = false; settle = 0; traces = trace ∷ [] })) }
     ensures no_tower { (program : Text) → asked (program ∷ codes "watch" ∷ codes "a" ∷ []) ≡ None }
     ensures no_trace { (program : Text) → asked (program ∷ codes "watch" ∷ codes "--tower" ∷ codes "t" ∷ []) ≡ None }
     ensures no_moment { (program : Text) → asked (program ∷ codes "watch" ∷ codes "--tower=t" ∷ codes "--moment=now" ∷ codes "a" ∷ []) ≡ None }
@@ -70,7 +71,9 @@ pub fn watches_in_turn()
         × (asked (program ∷ codes "watch" ∷ codes "--tower=t" ∷ codes "--as=edn" ∷ codes "a" ∷ []) ≡ None) }
     ensures refused_shards { (takes command_line (codes "regaudit" ∷ codes "watch" ∷ codes "--tower=t" ∷ codes "--shards=0" ∷ codes "a" ∷ []) ≡ false)
         × (takes command_line (codes "regaudit" ∷ codes "watch" ∷ codes "--tower=t" ∷ codes "--shards=65" ∷ codes "a" ∷ []) ≡ false) }
-    ensures taken { takes command_line (codes "regaudit" ∷ codes "watch" ∷ codes "--tower=t" ∷ codes "--shards=64" ∷ codes "--until-fail" ∷ codes "a" ∷ codes "b" ∷ []) ≡ true }
+    ensures refused_settle { (takes command_line (codes "regaudit" ∷ codes "watch" ∷ codes "--tower=t" ∷ codes "--settle=x" ∷ codes "a" ∷ []) ≡ false)
+        × (takes command_line (codes "regaudit" ∷ codes "watch" ∷ codes "--tower=t" ∷ codes "--settle=18446744073709551616" ∷ codes "a" ∷ []) ≡ false) }
+    ensures taken { takes command_line (codes "regaudit" ∷ codes "watch" ∷ codes "--tower=t" ∷ codes "--shards=64" ∷ codes "--until-fail" ∷ codes "--settle=+18446744073709551615" ∷ codes "a" ∷ codes "b" ∷ []) ≡ true }
 {}
 
 /// What `show` asks for: lines of a terminal, three operations around each one that shows why a register fails, and the

@@ -5,7 +5,7 @@ ghost use Rattle.std.specs.Option.{option_map};
 ghost use Rattle.clap.specs.Words.{found_of, rows_of};
 ghost use Rattle.words.specs.Words.{asked_watch, line_form_in, said_in, watch_by};
 
-use crate::check::{MomentKey, moments_of, shards_of, traces_of};
+use crate::check::{MomentKey, count_of, moments_of, shards_of, traces_of};
 use crate::show::is_set;
 use clap::ArgMatches;
 use std::alloc::{AllocError, Global};
@@ -30,6 +30,8 @@ pub struct Watch<'a> {
     pub form: LineForm,
     /// Whether it ends at the first register that fails.
     pub until_fail: bool,
+    /// For how many more elements of each trace a failure is held back.
+    pub settle: u64,
     /// One or more.
     pub traces: Vec<&'a str>,
 }
@@ -55,6 +57,9 @@ pub(crate) fn watch_of<'a>(
     let Some(form) = line_form_of(found) else {
         return Ok(None);
     };
+    let Some(settle) = count_of(found, "settle") else {
+        return Ok(None);
+    };
     let traces = traces_of(alloc, found)?;
     if traces.is_empty() {
         return Ok(None);
@@ -65,6 +70,7 @@ pub(crate) fn watch_of<'a>(
         moments,
         form,
         until_fail: is_set(found, "until-fail"),
+        settle,
         traces,
     }))
 }

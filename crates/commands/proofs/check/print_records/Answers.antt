@@ -1,6 +1,7 @@
-use Rattle.std.proofs.Common.{◌≡◌, ℕ, Bool, List, subst}
+use Rattle.std.proofs.Common.{◌≡◌, ℕ, Bool, List, Vec, map, subst}
 use Rattle.std.proofs.lemmas.Result.{on_ok_weaker}
 use Rattle.std.specs.Io.KnownBytes.{Appends}
+use Rattle.std.specs.declared.alloc.Global.{Global}
 use Rattle.records.specs.declared.line.Notation.{Notation}
 use Rattle.records.specs.Run.{IsTextOfRecords, RunNames}
 use Rattle.commands.proofs.check.print_records.Goals as goal
@@ -14,6 +15,10 @@ pub returns-clause-printed : goal.returns-clause-printed
 returns-clause-printed g c =
     let old = g.W.Write.contents c.args.out.now in
     let new = g.W.Write.contents c.write_records.new.out in
+    let run = c.args.judged.now.run in
+    let kept = map (λ (text : Vec ℕ Global). text.items) c.deref.result.now in
     let Is : Notation → RunNames → Bool → Type 0 = λ notation names only.
-    (text : List ℕ) × IsTextOfRecords notation names only c.args.status c.args.tower.now c.args.run.now.closed c.args.run.now.logs.items c.args.order text × Appends old new text in
-    on_ok_weaker c.write_records.result (retold Is _ _ _ _ _ _ c.form_of-form.ensures.notation c.form_of-form.ensures.names c.form_of-form.ensures.only) c.write_records.ensures.records
+    (text : List ℕ) × IsTextOfRecords notation names only c.args.status c.args.tower.now run.closed run.logs.items c.args.order kept text × Appends old new text in
+    on_ok_weaker c.write_records.result
+    (λ is. (let told = retold Is _ _ _ _ _ _ c.form_of-form.ensures.notation c.form_of-form.ensures.names c.form_of-form.ensures.only is in (told.0, (kept, told.1), told.2)))
+    c.write_records.ensures.records

@@ -1,7 +1,7 @@
 use Rattle.std.proofs.Common.{◌≡◌, List, [], ◌∷◌, ◌++◌, ap, ◌∙◌}
 use Rattle.lint.specs.declared.finding.Amiss.TheVariants.{Tower}
 use Rattle.lint.specs.declared.finding.Finding.{Finding}
-use Rattle.lint.specs.declared.location.Location.{Location}
+use Rattle.places.specs.declared.location.Location.{Location}
 use Rattle.lint.specs.Tower.{spot_of_span}
 use Rattle.lint.proofs.Results.{weaker}
 use Rattle.lint.proofs.tower.lint_fault.Goals as goal

@@ -15,5 +15,5 @@ returns c =
     let allowed = symbols_of c.add_allowed.new.tokens.items in
     let new = symbols_of c.add_end.new.tokens.items in
     let to_read = then old kind read (kind_symbols (codes "wrong")) (read_symbols c.args.read) c.in_ok-add_kind.ensures c.in_ok-add_read.ensures in
-    let to_allowed = then old read allowed _ (flat_map allowed_symbols c.args.allowed.now) to_read c.in_ok-add_allowed.ensures in
+    let to_allowed = then old read allowed _ (flat_map (allowed_symbols c.args.places.now) c.args.allowed.now) to_read c.in_ok-add_allowed.ensures in
     on_ok_weaker c.add_end.result (then old allowed new _ end_symbols to_allowed) c.add_end.ensures

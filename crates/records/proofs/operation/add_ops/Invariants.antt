@@ -7,4 +7,4 @@ use Rattle.records.specs.Symbol.{symbols_of}
 use Rattle.records.proofs.operation.add_ops.Given as goal
 
 abbrev pub invariant-loop-slot : goal.invariant-loop-slot
-invariant-loop-slot l = symbols_of l.tokens.items ++ flat_map op_symbols (ops_in_slots (drop l.slot-index l.slots)) ≡ symbols_of l.fn.tokens.items ++ flat_map op_symbols (ops_in_slots l.fn.slots)
+invariant-loop-slot l = symbols_of l.tokens.items ++ flat_map (op_symbols l.places) (ops_in_slots (drop l.slot-index l.slots)) ≡ symbols_of l.fn.tokens.items ++ flat_map (op_symbols l.fn.places) (ops_in_slots l.fn.slots)

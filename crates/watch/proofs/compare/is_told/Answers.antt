@@ -1,7 +1,7 @@
 use Rattle.std.proofs.Common.{refl, subst, sym}
 use Rattle.std.specs.Prelude.{IsNone}
 use Rattle.watch.specs.Watched.{changes_in}
-use Rattle.watch.proofs.ToldChanges.{none_told}
+use Rattle.watch.proofs.Fronts.{none_told}
 use Rattle.watch.proofs.compare.is_told.Goals as goal
 
 pub returns-in-None : goal.returns-in-None

@@ -6,6 +6,5 @@ ghosts-watch_in g a = record {
   output = a.output.out.ghost_name;
   before = g.W.Write.contents a.output.out.now;
   registers = a.tower.now.registers;
-  form = a.terms.now.form;
-  until_fail = a.terms.now.until_fail;
+  terms = a.terms.now;
 }

@@ -1,4 +1,4 @@
-use Rattle.words.proofs.Asking.{plain_watch, whole_watch, any_names_to_watch, no_tower_to_watch, no_trace_to_watch, no_moment_to_watch, no_line_form, refused_shards_to_watch, taken_watch}
+use Rattle.words.proofs.Asking.{plain_watch, whole_watch, any_names_to_watch, no_tower_to_watch, no_trace_to_watch, no_moment_to_watch, no_line_form, refused_settle, refused_shards_to_watch, taken_watch}
 use Rattle.words.proofs.laws.watches_in_turn.Goals as goal
 
 pub returns-clause-plain : goal.returns-clause-plain
@@ -27,3 +27,6 @@ returns-clause-refused_shards c = refused_shards_to_watch
 
 pub returns-clause-taken : goal.returns-clause-taken
 returns-clause-taken c = taken_watch
+
+pub returns-clause-refused_settle : goal.returns-clause-refused_settle
+returns-clause-refused_settle c = refused_settle

@@ -9,6 +9,6 @@ use Rattle.records.proofs.run.RecordWriter.push_registers.Given as goal
 abbrev pub invariant-loop-number : goal.invariant-loop-number
 invariant-loop-number l = record {
   within : l.number ≤ length l.findings;
-  lines : l.text.items ++ lines_of l.self.notation (registers_records l.tower l.failing l.only_failing l.number (drop l.number l.findings) (map (λ (allowed : Vec Allowed Global). allowed.items) (drop l.number l.allowed)))
-      ≡ l.fn.text.items ++ lines_of l.fn.self.notation (registers_records l.fn.tower l.fn.failing l.fn.only_failing 0 l.fn.findings (map (λ (allowed : Vec Allowed Global). allowed.items) l.fn.allowed));
+  lines : l.text.items ++ lines_of l.self.notation (registers_records l.self.places.now l.tower l.failing l.only_failing l.number (drop l.number l.findings) (map (λ (allowed : Vec Allowed Global). allowed.items) (drop l.number l.allowed)))
+      ≡ l.fn.text.items ++ lines_of l.fn.self.notation (registers_records l.fn.self.places.now l.fn.tower l.fn.failing l.fn.only_failing 0 l.fn.findings (map (λ (allowed : Vec Allowed Global). allowed.items) l.fn.allowed));
 }

@@ -7,7 +7,7 @@ use Rattle.shards.specs.Shard.{IsVerdictChangeTo}
 use Rattle.shards.specs.Steps.{entry_of}
 use Rattle.shards.proofs.Journals.{count_at_most}
 use Rattle.shards.proofs.Changed.{changes_push}
-use Rattle.shards.proofs.Kept.{slot_within, count_of_feeder, answered_by, kept_push, verdicts_by}
+use Rattle.shards.proofs.Kept.{slot_within, count_of_feeder, answered_by, kept_push}
 use Rattle.shards.proofs.shard.Shard.enter.Goals as goal
 
 pub index_mut-book-requires : goal.index_mut-book-requires
@@ -36,10 +36,3 @@ returns-clause-kept g c =
 pub returns-clause-answered : goal.returns-clause-answered
 returns-clause-answered g c =
     answered_by g.O.Opening.plan c.args.self.now (entry_of c.args.feeder c.args.register c.args.edit.now c.in_ok-reply.reply) c.index_mut-book.result.now c.requires.kept c.requires.here c.requires.known c.index_mut-book.ensures.value c.in_ok-reply.ensures.reply
-
-pub returns-clause-verdicts : goal.returns-clause-verdicts
-returns-clause-verdicts g c =
-    verdicts_by g.O.Opening.plan c.args.self.now _ (entry_of c.args.feeder c.args.register c.args.edit.now c.in_ok-reply.reply) c.index_mut-book.result.now c.holds-held.result c.holds_after.result
-    c.requires.kept c.requires.here c.requires.known c.index_mut-book.ensures.value c.in_ok-reply.ensures.reply
-    (c.push_reserved.ensures.items ∙ ap (λ (journal : List Entry). journal ++ entry_of c.args.feeder c.args.register c.args.edit.now c.in_ok-reply.reply ∷ []) c.reserve.ensures.items)
-    c.holds-held.ensures c.holds_after.ensures

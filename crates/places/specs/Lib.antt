@@ -1,0 +1,4 @@
+-- words of the public clauses
+pub mod LineColumn
+pub mod Location
+pub mod Spots

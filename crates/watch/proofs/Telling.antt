@@ -1,0 +1,188 @@
+-- What a teller was told and wrote, as it goes on.
+use Rattle.std.proofs.Common.{◌≡◌, ◌⊎◌, inl, inr, ◌<◌, ◌+◌, ℕ, Bool, true, false, ◌||◌, List, [], ◌∷◌, ◌++◌, Option, Some, None, length, refl, sym, ap, subst, ◌∙◌, arith}
+use Rattle.std.specs.Prelude.{Result, Ok, Err, OnOk, slice_index_or, if◌then◌else◌}
+use Rattle.std.specs.List.{list_any, remove}
+use Rattle.std.specs.Io.KnownBytes.{Appends}
+use Rattle.std.proofs.lemmas.List.{append-nil, append_assoc, length-append, map-append}
+use Rattle.std.proofs.lemmas.List.Concat.{flat_map-append}
+use Rattle.std.proofs.lemmas.List.Folds.{list_any-append}
+use Rattle.tower_file.specs.Contents.{Register}
+use Rattle.feeders.specs.declared.watcher.Notice.{Notice}
+use Rattle.watch.specs.declared.run.Terms.{Terms}
+use Rattle.watch.specs.declared.settling.Held.{Held}
+use Rattle.watch.specs.declared.teller.TellerState.{TellerState}
+use Rattle.watch.specs.declared.teller.TellerState.TheVariants.{Going, Stopped, OutOfMemory, Unwritable}
+use Rattle.watch.specs.declared.teller.Unwritten.{Unwritten}
+use Rattle.watch.specs.declared.teller.Unwritten.TheVariants as unwritten
+use Rattle.watch.specs.Settling.{LessPairs, nothing, notices_of, says_fails}
+use Rattle.watch.specs.Teller.{AreWrittenIn, HasTold, ArePassedOn, IsStateAfter, IsTold, IsToldAll, IsWritten, IsWrittenOrHeld, held_notice, held_notices, state_after}
+use Rattle.watch.specs.Text.{text_of_notice, text_of_notices}
+use Rattle.watch.specs.Watched.{ends_at}
+use Rattle.watch.proofs.Passing.{written_or_held_on, passes_due}
+
+pub appends_none : (now : Option (List ℕ)) → Appends now now []
+appends_none None = tt
+appends_none (Some bytes) = sym (append-nil bytes)
+
+appends_more : (old mid new : Option (List ℕ)) (first second : List ℕ) → Appends old mid first → Appends mid new second → Appends old new (first ++ second)
+appends_more None mid new first second a b = tt
+appends_more (Some xs) None new first second a b = absurd a
+appends_more (Some xs) (Some ys) None first second a b = b
+appends_more (Some xs) (Some ys) (Some zs) first second a b = b ∙ ap (λ (l : List ℕ). l ++ second) a ∙ append_assoc xs first second
+
+none_ends : (until_fail : Bool) (first second : List Notice) → list_any (ends_at until_fail) first ≡ false → list_any (ends_at until_fail) second ≡ false → list_any (ends_at until_fail) (first ++ second) ≡ false
+none_ends until_fail first second a b = list_any-append (ends_at until_fail) first second ∙ ap (λ (c : Bool). c || list_any (ends_at until_fail) second) a ∙ b
+
+after_more : (until_fail : Bool) (first second : List Notice) (state : TellerState) → list_any (ends_at until_fail) first ≡ false → IsStateAfter until_fail second state → IsStateAfter until_fail (first ++ second) state
+after_more until_fail first second Going none after = none_ends until_fail first second none after
+after_more until_fail first second Stopped none after = record {
+  before = first ++ after.before;
+  last = after.last;
+  parts = ap (λ (l : List Notice). first ++ l) after.parts ∙ sym (append_assoc first after.before (after.last ∷ []));
+  none = none_ends until_fail first after.before none after.none;
+  ends = after.ends;
+}
+after_more until_fail first second OutOfMemory none after = tt
+after_more until_fail first second Unwritable none after = tt
+
+pub written_none : (terms : Terms) (registers : List Register) (now : Option (List ℕ)) → IsWritten terms registers [] Going now now
+written_none terms registers now = record { texts = λ has. appends_none now; after = refl }
+
+pub written_more : (terms : Terms) (registers : List Register) (first second : List Notice) (state : TellerState) (old mid new : Option (List ℕ))
+    → IsWritten terms registers first Going old mid → IsWritten terms registers second state mid new → IsWritten terms registers (first ++ second) state old new
+written_more terms registers first second state old mid new a b = record {
+  texts = λ has. rw (flat_map-append (text_of_notice terms.form registers) first second)
+      (appends_more old mid new (text_of_notices terms.form registers first) (text_of_notices terms.form registers second) (a.texts tt) (b.texts has));
+  after = after_more terms.until_fail first second state a.after b.after;
+}
+
+pub told_on : (terms : Terms) (registers : List Register) (before now new : Option (List ℕ)) (told held told_then left added written : List Notice) (state : TellerState)
+    → IsTold terms registers before now (record { told = told; held = held; state = Going }) → IsWritten terms registers written state now new
+    → (HasTold state → told_then ≡ told ++ added) → (HasTold state → ArePassedOn terms.settle held added written left)
+    → IsTold terms registers before new (record { told = told_then; held = left; state = state })
+told_on terms registers before now new told held told_then left added written state is wrote adds moves = record {
+  written = is.written ++ written;
+  out = written_more terms registers is.written written state before now new is.out wrote;
+  told = λ has. rw (adds has) (written_or_held_on terms.settle told held is.written added written left (is.told tt) (moves has));
+}
+
+-- what was held back first was written
+pub told_due : (terms : Terms) (registers : List Register) (before now new : Option (List ℕ)) (told : List Notice) (held first left : List Held) (state : TellerState)
+    → IsTold terms registers before now (record { told = told; held = held_notices held; state = Going }) → held ≡ first ++ left → IsWritten terms registers (held_notices first) state now new
+    → IsTold terms registers before new (record { told = told; held = held_notices left; state = state })
+told_due terms registers before now new told held first left state is parts wrote =
+    told_on terms registers before now new told (held_notices held) told (held_notices left) [] (held_notices first) state is wrote (λ has. sym (append-nil told)) (λ has. passes_due terms.settle held first left parts)
+
+settled_all : (settle : ℕ) (told held written : List Notice) (state : TellerState) → (HasTold state → IsWrittenOrHeld settle told held written) → (state ≡ Going → held ≡ []) → AreWrittenIn state settle told written
+settled_all settle told held written Going is none =
+    let all : IsWrittenOrHeld settle told [] written = subst (λ (l : List Notice). IsWrittenOrHeld settle told l written) (none refl) (is tt) in record {
+      at_once = λ zero. (all.at_once zero).0;
+      others = all.others;
+      by_register = λ register. let one = all.by_register register in
+          subst (λ (l : List Notice). LessPairs says_fails l (notices_of register written)) (sym (one.parts ∙ append-nil one.settled)) one.less;
+    }
+settled_all settle told held written Stopped is none =
+    let some = is tt in record {
+      at_once = λ zero. (some.at_once zero).0;
+      others = some.others;
+      by_register = λ register. (notices_of register held, some.by_register register);
+    }
+settled_all settle told held written OutOfMemory is none = tt
+settled_all settle told held written Unwritable is none = tt
+
+pub told_all_of : (terms : Terms) (registers : List Register) (before now : Option (List ℕ)) (told held : List Notice) (state : TellerState)
+    → IsTold terms registers before now (record { told = told; held = held; state = state }) → (state ≡ Going → held ≡ []) → IsToldAll terms registers before now told state
+told_all_of terms registers before now told held state is none = record {
+  written = is.written;
+  out = is.out;
+  settled = settled_all terms.settle told held is.written state is.told none;
+}
+
+pub told_none : (terms : Terms) (registers : List Register) (before : Option (List ℕ)) → IsTold terms registers before before (record { told = []; held = []; state = Going })
+told_none terms registers before = record {
+  written = [];
+  out = written_none terms registers before;
+  told = λ has. record { at_once = λ none. (refl, refl); others = refl; by_register = λ register. record { settled = []; parts = refl; less = nothing; held_back = tt } };
+}
+
+state_by : (until_fail : Bool) (notice : Notice) (b : Bool) → ends_at until_fail notice ≡ b → IsStateAfter until_fail (notice ∷ []) (if b then Stopped else Going)
+state_by until_fail notice true is = record { before = []; last = notice; parts = refl; none = refl; ends = is }
+state_by until_fail notice false is = rw is refl
+
+pub written_one : (terms : Terms) (registers : List Register) (result : Result Unit Unwritten) (notice : Notice) (state : TellerState) (old new : Option (List ℕ)) → state ≡ state_after result terms.until_fail notice
+    → OnOk result (Appends old new (text_of_notice terms.form registers notice)) → HasTold state → IsWritten terms registers (notice ∷ []) state old new
+written_one terms registers (Ok done) notice state old new is appends told = record {
+  texts = λ has. rw (append-nil (text_of_notice terms.form registers notice)) appends;
+  after = rw is (state_by terms.until_fail notice (ends_at terms.until_fail notice) refl);
+}
+written_one terms registers (Err unwritten.Memory) notice state old new is appends told = absurd (subst HasTold is told)
+written_one terms registers (Err unwritten.Write) notice state old new is appends told = absurd (subst HasTold is told)
+
+told_by : (until_fail : Bool) (notice : Notice) (b : Bool) → HasTold (if b then Stopped else Going)
+told_by until_fail notice true = tt
+told_by until_fail notice false = tt
+
+pub not_written : (terms : Terms) (registers : List Register) (result : Result Unit Unwritten) (notice : Notice) (state : TellerState) (old new : Option (List ℕ)) → state ≡ state_after result terms.until_fail notice
+    → (result ≡ Err unwritten.Memory → new ≡ old) → (HasTold state → ⊥) → IsWritten terms registers [] state old new
+not_written terms registers (Ok done) notice state old new is same none = absurd (none (subst HasTold (sym is) (told_by terms.until_fail notice (ends_at terms.until_fail notice))))
+not_written terms registers (Err unwritten.Memory) notice state old new is same none = rw (is, same refl) (record { texts = λ has. appends_none old; after = tt })
+not_written terms registers (Err unwritten.Write) notice state old new is same none = rw is (record { texts = λ has. absurd has; after = tt })
+
+-- where the first one was written it is not held any longer
+pub written_first : (terms : Terms) (registers : List Register) (held left : List Held) (first : Held) (notice : Notice) (state : TellerState) (old new : Option (List ℕ))
+    → 0 < length held → first ≡ slice_index_or held 0 first → notice ≡ held_notice first → left ≡ remove held 0 → HasTold state
+    → (HasTold state → IsWritten terms registers (notice ∷ []) state old new)
+    → (written : List Held) × (held ≡ written ++ left) × IsWritten terms registers (held_notices written) state old new × (HasTold state → length written ≡ 1)
+written_first terms registers [] left first notice state old new some at is rest told wrote = absurd (omega arith)
+written_first terms registers (one ∷ held) left first notice state old new some at is rest told wrote =
+    (one ∷ [], ap (λ (l : List Held). one ∷ l) (sym rest), rw (sym (is ∙ ap held_notice at)) (wrote told), λ told. refl)
+
+-- where it was not it is
+pub written_not : (terms : Terms) (registers : List Register) (held : List Held) (state : TellerState) (old new : Option (List ℕ)) → (HasTold state → ⊥) → ((HasTold state → ⊥) → IsWritten terms registers [] state old new)
+    → (written : List Held) × (held ≡ written ++ held) × IsWritten terms registers (held_notices written) state old new × (HasTold state → length written ≡ 1)
+written_not terms registers held state old new not wrote = ([], refl, wrote not, λ told. absurd (not told))
+
+-- one more of what was held back first was written
+pub written_next : (terms : Terms) (registers : List Register) (held rest left : List Held) (state : TellerState) (old mid new : Option (List ℕ))
+    → ((first : List Held) × (held ≡ first ++ rest) × IsWritten terms registers (held_notices first) Going old mid)
+    → ((written : List Held) × (rest ≡ written ++ left) × IsWritten terms registers (held_notices written) state mid new × (HasTold state → length written ≡ 1))
+    → (first : List Held) × (held ≡ first ++ left) × IsWritten terms registers (held_notices first) state old new
+written_next terms registers held rest left state old mid new before more = (
+  before.0 ++ more.0,
+  before.1 ∙ ap (λ (l : List Held). before.0 ++ l) more.1 ∙ sym (append_assoc before.0 more.0 left),
+  rw (map-append held_notice before.0 more.0) (written_more terms registers (held_notices before.0) (held_notices more.0) state old mid new before.2 more.2),
+)
+
+pub one_less : (rest left : List Held) (state : TellerState) (Wrote : List Held → Type 0) → HasTold state → ((written : List Held) × (rest ≡ written ++ left) × Wrote written × (HasTold state → length written ≡ 1)) → length rest ≡ 1 + length left
+one_less rest left state Wrote told more = ap (length {A = Held}) more.1 ∙ length-append more.0 left ∙ ap (λ (n : ℕ). n + length left) (more.3 told)
+
+pub written_on : (terms : Terms) (registers : List Register) (held rest left : List Held) (state : TellerState) (old mid new : Option (List ℕ)) → state ≡ Going
+    → ((first : List Held) × (held ≡ first ++ rest) × IsWritten terms registers (held_notices first) Going old mid)
+    → ((written : List Held) × (rest ≡ written ++ left) × IsWritten terms registers (held_notices written) state mid new × (HasTold state → length written ≡ 1))
+    → (first : List Held) × (held ≡ first ++ left) × IsWritten terms registers (held_notices first) Going old new
+written_on terms registers held rest left state old mid new going before more =
+    subst (λ (s : TellerState). (first : List Held) × (held ≡ first ++ left) × IsWritten terms registers (held_notices first) s old new) going (written_next terms registers held rest left state old mid new before more)
+
+-- what was held back first was written by a teller that went on
+pub told_due_by : (terms own : Terms) (registers here : List Register) (before now new : Option (List ℕ)) (told : List Notice) (held left : List Held) (state_then state : TellerState) → own ≡ terms → here ≡ registers → state_then ≡ Going
+    → IsTold terms registers before now (record { told = told; held = held_notices held; state = state_then })
+    → ((first : List Held) × (held ≡ first ++ left) × IsWritten own here (held_notices first) state now new)
+    → IsTold terms registers before new (record { told = told; held = held_notices left; state = state })
+told_due_by terms own registers here before now new told held left state_then state t r going is wrote =
+    told_due terms registers before now new told held wrote.0 left state
+    (subst (λ (s : TellerState). IsTold terms registers before now (record { told = told; held = held_notices held; state = s })) going is) wrote.1 (rw (sym t, sym r) wrote.2)
+
+-- a notice was taken by a teller that went on
+pub told_more : (terms own : Terms) (registers here : List Register) (before now new : Option (List ℕ)) (told held told_then left : List Notice) (notice : Notice) (state_then state : TellerState) → own ≡ terms → here ≡ registers → state_then ≡ Going
+    → IsTold terms registers before now (record { told = told; held = held; state = state_then })
+    → (HasTold state → told_then ≡ told ++ notice ∷ [])
+    → ((written : List Notice) × IsWritten own here written state now new × (HasTold state → ArePassedOn own.settle held (notice ∷ []) written left))
+    → IsTold terms registers before new (record { told = told_then; held = left; state = state })
+told_more terms own registers here before now new told held told_then left notice state_then state t r going is adds wrote =
+    told_on terms registers before now new told held told_then left (notice ∷ []) wrote.0 state
+    (subst (λ (s : TellerState). IsTold terms registers before now (record { told = told; held = held; state = s })) going is) (rw (sym t, sym r) wrote.1) adds (λ has. rw (sym t) (wrote.2 has))
+
+pub not_going : (state : TellerState) → (state ≡ Stopped) ⊎ ((state ≡ OutOfMemory) ⊎ (state ≡ Unwritable)) → state ≡ Going → ⊥
+not_going state (inl is) going = absurd (cc)
+not_going state (inr (inl is)) going = absurd (cc)
+not_going state (inr (inr is)) going = absurd (cc)

@@ -1,0 +1,22 @@
+use Rattle.std.proofs.Common.{ap}
+use Rattle.watch.specs.Teller.{held_notices}
+use Rattle.watch.proofs.Telling.{not_going, told_all_of, told_due_by}
+use Rattle.watch.proofs.teller.Teller.end.Goals as goal
+use Rattle.watch.proofs.teller.Teller.end.Goals.{in-Going, in-Stopped}
+
+pub returns-clause-all : goal.returns-clause-all
+returns-clause-all g c =
+    let is = c.self.invariant in
+    let inside = c.self.inside in
+    elim c.match-state.branch [
+      | in-Going w ↦
+          rw (w.out-is, w.state-is)
+          (told_all_of g.B.Beginning.terms g.B.Beginning.registers g.B.Beginning.before (g.W.Write.contents w.write_left-state.new.out) inside.told.items (held_notices w.write_left-state.new.held.items) w.write_left-state.result
+          (told_due_by g.B.Beginning.terms inside.terms g.B.Beginning.registers inside.tower.now.registers g.B.Beginning.before (g.W.Write.contents inside.out.now) (g.W.Write.contents w.write_left-state.new.out)
+          inside.told.items inside.held.items w.write_left-state.new.held.items inside.state w.write_left-state.result is.2 is.1 w.in-Going.is is.3 w.write_left-state.ensures.written)
+          (λ going. ap held_notices (w.write_left-state.ensures.all going)))
+      | in-Stopped w ↦
+          rw (w.out-is, w.state-is)
+          (told_all_of g.B.Beginning.terms g.B.Beginning.registers g.B.Beginning.before (g.W.Write.contents inside.out.now) inside.told.items (held_notices inside.held.items) inside.state
+          is.3 (λ going. absurd (not_going inside.state w.in-Stopped.is going)))
+    ]

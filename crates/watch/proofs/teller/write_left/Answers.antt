@@ -1,0 +1,23 @@
+use Rattle.std.proofs.Common.{◌≡◌, ◌+◌, length, vec_len, sym, subst, arith, rules}
+use Rattle.watch.specs.declared.teller.TellerState.TheVariants.{Going}
+use Rattle.watch.specs.Teller.{HasTold, IsWritten, held_notices}
+use Rattle.watch.proofs.Telling.{one_less, written_next, written_on}
+use Rattle.watch.proofs.teller.write_left.Goals as goal
+
+pub returns-then-not-is_going-clause-written : goal.returns-then-not-is_going-clause-written
+returns-then-not-is_going-clause-written g c =
+    written_next c.args.terms.now c.args.tower.now.registers c.args.held.now.items c.loop.held.items c.write_first-state.new.held.items c.write_first-state.result (g.W.Write.contents c.args.out.now) (g.W.Write.contents c.loop.out) (g.W.Write.contents c.write_first-state.new.out)
+    c.loop.invariant.1 c.write_first-state.ensures
+
+pub loop-preserved : goal.loop-preserved
+loop-preserved g c =
+    let going : c.write_first-state.result ≡ Going = c.is_going.ensures.0 c.if-not-is_going.false in
+    let many : length c.loop.held.items ≡ vec_len c.loop.held = search rules in
+    let left : length c.write_first-state.new.held.items ≡ vec_len c.write_first-state.new.held = search rules in
+    let less : length c.loop.held.items ≡ 1 + length c.write_first-state.new.held.items =
+    one_less c.loop.held.items c.write_first-state.new.held.items c.write_first-state.result (λ written. IsWritten c.args.terms.now c.args.tower.now.registers (held_notices written) c.write_first-state.result (g.W.Write.contents c.loop.out) (g.W.Write.contents c.write_first-state.new.out))
+    (subst HasTold (sym going) tt) c.write_first-state.ensures in (
+      omega (arith, c.loop.invariant.0, many, left, less),
+      written_on c.args.terms.now c.args.tower.now.registers c.args.held.now.items c.loop.held.items c.write_first-state.new.held.items c.write_first-state.result (g.W.Write.contents c.args.out.now) (g.W.Write.contents c.loop.out) (g.W.Write.contents c.write_first-state.new.out)
+          going c.loop.invariant.1 c.write_first-state.ensures,
+    )

@@ -1,0 +1,198 @@
+//! What is held back of the changes that are told, until it is settled.
+
+ghost use Rattle.std.specs.Prelude.{◌≡◌, ◌++◌, ◌∷◌, [], List, IfOk, IfSome, IsNone, OnOk};
+ghost use Rattle.std.specs.Option.{option_to_list};
+ghost use Rattle.feeders.specs.declared.watcher.Notice.{Notice as ANotice};
+ghost use Rattle.feeders.specs.declared.watcher.Notice.TheVariants.{Changed};
+ghost use Rattle.watch.specs.Settling.{notices_of};
+ghost use Rattle.watch.specs.Teller.{ArePassedOn, held_notice, held_notices};
+
+use feeders::Notice;
+use intervals::RegId;
+use shards::VerdictChange;
+use std::alloc::{AllocError, Global};
+
+/// How far a feeder has come.
+#[derive(Clone, Copy, Debug, PartialEq, Eq)]
+pub struct Progress {
+    /// How many elements it took.
+    pub taken: u64,
+    /// Whether its trace ended or broke.
+    pub over: bool,
+}
+
+/// A change to `fails` that is held back.
+#[derive(Drop)]
+pub struct Held {
+    pub feeder: u32,
+    pub place: u64,
+    pub change: VerdictChange,
+    /// How many elements each feeder is to have taken, or to be over, before it is written.
+    until: Vec<u64>,
+}
+
+impl Held {
+    /// Its notice.
+    pub fn notice(&self) -> Notice
+        ensures { result ≡ held_notice self.now }
+    {
+        Notice::Changed {
+            feeder: self.feeder,
+            place: self.place,
+            change: self.change,
+        }
+    }
+
+    /// Whether each feeder has come as far as it waits for.
+    pub fn is_due(&self, progress: &[Progress]) -> bool {
+        for (feeder, one) in progress.iter().enumerate() {
+            if !has_come(*one, self.until.get(feeder)) {
+                return false;
+            }
+        }
+        true
+    }
+}
+
+fn has_come(progress: Progress, until: Option<&u64>) -> bool {
+    match until {
+        Some(until) => progress.over || *until <= progress.taken,
+        None => true,
+    }
+}
+
+/// So many feeders that have taken nothing.
+pub fn at_the_beginning(alloc: Global, feeders: usize) -> Result<Vec<Progress>, AllocError> {
+    let mut progress = Vec::new(alloc);
+    for _ in 0..feeders {
+        progress.push(Progress {
+            taken: 0,
+            over: false,
+        })?;
+    }
+    Ok(progress)
+}
+
+/// Notes that a feeder took one more element.
+pub fn count(progress: &mut [Progress], feeder: u32) {
+    if let Some(one) = progress.get_mut(feeder as usize) {
+        one.taken = one.taken.saturating_add(1);
+    }
+}
+
+/// Notes that a feeder is over.
+pub fn note_end(progress: &mut [Progress], feeder: u32) {
+    if let Some(one) = progress.get_mut(feeder as usize) {
+        one.over = true;
+    }
+}
+
+/// What is to be written now that this notice comes: it, or a failure of the same register that was held back, or
+/// nothing. A failure is held back, until each feeder has taken `settle` more elements, where that is not 0; and where
+/// the register holds again before, both are forgotten.
+pub fn passed_on(
+    alloc: Global,
+    held: &mut Vec<Held>,
+    progress: &[Progress],
+    settle: u64,
+    notice: Notice,
+) -> Result<Option<Notice>, AllocError>
+    ensures { IfOk result (λ now. ArePassedOn settle (held_notices held.old.items) (notice ∷ []) (option_to_list now) (held_notices held.new.items)) }
+{
+    match notice {
+        Notice::Changed {
+            feeder,
+            place,
+            change,
+        } => change_passed_on(alloc, held, progress, settle, feeder, place, change),
+        Notice::Refused { .. } | Notice::Broke { .. } | Notice::Ended { .. } => Ok(Some(notice)),
+    }
+}
+
+/// `passed_on` for a change of a verdict. Verdicts alternate: were a register to fail twice, the first failure would be
+/// written then.
+fn change_passed_on(
+    alloc: Global,
+    held: &mut Vec<Held>,
+    progress: &[Progress],
+    settle: u64,
+    feeder: u32,
+    place: u64,
+    change: VerdictChange,
+) -> Result<Option<Notice>, AllocError>
+    ensures { IfOk result (λ now. ArePassedOn settle (held_notices held.old.items) (Changed feeder place change ∷ []) (option_to_list now) (held_notices held.new.items)) }
+{
+    match taken_out(held, change.register) {
+        Some(before) => {
+            if change.holds {
+                return Ok(None);
+            }
+            hold(alloc, held, progress, settle, feeder, place, change)?;
+            Ok(Some(before.notice()))
+        }
+        None => {
+            if change.holds || settle == 0 {
+                return Ok(Some(Notice::Changed {
+                    feeder,
+                    place,
+                    change,
+                }));
+            }
+            hold(alloc, held, progress, settle, feeder, place, change)?;
+            Ok(None)
+        }
+    }
+}
+
+/// Takes the change of this register out of those that are held back, where there is one.
+fn taken_out(held: &mut Vec<Held>, register: RegId) -> Option<Held>
+    ensures some { IfSome result (λ one. (front back : List ANotice) × (held_notices held.old.items ≡ front ++ held_notice one ∷ back) × (held_notices held.new.items ≡ front ++ back) × (one.change.register ≡ register)) }
+    ensures none { IsNone result → (held.new.items ≡ held.old.items) × (notices_of register.0 (held_notices held.old.items) ≡ []) }
+{
+    for at in 0..held.len() {
+        if held[at].change.register == register {
+            return Some(held.remove(at));
+        }
+    }
+    None
+}
+
+/// Holds a change back behind all others.
+fn hold(
+    alloc: Global,
+    held: &mut Vec<Held>,
+    progress: &[Progress],
+    settle: u64,
+    feeder: u32,
+    place: u64,
+    change: VerdictChange,
+) -> Result<(), AllocError>
+    ensures { OnOk result (held_notices held.new.items ≡ held_notices held.old.items ++ Changed feeder place change ∷ []) }
+{
+    let until = until_settled(alloc, progress, settle, feeder)?;
+    held.push(Held {
+        feeder,
+        place,
+        change,
+        until,
+    })?;
+    Ok(())
+}
+
+/// How many elements each feeder is to have taken when it has taken so many more: of the element that is being taken
+/// now, its own feeder has still to be counted.
+fn until_settled(
+    alloc: Global,
+    progress: &[Progress],
+    settle: u64,
+    feeder: u32,
+) -> Result<Vec<u64>, AllocError> {
+    let mut until = Vec::new(alloc);
+    for one in progress {
+        until.push(one.taken.saturating_add(settle))?;
+    }
+    if let Some(own) = until.get_mut(feeder as usize) {
+        *own = own.saturating_add(1);
+    }
+    Ok(until)
+}
