@@ -158,7 +158,7 @@ note_words (notes.Unread meant) = unread_words meant
 note_words notes.Unanswered = codes "an invocation that has no answer"
 note_words (notes.SilentWriter process) = codes "a writer of an atomic register that has no event: process "
 note_words (notes.SameMoment event) = codes "a moment that another event of the trace has: number "
-note_words notes.OutOfProportion = codes "a moment at least 1000 times the ones before and behind it"
+note_words notes.OutOfProportion = codes "a moment at least 1000 times the ones before and after it"
 note_words (notes.Rests read) = codes "a refused write of the value for which its register fails: read by "
 note_words (notes.RestsOnEdit operation) = codes "a refused edit of a register that fails: shown by "
 

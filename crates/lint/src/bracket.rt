@@ -24,7 +24,7 @@ pub fn innermost_open(
             }
             _ => {}
         }
-        at = behind(text, at);
+        at = after(text, at);
     }
     Ok(open.last().copied())
 }
@@ -39,12 +39,12 @@ pub fn next_map_line(text: &[u8], open: usize) -> Option<usize> {
 }
 
 /// The byte after what begins here: a string, a comment, a character or a single byte.
-fn behind(text: &[u8], at: usize) -> usize
+fn after(text: &[u8], at: usize) -> usize
     requires { at < length text.now }
     ensures { at < result }
 {
     match text[at] {
-        b'"' => behind_quoted(text, at + 1),
+        b'"' => after_quoted(text, at + 1),
         b';' => match memchr(b'\n', &text[at..]) {
             Some(found) => at + found + 1,
             None => text.len(),
@@ -55,7 +55,7 @@ fn behind(text: &[u8], at: usize) -> usize
 }
 
 /// The byte after the closing quote, from a byte inside a string; the end of the text where there is none.
-fn behind_quoted(text: &[u8], from: usize) -> usize
+fn after_quoted(text: &[u8], from: usize) -> usize
     requires { from ≤ length text.now }
     ensures { from ≤ result }
 {

@@ -110,7 +110,7 @@ fn note_words(note: &Note) -> &'static str
         Note::Unanswered => "an invocation that has no answer",
         Note::SilentWriter(_) => "a writer of an atomic register that has no event: process ",
         Note::SameMoment(_) => "a moment that another event of the trace has: number ",
-        Note::OutOfProportion => "a moment at least 1000 times the ones before and behind it",
+        Note::OutOfProportion => "a moment at least 1000 times the ones before and after it",
         Note::Rests(_) => "a refused write of the value for which its register fails: read by ",
         Note::RestsOnEdit(_) => "a refused edit of a register that fails: shown by ",
     }

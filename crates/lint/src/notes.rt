@@ -325,8 +325,8 @@ impl Watch {
 }
 
 /// Whether a moment is at least 1000 times the one before it and the one after it, neither of which is 0.
-fn is_out_of_proportion(before: u64, moment: u64, behind: u64) -> bool {
-    before != 0 && behind != 0 && moment / 1000 >= before.max(behind)
+fn is_out_of_proportion(before: u64, moment: u64, after: u64) -> bool {
+    before != 0 && after != 0 && moment / 1000 >= before.max(after)
 }
 
 /// An operation that an edit is of and that shows that its register fails: the one that the edit changes or withdraws,

@@ -37,14 +37,14 @@ where
 
 /// The command or the option that a line of the manual is about, as the text has to name it.
 fn named_in(alloc: Global, line: &str, prefix: &str) -> Result<Option<String>, AllocError> {
-    let (before, behind) = match line.strip_prefix("Usage: regaudit ") {
+    let (before, after) = match line.strip_prefix("Usage: regaudit ") {
         Some(usage) => ("", usage),
         None => match line.split_once("--") {
             Some((_, option)) => (prefix, option),
             None => return Ok(None),
         },
     };
-    match behind.split_whitespace().next() {
+    match after.split_whitespace().next() {
         Some(word) if !word.starts_with("<") => {
             let mut name = String::from_str(alloc, before)?;
             name.push_str(word)?;

@@ -123,7 +123,7 @@ const TIED_MOMENTS: Explanation = Explanation {
     outcome: NOTES,
     what: "Two events have one moment, or a moment is out of proportion.",
     more: "On one register a tie is refused, as X4. On two it does no harm. A moment is out of
-proportion that is at least 1000 times the ones before and behind it, neither of which is 0.",
+proportion that is at least 1000 times the ones before and after it, neither of which is 0.",
     mostly: "a clock that is too coarse, or moments in two units.",
     tower: ANY_WRITERS,
     example: "{:process 0 :type :invoke :f :write :value 1 :index 0}

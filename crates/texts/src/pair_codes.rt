@@ -52,7 +52,7 @@ const PROCESS_BUSY: Explanation = Explanation {
     what: "A process invokes while its last invocation waits for an answer.",
     more: "A process does one operation at a time.",
     mostly: "an answer that the log lost, two clients under one process number, or a log that is not
-         in its order, so that an answer comes behind the next invocation.",
+         in its order, so that an answer comes after the next invocation.",
     tower: ONE_SAFE,
     example: "{:process 0 :type :invoke :f :write :value 1 :index 0}
          {:process 0 :type :invoke :f :write :value 2 :index 1}      ; P1",

@@ -151,7 +151,7 @@ const NOT_A_WRITER: Explanation = Explanation {
     what: "A write by a process that is none of the register's `:writers`.",
     more: "Its answer is then refused as X1. Reads may be by any process.",
     mostly: "`:writers` that are not those of the log. In Jepsen a client has a new process number
-         behind each `:info`.",
+         after each `:info`.",
     tower: ONE_SAFE,
     example: "{:process 1 :type :invoke :f :write :value 1 :index 0}      ; X6",
     mend: "name the process in `:writers`, or claim the register atomic, with `:writers :any`.",
@@ -238,7 +238,7 @@ const CLAIM_OVERLAP: Explanation = Explanation {
     outcome: REFUSES,
     what: "A claim to be safe or regular, while two writes overlap.",
     more: "The writes of these kinds come one after the other.",
-    mostly: "a write without an end, which overlaps all that come behind it.",
+    mostly: "a write without an end, which overlaps all that come after it.",
     tower: ONE_WRITER,
     example: "{:process 0 :type :invoke :f :write :value 1 :index 0}
          {:process 0 :type :info :f :write}

@@ -98,7 +98,7 @@ const CONFLICT: Explanation = Explanation {
     more: "Of `conflict A B C D`, A and D are of one value, and B and C of another. A ended before B began, so
 the value of A is the older one; C ended before D began, so it is the newer one. Both cannot be.
 `initial` is the value before any write. B and C may be one operation.",
-    mostly: "a read of an old value behind a newer one, as copies give that do not agree.",
+    mostly: "a read of an old value after a newer one, as copies give that do not agree.",
     tower: ANY_WRITERS,
     example: "{:process 0 :type :invoke :f :write :value 1 :index 0}
          {:process 0 :type :ok :f :write :value 1 :index 1}

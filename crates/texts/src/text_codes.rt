@@ -74,7 +74,7 @@ of the text, and not that of what is open. The open element is dropped.",
     example: "{:process 0 :type :invoke :f :read :index 0}
          {:process 1 :type :invoke :f :read :index 1      ; E1: its } is missing
          {:process 0 :type :ok :f :read :value 0 :index 2}",
-    mend: "close it: look for the last element that is whole, and at the one behind it. A log that
+    mend: "close it: look for the last element that is whole, and at the one after it. A log that
          was cut off needs nothing: all before its last element is judged.",
     see: "E3, where another bracket comes to close it",
 };
@@ -124,7 +124,7 @@ const ODD_MAP: Explanation = Explanation {
     code: "E5",
     name: "OddMap",
     outcome: BREAKS,
-    what: "A map closes behind a key that has no value.",
+    what: "A map closes after a key that has no value.",
     more: "A map `{..}` holds pairs, each a key and its value. The place is its closing bracket.",
     mostly: "a value that was left out where there was none, or a log in JSON: there `:` stands
          alone, and is an element like any other.",
@@ -140,11 +140,11 @@ const TAG_WITHOUT_ELEMENT: Explanation = Explanation {
     name: "TagWithoutElement",
     outcome: BREAKS,
     what: "A bracket closes while a tag or a discard waits for its element.",
-    more: "A tag, as `#inst`, and a discard, `#_`, go with the element behind them. The place is the `#`.",
+    more: "A tag, as `#inst`, and a discard, `#_`, go with the element after them. The place is the `#`.",
     mostly: "what the tag stood for was left out, or a `#` that belongs to a name, as in `#1`.",
     tower: ONE_SAFE,
     example: "{:process 0 :type :invoke :f :read :value nil :index 0 :at #inst}      ; E6",
-    mend: "put the element behind the tag, or take the tag out.",
+    mend: "put the element after the tag, or take the tag out.",
     see: "E5",
 };
 

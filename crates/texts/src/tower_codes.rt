@@ -70,7 +70,7 @@ const EDN: Explanation = Explanation {
     name: "Edn",
     outcome: NO_TOWER,
     what: "The tower file has a fault of its text, from E1 to E6.",
-    more: "The fault may stand anywhere in it, also behind the map.",
+    more: "The fault may stand anywhere in it, also after the map.",
     mostly: "a bracket that is missing, or one too many.",
     tower: "",
     example: "{:levels [{:name l :registers [{:name x :kind :atomic :writers :any}]}}      ; V1: no ]",

@@ -132,7 +132,7 @@ complete -o default -F _regaudit regaudit
 "##;
 
 pub const ZSH: &str = r##"#compdef regaudit
-# Completes the words of regaudit in zsh. As a file _regaudit in a folder of $fpath; or in ~/.zshrc, behind
+# Completes the words of regaudit in zsh. As a file _regaudit in a folder of $fpath; or in ~/.zshrc, after
 # compinit: source <(regaudit completion zsh)
 
 # The names of the registers of the tower file that the line names. A name with a blank is left out.

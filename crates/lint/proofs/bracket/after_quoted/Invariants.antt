@@ -1,5 +1,5 @@
 use Rattle.std.proofs.Common.{length, ◌-◌, ◌≤◌}
-use Rattle.lint.proofs.bracket.behind_quoted.Given as goal
+use Rattle.lint.proofs.bracket.after_quoted.Given as goal
 
 abbrev pub invariant-loop-at : goal.invariant-loop-at
 invariant-loop-at l = l.fn.from ≤ l.at
