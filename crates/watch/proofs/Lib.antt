@@ -25,8 +25,9 @@ pub mod Worked
 pub mod Fronts
 pub mod ToldAll
 pub mod Concluding
--- what is settled of what is told; what a teller was told and wrote; what is written of a register, as the changes of
--- its shard's journal
+-- what is settled of what is told; how far feeders come, and what is held back until then; what a teller was told and
+-- wrote; what is written of a register, as the changes of its shard's journal
 pub mod Passing
+pub mod Advancing
 pub mod Telling
 pub mod SettledAll

@@ -175,15 +175,9 @@ passes_due settle held first left held_is =
     }
 
 -- what is held back, with one of it taken out
-pub taken_at : (items : List Held) (at : ℕ) (one : Held) → at < length items → one ≡ slice_index_or items at one
-    → (front back : List Notice) × (held_notices items ≡ front ++ held_notice one ∷ back) × (held_notices (remove items at) ≡ front ++ back)
+pub taken_at : (items : List Held) (at : ℕ) (one : Held) → at < length items → one ≡ slice_index_or items at one → (front back : List Held) × (items ≡ front ++ one ∷ back) × (remove items at ≡ front ++ back)
 taken_at items at one within is =
-    let parts : items ≡ take at items ++ one ∷ drop (suc at) items = split_at items at one within ∙ ap (λ (x : Held). take at items ++ x ∷ drop (suc at) items) (sym is) in (
-      held_notices (take at items),
-      held_notices (drop (suc at) items),
-      ap held_notices parts ∙ map-append held_notice (take at items) (one ∷ drop (suc at) items),
-      map-append held_notice (take at items) (drop (suc at) items),
-    )
+    (take at items, drop (suc at) items, split_at items at one within ∙ ap (λ (x : Held). take at items ++ x ∷ drop (suc at) items) (sym is), refl)
 
 pub same_at : (items : List Held) (at : ℕ) (a b : Held) → at < length items → slice_index_or items at a ≡ slice_index_or items at b
 same_at [] at a b within = absurd (omega arith)

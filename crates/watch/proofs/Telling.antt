@@ -57,19 +57,19 @@ written_more terms registers first second state old mid new a b = record {
 }
 
 pub told_on : (terms : Terms) (registers : List Register) (before now new : Option (List ℕ)) (told held told_then left added written : List Notice) (state : TellerState)
-    → IsTold terms registers before now (record { told = told; held = held; state = Going }) → IsWritten terms registers written state now new
+    → IsTold terms registers before now told held Going → IsWritten terms registers written state now new
     → (HasTold state → told_then ≡ told ++ added) → (HasTold state → ArePassedOn terms.settle held added written left)
-    → IsTold terms registers before new (record { told = told_then; held = left; state = state })
+    → IsTold terms registers before new told_then left state
 told_on terms registers before now new told held told_then left added written state is wrote adds moves = record {
   written = is.written ++ written;
   out = written_more terms registers is.written written state before now new is.out wrote;
-  told = λ has. rw (adds has) (written_or_held_on terms.settle told held is.written added written left (is.told tt) (moves has));
+  settled = λ has. rw (adds has) (written_or_held_on terms.settle told held is.written added written left (is.settled tt) (moves has));
 }
 
 -- what was held back first was written
 pub told_due : (terms : Terms) (registers : List Register) (before now new : Option (List ℕ)) (told : List Notice) (held first left : List Held) (state : TellerState)
-    → IsTold terms registers before now (record { told = told; held = held_notices held; state = Going }) → held ≡ first ++ left → IsWritten terms registers (held_notices first) state now new
-    → IsTold terms registers before new (record { told = told; held = held_notices left; state = state })
+    → IsTold terms registers before now told (held_notices held) Going → held ≡ first ++ left → IsWritten terms registers (held_notices first) state now new
+    → IsTold terms registers before new told (held_notices left) state
 told_due terms registers before now new told held first left state is parts wrote =
     told_on terms registers before now new told (held_notices held) told (held_notices left) [] (held_notices first) state is wrote (λ has. sym (append-nil told)) (λ has. passes_due terms.settle held first left parts)
 
@@ -91,18 +91,18 @@ settled_all settle told held written OutOfMemory is none = tt
 settled_all settle told held written Unwritable is none = tt
 
 pub told_all_of : (terms : Terms) (registers : List Register) (before now : Option (List ℕ)) (told held : List Notice) (state : TellerState)
-    → IsTold terms registers before now (record { told = told; held = held; state = state }) → (state ≡ Going → held ≡ []) → IsToldAll terms registers before now told state
+    → IsTold terms registers before now told held state → (state ≡ Going → held ≡ []) → IsToldAll terms registers before now told state
 told_all_of terms registers before now told held state is none = record {
   written = is.written;
   out = is.out;
-  settled = settled_all terms.settle told held is.written state is.told none;
+  settled = settled_all terms.settle told held is.written state is.settled none;
 }
 
-pub told_none : (terms : Terms) (registers : List Register) (before : Option (List ℕ)) → IsTold terms registers before before (record { told = []; held = []; state = Going })
+pub told_none : (terms : Terms) (registers : List Register) (before : Option (List ℕ)) → IsTold terms registers before before [] [] Going
 told_none terms registers before = record {
   written = [];
   out = written_none terms registers before;
-  told = λ has. record { at_once = λ none. (refl, refl); others = refl; by_register = λ register. record { settled = []; parts = refl; less = nothing; held_back = tt } };
+  settled = λ has. record { at_once = λ none. (refl, refl); others = refl; by_register = λ register. record { settled = []; parts = refl; less = nothing; held_back = tt } };
 }
 
 state_by : (until_fail : Bool) (notice : Notice) (b : Bool) → ends_at until_fail notice ≡ b → IsStateAfter until_fail (notice ∷ []) (if b then Stopped else Going)
@@ -165,22 +165,22 @@ written_on terms registers held rest left state old mid new going before more =
 
 -- what was held back first was written by a teller that went on
 pub told_due_by : (terms own : Terms) (registers here : List Register) (before now new : Option (List ℕ)) (told : List Notice) (held left : List Held) (state_then state : TellerState) → own ≡ terms → here ≡ registers → state_then ≡ Going
-    → IsTold terms registers before now (record { told = told; held = held_notices held; state = state_then })
+    → IsTold terms registers before now told (held_notices held) state_then
     → ((first : List Held) × (held ≡ first ++ left) × IsWritten own here (held_notices first) state now new)
-    → IsTold terms registers before new (record { told = told; held = held_notices left; state = state })
+    → IsTold terms registers before new told (held_notices left) state
 told_due_by terms own registers here before now new told held left state_then state t r going is wrote =
     told_due terms registers before now new told held wrote.0 left state
-    (subst (λ (s : TellerState). IsTold terms registers before now (record { told = told; held = held_notices held; state = s })) going is) wrote.1 (rw (sym t, sym r) wrote.2)
+    (subst (λ (s : TellerState). IsTold terms registers before now told (held_notices held) s) going is) wrote.1 (rw (sym t, sym r) wrote.2)
 
 -- a notice was taken by a teller that went on
 pub told_more : (terms own : Terms) (registers here : List Register) (before now new : Option (List ℕ)) (told held told_then left : List Notice) (notice : Notice) (state_then state : TellerState) → own ≡ terms → here ≡ registers → state_then ≡ Going
-    → IsTold terms registers before now (record { told = told; held = held; state = state_then })
+    → IsTold terms registers before now told held state_then
     → (HasTold state → told_then ≡ told ++ notice ∷ [])
     → ((written : List Notice) × IsWritten own here written state now new × (HasTold state → ArePassedOn own.settle held (notice ∷ []) written left))
-    → IsTold terms registers before new (record { told = told_then; held = left; state = state })
+    → IsTold terms registers before new told_then left state
 told_more terms own registers here before now new told held told_then left notice state_then state t r going is adds wrote =
     told_on terms registers before now new told held told_then left (notice ∷ []) wrote.0 state
-    (subst (λ (s : TellerState). IsTold terms registers before now (record { told = told; held = held; state = s })) going is) (rw (sym t, sym r) wrote.1) adds (λ has. rw (sym t) (wrote.2 has))
+    (subst (λ (s : TellerState). IsTold terms registers before now told held s) going is) (rw (sym t, sym r) wrote.1) adds (λ has. rw (sym t) (wrote.2 has))
 
 pub not_going : (state : TellerState) → (state ≡ Stopped) ⊎ ((state ≡ OutOfMemory) ⊎ (state ≡ Unwritable)) → state ≡ Going → ⊥
 not_going state (inl is) going = absurd (cc)

@@ -6,6 +6,8 @@ pub mod Text
 pub mod Settling
 pub mod Noted
 pub mod Watched
--- words of private clauses: what a teller is seen as; what is left to be noted of a trace
+-- words of private clauses: what a teller is seen as; when what it holds back is written; what is left to be noted of a
+-- trace
 pub mod Teller
+pub mod Due
 pub mod Left

@@ -6,19 +6,27 @@ use Rattle.feeders.specs.declared.watcher.Notice.{Notice}
 use Rattle.feeders.specs.declared.watcher.Notice.TheVariants.{Changed}
 use Rattle.watch.specs.declared.run.Terms.{Terms}
 use Rattle.watch.specs.declared.settling.Held.{Held}
+use Rattle.watch.specs.declared.settling.Progress.{Progress}
 use Rattle.watch.specs.declared.teller.TellerState.{TellerState}
 use Rattle.watch.specs.declared.teller.TellerState.TheVariants.{Going, Stopped, OutOfMemory, Unwritable}
 use Rattle.watch.specs.declared.teller.Unwritten.{Unwritten}
 use Rattle.watch.specs.declared.teller.Unwritten.TheVariants as unwritten
+use Rattle.watch.specs.Due.{has_due}
 use Rattle.watch.specs.Settling.{AreWrittenOf, IsHeldBack, IsSettledUpTo, is_no_change, notices_of, says_fails}
 use Rattle.watch.specs.Text.{text_of_notices}
 use Rattle.watch.specs.Watched.{IsEnd, ends_at}
 
--- a teller as it is seen: what it was told, what of that it holds back, and whether it takes more
+-- a teller as it is seen: what it was told, what of that it holds back, how far each feeder has come, and whether it
+-- takes more
 pub record TellerModel : Type 0 where
   pub told : List Notice
-  pub held : List Notice
+  pub held : List Held
+  pub progress : List Progress
   pub state : TellerState
+
+-- a teller that goes on wrote what was due: what is held back first is not
+abbrev pub HasWrittenDue : TellerState → List Progress → List Held → Type 0
+HasWrittenDue state progress held = state ≡ Going → has_due held progress ≡ false
 
 -- the output has the texts of the notices that were written, and nothing more
 abbrev pub HasWritten : TellerState → Type 0
@@ -68,10 +76,10 @@ pub record IsWrittenOrHeld (settle : ℕ) (told held written : List Notice) : Ty
   pub by_register : (register : ℕ) → IsSettledUpTo (notices_of register told) (notices_of register held) (notices_of register written)
 
 -- what a teller was told is written, or held back
-pub record IsTold (terms : Terms) (registers : List Register) (before now : Option (List ℕ)) (teller : TellerModel) : Type 0 where
+pub record IsTold (terms : Terms) (registers : List Register) (before now : Option (List ℕ)) (told held : List Notice) (state : TellerState) : Type 0 where
   pub written : List Notice
-  pub out : IsWritten terms registers written teller.state before now
-  pub told : HasTold teller.state → IsWrittenOrHeld terms.settle teller.told teller.held written
+  pub out : IsWritten terms registers written state before now
+  pub settled : HasTold state → IsWrittenOrHeld terms.settle told held written
 
 -- a failure of one register that was held back and the change that heals it, of which nothing is written or left
 pub record IsHealed (held new written left : List Notice) : Type 0 where

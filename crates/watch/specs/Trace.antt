@@ -1,5 +1,5 @@
 -- A trace that edits nothing, in the order of its moments.
-use Rattle.std.specs.Prelude.{◌≢◌, ◌≤◌, List, Option, Some, None, Result, Ok, Err, All, IfSome}
+use Rattle.std.specs.Prelude.{◌≢◌, ◌≤◌, List, Option, None, Result, Ok, Err, All, IfSome}
 use Rattle.std.specs.List.{AllPairs}
 use Rattle.intervals.specs.declared.operation.Moment.{Moment}
 use Rattle.jepsen_form.specs.declared.fault.FormFault.{FormFault}

@@ -1,5 +1,6 @@
 //! The watcher of a run, which tells what it is told.
 
+use crate::settling::Advance;
 use crate::teller::{Beginning, Teller};
 use feeders::{Notice, Watcher};
 use shards::Gate;
@@ -44,7 +45,7 @@ impl<R: Wait + Sync, W: Write + Send, B: Beginning + Send> Watcher for Live<'_, 
         let mut teller = self.teller.lock(self.rt);
         teller.tell(notice);
         if let Notice::Ended { feeder, .. } = notice {
-            teller.end_feeder(feeder);
+            teller.advance(feeder, Advance::Over);
         }
         if !teller.goes_on() {
             self.over.store(true, Ordering::SeqCst);
@@ -57,7 +58,7 @@ impl<R: Wait + Sync, W: Write + Send, B: Beginning + Send> Watcher for Live<'_, 
             return;
         }
         let mut teller = self.teller.lock(self.rt);
-        teller.count(feeder);
+        teller.advance(feeder, Advance::Took);
         if !teller.goes_on() {
             self.over.store(true, Ordering::SeqCst);
         }

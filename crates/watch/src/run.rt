@@ -5,6 +5,7 @@ ghost use Rattle.std.specs.Io.KnownBytes.{Appends};
 ghost use Rattle.feeders.specs.declared.watcher.Notice.{Notice as ANotice};
 ghost use Rattle.feeders.specs.Readers.{AreReadOf};
 ghost use Rattle.feeders.specs.Run.{IsRun};
+ghost use Rattle.watch.specs.Due.{progress_begun};
 ghost use Rattle.watch.specs.Noted.{AreNoted};
 ghost use Rattle.watch.specs.Teller.{AreWrittenIn, HasWritten, IsStateAfter};
 ghost use Rattle.watch.specs.Settling.{AreWrittenOf};
@@ -52,8 +53,9 @@ pub struct Watched<'t> {
 
 /// Feeds what each reader gives, each by a thread of its own, and writes a notice, flushed, as soon as the verdict on a
 /// register changes, an element is refused, or a trace breaks or ends. A register that fails has its notice once each
-/// feeder has taken `settle` more elements or is over; where it holds again before, neither has one. A feeder that waits
-/// in a read call is not woken: where the watch is over its thread ends when that call returns.
+/// feeder has taken `settle` more elements or is over, and not before one that failed earlier; where it holds again
+/// before, neither has one. A feeder that waits in a read call is not woken: where the watch is over its thread ends
+/// when that call returns.
 pub fn watch_readers<'t, R: Threads + Wait + Sync, S: Read + Drop + Send, W: Write + Send>(
     rt: &R,
     alloc: Global,
@@ -85,7 +87,9 @@ pub fn watch_readers<'t, R: Threads + Wait + Sync, S: Read + Drop + Send, W: Wri
 }
 
 /// Feeders that have taken nothing; none are wanted where no failure is held back.
-fn begun(alloc: Global, settle: u64, feeders: usize) -> Result<Vec<Progress>, AllocError> {
+fn begun(alloc: Global, settle: u64, feeders: usize) -> Result<Vec<Progress>, AllocError>
+    ensures { IfOk result (λ progress. progress.items ≡ progress_begun settle feeders) }
+{
     if settle == 0 {
         Ok(Vec::new(alloc))
     } else {

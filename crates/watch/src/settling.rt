@@ -1,10 +1,11 @@
 //! What is held back of the changes that are told, until it is settled.
 
-ghost use Rattle.std.specs.Prelude.{◌≡◌, ◌++◌, ◌∷◌, [], List, IfOk, IfSome, IsNone, OnOk};
+ghost use Rattle.std.specs.Prelude.{◌≡◌, ◌++◌, ◌∷◌, [], List, IfOk, IfSome, IsNone, OnOk, false, replicate};
 ghost use Rattle.std.specs.Option.{option_to_list};
-ghost use Rattle.feeders.specs.declared.watcher.Notice.{Notice as ANotice};
 ghost use Rattle.feeders.specs.declared.watcher.Notice.TheVariants.{Changed};
 ghost use Rattle.watch.specs.Settling.{notices_of};
+ghost use Rattle.watch.specs.declared.settling.Held.{Held as AHeld};
+ghost use Rattle.watch.specs.Due.{AreHeldFrom, advanced, advanced_at, has_come, is_due, until_of};
 ghost use Rattle.watch.specs.Teller.{ArePassedOn, held_notice, held_notices};
 
 use feeders::Notice;
@@ -19,6 +20,15 @@ pub struct Progress {
     pub taken: u64,
     /// Whether its trace ended or broke.
     pub over: bool,
+}
+
+/// What a feeder did.
+#[derive(Clone, Copy, Debug, PartialEq, Eq)]
+pub enum Advance {
+    /// It took one more element.
+    Took,
+    /// Its trace ended or broke.
+    Over,
 }
 
 /// A change to `fails` that is held back.
@@ -43,26 +53,27 @@ impl Held {
         }
     }
 
-    /// Whether each feeder has come as far as it waits for.
-    pub fn is_due(&self, progress: &[Progress]) -> bool {
-        for (feeder, one) in progress.iter().enumerate() {
-            if !has_come(*one, self.until.get(feeder)) {
-                return false;
-            }
-        }
-        true
+    /// Whether each feeder has come as far as it is waited for.
+    pub fn is_due(&self, progress: &[Progress]) -> bool
+        ensures { result ≡ is_due self.now.until.items progress.now }
+    {
+        progress
+            .iter()
+            .zip(self.until.iter())
+            .all(|(one, least)| has_come(*one, *least))
     }
 }
 
-fn has_come(progress: Progress, until: Option<&u64>) -> bool {
-    match until {
-        Some(until) => progress.over || *until <= progress.taken,
-        None => true,
-    }
+fn has_come(progress: Progress, least: u64) -> bool
+    ensures { result ≡ has_come progress least }
+{
+    progress.over || least <= progress.taken
 }
 
 /// So many feeders that have taken nothing.
-pub fn at_the_beginning(alloc: Global, feeders: usize) -> Result<Vec<Progress>, AllocError> {
+pub fn at_the_beginning(alloc: Global, feeders: usize) -> Result<Vec<Progress>, AllocError>
+    ensures { IfOk result (λ progress. progress.items ≡ replicate feeders (record { taken = 0; over = false })) }
+{
     let mut progress = Vec::new(alloc);
     for _ in 0..feeders {
         progress.push(Progress {
@@ -73,17 +84,28 @@ pub fn at_the_beginning(alloc: Global, feeders: usize) -> Result<Vec<Progress>, 
     Ok(progress)
 }
 
-/// Notes that a feeder took one more element.
-pub fn count(progress: &mut [Progress], feeder: u32) {
-    if let Some(one) = progress.get_mut(feeder as usize) {
-        one.taken = one.taken.saturating_add(1);
+/// Notes that a feeder went on; where there is none of this number nothing changes.
+pub fn note_advance(progress: &mut [Progress], feeder: u32, by: Advance)
+    ensures { progress.new ≡ advanced_at progress.old feeder by }
+{
+    let at = feeder as usize;
+    if at < progress.len() {
+        progress[at] = advanced(progress[at], by);
     }
 }
 
-/// Notes that a feeder is over.
-pub fn note_end(progress: &mut [Progress], feeder: u32) {
-    if let Some(one) = progress.get_mut(feeder as usize) {
-        one.over = true;
+fn advanced(progress: Progress, by: Advance) -> Progress
+    ensures { result ≡ advanced progress by }
+{
+    match by {
+        Advance::Took => Progress {
+            taken: progress.taken.saturating_add(1),
+            over: progress.over,
+        },
+        Advance::Over => Progress {
+            taken: progress.taken,
+            over: true,
+        },
     }
 }
 
@@ -97,7 +119,8 @@ pub fn passed_on(
     settle: u64,
     notice: Notice,
 ) -> Result<Option<Notice>, AllocError>
-    ensures { IfOk result (λ now. ArePassedOn settle (held_notices held.old.items) (notice ∷ []) (option_to_list now) (held_notices held.new.items)) }
+    ensures passed_on { IfOk result (λ now. ArePassedOn settle (held_notices held.old.items) (notice ∷ []) (option_to_list now) (held_notices held.new.items)) }
+    ensures held { OnOk result (AreHeldFrom progress.now settle notice held.old.items held.new.items) }
 {
     match notice {
         Notice::Changed {
@@ -120,7 +143,8 @@ fn change_passed_on(
     place: u64,
     change: VerdictChange,
 ) -> Result<Option<Notice>, AllocError>
-    ensures { IfOk result (λ now. ArePassedOn settle (held_notices held.old.items) (Changed feeder place change ∷ []) (option_to_list now) (held_notices held.new.items)) }
+    ensures passed_on { IfOk result (λ now. ArePassedOn settle (held_notices held.old.items) (Changed feeder place change ∷ []) (option_to_list now) (held_notices held.new.items)) }
+    ensures held { OnOk result (AreHeldFrom progress.now settle (Changed feeder place change) held.old.items held.new.items) }
 {
     match taken_out(held, change.register) {
         Some(before) => {
@@ -146,7 +170,7 @@ fn change_passed_on(
 
 /// Takes the change of this register out of those that are held back, where there is one.
 fn taken_out(held: &mut Vec<Held>, register: RegId) -> Option<Held>
-    ensures some { IfSome result (λ one. (front back : List ANotice) × (held_notices held.old.items ≡ front ++ held_notice one ∷ back) × (held_notices held.new.items ≡ front ++ back) × (one.change.register ≡ register)) }
+    ensures some { IfSome result (λ one. (front back : List AHeld) × (held.old.items ≡ front ++ one ∷ back) × (held.new.items ≡ front ++ back) × (one.change.register ≡ register)) }
     ensures none { IsNone result → (held.new.items ≡ held.old.items) × (notices_of register.0 (held_notices held.old.items) ≡ []) }
 {
     for at in 0..held.len() {
@@ -157,7 +181,7 @@ fn taken_out(held: &mut Vec<Held>, register: RegId) -> Option<Held>
     None
 }
 
-/// Holds a change back behind all others.
+/// Holds a change back, after all others.
 fn hold(
     alloc: Global,
     held: &mut Vec<Held>,
@@ -167,7 +191,8 @@ fn hold(
     place: u64,
     change: VerdictChange,
 ) -> Result<(), AllocError>
-    ensures { OnOk result (held_notices held.new.items ≡ held_notices held.old.items ++ Changed feeder place change ∷ []) }
+    ensures held { OnOk result (held_notices held.new.items ≡ held_notices held.old.items ++ Changed feeder place change ∷ []) }
+    ensures until { OnOk result ((one : AHeld) × (held.new.items ≡ held.old.items ++ one ∷ []) × (held_notice one ≡ Changed feeder place change) × (one.until.items ≡ until_of progress.now settle one.feeder)) }
 {
     let until = until_settled(alloc, progress, settle, feeder)?;
     held.push(Held {
@@ -186,13 +211,16 @@ fn until_settled(
     progress: &[Progress],
     settle: u64,
     feeder: u32,
-) -> Result<Vec<u64>, AllocError> {
+) -> Result<Vec<u64>, AllocError>
+    ensures { IfOk result (λ until. until.items ≡ until_of progress.now settle feeder) }
+{
     let mut until = Vec::new(alloc);
     for one in progress {
         until.push(one.taken.saturating_add(settle))?;
     }
-    if let Some(own) = until.get_mut(feeder as usize) {
-        *own = own.saturating_add(1);
+    let own = feeder as usize;
+    if own < until.len() {
+        until[own] = until[own].saturating_add(1);
     }
     Ok(until)
 }

@@ -1,17 +1,18 @@
 //! A teller: an output, with what it was told and what of that it holds back.
 
-ghost use Rattle.std.specs.Prelude.{◌≡◌, ◌≢◌, ◌<◌, ◌++◌, ◌∷◌, [], List, Err, IfOk, OnOk, IsTrue, ◌↔◌, length, vec_len};
+ghost use Rattle.std.specs.Prelude.{◌≡◌, ◌≢◌, ◌⊎◌, ◌<◌, ◌++◌, ◌∷◌, [], List, Err, IfOk, OnOk, IsTrue, ◌↔◌, length, vec_len};
 ghost use Rattle.std.specs.Option.{option_to_list};
 ghost use Rattle.std.specs.Io.KnownBytes.{Appends};
 ghost use Rattle.feeders.specs.declared.watcher.Notice.{Notice as ANotice};
 ghost use Rattle.watch.specs.declared.settling.Held.{Held as AHeld};
-ghost use Rattle.watch.specs.Teller.{HasTold, ArePassedOn, IsToldAll, IsWritten, TellerModel, held_notices, state_after};
+ghost use Rattle.watch.specs.Due.{AreDueFirst, AreHeldFrom, advanced_at, has_due};
+ghost use Rattle.watch.specs.Teller.{HasTold, HasWrittenDue, ArePassedOn, IsToldAll, IsWritten, TellerModel, held_notices, state_after};
 ghost use Rattle.watch.specs.Text.{text_of_notice};
 ghost use Rattle.watch.specs.Watched.{ends_at};
 ghost use Rattle.watch.specs.declared.teller.Unwritten.TheVariants.{Memory as OutOfMemory, Write as Refused};
 
 use crate::run::Terms;
-use crate::settling::{Held, Progress, count, note_end, passed_on};
+use crate::settling::{Advance, Held, Progress, note_advance, passed_on};
 use crate::text::{NoticeForm, notice_text};
 use feeders::Notice;
 use std::alloc::{AllocError, Global};
@@ -85,14 +86,15 @@ pub struct Teller<'a, 't, W: Write, B: Beginning> {
 
 impl<'a, 't, W: Write, B: Beginning> Model for Teller<'a, 't, W, B> {
     ghost use Rattle.std.specs.Prelude.{◌≡◌};
-    ghost use Rattle.watch.specs.Teller.{IsTold, TellerModel, held_notices};
+    ghost use Rattle.watch.specs.Teller.{HasWrittenDue, IsTold, TellerModel, held_notices};
 
     ghost Value = { TellerModel };
 
-    ghost view = { λ t. record { told = t.told.items; held = held_notices t.held.items; state = t.state } };
+    ghost view = { λ t. record { told = t.told.items; held = t.held.items; progress = t.progress.items; state = t.state } };
 
     ghost invariant = { λ t. (t.out.ghost_name ≡ B.output) × (t.tower.now.registers ≡ B.registers) × (t.terms ≡ B.terms)
-        × IsTold B.terms B.registers B.before (W.contents t.out.now) (record { told = t.told.items; held = held_notices t.held.items; state = t.state }) };
+        × IsTold B.terms B.registers B.before (W.contents t.out.now) t.told.items (held_notices t.held.items) t.state
+        × HasWrittenDue t.state t.progress.items t.held.items };
 }
 
 impl<'a, 't, W: Write, B: Beginning> Teller<'a, 't, W, B> {
@@ -108,7 +110,7 @@ impl<'a, 't, W: Write, B: Beginning> Teller<'a, 't, W, B> {
         requires before { W.contents output.out.now ≡ B.before }
         requires registers { tower.now.registers ≡ B.registers }
         requires terms { terms ≡ B.terms }
-        ensures { result ≡ record { told = []; held = []; state = TellerState.Going } }
+        ensures { result ≡ record { told = []; held = []; progress = progress.items; state = TellerState.Going } }
     {
         let Output { out } = output;
         Teller {
@@ -124,15 +126,18 @@ impl<'a, 't, W: Write, B: Beginning> Teller<'a, 't, W, B> {
         }
     }
 
-    /// Takes a notice, and writes what is to be written then. Where it takes none nothing changes.
+    /// Takes a notice, and writes what is to be written then, and what is then due of what is held back. Where it takes
+    /// none nothing changes.
     pub fn tell(&mut self, notice: Notice)
         ensures told { self.old.state ≡ TellerState.Going → HasTold self.new.state → self.new.told ≡ self.old.told ++ notice ∷ [] }
+        ensures progress { self.new.progress ≡ self.old.progress }
+        ensures held { self.old.state ≡ TellerState.Going → HasTold self.new.state → (held : List AHeld) × AreHeldFrom self.old.progress B.terms.settle notice self.old.held held × AreDueFirst self.old.progress held self.new.held }
         ensures over { self.old.state ≢ TellerState.Going → self.new ≡ self.old }
     {
         if !self.goes_on() {
             return;
         }
-        self.state = take(
+        let state = take(
             self.out,
             &mut self.told,
             &mut self.held,
@@ -142,36 +147,31 @@ impl<'a, 't, W: Write, B: Beginning> Teller<'a, 't, W, B> {
             &self.terms,
             notice,
         );
+        self.state = if is_going(state) {
+            write_due(
+                self.out,
+                &mut self.held,
+                self.progress.as_slice(),
+                self.alloc,
+                self.tower,
+                &self.terms,
+            )
+        } else {
+            state
+        };
     }
 
-    /// Counts an element that a feeder took, and writes what is then due of what is held back.
-    pub fn count(&mut self, feeder: u32)
+    /// Notes that a feeder took one more element or is over, and writes what is then due of what is held back.
+    pub fn advance(&mut self, feeder: u32, by: Advance)
         ensures told { self.new.told ≡ self.old.told }
+        ensures progress { self.old.state ≡ TellerState.Going → self.new.progress ≡ advanced_at self.old.progress feeder by }
+        ensures due { self.old.state ≡ TellerState.Going → AreDueFirst self.new.progress self.old.held self.new.held }
         ensures over { self.old.state ≢ TellerState.Going → self.new ≡ self.old }
     {
         if !self.goes_on() {
             return;
         }
-        count(self.progress.as_mut_slice(), feeder);
-        self.state = write_due(
-            self.out,
-            &mut self.held,
-            self.progress.as_slice(),
-            self.alloc,
-            self.tower,
-            &self.terms,
-        );
-    }
-
-    /// Notes that a feeder is over, and writes what is then due of what is held back.
-    pub fn end_feeder(&mut self, feeder: u32)
-        ensures told { self.new.told ≡ self.old.told }
-        ensures over { self.old.state ≢ TellerState.Going → self.new ≡ self.old }
-    {
-        if !self.goes_on() {
-            return;
-        }
-        note_end(self.progress.as_mut_slice(), feeder);
+        note_advance(self.progress.as_mut_slice(), feeder, by);
         self.state = write_due(
             self.out,
             &mut self.held,
@@ -240,6 +240,7 @@ fn take<W: Write>(
     ensures told { HasTold result → told.new.items ≡ told.old.items ++ notice ∷ [] }
     ensures written { (written : List ANotice) × IsWritten terms.now tower.now.registers written result (W.contents out.old) (W.contents out.new)
         × (HasTold result → ArePassedOn terms.now.settle (held_notices held.old.items) (notice ∷ []) written (held_notices held.new.items)) }
+    ensures held { HasTold result → AreHeldFrom progress.now terms.now.settle notice held.old.items held.new.items }
 {
     match noted(told, held, progress, alloc, terms, notice) {
         Ok(Some(now)) => write_one(out, alloc, tower, terms, &now),
@@ -259,6 +260,7 @@ fn noted(
 ) -> Result<Option<Notice>, AllocError>
     ensures told { OnOk result (told.new.items ≡ told.old.items ++ notice ∷ []) }
     ensures passed_on { IfOk result (λ now. ArePassedOn terms.now.settle (held_notices held.old.items) (notice ∷ []) (option_to_list now) (held_notices held.new.items)) }
+    ensures held { OnOk result (AreHeldFrom progress.now terms.now.settle notice held.old.items held.new.items) }
 {
     told.reserve(1)?;
     let now = passed_on(alloc, held, progress, terms.settle, notice)?;
@@ -266,8 +268,7 @@ fn noted(
     Ok(now)
 }
 
-/// Writes what is due of what is held back, the oldest first. They come to be due in the order in which they were held
-/// back.
+/// Writes what is due of what is held back, the oldest first, up to the first that is not due.
 fn write_due<W: Write>(
     out: &mut W,
     held: &mut Vec<Held>,
@@ -276,9 +277,12 @@ fn write_due<W: Write>(
     tower: &Tower,
     terms: &Terms,
 ) -> TellerState
-    ensures { (written : List AHeld) × (held.old.items ≡ written ++ held.new.items) × IsWritten terms.now tower.now.registers (held_notices written) result (W.contents out.old) (W.contents out.new) }
+    ensures written { (written : List AHeld) × (held.old.items ≡ written ++ held.new.items) × IsWritten terms.now tower.now.registers (held_notices written) result (W.contents out.old) (W.contents out.new) }
+    ensures due { AreDueFirst progress.now held.old.items held.new.items }
+    ensures none { HasWrittenDue result progress.now held.new.items }
 {
-    for _ in 0..held.len() {
+    let most = held.len();
+    for _ in 0..most {
         if !has_due(held.as_slice(), progress) {
             return TellerState::Going;
         }
@@ -313,7 +317,8 @@ fn write_left<W: Write>(
 
 /// Whether the oldest of what is held back is due.
 fn has_due(held: &[Held], progress: &[Progress]) -> bool
-    ensures { IsTrue result → 0 < length held.now }
+    ensures due { result ≡ has_due held.now progress.now }
+    ensures some { IsTrue result → 0 < length held.now }
 {
     match held.first() {
         Some(first) => first.is_due(progress),
@@ -330,8 +335,9 @@ fn write_first<W: Write>(
     terms: &Terms,
 ) -> TellerState
     requires some { 0 < vec_len held.old }
-    ensures { (written : List AHeld) × (held.old.items ≡ written ++ held.new.items) × IsWritten terms.now tower.now.registers (held_notices written) result (W.contents out.old) (W.contents out.new)
+    ensures written { (written : List AHeld) × (held.old.items ≡ written ++ held.new.items) × IsWritten terms.now tower.now.registers (held_notices written) result (W.contents out.old) (W.contents out.new)
         × (HasTold result → length written ≡ 1) }
+    ensures first { (held.new.items ≡ held.old.items) ⊎ ((one : AHeld) × (held.old.items ≡ one ∷ held.new.items)) }
 {
     let state = write_one(out, alloc, tower, terms, &held[0].notice());
     if has_told(state) {

@@ -1,18 +1,47 @@
-use Rattle.std.proofs.Common.{ap, ◌∙◌, ◌++◌, ◌∷◌, [], List}
+use Rattle.std.proofs.Common.{ap, refl, ◌∙◌, ◌++◌, ◌∷◌, [], List}
+use Rattle.std.proofs.lemmas.List.{map-append}
 use Rattle.feeders.specs.declared.watcher.Notice.{Notice}
 use Rattle.feeders.specs.declared.watcher.Notice.TheVariants.{Changed}
-use Rattle.watch.specs.Teller.{held_notices}
+use Rattle.watch.specs.Teller.{held_notice, held_notices}
+use Rattle.watch.proofs.Advancing.{adds, all_stay, takes_out}
 use Rattle.watch.proofs.Passing.{passes_healed, passes_swapped}
 use Rattle.watch.proofs.settling.change_passed_on.Goals as goal
 
-pub returns-then-change : goal.returns-then-change
-returns-then-change c =
+pub returns-then-change-clause-passed_on : goal.returns-then-change-clause-passed_on
+returns-then-change-clause-passed_on c =
     let parts = c.in-Some.ensures.some in
-    passes_healed c.args.settle (held_notices c.args.held.now.items) (held_notices c.taken_out.new.held.items) parts.0 parts.1 c.in-Some.before c.args.feeder c.args.place c.args.change parts.2 parts.3 parts.4 c.if-change.true
+    passes_healed c.args.settle (held_notices c.args.held.now.items) (held_notices c.taken_out.new.held.items) (held_notices parts.0) (held_notices parts.1) c.in-Some.before c.args.feeder c.args.place c.args.change
+    (ap held_notices parts.2 ∙ map-append held_notice parts.0 (c.in-Some.before ∷ parts.1)) (ap held_notices parts.3 ∙ map-append held_notice parts.0 parts.1) parts.4 c.if-change.true
 
-pub returns-in_ok-hold-in-Some : goal.returns-in_ok-hold-in-Some
-returns-in_ok-hold-in-Some c =
+pub returns-then-change-clause-held : goal.returns-then-change-clause-held
+returns-then-change-clause-held c =
+    let parts = c.in-Some.ensures.some in
+    takes_out c.args.progress.now c.args.settle c.args.feeder c.args.place c.args.change c.args.held.now.items c.taken_out.new.held.items parts.0 parts.1 c.in-Some.before parts.2 parts.3 parts.4
+
+pub returns-in_ok-hold-in-Some-clause-passed_on : goal.returns-in_ok-hold-in-Some-clause-passed_on
+returns-in_ok-hold-in-Some-clause-passed_on c =
     let parts = c.in-Some.ensures.some in
     rw c.notice.ensures
-    (passes_swapped c.args.settle (held_notices c.args.held.now.items) (held_notices c.hold.new.held.items) parts.0 parts.1 c.in-Some.before c.args.feeder c.args.place c.args.change parts.2
-    (c.in_ok-hold-in-Some.ensures ∙ ap (λ (l : List Notice). l ++ Changed c.args.feeder c.args.place c.args.change ∷ []) parts.3) parts.4 c.if-change.false)
+    (passes_swapped c.args.settle (held_notices c.args.held.now.items) (held_notices c.hold.new.held.items) (held_notices parts.0) (held_notices parts.1) c.in-Some.before c.args.feeder c.args.place c.args.change
+    (ap held_notices parts.2 ∙ map-append held_notice parts.0 (c.in-Some.before ∷ parts.1))
+    (c.in_ok-hold-in-Some.ensures.held ∙ ap (λ (l : List Notice). l ++ Changed c.args.feeder c.args.place c.args.change ∷ []) (ap held_notices parts.3 ∙ map-append held_notice parts.0 parts.1)) parts.4 c.if-change.false)
+
+pub returns-in_ok-hold-in-Some-clause-held : goal.returns-in_ok-hold-in-Some-clause-held
+returns-in_ok-hold-in-Some-clause-held c =
+    let parts = c.in-Some.ensures.some in
+    let more = c.in_ok-hold-in-Some.ensures.until in
+    adds c.args.progress.now c.args.settle c.args.feeder c.args.place c.args.change c.args.held.now.items c.taken_out.new.held.items c.hold.new.held.items more.0
+    (takes_out c.args.progress.now c.args.settle c.args.feeder c.args.place c.args.change c.args.held.now.items c.taken_out.new.held.items parts.0 parts.1 c.in-Some.before parts.2 parts.3 parts.4)
+    more.1 more.2 more.3
+
+pub returns-in_ok-hold-in-None-clause-held : goal.returns-in_ok-hold-in-None-clause-held
+returns-in_ok-hold-in-None-clause-held c =
+    let none = c.in-None.ensures.none in
+    let more = c.in_ok-hold-in-None.ensures.until in
+    adds c.args.progress.now c.args.settle c.args.feeder c.args.place c.args.change c.args.held.now.items c.taken_out.new.held.items c.hold-in-None.new.held.items more.0
+    (all_stay c.args.progress.now c.args.settle (Changed c.args.feeder c.args.place c.args.change) c.args.held.now.items c.taken_out.new.held.items (none refl).0)
+    more.1 more.2 more.3
+
+pub returns-then-change-2-clause-held : goal.returns-then-change-2-clause-held
+returns-then-change-2-clause-held c =
+    all_stay c.args.progress.now c.args.settle (Changed c.args.feeder c.args.place c.args.change) c.args.held.now.items c.taken_out.new.held.items (c.in-None.ensures.none refl).0

@@ -1,6 +1,5 @@
 use Rattle.std.proofs.Common.{◌≡◌, ◌<◌, ◌∙◌, length, vec_len, ap, sym, arith, rules}
 use Rattle.watch.specs.declared.settling.Held.{Held}
-use Rattle.watch.specs.Teller.{held_notices}
 use Rattle.watch.proofs.Passing.{same_at, same_register, taken_at}
 use Rattle.watch.proofs.settling.taken_out.Goals as goal
 
@@ -15,7 +14,7 @@ returns-then-eq-clause-some c =
     let one : c.index.result.now ≡ c.remove.result = c.index.ensures ∙ same_at items at c.index.result.now c.remove.result within ∙ sym c.remove.ensures.value in (
       parts.0,
       parts.1,
-      ap held_notices (sym same) ∙ parts.2,
-      ap held_notices c.remove.ensures.items ∙ parts.3,
+      sym same ∙ parts.2,
+      c.remove.ensures.items ∙ parts.3,
       sym (ap (λ (x : Held). x.change.register) one) ∙ same_register c.index.result.now.change.register c.args.register (sym c.eq.ensures ∙ c.if-eq.true),
     )

@@ -1,9 +1,10 @@
--- what was held back first is written
-use Rattle.std.proofs.Common.{◌≡◌, ◌++◌, List}
+-- what was held back first was due and is written, as many as were counted
+use Rattle.std.proofs.Common.{◌≡◌, ◌+◌, ◌++◌, List, vec_len}
 use Rattle.watch.specs.declared.settling.Held.{Held}
 use Rattle.watch.specs.declared.teller.TellerState.TheVariants.{Going}
+use Rattle.watch.specs.Due.{AreDueFirst}
 use Rattle.watch.specs.Teller.{IsWritten, held_notices}
 use Rattle.watch.proofs.teller.write_due.Given as goal
 
 abbrev pub invariant-loop : goal.invariant-loop
-invariant-loop g l = (first : List Held) × (l.fn.held.items ≡ first ++ l.held.items) × IsWritten l.terms l.tower.registers (held_notices first) Going (g.W.Write.contents l.fn.out) (g.W.Write.contents l.out)
+invariant-loop g l = (vec_len l.held + l.counter ≡ l.most) × AreDueFirst l.progress l.fn.held.items l.held.items × ((first : List Held) × (l.fn.held.items ≡ first ++ l.held.items) × IsWritten l.terms l.tower.registers (held_notices first) Going (g.W.Write.contents l.fn.out) (g.W.Write.contents l.out))

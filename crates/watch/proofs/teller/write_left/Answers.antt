@@ -7,7 +7,7 @@ use Rattle.watch.proofs.teller.write_left.Goals as goal
 pub returns-then-not-is_going-clause-written : goal.returns-then-not-is_going-clause-written
 returns-then-not-is_going-clause-written g c =
     written_next c.args.terms.now c.args.tower.now.registers c.args.held.now.items c.loop.held.items c.write_first-state.new.held.items c.write_first-state.result (g.W.Write.contents c.args.out.now) (g.W.Write.contents c.loop.out) (g.W.Write.contents c.write_first-state.new.out)
-    c.loop.invariant.1 c.write_first-state.ensures
+    c.loop.invariant.1 c.write_first-state.ensures.written
 
 pub loop-preserved : goal.loop-preserved
 loop-preserved g c =
@@ -16,8 +16,8 @@ loop-preserved g c =
     let left : length c.write_first-state.new.held.items ≡ vec_len c.write_first-state.new.held = search rules in
     let less : length c.loop.held.items ≡ 1 + length c.write_first-state.new.held.items =
     one_less c.loop.held.items c.write_first-state.new.held.items c.write_first-state.result (λ written. IsWritten c.args.terms.now c.args.tower.now.registers (held_notices written) c.write_first-state.result (g.W.Write.contents c.loop.out) (g.W.Write.contents c.write_first-state.new.out))
-    (subst HasTold (sym going) tt) c.write_first-state.ensures in (
+    (subst HasTold (sym going) tt) c.write_first-state.ensures.written in (
       omega (arith, c.loop.invariant.0, many, left, less),
       written_on c.args.terms.now c.args.tower.now.registers c.args.held.now.items c.loop.held.items c.write_first-state.new.held.items c.write_first-state.result (g.W.Write.contents c.args.out.now) (g.W.Write.contents c.loop.out) (g.W.Write.contents c.write_first-state.new.out)
-          going c.loop.invariant.1 c.write_first-state.ensures,
+          going c.loop.invariant.1 c.write_first-state.ensures.written,
     )

@@ -1,17 +1,54 @@
-use Rattle.std.proofs.Common.{◌≡◌, ap, ◌∙◌}
+use Rattle.std.proofs.Common.{◌≡◌, List, false, ap, refl, subst, ◌∙◌}
+use Rattle.watch.specs.declared.settling.Progress.{Progress}
 use Rattle.watch.specs.declared.teller.TellerState.TheVariants.{Going}
-use Rattle.watch.specs.Teller.{held_notices}
-use Rattle.watch.proofs.Telling.{told_more}
+use Rattle.watch.specs.Due.{has_due}
+use Rattle.watch.specs.Teller.{HasTold, held_notices}
+use Rattle.watch.proofs.Advancing.{due_by, due_none, held_by}
+use Rattle.watch.proofs.Telling.{told_due_by, told_more}
 use Rattle.watch.proofs.teller.Teller.tell.Goals as goal
+use Rattle.watch.proofs.teller.Teller.tell.Goals.{then-is_going, else-is_going}
 
 pub invariant_of-self : goal.invariant_of-self
 invariant_of-self g c =
     let is = c.self.invariant in
-    let going : c.self.inside.state ≡ Going = ap (λ m. m.state) c.self.view_is ∙ c.goes_on.ensures.0 c.if-not-goes_on.false in (
-      is.0,
-      is.1,
-      is.2,
-      told_more g.B.Beginning.terms c.self.inside.terms g.B.Beginning.registers c.self.inside.tower.now.registers g.B.Beginning.before (g.W.Write.contents c.self.inside.out.now) (g.W.Write.contents c.take-self-inside.new.out)
-          c.self.inside.told.items (held_notices c.self.inside.held.items) c.take-self-inside.new.told.items (held_notices c.take-self-inside.new.held.items) c.args.notice c.self.inside.state c.take-self-inside.result
-          is.2 is.1 going is.3 c.take-self-inside.ensures.told c.take-self-inside.ensures.written,
-    )
+    let inside = c.self.inside in
+    let going : inside.state ≡ Going = ap (λ m. m.state) c.self.view_is ∙ c.goes_on.ensures.0 c.if-not-goes_on.false in
+    let took = told_more g.B.Beginning.terms inside.terms g.B.Beginning.registers inside.tower.now.registers g.B.Beginning.before (g.W.Write.contents inside.out.now) (g.W.Write.contents c.take-state.new.out)
+    inside.told.items (held_notices inside.held.items) c.take-state.new.told.items (held_notices c.take-state.new.held.items) c.args.notice inside.state c.take-state.result
+    is.2 is.1 going is.3 c.take-state.ensures.told c.take-state.ensures.written in
+    elim c.if-is_going.branch [
+      | then-is_going w ↦
+          rw (w.self-inside-is, w.self-is) (
+            is.0,
+            is.1,
+            is.2,
+            told_due_by g.B.Beginning.terms inside.terms g.B.Beginning.registers inside.tower.now.registers g.B.Beginning.before (g.W.Write.contents c.take-state.new.out) (g.W.Write.contents w.write_due-self-inside.new.out)
+                c.take-state.new.told.items c.take-state.new.held.items w.write_due-self-inside.new.held.items c.take-state.result w.write_due-self-inside.result
+                is.2 is.1 (c.is_going.ensures.0 w.if-is_going.true) took w.write_due-self-inside.ensures.written,
+            λ on. subst (λ (l : List Progress). has_due w.write_due-self-inside.new.held.items l ≡ false) w.as_slice-then-is_going.ensures.value (w.write_due-self-inside.ensures.none on),
+          )
+      | else-is_going w ↦
+          rw (w.self-inside-is, w.self-is) (is.0, is.1, is.2, took, λ on. absurd (let h = c.is_going.ensures.1 on in let f = w.if-is_going.false in cc))
+    ]
+
+pub returns-clause-held : goal.returns-clause-held
+returns-clause-held g c =
+    let inside = c.self.inside in
+    let progress = ap (λ m. m.progress) c.self.view_is in
+    let held = ap (λ m. m.held) c.self.view_is in
+    elim c.if-is_going.branch [
+      | then-is_going w ↦
+          λ going has. rw (w.self-inside-is) (
+            c.take-state.new.held.items,
+            held_by c.args.self.now.progress c.as_slice.result.now g.B.Beginning.terms inside.terms c.args.notice c.args.self.now.held inside.held.items c.take-state.new.held.items
+                (c.as_slice.ensures.value ∙ progress) c.self.invariant.2 held (c.take-state.ensures.held (rw (c.is_going.ensures.0 w.if-is_going.true) tt)),
+            due_by c.args.self.now.progress w.as_slice-then-is_going.result.now c.take-state.new.held.items w.write_due-self-inside.new.held.items (w.as_slice-then-is_going.ensures.value ∙ progress) w.write_due-self-inside.ensures.due,
+          )
+      | else-is_going w ↦
+          λ going has. rw (w.self-inside-is) (
+            c.take-state.new.held.items,
+            held_by c.args.self.now.progress c.as_slice.result.now g.B.Beginning.terms inside.terms c.args.notice c.args.self.now.held inside.held.items c.take-state.new.held.items
+                (c.as_slice.ensures.value ∙ progress) c.self.invariant.2 held (c.take-state.ensures.held (subst HasTold w.self-is has)),
+            due_none c.args.self.now.progress c.take-state.new.held.items c.take-state.new.held.items refl,
+          )
+    ]

@@ -1,7 +1,9 @@
-use Rattle.std.proofs.Common.{◌≡◌, ap, ◌∙◌}
+use Rattle.std.proofs.Common.{◌≡◌, List, false, ap, subst, ◌∙◌}
+use Rattle.watch.specs.declared.settling.Progress.{Progress}
 use Rattle.watch.specs.declared.teller.TellerState.TheVariants.{Going}
+use Rattle.watch.specs.Due.{has_due}
 use Rattle.watch.proofs.Telling.{told_due_by}
-use Rattle.watch.proofs.teller.Teller.count.Goals as goal
+use Rattle.watch.proofs.teller.Teller.advance.Goals as goal
 
 pub invariant_of-self : goal.invariant_of-self
 invariant_of-self g c =
@@ -11,5 +13,6 @@ invariant_of-self g c =
       is.1,
       is.2,
       told_due_by g.B.Beginning.terms c.self.inside.terms g.B.Beginning.registers c.self.inside.tower.now.registers g.B.Beginning.before (g.W.Write.contents c.self.inside.out.now) (g.W.Write.contents c.write_due-self-inside.new.out)
-          c.self.inside.told.items c.self.inside.held.items c.write_due-self-inside.new.held.items c.self.inside.state c.write_due-self-inside.result is.2 is.1 going is.3 c.write_due-self-inside.ensures,
+          c.self.inside.told.items c.self.inside.held.items c.write_due-self-inside.new.held.items c.self.inside.state c.write_due-self-inside.result is.2 is.1 going is.3 c.write_due-self-inside.ensures.written,
+      λ on. subst (λ (l : List Progress). has_due c.write_due-self-inside.new.held.items l ≡ false) c.as_slice.ensures.value (c.write_due-self-inside.ensures.none on),
     )

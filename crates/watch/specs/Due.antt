@@ -1,0 +1,64 @@
+-- When a failure that is held back is written: how far each feeder has come, and how far it is waited for.
+use Rattle.std.specs.Prelude.{◌≡◌, ◌==◌, ◌||◌, ◌+◌, ℕ, zero, suc, Bool, true, false, nat_le, List, [], ◌∷◌, ◌++◌, All, Contains, filter, map, not, replicate, if◌then◌else◌}
+use Rattle.std.specs.List.{list_all, zip}
+use Rattle.feeders.specs.declared.watcher.Notice.{Notice}
+use Rattle.feeders.specs.declared.watcher.Notice.TheVariants.{Changed, Refused, Broke, Ended}
+use Rattle.records.specs.Run.{at_most_u64}
+use Rattle.watch.specs.declared.settling.Advance.{Advance}
+use Rattle.watch.specs.declared.settling.Advance.TheVariants.{Took, Over}
+use Rattle.watch.specs.declared.settling.Held.{Held}
+use Rattle.watch.specs.declared.settling.Progress.{Progress}
+
+-- how far a feeder has come when it took one more element, or is over
+abbrev pub advanced : Progress → Advance → Progress
+advanced progress Took = record { taken = at_most_u64 (progress.taken + 1); over = progress.over }
+advanced progress Over = record { taken = progress.taken; over = true }
+
+-- how far feeders have come when the one of this number went on; where there is none of this number all stays as it is
+abbrev pub advanced_at : List Progress → ℕ → Advance → List Progress
+advanced_at [] feeder advance = []
+advanced_at (one ∷ progress) zero advance = advanced one advance ∷ progress
+advanced_at (one ∷ progress) (suc feeder) advance = one ∷ advanced_at progress feeder advance
+
+-- so many feeders that have taken nothing and are not over; none where no failure is held back
+abbrev pub progress_begun : ℕ → ℕ → List Progress
+progress_begun settle feeders = if settle == 0 then [] else replicate feeders (record { taken = 0; over = false })
+
+-- how many elements each feeder is waited for to have taken, where a failure comes while the one of this number takes
+-- one: `settle` more than it took, that one counted
+abbrev pub until_of : List Progress → ℕ → ℕ → List ℕ
+until_of progress settle feeder = map (λ one. at_most_u64 (one.taken + settle)) (advanced_at progress feeder Took)
+
+-- whether a feeder took at least so many elements, or is over
+abbrev pub has_come : Progress → ℕ → Bool
+has_come progress least = progress.over || nat_le least progress.taken
+
+-- whether each feeder has come as far as it is waited for; one that no number is given for is not waited for
+abbrev pub is_due : List ℕ → List Progress → Bool
+is_due until progress = list_all (λ pair. has_come pair.0 pair.1) (zip progress until)
+
+-- whether the first of what is held back is due
+abbrev pub has_due : List Held → List Progress → Bool
+has_due [] progress = false
+has_due (first ∷ held) progress = is_due first.until.items progress
+
+-- whether what is held back is of another register than the one of which this notice tells a change
+abbrev pub is_of_another : Notice → Held → Bool
+is_of_another (Changed feeder place change) held = not (held.change.register.0 == change.register.0)
+is_of_another (Refused feeder place code) held = true
+is_of_another (Broke feeder broken) held = true
+is_of_another (Ended feeder elements) held = true
+
+-- what is held back when this notice came: what is left of what was held back before, with all that is of another
+-- register; and after it what is of this register, and waits from now on
+pub record AreHeldFrom (progress : List Progress) (settle : ℕ) (notice : Notice) (before now : List Held) : Type 0 where
+  pub left : List Held
+  pub new : List Held
+  pub parts : now ≡ left ++ new
+  pub all_left : All (Contains before) left
+  pub others_left : filter (is_of_another notice) before ≡ filter (is_of_another notice) left
+  pub waits : All (λ held. (is_of_another notice held ≡ false) × (held.until.items ≡ until_of progress settle held.feeder)) new
+
+-- those that were held back first, each of them due, are not held back any longer
+abbrev pub AreDueFirst : List Progress → List Held → List Held → Type 0
+AreDueFirst progress before now = (due : List Held) × (before ≡ due ++ now) × All (λ held. is_due held.until.items progress ≡ true) due
