@@ -2,7 +2,7 @@
 use Rattle.std.proofs.Common.{◌≡◌, ◌==◌, ◌<◌, ◌+◌, ℕ, suc, Bool, true, false, List, [], ◌∷◌, ◌++◌, length, take, drop, cond, not, subst, append_assoc, refl, sym, ap, ◌∙◌, arith}
 use Rattle.std.specs.List.{position_or_len, after_first, AllZip}
 use native.Mathlib.Numerals.{unary_clauses}
-use Rattle.commands.specs.Denied.{IsNoteNamed, at_front, comma_parts}
+use Rattle.commands.specs.Denied.{IsNoteNamed, comma_parts}
 
 abbrev pub is_comma : ℕ → Bool
 is_comma byte = byte == 44

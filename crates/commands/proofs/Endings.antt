@@ -1,7 +1,8 @@
 -- What a command that was not broken off has written, and its status.
-use Rattle.std.proofs.Common.{◌≡◌, ◌≢◌, ◌⊎◌, inl, inr, ℕ, Bool, false, List, map, not, Option, Some, None, refl, ap, rules, subst}
+use Rattle.std.proofs.Common.{◌≡◌, ◌≢◌, inl, inr, ℕ, Bool, false, List, map, not, Option, Some, None, rules, subst}
 use Rattle.std.specs.Prelude.{IfSome, is_some}
 use Rattle.std.specs.Io.KnownBytes.{Appends}
+use Rattle.clap.specs.Words.{Text}
 use Rattle.intervals.specs.declared.operation.RegId.{RegId}
 use Rattle.jepsen_form.specs.declared.item.MomentField.{MomentField}
 use Rattle.tower_file.specs.Contents.{TowerModel}
@@ -24,22 +25,24 @@ use Rattle.commands.specs.Audit.{IsAudit}
 use Rattle.commands.specs.Status.{status_of}
 use Rattle.commands.specs.Verdict.{IsAudited, verdict_line}
 use Rattle.commands.specs.Checked.{IsChecked, IsNamed, IsPrinted, IsStatus, chosen_field}
+use Rattle.commands.specs.Kept.{AreKeptIn}
 use Rattle.commands.specs.Shown.{IsShown}
 use Rattle.commands.specs.Watching.{HasWholeNotices, IsFollowed, IsWatchStatus, watch_terms}
 use Rattle.commands.specs.Run.{WritesWhole}
 
 -- `AreTheir known` says that the files hold these texts
-pub checked : (held : Option (List ℕ)) (asked : AskedCheck) (tower : TowerModel) (order : Option RegId) (closed : List ClosedShard) (logs : List Log) (chosen : MomentField) (lefts : List (Option (List ℕ))) (AreTheir : List (List ℕ) → Type 0) (status : ℕ) (old new : Option (List ℕ))
+pub checked : (held : Option (List ℕ)) (asked : AskedCheck) (tower : TowerModel) (order : Option RegId) (closed : List ClosedShard) (logs : List Log) (chosen : MomentField) (lefts : List (Option (List ℕ))) (AreTheir : List (List ℕ) → Type 0) (kept : List (List ℕ)) (status : ℕ) (old new : Option (List ℕ))
     → IfSome held (λ file. IsTowerOf file tower)
     → IsNamed tower asked.order order
     → ((known : List (List ℕ)) → AreTheir known → lefts ≡ map (λ text. Some text) known)
     → chosen ≡ chosen_field asked.moments
     → ((read : List (List ℕ)) × AreReadOf lefts logs read × IsRun tower chosen asked.shards read closed logs)
-    → ((text : List ℕ) × IsPrinted asked status tower closed logs order text × Appends old new text)
+    → AreKeptIn asked.form lefts logs kept
+    → ((text : List ℕ) × IsPrinted asked status tower closed logs order kept text × Appends old new text)
     → IsStatus tower closed logs asked.least asked.least_each status
     → IfSome held (λ file. (traces : List (List ℕ)) → AreTheir traces → IsChecked asked file traces status old new)
-checked None asked tower order closed logs chosen lefts AreTheir status old new says named opened field run report is = search rules
-checked (Some file) asked tower order closed logs chosen lefts AreTheir status old new says named opened field run report is =
+checked None asked tower order closed logs chosen lefts AreTheir kept status old new says named opened field run are_kept report is = search rules
+checked (Some file) asked tower order closed logs chosen lefts AreTheir kept status old new says named opened field run are_kept report is =
     λ traces are. record {
       tower = tower;
       says = says;
@@ -50,6 +53,8 @@ checked (Some file) asked tower order closed logs chosen lefts AreTheir status o
       read = run.0;
       are_read = subst (λ (l : List (Option (List ℕ))). AreReadOf l logs run.0) (opened traces are) run.1;
       run = subst (λ (f : MomentField). IsRun tower f asked.shards run.0 closed logs) field run.2;
+      kept = kept;
+      are_kept = subst (λ (l : List (Option (List ℕ))). AreKeptIn asked.form l logs kept) (opened traces are) are_kept;
       text = report.0;
       printed = report.1;
       written = report.2;
@@ -126,28 +131,34 @@ followed (Some file) asked tower closed logs stopped terms lefts AreTheir status
     }
 
 -- a watch that broke off
-pub broke_whole : (asked : AskedWatch) (tower : TowerModel) (terms : Terms) (fault : WatchFault) (command : CommandFault) (old new : Option (List ℕ))
+pub broke_whole : (asked : AskedWatch) (file : Option (List ℕ)) (tower : TowerModel) (terms : Terms) (fault : WatchFault) (command : CommandFault) (old new : Option (List ℕ))
+    → IfSome file (λ file. IsTowerOf file tower)
     → terms ≡ watch_terms asked
     → (command ≢ commands.Unwritable → fault ≢ watches.Write)
     → (fault ≢ watches.Write → (notices : List Notice) × Appends old new (text_of_notices terms.form tower.registers notices))
-    → command ≢ commands.Unwritable → HasWholeNotices asked old new
-broke_whole asked tower terms fault command old new same write whole other =
+    → command ≢ commands.Unwritable → HasWholeNotices asked file old new
+broke_whole asked file tower terms fault command old new says same write whole other =
     let wrote = whole (write other) in
-    inr (tower, wrote.0, subst (λ (t : Terms). Appends old new (text_of_notices t.form tower.registers wrote.0)) same wrote.1)
+    inr (record {
+      tower = tower;
+      says = says;
+      notices = wrote.0;
+      written = subst (λ (t : Terms). Appends old new (text_of_notices t.form tower.registers wrote.0)) same wrote.1;
+    })
 
-as_before : (command : Asked) (old new : Option (List ℕ)) → new ≡ old → WritesWhole command old new
-as_before (Watch watch) old new same = inl same
-as_before (Safe name) old new same = tt
-as_before (Check check) old new same = tt
-as_before (Show show) old new same = tt
-as_before (Lint lint) old new same = tt
-as_before (Tower name) old new same = tt
-as_before (Explain code) old new same = tt
-as_before Version old new same = tt
-as_before Manual old new same = tt
-as_before (Completion shell) old new same = tt
+as_before : (command : Asked) (files : Text → Option (List ℕ)) (old new : Option (List ℕ)) → new ≡ old → WritesWhole command files old new
+as_before (Watch watch) files old new same = inl same
+as_before (Safe name) files old new same = tt
+as_before (Check check) files old new same = tt
+as_before (Show show) files old new same = tt
+as_before (Lint lint) files old new same = tt
+as_before (Tower name) files old new same = tt
+as_before (Explain code) files old new same = tt
+as_before Version files old new same = tt
+as_before Manual files old new same = tt
+as_before (Completion shell) files old new same = tt
 
 -- an output that is as it was has whole notices, whatever was asked for
-pub untouched : (found : Option Asked) (old new : Option (List ℕ)) → new ≡ old → IfSome found (λ command. WritesWhole command old new)
-untouched None old new same = tt
-untouched (Some command) old new same = as_before command old new same
+pub untouched : (found : Option Asked) (files : Text → Option (List ℕ)) (old new : Option (List ℕ)) → new ≡ old → IfSome found (λ command. WritesWhole command files old new)
+untouched None files old new same = tt
+untouched (Some command) files old new same = as_before command files old new same

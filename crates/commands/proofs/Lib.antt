@@ -13,3 +13,5 @@ mod Alone
 mod Whole
 -- what `lint` found
 mod Looking
+-- the texts that are kept of traces
+pub mod KeptTexts

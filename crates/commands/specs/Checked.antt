@@ -23,6 +23,7 @@ use Rattle.words.specs.declared.check.MomentKey.{MomentKey}
 use Rattle.words.specs.declared.check.MomentKey.TheVariants.{Index, Time}
 use Rattle.words.specs.Words.{AskedCheck}
 use Rattle.report.specs.Summary.{is_broken}
+use Rattle.commands.specs.Kept.{AreKeptIn}
 use Rattle.commands.specs.Status.{HasFailing, HasTooFew, has_refused, status_of}
 
 -- the field that has the moments: `:index` or `:time`
@@ -48,21 +49,21 @@ record_names asked = record { tower = asked.tower; traces = asked.traces; moment
 
 -- the text has the records of a run in this notation, with the lines and the bytes of elements in the texts that were
 -- kept of the traces
-abbrev pub ArePrinted : Notation → AskedCheck → ℕ → TowerModel → List ClosedShard → List Log → Option RegId → List ℕ → Type 0
-ArePrinted notation asked status tower closed logs order text =
-    (kept : List (List ℕ)) × IsTextOfRecords notation (record_names asked) asked.only_failing status tower closed logs order kept text
+abbrev pub ArePrinted : Notation → AskedCheck → ℕ → TowerModel → List ClosedShard → List Log → Option RegId → List (List ℕ) → List ℕ → Type 0
+ArePrinted notation asked status tower closed logs order kept text =
+    IsTextOfRecords notation (record_names asked) asked.only_failing status tower closed logs order kept text
 
 -- the text is what is printed of a run in this form: the report, with the order that is asked for, the summary, or the
 -- records
-abbrev pub IsPrintedIn : ReportForm → AskedCheck → ℕ → TowerModel → List ClosedShard → List Log → Option RegId → List ℕ → Type 0
-IsPrintedIn Report asked status tower closed logs order text = IsReport tower closed logs order text
-IsPrintedIn Summary asked status tower closed logs order text = IsSummary tower closed logs text
-IsPrintedIn Json asked status tower closed logs order text = ArePrinted notations.Json asked status tower closed logs order text
-IsPrintedIn Edn asked status tower closed logs order text = ArePrinted notations.Edn asked status tower closed logs order text
+abbrev pub IsPrintedIn : ReportForm → AskedCheck → ℕ → TowerModel → List ClosedShard → List Log → Option RegId → List (List ℕ) → List ℕ → Type 0
+IsPrintedIn Report asked status tower closed logs order kept text = IsReport tower closed logs order text
+IsPrintedIn Summary asked status tower closed logs order kept text = IsSummary tower closed logs text
+IsPrintedIn Json asked status tower closed logs order kept text = ArePrinted notations.Json asked status tower closed logs order kept text
+IsPrintedIn Edn asked status tower closed logs order kept text = ArePrinted notations.Edn asked status tower closed logs order kept text
 
 -- the text is what `check` prints of a run with this status
-abbrev pub IsPrinted : AskedCheck → ℕ → TowerModel → List ClosedShard → List Log → Option RegId → List ℕ → Type 0
-IsPrinted asked status tower closed logs order text = IsPrintedIn asked.form asked status tower closed logs order text
+abbrev pub IsPrinted : AskedCheck → ℕ → TowerModel → List ClosedShard → List Log → Option RegId → List (List ℕ) → List ℕ → Type 0
+IsPrinted asked status tower closed logs order kept text = IsPrintedIn asked.form asked status tower closed logs order kept text
 
 -- the status of a run: 2 where a trace broke, else 1 where a register fails, else 3 where an element was refused,
 -- else 4 where too few operations stand, else 0
@@ -90,7 +91,9 @@ pub record IsChecked (asked : AskedCheck) (file : List ℕ) (traces : List (List
   pub read : List (List ℕ)
   pub are_read : AreReadOf (map (λ trace. Some trace) traces) logs read
   pub run : IsRun tower (chosen_field asked.moments) asked.shards read closed logs
+  pub kept : List (List ℕ)
+  pub are_kept : AreKeptIn asked.form (map (λ trace. Some trace) traces) logs kept
   pub text : List ℕ
-  pub printed : IsPrinted asked status tower closed logs order text
+  pub printed : IsPrinted asked status tower closed logs order kept text
   pub written : Appends old new text
   pub status_is : IsStatus tower closed logs asked.least asked.least_each status

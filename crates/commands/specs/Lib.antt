@@ -2,6 +2,7 @@
 pub mod Complaint
 pub mod Status
 pub mod Verdict
+pub mod Kept
 pub mod Checked
 pub mod Denied
 pub mod Looked

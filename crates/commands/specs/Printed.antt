@@ -1,5 +1,5 @@
 -- What the commands that print a text wrote.
-use Rattle.std.specs.Prelude.{◌≡◌, ℕ, List, [], ◌∷◌, ◌++◌, Option, Some, None, codes}
+use Rattle.std.specs.Prelude.{◌≡◌, ℕ, List, ◌++◌, Option, Some, None}
 use Rattle.std.specs.Io.KnownBytes.{Appends}
 use Rattle.texts.specs.declared.entry.Explanation.{Explanation}
 use Rattle.texts.specs.declared.topic.Topic.{Topic}

@@ -50,9 +50,9 @@ IsWatch (Watch watch) = Unit {0}
 IsWatch command = ⊥
 
 -- where the command is a watch that broke off, it wrote nothing or whole notices alone
-abbrev pub WritesWhole : Asked → Option (List ℕ) → Option (List ℕ) → Type 0
-WritesWhole (Watch watch) old new = HasWholeNotices watch old new
-WritesWhole command old new = Unit {0}
+abbrev pub WritesWhole : Asked → (Text → Option (List ℕ)) → Option (List ℕ) → Option (List ℕ) → Type 0
+WritesWhole (Watch watch) files old new = HasWholeNotices watch (files watch.tower) old new
+WritesWhole command files old new = Unit {0}
 
 -- the words are well formed and ask for `safe` on standard input
 abbrev pub WantInput : List Text → Type 0

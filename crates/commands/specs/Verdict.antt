@@ -1,5 +1,5 @@
 -- What the command `safe` prints of a trace, and its status.
-use Rattle.std.specs.Prelude.{◌≡◌, ◌↔◌, ℕ, Bool, false, not, List, [], ◌∷◌, ◌++◌, length, Option, Some, None, Result, Ok, Err, IsSome, IsTrue, is_some, codes}
+use Rattle.std.specs.Prelude.{◌≡◌, ◌↔◌, ℕ, Bool, false, not, List, ◌∷◌, ◌++◌, length, Option, Some, None, Result, Ok, Err, IsSome, IsTrue, is_some, codes}
 use Rattle.std.specs.Io.KnownBytes.{Appends}
 use Rattle.intervals.specs.declared.claim.Kind.{Kind}
 use Rattle.intervals.specs.Terms.{RegisterState, unedited}

@@ -1,5 +1,5 @@
 -- What the command `watch` writes of traces, and its status.
-use Rattle.std.specs.Prelude.{◌≡◌, ◌⊎◌, ℕ, Bool, true, false, List, map, Option, Some}
+use Rattle.std.specs.Prelude.{◌≡◌, ◌⊎◌, ℕ, Bool, true, false, List, map, Option, Some, IfSome}
 use Rattle.std.specs.Io.KnownBytes.{Appends}
 use Rattle.tower_file.specs.Contents.{TowerModel}
 use Rattle.tower_file.specs.Tower.{IsTowerOf}
@@ -52,6 +52,13 @@ pub record IsFollowed (asked : AskedWatch) (file : List ℕ) (traces : List (Lis
   pub watched : IsWatched tower (watch_terms asked) (map (λ trace. Some trace) traces) closed logs stopped old new
   pub status_is : IsWatchStatus tower closed logs stopped status
 
+-- whole notices, of registers of the tower that the file says, were written, and nothing else
+pub record HasNoticesAlone (asked : AskedWatch) (file old new : Option (List ℕ)) : Type 0 where
+  pub tower : TowerModel
+  pub says : IfSome file (λ file. IsTowerOf file tower)
+  pub notices : List Notice
+  pub written : Appends old new (text_of_notices (notice_form asked.form) tower.registers notices)
+
 -- a watch that broke off wrote nothing, or whole notices alone
-abbrev pub HasWholeNotices : AskedWatch → Option (List ℕ) → Option (List ℕ) → Type 0
-HasWholeNotices asked old new = (new ≡ old) ⊎ (tower : TowerModel) × (notices : List Notice) × Appends old new (text_of_notices (notice_form asked.form) tower.registers notices)
+abbrev pub HasWholeNotices : AskedWatch → Option (List ℕ) → Option (List ℕ) → Option (List ℕ) → Type 0
+HasWholeNotices asked file old new = (new ≡ old) ⊎ HasNoticesAlone asked file old new

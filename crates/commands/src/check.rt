@@ -1,27 +1,26 @@
 //! The command `check`.
 
-ghost use Rattle.std.specs.Prelude.{◌≡◌, ◌≢◌, ◌≤◌, ◌<◌, ◌∷◌, [], ℕ, List, Err, IfOk, IfErr, IfSome, OnOk, length, map, option_map, vec_len};
+ghost use Rattle.std.specs.Prelude.{◌≡◌, ◌≢◌, ◌≤◌, ◌<◌, ℕ, List, Err, IfOk, IfErr, IfSome, OnOk, length, map, option_map};
 ghost use Rattle.std.specs.Io.KnownBytes.{Appends};
 ghost use Rattle.report.specs.Finding.{IsOfTower};
 ghost use Rattle.tower_file.specs.Tower.{IsTowerOf};
 ghost use Rattle.words.specs.Words.{asked_check};
 ghost use Rattle.records.specs.Run.{names_of};
-ghost use Rattle.commands.specs.Checked.{ArePrinted, IsChecked, IsNamed, IsRunOver, IsPrintedIn, IsStatus, chosen_field, moment_word, record_names};
+ghost use Rattle.commands.specs.Checked.{ArePrinted, IsChecked, IsNamed, IsPrintedIn, IsStatus, chosen_field, moment_word, record_names};
 ghost use Rattle.commands.specs.Run.{AreHeld};
 
 use crate::fault::CommandFault;
 use crate::files::{Files, open_files, read_file};
+use crate::judging::{Job, Judged};
 use crate::status::{any_broken, any_fails, any_refused, has_too_few, status};
-use feeders::{Pages, Run, RunFault, run_readers};
+use feeders::{Pages, Run};
 use intervals::RegId;
 use jepsen_form::MomentField;
-use places::{Copies, copied_to};
 use records::{Form, Notation, write_records};
 use report::laws::a_run_is_of_its_tower;
 use report::{ReportFault, report, summary};
-use shards::NoGate;
 use std::alloc::{AllocError, Global};
-use std::io::{Read, Write};
+use std::io::Write;
 use std::mem::forget;
 use std::sync::Wait;
 use std::thread::Threads;
@@ -58,7 +57,14 @@ pub fn check<'a, A: AllocGlobal + Threads + Wait + Sync, F: Files, W: Write>(
         return Err(CommandFault::Memory);
     };
     a_run_is_of_its_tower();
-    let judged = match judge_traces(rt, asked, &tower, readers, &pages) {
+    let job = Job {
+        rt,
+        tower: &tower,
+        pages: &pages,
+        moments: asked.moments,
+        shards: asked.shards,
+    };
+    let judged = match job.judge(asked.form, readers) {
         Ok(judged) => judged,
         Err(fault) => return Err(CommandFault::of_run(fault)),
     };
@@ -74,97 +80,6 @@ pub fn check<'a, A: AllocGlobal + Threads + Wait + Sync, F: Files, W: Write>(
         }
         Err(fault) => Err(CommandFault::of_report(fault)),
     }
-}
-
-/// A run, and the texts of its traces, by number, where records are asked for; else none.
-#[derive(Drop)]
-struct Judged<'x> {
-    run: Run<'x>,
-    texts: Vec<Vec<u8>>,
-}
-
-/// Feeds what each reader gives to the registers of a tower, and keeps it where records are asked for: these name the
-/// lines and the bytes of elements.
-fn judge_traces<'x, A: AllocGlobal + Threads + Wait + Sync, S: Read + Drop + Send>(
-    rt: &A,
-    asked: &Check<'_>,
-    tower: &'x Tower,
-    readers: Vec<S>,
-    pages: &'x Pages,
-) -> Result<Judged<'x>, RunFault>
-    requires readers { (1 ≤ vec_len readers) × (vec_len readers ≤ 256) }
-    requires shards { (1 ≤ asked.now.shards) × (asked.now.shards ≤ 64) }
-    ensures run { IfOk result (λ judged. IsRunOver tower.now asked.now.moments asked.now.shards (map S.remaining readers.items) judged.run.closed judged.run.logs.items) }
-{
-    match asked.form {
-        ReportForm::Report | ReportForm::Summary => {
-            judge_uncopied(rt, asked, tower, readers, pages)
-        }
-        ReportForm::Json | ReportForm::Edn => judge_copied(rt, asked, tower, readers, pages),
-    }
-}
-
-/// Feeds what each reader gives, and keeps nothing of it.
-fn judge_uncopied<'x, A: AllocGlobal + Threads + Wait + Sync, S: Read + Drop + Send>(
-    rt: &A,
-    asked: &Check<'_>,
-    tower: &'x Tower,
-    readers: Vec<S>,
-    pages: &'x Pages,
-) -> Result<Judged<'x>, RunFault>
-    requires readers { (1 ≤ vec_len readers) × (vec_len readers ≤ 256) }
-    requires shards { (1 ≤ asked.now.shards) × (asked.now.shards ≤ 64) }
-    ensures run { IfOk result (λ judged. IsRunOver tower.now asked.now.moments asked.now.shards (map S.remaining readers.items) judged.run.closed judged.run.logs.items) }
-{
-    let run = run_over(rt, asked, tower, readers, pages)?;
-    Ok(Judged {
-        run,
-        texts: Vec::new(rt.alloc()),
-    })
-}
-
-/// Feeds what each reader gives, and keeps it. Where memory is refused for that, the run goes on to its end.
-fn judge_copied<'x, A: AllocGlobal + Threads + Wait + Sync, S: Read + Drop + Send>(
-    rt: &A,
-    asked: &Check<'_>,
-    tower: &'x Tower,
-    readers: Vec<S>,
-    pages: &'x Pages,
-) -> Result<Judged<'x>, RunFault>
-    requires readers { (1 ≤ vec_len readers) × (vec_len readers ≤ 256) }
-    requires shards { (1 ≤ asked.now.shards) × (asked.now.shards ≤ 64) }
-    ensures run { IfOk result (λ judged. IsRunOver tower.now asked.now.moments asked.now.shards (map S.remaining readers.items) judged.run.closed judged.run.logs.items) }
-{
-    let alloc = rt.alloc();
-    let copies = Copies::new(alloc, readers.len())?;
-    let copying = copied_to(rt, alloc, readers, &copies)?;
-    let run = run_over(rt, asked, tower, copying, pages)?;
-    let texts = copies.into_texts(alloc)?;
-    Ok(Judged { run, texts })
-}
-
-/// Feeds what each reader gives to the registers of a tower.
-fn run_over<'x, A: AllocGlobal + Threads + Wait + Sync, S: Read + Drop + Send>(
-    rt: &A,
-    asked: &Check<'_>,
-    tower: &'x Tower,
-    readers: Vec<S>,
-    pages: &'x Pages,
-) -> Result<Run<'x>, RunFault>
-    requires readers { (1 ≤ vec_len readers) × (vec_len readers ≤ 256) }
-    requires shards { (1 ≤ asked.now.shards) × (asked.now.shards ≤ 64) }
-    ensures run { IfOk result (λ run. IsRunOver tower.now asked.now.moments asked.now.shards (map S.remaining readers.items) run.closed run.logs.items) }
-{
-    run_readers(
-        rt,
-        rt.alloc(),
-        tower,
-        readers,
-        pages,
-        field_of(asked.moments),
-        asked.shards,
-        &NoGate,
-    )
 }
 
 /// The tower that a file says.
@@ -221,7 +136,7 @@ fn print<'x, A: AllocGlobal + Threads + Wait + Sync, W: Write>(
 ) -> Result<(), ReportFault>
     requires of_tower { IsOfTower tower.now judged.now.run.closed }
     requires order { IfSome order (λ id. id.0 < length tower.now.registers) }
-    ensures printed { OnOk result ((text : List ℕ) × IsPrintedIn form (asked_check asked.now) status tower.now judged.now.run.closed judged.now.run.logs.items order text × Appends (W.contents out.old) (W.contents out.new) text) }
+    ensures printed { OnOk result ((text : List ℕ) × IsPrintedIn form (asked_check asked.now) status tower.now judged.now.run.closed judged.now.run.logs.items order (map (λ text. text.items) judged.now.texts.items) text × Appends (W.contents out.old) (W.contents out.new) text) }
     ensures memory { result ≡ Err ReportFault.Memory → out.new ≡ out.old }
 {
     let alloc = rt.alloc();
@@ -268,7 +183,7 @@ fn print_records<'x, W: Write>(
 ) -> Result<(), ReportFault>
     requires of_tower { IsOfTower tower.now judged.now.run.closed }
     requires order { IfSome order (λ id. id.0 < length tower.now.registers) }
-    ensures printed { OnOk result ((text : List ℕ) × ArePrinted notation (asked_check asked.now) status tower.now judged.now.run.closed judged.now.run.logs.items order text × Appends (W.contents out.old) (W.contents out.new) text) }
+    ensures printed { OnOk result ((text : List ℕ) × ArePrinted notation (asked_check asked.now) status tower.now judged.now.run.closed judged.now.run.logs.items order (map (λ text. text.items) judged.now.texts.items) text × Appends (W.contents out.old) (W.contents out.new) text) }
     ensures memory { result ≡ Err ReportFault.Memory → out.new ≡ out.old }
 {
     let form = form_of(asked, notation);

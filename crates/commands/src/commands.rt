@@ -99,7 +99,7 @@ pub fn run_words<
     ensures done { IfOk result (λ status. IsDone (map S.text words.entry.now) (F.held files.old) (R.remaining input.old) status (W.contents out.old) (W.contents out.new)) }
     ensures input { ¬ WantInput (map S.text words.entry.now) → input.new ≡ input.old }
     ensures quiet { IfErr result (λ fault. fault ≢ CommandFault.Unwritable → IfSome (asked (map S.text words.entry.now)) (λ command. ¬ IsWatch command) → out.new ≡ out.old) }
-    ensures whole { IfErr result (λ fault. fault ≢ CommandFault.Unwritable → IfSome (asked (map S.text words.entry.now)) (λ command. WritesWhole command (W.contents out.old) (W.contents out.new))) }
+    ensures whole { IfErr result (λ fault. fault ≢ CommandFault.Unwritable → IfSome (asked (map S.text words.entry.now)) (λ command. WritesWhole command (F.held files.old) (W.contents out.old) (W.contents out.new))) }
 {
     match read_words(rt.alloc(), words) {
         Ok(command) => carry_out(rt, command, files, input, out),
@@ -119,7 +119,7 @@ fn carry_out<'a, A: AllocGlobal + Threads + Wait + Sync, F: Files, R: Read + Sen
     ensures done { IfOk result (λ status. IsCarriedOut (asked_of command.entry) (F.held files.old) (R.remaining input.old) status (W.contents out.old) (W.contents out.new)) }
     ensures input { asked_of command.entry ≢ Safe None → input.new ≡ input.old }
     ensures quiet { IfErr result (λ fault. fault ≢ CommandFault.Unwritable → ¬ IsWatch (asked_of command.entry) → out.new ≡ out.old) }
-    ensures whole { IfErr result (λ fault. fault ≢ CommandFault.Unwritable → WritesWhole (asked_of command.entry) (W.contents out.old) (W.contents out.new)) }
+    ensures whole { IfErr result (λ fault. fault ≢ CommandFault.Unwritable → WritesWhole (asked_of command.entry) (F.held files.old) (W.contents out.old) (W.contents out.new)) }
 {
     match command {
         Command::Safe(None) => judge(rt, input, out),

@@ -16,6 +16,8 @@ mod deny;
 mod draw;
 mod fault;
 mod files;
+mod judging;
+mod kept;
 pub mod laws;
 mod look;
 mod picture;

@@ -31,7 +31,7 @@ pub fn follow<'a, A: AllocGlobal + Threads + Wait + Sync, F: Files, W: Write + S
     ensures followed { IfOk result (λ status. IfSome (F.held files.old asked.entry.now.tower.now) (λ file. (traces : List (List ℕ))
         → AreHeld (F.held files.old) (map (λ name. name.now) asked.entry.now.traces.items) traces
         → IsFollowed (asked_watch asked.entry.now) file traces status (W.contents out.old) (W.contents out.new))) }
-    ensures whole { IfErr result (λ fault. fault ≢ CommandFault.Unwritable → HasWholeNotices (asked_watch asked.entry.now) (W.contents out.old) (W.contents out.new)) }
+    ensures whole { IfErr result (λ fault. fault ≢ CommandFault.Unwritable → HasWholeNotices (asked_watch asked.entry.now) (F.held files.old asked.entry.now.tower.now) (W.contents out.old) (W.contents out.new)) }
 {
     if asked.traces.len() > TRACE_LIMIT {
         return Err(CommandFault::TooManyTraces);

@@ -1,4 +1,6 @@
--- lines and columns behind the bytes of a text
-pub mod Behind
+-- lines and columns after the bytes of a text
+pub mod PlaceAfter
 -- what holds of each two of two lists
 pub mod Zipped
+-- what is kept of texts, while readers give them
+pub mod Copied

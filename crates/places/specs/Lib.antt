@@ -2,3 +2,4 @@
 pub mod LineColumn
 pub mod Location
 pub mod Spots
+pub mod Copied

@@ -20,7 +20,7 @@ mod line_column;
 mod location;
 mod spots;
 
-pub use copying::{Copies, Copying, copied_to};
+pub use copying::{Copies, Copying, Kept, Originals, copied_to};
 pub use line_column::{Cursor, LineColumn};
 pub use location::{Elements, Location, elements_of, spot_in, spot_of_one};
 pub use spots::Places;

@@ -18,7 +18,7 @@ impl LineColumn {
     }
 
     /// The place after a byte at this place.
-    fn behind(self, byte: u8) -> LineColumn
+    fn after(self, byte: u8) -> LineColumn
         requires line { self.line + 1 < 2 ^ 64 }
         requires column { self.column + 1 < 2 ^ 64 }
         ensures { result ≡ place_after self byte }
@@ -104,7 +104,7 @@ fn place_on(text: &[u8], from: usize, place: LineColumn, to: usize) -> LineColum
 {
     let mut place = place;
     for byte in &text[from..to] {
-        place = place.behind(*byte);
+        place = place.after(*byte);
     }
     place
 }

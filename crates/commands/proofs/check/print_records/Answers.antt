@@ -4,6 +4,8 @@ use Rattle.std.specs.Io.KnownBytes.{Appends}
 use Rattle.std.specs.declared.alloc.Global.{Global}
 use Rattle.records.specs.declared.line.Notation.{Notation}
 use Rattle.records.specs.Run.{IsTextOfRecords, RunNames}
+use Rattle.words.specs.Words.{asked_check}
+use Rattle.commands.specs.Checked.{ArePrinted}
 use Rattle.commands.proofs.check.print_records.Goals as goal
 
 -- a text that is so in one notation, by some names and by a flag, is so in equal ones
@@ -20,5 +22,9 @@ returns-clause-printed g c =
     let Is : Notation → RunNames → Bool → Type 0 = λ notation names only.
     (text : List ℕ) × IsTextOfRecords notation names only c.args.status c.args.tower.now run.closed run.logs.items c.args.order kept text × Appends old new text in
     on_ok_weaker c.write_records.result
-    (λ is. (let told = retold Is _ _ _ _ _ _ c.form_of-form.ensures.notation c.form_of-form.ensures.names c.form_of-form.ensures.only is in (told.0, (kept, told.1), told.2)))
+    (λ is. (let told = retold Is _ _ _ _ _ _ c.form_of-form.ensures.notation c.form_of-form.ensures.names c.form_of-form.ensures.only is in (
+      told.0,
+      subst (λ (texts : List (Vec ℕ Global)). ArePrinted c.args.notation (asked_check c.args.asked.now) c.args.status c.args.tower.now run.closed run.logs.items c.args.order (map (λ (text : Vec ℕ Global). text.items) texts) told.0) c.deref.ensures.value told.1,
+      told.2,
+    )))
     c.write_records.ensures.records

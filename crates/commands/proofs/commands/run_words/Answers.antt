@@ -7,4 +7,4 @@ pub returns-in-Ok-clause-quiet : goal.returns-in-Ok-clause-quiet
 returns-in-Ok-clause-quiet g c = rw (c.in-Ok.ensures.asks) c.carry_out.ensures.quiet
 
 pub returns-in-Err-clause-whole : goal.returns-in-Err-clause-whole
-returns-in-Err-clause-whole g c = λ other. untouched (asked (map g.S.AsStr.text c.args.words.now)) (g.W.Write.contents c.args.out.now) _ refl
+returns-in-Err-clause-whole g c = λ other. untouched (asked (map g.S.AsStr.text c.args.words.now)) (g.F.Files.held c.args.files.now) (g.W.Write.contents c.args.out.now) _ refl

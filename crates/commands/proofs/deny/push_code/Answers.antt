@@ -1,4 +1,4 @@
-use Rattle.std.proofs.Common.{◌≡◌, ◌∙◌, ◌∷◌, [], ◌++◌, List, ℕ, Some, ap, map, refl, rules, sym}
+use Rattle.std.proofs.Common.{◌≡◌, ◌∙◌, ◌∷◌, [], ◌++◌, List, ℕ, Some, ap, map, refl, rules}
 use Rattle.std.proofs.lemmas.List.{map-append}
 use Rattle.texts.specs.declared.topic.Topic.TheVariants.{Note}
 use Rattle.texts.specs.Topics.{topic_code, topic_of}

@@ -1,4 +1,4 @@
-use Rattle.std.proofs.Common.{ap, arith, length, map}
+use Rattle.std.proofs.Common.{ap, arith, length}
 use Rattle.std.proofs.lemmas.List.{length-map}
 use Rattle.commands.proofs.Looking.{as_many_found}
 use Rattle.commands.proofs.look.tell_alone.Goals as goal

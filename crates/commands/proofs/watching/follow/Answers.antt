@@ -7,7 +7,8 @@ use Rattle.commands.proofs.watching.follow.Goals as goal
 
 pub returns-in-Err-clause-whole : goal.returns-in-Err-clause-whole
 returns-in-Err-clause-whole g c =
-    broke_whole (asked_watch c.args.asked.now) c.in_ok-tower.tower c.watch_terms-terms.result c.in-Err.fault c.of_watch.result (g.W.Write.contents c.args.out.now) (g.W.Write.contents c.watch_readers.new.out)
+    broke_whole (asked_watch c.args.asked.now) (g.F.Files.held c.args.files.now c.args.asked.now.tower.now) c.in_ok-tower.tower c.watch_terms-terms.result c.in-Err.fault c.of_watch.result (g.W.Write.contents c.args.out.now) (g.W.Write.contents c.watch_readers.new.out)
+    c.in_ok-tower.ensures.tower
     c.watch_terms-terms.ensures
     c.of_watch.ensures.write
     c.in-Err.ensures.whole

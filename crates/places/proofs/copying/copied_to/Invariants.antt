@@ -7,6 +7,7 @@ abbrev pub invariant-loop-reader : goal.invariant-loop-reader
 invariant-loop-reader g l = record {
   can_next : (goal.iterator-loop-reader g).can_next l.reader-iterator;
   finite : (goal.iterator-loop-reader g).is_finite l.reader-iterator;
-  readers : map g.S.Read.remaining l.fn.readers.items ≡ map (λ one. g.S.Read.remaining one.reader) l.wrapped.items ++ map g.S.Read.remaining (into_iter_items l.reader-iterator);
+  readers : map g.S.Read.remaining l.fn.readers.items ≡ l.wrapped.items ++ map g.S.Read.remaining (into_iter_items l.reader-iterator);
+  number : l.number ≡ vec_len l.wrapped;
   left : l.number + length (into_iter_items l.reader-iterator) ≡ vec_len l.fn.readers;
 }

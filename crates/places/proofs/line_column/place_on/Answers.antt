@@ -1,6 +1,6 @@
 use Rattle.std.proofs.Common.{◌-◌, take, drop, get_or, ap, arith}
 use Rattle.places.specs.declared.line_column.LineColumn.{LineColumn}
-use Rattle.places.proofs.Behind.{behind_small, part_on}
+use Rattle.places.proofs.PlaceAfter.{after_small, part_on}
 use Rattle.places.proofs.line_column.place_on.Goals as goal
 
 pub loop-byte-preserved : goal.loop-byte-preserved
@@ -9,11 +9,11 @@ loop-byte-preserved c =
     let from = c.args.from in
     let i = c.loop-byte.byte-index in
     let old = c.loop-byte.place in
-    let small = behind_small old (get_or (take (c.args.to - from) (drop from text)) i 0) in
-    let line = ap (λ (place : LineColumn). place.line) c.behind-place.ensures in
-    let column = ap (λ (place : LineColumn). place.column) c.behind-place.ensures in
+    let small = after_small old (get_or (take (c.args.to - from) (drop from text)) i 0) in
+    let line = ap (λ (place : LineColumn). place.line) c.after-place.ensures in
+    let column = ap (λ (place : LineColumn). place.column) c.after-place.ensures in
     record {
-      place = part_on text from c.args.to i old c.behind-place.result c.requires.order c.requires.within c.loop-byte-test.true c.loop-byte.invariant.place c.behind-place.ensures;
+      place = part_on text from c.args.to i old c.after-place.result c.requires.order c.requires.within c.loop-byte-test.true c.loop-byte.invariant.place c.after-place.ensures;
       line = omega (arith, small.0, line, c.loop-byte.invariant.line);
       column = omega (arith, small.1, column, c.loop-byte.invariant.column);
     }

@@ -2,8 +2,8 @@
 use Rattle.std.proofs.Common.{◌≡◌, ◌≤◌, vec_len}
 use Rattle.places.proofs.copying.Copies.new.Given as goal
 
-abbrev pub invariant-loop : goal.invariant-loop
-invariant-loop l = record {
-  many : vec_len l.copies ≡ l.counter;
-  within : l.counter ≤ l.texts;
+abbrev pub invariant-loop-number : goal.invariant-loop-number
+invariant-loop-number g l = record {
+  many : vec_len l.copies ≡ l.number;
+  within : l.number ≤ l.texts;
 }

@@ -3,22 +3,22 @@ use Rattle.std.proofs.Common.{◌≡◌, ℕ, ◌+◌, ◌-◌, ◌<◌, ◌≤�
 use Rattle.std.specs.Prelude.{if◌then◌else◌, min}
 use Rattle.std.proofs.lemmas.List.{get_or-drop, get_or-take, length-drop, length-take, take_min, take_more}
 use Rattle.places.specs.declared.line_column.LineColumn.{LineColumn}
-use Rattle.places.specs.LineColumn.{place_after, behind_all, first_place, place_of_byte}
+use Rattle.places.specs.LineColumn.{place_after, place_after_all, first_place, place_of_byte}
 
-behind_both : (place : LineColumn) (xs ys : List ℕ) → behind_all place (xs ++ ys) ≡ behind_all (behind_all place xs) ys
-behind_both place [] ys = refl
-behind_both place (x ∷ xs) ys = behind_both (place_after place x) xs ys
+after_both : (place : LineColumn) (xs ys : List ℕ) → place_after_all place (xs ++ ys) ≡ place_after_all (place_after_all place xs) ys
+after_both place [] ys = refl
+after_both place (x ∷ xs) ys = after_both (place_after place x) xs ys
 
 pub one_on : (text : List ℕ) (at byte : ℕ) → at < length text → byte ≡ get_or text at 0 → place_of_byte text (at + 1) ≡ place_after (place_of_byte text at) byte
 one_on text at byte below is =
-    ap (behind_all first_place) (take_more text at 0 below) ∙ behind_both first_place (take at text) (get_or text at 0 ∷ []) ∙ ap (place_after (place_of_byte text at)) (sym is)
+    ap (place_after_all first_place) (take_more text at 0 below) ∙ after_both first_place (take at text) (get_or text at 0 ∷ []) ∙ ap (place_after (place_of_byte text at)) (sym is)
 
 pub place_at_most : (text : List ℕ) (at : ℕ) → place_of_byte text (min at (length text)) ≡ place_of_byte text at
-place_at_most text at = ap (behind_all first_place) (take_min at text)
+place_at_most text at = ap (place_after_all first_place) (take_min at text)
 
 -- a byte leads to the next line at most, and to the next column at most
-pub behind_small : (place : LineColumn) (byte : ℕ) → ((place_after place byte).line ≤ place.line + 1) × ((place_after place byte).column ≤ place.column + 1)
-behind_small place byte =
+pub after_small : (place : LineColumn) (byte : ℕ) → ((place_after place byte).line ≤ place.line + 1) × ((place_after place byte).column ≤ place.column + 1)
+after_small place byte =
     let next : LineColumn = record { line = place.line + 1; column = 1 } in
     let same : LineColumn = record { line = place.line; column = place.column + 1 } in
     elim (eqb byte 10) as (λ t. ((if t then next else same).line ≤ place.line + 1) × ((if t then next else same).column ≤ place.column + 1)) [ true ↦ (omega arith, omega arith) | false ↦ (omega arith, omega arith) ]

@@ -1,0 +1,36 @@
+-- The texts that `check` keeps of traces, for the places of elements that records name.
+use Rattle.std.specs.Prelude.{◌≡◌, ◌≤◌, ℕ, List, ◌++◌, length, Option, Some, None}
+use Rattle.std.specs.List.{slice_get}
+use Rattle.feeders.specs.declared.log.Broken.{Broken}
+use Rattle.feeders.specs.declared.log.Log.{Log}
+use Rattle.places.specs.declared.copying.Kept.{Kept}
+use Rattle.places.specs.Copied.{IsKeptOf}
+use Rattle.words.specs.declared.check.ReportForm.{ReportForm}
+use Rattle.words.specs.declared.check.ReportForm.TheVariants.{Report, Summary, Json, Edn}
+
+-- the text is a prefix of what a reader had left, at least up to the byte at which the trace broke
+pub record IsPrefixTo (broken : Broken) (left text : List ℕ) : Type 0 where
+  pub rest : List ℕ
+  pub parts : left ≡ text ++ rest
+  pub reaches : broken.place ≤ length text
+
+-- the text that is kept of a trace: all that its reader had left, or where the trace broke a prefix that reaches that
+abbrev pub IsKeptTo : Option Broken → List ℕ → List ℕ → Type 0
+IsKeptTo None left text = text ≡ left
+IsKeptTo (Some broken) left text = IsPrefixTo broken left text
+
+-- the text is what is kept of a trace with this log, given its copy
+abbrev pub IsTextOf : Log → Kept → List ℕ → Type 0
+IsTextOf log kept text = (left : List ℕ) → IsKeptOf left kept.bytes.items kept.ended → IsKeptTo log.broken left text
+
+-- a text is kept of each trace; nothing is said of one where what its reader had left is not known
+pub record AreTracesKept (lefts : List (Option (List ℕ))) (logs : List Log) (texts : List (List ℕ)) : Type 0 where
+  pub many : length texts ≡ length lefts
+  pub each : (trace : ℕ) (left : List ℕ) (log : Log) (text : List ℕ) → slice_get lefts trace ≡ Some (Some left) → slice_get logs trace ≡ Some log → slice_get texts trace ≡ Some text → IsKeptTo log.broken left text
+
+-- a text is kept of each trace where records are asked for
+abbrev pub AreKeptIn : ReportForm → List (Option (List ℕ)) → List Log → List (List ℕ) → Type 0
+AreKeptIn Report lefts logs texts = Unit {0}
+AreKeptIn Summary lefts logs texts = Unit {0}
+AreKeptIn Json lefts logs texts = AreTracesKept lefts logs texts
+AreKeptIn Edn lefts logs texts = AreTracesKept lefts logs texts
