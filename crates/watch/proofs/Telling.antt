@@ -90,12 +90,12 @@ settled_all settle told held written Stopped is none =
 settled_all settle told held written OutOfMemory is none = tt
 settled_all settle told held written Unwritable is none = tt
 
-pub told_all_of : (terms : Terms) (registers : List Register) (before now : Option (List ℕ)) (told held : List Notice) (state : TellerState)
-    → IsTold terms registers before now told held state → (state ≡ Going → held ≡ []) → IsToldAll terms registers before now told state
-told_all_of terms registers before now told held state is none = record {
+pub told_all_of : (terms : Terms) (registers : List Register) (before now : Option (List ℕ)) (told held : List Notice) (finished : Bool) (state : TellerState)
+    → IsTold terms registers before now told held state → (finished ≡ true → state ≡ Going → held ≡ []) → IsToldAll terms registers before now told finished state
+told_all_of terms registers before now told held finished state is none = record {
   written = is.written;
   out = is.out;
-  settled = settled_all terms.settle told held is.written state is.settled none;
+  settled = λ over. settled_all terms.settle told held is.written state is.settled (none over);
 }
 
 pub told_none : (terms : Terms) (registers : List Register) (before : Option (List ℕ)) → IsTold terms registers before before [] [] Going

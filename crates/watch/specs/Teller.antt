@@ -110,8 +110,8 @@ AreWrittenIn Stopped settle told written = AreWrittenOf settle true told written
 AreWrittenIn OutOfMemory settle told written = Unit {0}
 AreWrittenIn Unwritable settle told written = Unit {0}
 
--- what a teller leaves of what it was told
-pub record IsToldAll (terms : Terms) (registers : List Register) (before now : Option (List ℕ)) (told : List Notice) (state : TellerState) : Type 0 where
+-- what a teller leaves of what it was told, where all is over; where that broke off, nothing is said of what was held back
+pub record IsToldAll (terms : Terms) (registers : List Register) (before now : Option (List ℕ)) (told : List Notice) (finished : Bool) (state : TellerState) : Type 0 where
   pub written : List Notice
   pub out : IsWritten terms registers written state before now
-  pub settled : AreWrittenIn state terms.settle told written
+  pub settled : finished ≡ true → AreWrittenIn state terms.settle told written

@@ -130,7 +130,8 @@ fn watch_in<
         alloc, tower, *terms, progress, output,
     ));
     let run = run_told(rt, alloc, tower, readers, pages, terms, &teller);
-    let told = teller.into_inner().end();
+    let finished = run.is_ok();
+    let told = teller.into_inner().end(finished);
     *outcome = concluded(run, told.told.as_slice(), told.state, terms.shards);
     told.output
 }

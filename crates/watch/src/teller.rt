@@ -1,6 +1,6 @@
 //! A teller: an output, with what it was told and what of that it holds back.
 
-ghost use Rattle.std.specs.Prelude.{◌≡◌, ◌≢◌, ◌⊎◌, ◌<◌, ◌++◌, ◌∷◌, [], List, Err, IfOk, OnOk, IsTrue, ◌↔◌, length, vec_len};
+ghost use Rattle.std.specs.Prelude.{◌≡◌, ◌≢◌, ◌⊎◌, ◌<◌, ◌++◌, ◌∷◌, [], true, List, Err, IfOk, OnOk, IsTrue, ◌↔◌, length, vec_len};
 ghost use Rattle.std.specs.Option.{option_to_list};
 ghost use Rattle.std.specs.Io.KnownBytes.{Appends};
 ghost use Rattle.feeders.specs.declared.watcher.Notice.{Notice as ANotice};
@@ -189,12 +189,12 @@ impl<'a, 't, W: Write, B: Beginning> Teller<'a, 't, W, B> {
         is_going(self.state)
     }
 
-    /// The output, what it was told, and whether all was written that is settled. What is still held back is written
-    /// before.
-    pub fn end(self) -> Told<'a, W>
+    /// The output, what it was told, and whether all was written that is settled. Where the run is over, what is still
+    /// held back is written before; where it broke off, it is not, as it did not settle.
+    pub fn end(self, finished: bool) -> Told<'a, W>
         ensures told { result.told.items ≡ self.entry.told }
         ensures output { result.output.out.ghost_name ≡ B.output }
-        ensures all { IsToldAll B.terms B.registers B.before (W.contents result.output.out.now) result.told.items result.state }
+        ensures all { IsToldAll B.terms B.registers B.before (W.contents result.output.out.now) result.told.items finished result.state }
     {
         let Teller {
             tower,
@@ -207,7 +207,7 @@ impl<'a, 't, W: Write, B: Beginning> Teller<'a, 't, W, B> {
             ..
         } = self;
         let state = match state {
-            TellerState::Going => write_left(out, &mut held, alloc, tower, &terms),
+            TellerState::Going => write_last(out, &mut held, alloc, tower, &terms, finished),
             TellerState::Stopped | TellerState::OutOfMemory | TellerState::Unwritable => state,
         };
         Told {
@@ -292,6 +292,25 @@ fn write_due<W: Write>(
         }
     }
     TellerState::Going
+}
+
+/// Writes all that is held back where the run is over, and nothing where it broke off.
+fn write_last<W: Write>(
+    out: &mut W,
+    held: &mut Vec<Held>,
+    alloc: Global,
+    tower: &Tower,
+    terms: &Terms,
+    finished: bool,
+) -> TellerState
+    ensures written { (written : List AHeld) × (held.old.items ≡ written ++ held.new.items) × IsWritten terms.now tower.now.registers (held_notices written) result (W.contents out.old) (W.contents out.new) }
+    ensures all { finished ≡ true → result ≡ TellerState.Going → held.new.items ≡ [] }
+{
+    if finished {
+        write_left(out, held, alloc, tower, terms)
+    } else {
+        TellerState::Going
+    }
 }
 
 /// Writes all that is held back, the oldest first.
