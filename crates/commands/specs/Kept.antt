@@ -1,5 +1,5 @@
 -- The texts that `check` keeps of traces, for the places of elements that records name.
-use Rattle.std.specs.Prelude.{◌≡◌, ◌≤◌, ℕ, List, ◌++◌, length, Option, Some, None}
+use Rattle.std.specs.Prelude.{◌≡◌, ◌≤◌, ℕ, true, List, ◌++◌, length, Option, Some, None}
 use Rattle.std.specs.List.{slice_get}
 use Rattle.feeders.specs.declared.log.Broken.{Broken}
 use Rattle.feeders.specs.declared.log.Log.{Log}
@@ -18,6 +18,11 @@ pub record IsPrefixTo (broken : Broken) (left text : List ℕ) : Type 0 where
 abbrev pub IsKeptTo : Option Broken → List ℕ → List ℕ → Type 0
 IsKeptTo None left text = text ≡ left
 IsKeptTo (Some broken) left text = IsPrefixTo broken left text
+
+-- what is kept is enough for a trace that broke so: all bytes up to there, or all of its text where it did not break
+abbrev pub IsEnough : Kept → Option Broken → Type 0
+IsEnough kept None = kept.ended ≡ true
+IsEnough kept (Some broken) = broken.place ≤ length kept.bytes.items
 
 -- the text is what is kept of a trace with this log, given its copy
 abbrev pub IsTextOf : Log → Kept → List ℕ → Type 0

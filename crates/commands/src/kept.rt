@@ -1,10 +1,10 @@
 //! The texts that are kept of traces, for the places of elements that records name.
 
-ghost use Rattle.std.specs.Prelude.{◌≡◌, ◌≤◌, ℕ, true, List, Option, Some, IfOk, IsTrue, MatchOption, length, map};
+ghost use Rattle.std.specs.Prelude.{◌≡◌, ◌↔◌, List, ℕ, Option, Some, IfOk, IsTrue, length, map};
 ghost use Rattle.std.specs.List.{slice_get};
 ghost use Rattle.feeders.specs.declared.log.Log.{Log as ALog};
 ghost use Rattle.places.specs.Copied.{AreCopiesOf};
-ghost use Rattle.commands.specs.Kept.{AreTracesKept, IsTextOf};
+ghost use Rattle.commands.specs.Kept.{AreTracesKept, IsEnough, IsTextOf};
 
 use feeders::{Broken, Log};
 use places::Kept;
@@ -38,7 +38,7 @@ fn text_of(kept: Kept, logs: &[Log], trace: usize) -> Result<Vec<u8>, AllocError
 
 /// Whether all of a text was kept, or, where its trace broke, all up to there.
 fn reaches(kept: &Kept, broken: Option<Broken>) -> bool
-    ensures { IsTrue result → MatchOption broken (kept.now.ended ≡ true) (λ broken. broken.place ≤ length kept.now.bytes.items) }
+    ensures { IsTrue result ↔ IsEnough kept.now broken }
 {
     match broken {
         None => kept.ended,
