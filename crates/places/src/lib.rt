@@ -9,10 +9,10 @@
 //!     let copies = Copies::new(alloc, readers.len())?;
 //!     let readers = copied_to(rt, alloc, readers, &copies)?;
 //!     // ..and once all is read
-//!     let texts = copies.into_texts(alloc)?;
+//!     let kept = copies.into_kept(alloc)?;    // of each text its bytes, and whether it ended after them
 //!
-//! `specs/LineColumn.antt` has lines and columns, `specs/Location.antt` the spot of an element, and `specs/Spots.antt`
-//! those of several texts.
+//! `specs/LineColumn.antt` has lines and columns, `specs/Location.antt` the spot of an element, `specs/Spots.antt`
+//! those of several texts, and `specs/Copied.antt` what is kept of texts.
 #![tactic(auto)]
 
 mod copying;
