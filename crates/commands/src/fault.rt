@@ -15,7 +15,7 @@ use watch::WatchFault;
 use words::no_text;
 
 /// Why a run broke off.
-#[derive(Debug, Drop)]
+#[derive(Drop)]
 pub enum CommandFault<'a> {
     /// The words ask for no command, or for help.
     Usage(clap::Error),

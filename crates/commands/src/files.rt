@@ -10,7 +10,7 @@ use std::io::Read;
 use std::{fs, rt};
 
 /// The file cannot be opened.
-#[derive(Clone, Copy, Debug, PartialEq, Eq)]
+#[derive(Clone, Copy)]
 pub struct Missing;
 
 /// Opens files by their names.

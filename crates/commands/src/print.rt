@@ -48,7 +48,7 @@ fn explain_code<'a, W: Write>(
         return Err(CommandFault::NoCode(code));
     };
     let mut text = String::new(alloc);
-    match push_entry(&mut text, &topic.entry()) {
+    match push_entry(&mut text, topic.entry()) {
         Ok(()) => print(&text, out),
         Err(_) => Err(CommandFault::Memory),
     }

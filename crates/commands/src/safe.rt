@@ -31,7 +31,7 @@ use tower_file::{Tower, one_register};
 
 /// What is found of the one register: the kind that it claims to be, whether it holds, how many operations stand,
 /// whether an element was refused, and where the trace broke.
-#[derive(Clone, Copy, Debug)]
+#[derive(Clone, Copy)]
 pub struct Audit {
     pub kind: Kind,
     pub holds: bool,

@@ -10,7 +10,7 @@ use crate::step::Span;
 use crate::view::{MapView, VectorView};
 
 /// The kind of an element, by its first bytes (docs/FORMATS.md, Elements).
-#[derive(Clone, Copy, Debug, PartialEq, Eq)]
+#[derive(Clone, Copy, Debug)]
 pub enum ElementKind {
     /// `nil`, `true`, `false`, a keyword, a symbol or a number.
     Atom,

@@ -28,7 +28,7 @@ pub struct Splitter {
 }
 
 /// How much of a chunk was taken.
-#[derive(Clone, Copy, Debug, PartialEq, Eq)]
+#[derive(Clone, Copy)]
 pub struct Taken {
     /// How many bytes of the chunk were used: all, or those up to the end of an element. The rest is to be given
     /// again, as the beginning of the next chunk.

@@ -142,7 +142,7 @@ fn tell_traces<'x, R: Threads + Wait + AllocGlobal + Sync>(
 }
 
 /// A row: the gates at which it is run, the number of shards, the tower, the traces, and what is found.
-#[derive(Clone, Copy, Debug)]
+#[derive(Clone, Copy)]
 struct Row {
     gates: &'static str,
     shards: &'static str,

@@ -21,7 +21,7 @@ pub enum RunFault {
 }
 
 /// Why a chunk of a trace was not taken whole, or why its end was not taken.
-#[derive(Clone, Copy, Debug, PartialEq, Eq, Error)]
+#[derive(Clone, Copy, Debug, Error)]
 #[error("{fault} after {used} bytes")]
 pub struct FeedFault {
     pub fault: RunFault,

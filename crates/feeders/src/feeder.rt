@@ -31,7 +31,7 @@ use std::sync::Wait;
 use tower_file::Tower;
 
 /// Whether a feeder goes on.
-#[derive(Clone, Copy, Debug, PartialEq, Eq)]
+#[derive(Clone, Copy)]
 pub enum FeedState {
     /// It takes any chunk, and the end.
     Open,

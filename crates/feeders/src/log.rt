@@ -22,7 +22,7 @@ use shards::{Answer, Opening, Pass};
 use std::sync::Wait;
 
 /// Why an element of a trace was refused: by its form, by the pairing, or by its register.
-#[derive(Clone, Copy, Debug, PartialEq, Eq)]
+#[derive(Clone, Copy)]
 pub enum Code {
     Form(FormFault),
     Pair(PairFault),
@@ -43,21 +43,21 @@ impl Code {
 }
 
 /// What is noted of an element: why it was refused, or the answer to its question.
-#[derive(Clone, Copy, Debug)]
+#[derive(Clone, Copy)]
 pub enum What<'t> {
     Refused(Code),
     Answered(RegId, Answer<'t>),
 }
 
 /// A log line: a refusal or an answer, with the place of the element among those of its trace, from 0.
-#[derive(Clone, Copy, Debug)]
+#[derive(Clone, Copy)]
 pub struct Line<'t> {
     pub event: u64,
     pub what: What<'t>,
 }
 
 /// Why a trace broke: by a fault of its text (E), or because its reading broke off before its end (N).
-#[derive(Clone, Copy, Debug, PartialEq, Eq)]
+#[derive(Clone, Copy, Debug)]
 pub enum BreakCode {
     /// E1: it ends inside an element or a discard.
     Truncated,
@@ -96,7 +96,7 @@ impl BreakCode {
 }
 
 /// Why a trace broke, and at which byte of it, from 0.
-#[derive(Clone, Copy, Debug, PartialEq, Eq)]
+#[derive(Clone, Copy)]
 pub struct Broken {
     pub code: BreakCode,
     pub place: u64,

@@ -4,7 +4,7 @@ use crate::log::{Broken, Code};
 use shards::{Gate, NoGate, VerdictChange};
 
 /// What a watcher is told while traces are read. A trace is given by its number, and an element by its place in it.
-#[derive(Clone, Copy, Debug, PartialEq, Eq)]
+#[derive(Clone, Copy)]
 pub enum Notice {
     /// An edit by this element changed the verdict on a register.
     Changed {

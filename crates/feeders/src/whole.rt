@@ -10,7 +10,7 @@ use std::alloc::{AllocError, Global};
 use std::io::Read;
 
 /// Why an input was not read whole.
-#[derive(Clone, Copy, Debug, PartialEq, Eq)]
+#[derive(Clone, Copy)]
 pub enum InputFault {
     /// A read call failed.
     Failed,

@@ -21,14 +21,14 @@ pub enum Kind {
 }
 
 /// The processes that may write a register, by number.
-#[derive(Debug, Drop)]
+#[derive(Drop)]
 pub enum Writers {
     Any,
     Listed(Vec<i64>),
 }
 
 /// What a register holds before any write, as far as anybody knows it.
-#[derive(Clone, Copy, Debug, PartialEq, Eq)]
+#[derive(Clone, Copy, PartialEq, Eq)]
 pub enum Initial {
     Known(Value),
     Unknown,
@@ -36,7 +36,7 @@ pub enum Initial {
 
 /// A register's claimed kind, its writers, its value before any write, its domain (none: all values), and whether
 /// its kind is fixed.
-#[derive(Debug, Drop)]
+#[derive(Drop)]
 pub struct Claim {
     pub kind: Kind,
     pub writers: Writers,

@@ -6,7 +6,7 @@ ghost use Rattle.intervals.specs.Edit.{changed, edit_id, act_with, parts_with};
 use crate::{Act, Kind, Moment, Op, OpId, Parts, Value};
 
 /// The element that a change was read from, as text: it becomes the operation's answer, or its amendment.
-#[derive(Clone, Copy, Debug)]
+#[derive(Clone, Copy)]
 pub enum Lent<'t> {
     Answer(&'t [u8]),
     Amendment(&'t [u8]),
@@ -14,7 +14,7 @@ pub enum Lent<'t> {
 
 /// What an amendment gives: each part that is there replaces the old one. An end of `Some(None)` takes the
 /// operation's end away.
-#[derive(Clone, Copy, Debug)]
+#[derive(Clone, Copy)]
 pub struct Change<'t> {
     pub value: Option<Value>,
     pub begin: Option<Moment>,
@@ -23,7 +23,7 @@ pub struct Change<'t> {
 }
 
 /// An edit of a register: of the operations that stand, or of the claimed kind.
-#[derive(Clone, Copy, Debug)]
+#[derive(Clone, Copy)]
 pub enum Edit<'t> {
     Append(Op<'t>),
     Amend(OpId, Change<'t>),

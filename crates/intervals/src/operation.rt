@@ -29,14 +29,14 @@ impl<T: Drop> From<AllocFailed<T>> for Memory {
 pub struct Moment(pub u64);
 
 /// What a register holds: nil, or an integer.
-#[derive(Clone, Copy, Debug, PartialEq, Eq, PartialOrd, Ord)]
+#[derive(Clone, Copy, PartialEq, Eq, PartialOrd, Ord)]
 pub enum Value {
     Nil,
     Int(i64),
 }
 
 /// A register's number in its tower, from 0 in file order.
-#[derive(Clone, Copy, Debug, PartialEq, Eq)]
+#[derive(Clone, Copy, PartialEq, Eq)]
 pub struct RegId(pub u32);
 
 /// An operation's id: its trace, and the place of its invocation there, both counted from 0.
@@ -47,14 +47,14 @@ pub struct OpId {
 }
 
 /// What an operation does. A read that has not been answered carries `Nil`.
-#[derive(Clone, Copy, Debug, PartialEq, Eq)]
+#[derive(Clone, Copy, PartialEq, Eq)]
 pub enum Act {
     Read(Value),
     Write(Value),
 }
 
 /// The elements of the trace that an operation was read from, as text, tags included.
-#[derive(Clone, Copy, Debug)]
+#[derive(Clone, Copy)]
 pub struct Parts<'t> {
     pub invocation: &'t [u8],
     pub answer: Option<&'t [u8]>,
@@ -62,7 +62,7 @@ pub struct Parts<'t> {
 }
 
 /// A read or a write of one register: an interval of the clock. Without an end it is unfinished.
-#[derive(Clone, Copy, Debug)]
+#[derive(Clone, Copy)]
 pub struct Op<'t> {
     pub id: OpId,
     pub process: i64,

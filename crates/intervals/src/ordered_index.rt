@@ -18,7 +18,7 @@ use std::ops::Bound;
 
 /// A value and a moment. The greatest value comes first, and of one value the latest moment: a node of the map is
 /// searched from its beginning, and the newest is asked for most.
-#[derive(Clone, Copy, Debug, PartialEq, Eq)]
+#[derive(Clone, Copy, PartialEq, Eq)]
 pub struct Spot {
     pub value: Value,
     pub moment: Moment,

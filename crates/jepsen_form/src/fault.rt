@@ -7,7 +7,7 @@ use thiserror::Error;
 
 /// A field of an event, of an edit or of a question. `Moment` is the one of `:index` and `:time`
 /// that was chosen.
-#[derive(Clone, Copy, Debug, PartialEq, Eq)]
+#[derive(Clone, Copy, Debug)]
 pub enum FormField {
     Process,
     Stage,
@@ -26,7 +26,7 @@ pub enum FormField {
 }
 
 /// The first fault of an element, in the order in which its fields are read.
-#[derive(Clone, Copy, Debug, PartialEq, Eq, Error)]
+#[derive(Clone, Copy, Debug, Error)]
 pub enum FormFault {
     /// The element is no map.
     #[error("F1 NotAMap")]

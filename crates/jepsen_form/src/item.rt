@@ -6,14 +6,14 @@ ghost use Rattle.jepsen_form.specs.Item.{item_with, lent_with};
 use intervals::{Change, Kind, Lent, Moment, RegId, Value};
 
 /// What an operation does to its register.
-#[derive(Clone, Copy, Debug, PartialEq, Eq)]
+#[derive(Clone, Copy, Debug)]
 pub enum Action {
     Read,
     Write,
 }
 
 /// How far an operation has come, as its `:type` says.
-#[derive(Clone, Copy, Debug, PartialEq, Eq)]
+#[derive(Clone, Copy, Debug)]
 pub enum Stage {
     Invoke,
     Ok,
@@ -23,7 +23,7 @@ pub enum Stage {
 
 /// An event of one process. The register and the moment are there for `Invoke` and `Ok`; the value
 /// is `Nil` for an invoked read, for `Fail` and for `Info`. The text is that of the whole element.
-#[derive(Clone, Copy, Debug)]
+#[derive(Clone, Copy)]
 pub struct Event<'t> {
     pub process: i64,
     pub answer: Stage,
@@ -36,7 +36,7 @@ pub struct Event<'t> {
 
 /// What an element of a trace is read as. `of` is the place of an invocation in the same trace. An event of a
 /// process that is no integer is skipped.
-#[derive(Clone, Copy, Debug)]
+#[derive(Clone, Copy)]
 pub enum Item<'t> {
     Event(Event<'t>),
     Amend { of: u64, change: Change<'t> },
@@ -88,7 +88,7 @@ fn part_with<'p>(lent: Lent, text: &'p [u8]) -> Lent<'p>
 }
 
 /// The field that events have their moment under: `:index` or `:time`.
-#[derive(Clone, Copy, Debug, PartialEq, Eq)]
+#[derive(Clone, Copy)]
 pub enum MomentField {
     Index,
     Time,

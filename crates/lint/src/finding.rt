@@ -13,7 +13,7 @@ use std::collections::BTreeSet;
 use tower_file::{TowerFault, TowerField};
 
 /// What is amiss.
-#[derive(Clone, Copy, Debug)]
+#[derive(Clone, Copy)]
 pub enum Amiss {
     /// The element of this number is refused and left out.
     Refused(u64, Code),
@@ -26,7 +26,7 @@ pub enum Amiss {
 }
 
 /// What is taken as it is, and may not be meant.
-#[derive(Clone, Copy, Debug, PartialEq, Eq)]
+#[derive(Clone, Copy, Debug)]
 pub enum Note {
     /// An element that looks like a client's read or write is skipped, since its process is no integer.
     Skipped,
@@ -55,7 +55,7 @@ pub enum Note {
 }
 
 /// How grave a finding is.
-#[derive(Clone, Copy, Debug, PartialEq, Eq)]
+#[derive(Clone, Copy)]
 pub enum Grade {
     /// Nothing can be judged, or only what is before it.
     Error,
@@ -66,7 +66,7 @@ pub enum Grade {
 }
 
 /// What is amiss, and where.
-#[derive(Clone, Copy, Debug)]
+#[derive(Clone, Copy)]
 pub struct Finding {
     pub what: Amiss,
     pub spot: Location,

@@ -12,7 +12,7 @@ use crate::source::SourceText;
 use std::alloc::{AllocError, Global};
 
 /// How findings are printed.
-#[derive(Clone, Copy, Debug, PartialEq, Eq)]
+#[derive(Clone, Copy)]
 pub enum Format {
     /// With the lines that they are in, for people.
     Human,

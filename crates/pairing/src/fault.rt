@@ -8,7 +8,7 @@ use std::alloc::{AllocError, AllocFailed};
 use thiserror::Error;
 
 /// Why an item of a trace is refused: P1 to P4.
-#[derive(Clone, Copy, Debug, PartialEq, Eq, Error)]
+#[derive(Clone, Copy, Debug, Error)]
 pub enum PairFault {
     /// An invocation of a process whose last invocation has no answer yet.
     #[error("P1 ProcessBusy")]

@@ -7,7 +7,7 @@ use intervals::{RegId, Value};
 use jepsen_form::{Action, Event, Item, Stage};
 
 /// What is kept of an invocation until it is answered: its place in the trace, and what it says.
-#[derive(Clone, Copy, Debug, PartialEq, Eq)]
+#[derive(Clone, Copy)]
 pub struct Invocation {
     pub place: u64,
     pub register: RegId,

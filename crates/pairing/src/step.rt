@@ -10,7 +10,7 @@ use intervals::{Act, Change, Edit, Lent, Moment, Op, OpId, Parts, RegId, Value};
 use jepsen_form::{Action, Event, Stage};
 
 /// What an item asks for: an edit of a register, or the verdict on one.
-#[derive(Clone, Copy, Debug)]
+#[derive(Clone, Copy)]
 pub enum Step<'t> {
     Edit(RegId, Edit<'t>),
     Ask(RegId),

@@ -4,7 +4,7 @@ ghost use Rattle.std.specs.Prelude.{◌≡◌, ◌+◌, ◌≤◌, ◌<◌, ◌^
 ghost use Rattle.places.specs.LineColumn.{place_after, first_place, place_of_byte};
 
 /// A line, from 1, and a column in it, from 1. A line ends with its byte 10, and each byte is a column.
-#[derive(Clone, Copy, Debug, PartialEq, Eq)]
+#[derive(Clone, Copy)]
 pub struct LineColumn {
     pub line: usize,
     pub column: usize,

@@ -12,7 +12,7 @@ use edn_reader::{EdnFault, Element, Reader};
 use std::alloc::{AllocError, Global};
 
 /// The place of a first byte and the place after a last one, and the line and the column of the first.
-#[derive(Clone, Copy, Debug, PartialEq, Eq)]
+#[derive(Clone, Copy)]
 pub struct Location {
     pub start: usize,
     pub end: usize,

@@ -13,7 +13,7 @@ use places::{Location, Places};
 use std::alloc::{AllocError, Global};
 
 /// Where a value comes from: a write, the register before any write, or its domain.
-#[derive(Clone, Copy, Debug)]
+#[derive(Clone, Copy)]
 pub enum Source {
     Write(OpId),
     Initial,
@@ -21,7 +21,7 @@ pub enum Source {
 }
 
 /// A value that a wrong read might have returned.
-#[derive(Clone, Copy, Debug)]
+#[derive(Clone, Copy)]
 pub struct Allowed {
     pub value: Value,
     pub source: Source,

@@ -11,7 +11,7 @@ use std::alloc::AllocError;
 
 /// How many registers there are, fail and are to blame; how many operations stand; how many elements were refused, and
 /// how many traces broke.
-#[derive(Clone, Copy, Debug)]
+#[derive(Clone, Copy)]
 pub struct Totals {
     pub registers: u64,
     pub failing: u64,

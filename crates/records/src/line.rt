@@ -10,7 +10,7 @@ use crate::token::Token;
 use std::alloc::{AllocError, Global};
 
 /// How records are written: each on a line of its own.
-#[derive(Clone, Copy, Debug, PartialEq, Eq)]
+#[derive(Clone, Copy)]
 pub enum Notation {
     Json,
     Edn,

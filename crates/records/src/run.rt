@@ -34,7 +34,7 @@ use std::io::Write;
 use tower_file::Tower;
 
 /// How the records of a run are written, and what its first record names.
-#[derive(Clone, Copy, Debug)]
+#[derive(Clone, Copy)]
 pub struct Form<'a> {
     pub notation: Notation,
     /// Whether only the registers that fail have a record.

@@ -3,7 +3,7 @@
 use intervals::OpId;
 
 /// A token of a record: a bracket, the key of a field, or a value.
-#[derive(Clone, Copy, Debug)]
+#[derive(Clone, Copy)]
 pub enum Token<'a> {
     /// A record begins.
     BeginRecord,

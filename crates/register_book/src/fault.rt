@@ -6,7 +6,7 @@ ghost use Rattle.register_book.specs.Fault.{ids_of, side_holder};
 use intervals::{Holder, Op, OpId};
 
 /// The operations that show that a register breaks its claim, by their ids.
-#[derive(Clone, Copy, Debug, PartialEq, Eq)]
+#[derive(Clone, Copy, PartialEq, Eq)]
 pub enum Fault {
     /// Safe or regular: the wrong read that ended first.
     Wrong(OpId),
@@ -36,7 +36,7 @@ pub enum Fault {
 }
 
 /// One of the four in a crossing: an operation, or the initial write.
-#[derive(Clone, Copy, Debug)]
+#[derive(Clone, Copy)]
 pub enum Side<'t> {
     Op(Op<'t>),
     Initial,
@@ -44,7 +44,7 @@ pub enum Side<'t> {
 
 /// The operations that show that a register breaks its claim, in the cases of `Fault`. They are lent as long as
 /// the trace.
-#[derive(Clone, Copy, Debug)]
+#[derive(Clone, Copy)]
 pub enum Witness<'t> {
     Wrong(Op<'t>),
     Unwritten(Op<'t>),

@@ -3,7 +3,7 @@
 use intervals::Refusal;
 
 /// The reply to an edit.
-#[derive(Clone, Copy, Debug, PartialEq, Eq)]
+#[derive(Clone, Copy, PartialEq, Eq)]
 pub enum Reply {
     /// The edit was carried out; `holds` says whether the register keeps its claim after it.
     Accepted { holds: bool },

@@ -10,7 +10,7 @@ use tower_file::Tower;
 
 /// How many operations stand in all registers together, and how many in the one that has the fewest, where there is a
 /// register; unfinished operations count.
-#[derive(Clone, Copy, Debug, PartialEq, Eq)]
+#[derive(Clone, Copy)]
 pub struct Counts {
     pub all: u128,
     pub least: Option<u64>,

@@ -14,7 +14,7 @@ use tower_file::Tower;
 
 /// What is found of a register: the kind that it claims to be, how many of its operations stand, unfinished ones among
 /// them, and the operations that show that it fails, where it does.
-#[derive(Clone, Copy, Debug)]
+#[derive(Clone, Copy)]
 pub struct Finding<'t> {
     pub kind: Kind,
     pub operations: u64,

@@ -31,7 +31,7 @@ pub struct Row {
 }
 
 /// A file is cut off at each place, or each of its bytes is replaced by this one.
-#[derive(Clone, Copy, Debug, PartialEq, Eq)]
+#[derive(Clone, Copy)]
 pub enum Spoil {
     Front,
     Byte(u8),

@@ -10,7 +10,7 @@ use register_book::Reply;
 
 /// An entry that a feeder submitted. An accepted invocation or answer of the feeder's own is kept by its parts, in
 /// less than half the bytes. Any other entry is kept whole, and the row is its place among those.
-#[derive(Clone, Copy, Debug)]
+#[derive(Clone, Copy)]
 pub enum CompactEntry<'t> {
     Invoked {
         holds: bool,

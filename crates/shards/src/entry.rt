@@ -4,7 +4,7 @@ use intervals::{Edit, Kind, RegId};
 use register_book::{Fault, Reply, Witness};
 
 /// An edit that was answered with a receipt, as a journal keeps it: who submitted what, and the reply.
-#[derive(Clone, Copy, Debug)]
+#[derive(Clone, Copy)]
 pub struct Entry<'t> {
     pub feeder: u32,
     pub register: RegId,
@@ -13,7 +13,7 @@ pub struct Entry<'t> {
 }
 
 /// An entry with its place in the journal of its shard, from 0.
-#[derive(Clone, Copy, Debug)]
+#[derive(Clone, Copy)]
 pub struct NumberedEntry<'t> {
     pub number: u64,
     pub entry: Entry<'t>,
@@ -21,7 +21,7 @@ pub struct NumberedEntry<'t> {
 
 /// What a feeder gets for an edit: where it was entered, and the reply. An edit that the register refused is
 /// entered too.
-#[derive(Clone, Copy, Debug, PartialEq, Eq)]
+#[derive(Clone, Copy)]
 pub struct Receipt {
     pub shard: u32,
     pub number: u64,
@@ -29,7 +29,7 @@ pub struct Receipt {
 }
 
 /// The answer to a question: the verdict on a register at that time.
-#[derive(Clone, Copy, Debug)]
+#[derive(Clone, Copy)]
 pub struct Answer<'t> {
     pub holds: bool,
     /// How many operations stand, unfinished ones among them.
@@ -41,7 +41,7 @@ pub struct Answer<'t> {
 }
 
 /// A change of the verdict on a register: it holds after an entry and failed before, or it fails and held before.
-#[derive(Clone, Copy, Debug, PartialEq, Eq)]
+#[derive(Clone, Copy)]
 pub struct VerdictChange {
     /// The number of the entry in the journal of the register's shard.
     pub number: u64,

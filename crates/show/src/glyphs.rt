@@ -1,7 +1,7 @@
 //! The characters that a timeline is drawn with.
 
 /// Characters of one cell each.
-#[derive(Clone, Copy, Debug, PartialEq, Eq)]
+#[derive(Clone, Copy)]
 pub struct Glyphs {
     /// The line of a bar that has a letter.
     pub bold: char,

@@ -9,7 +9,7 @@ use std::alloc::{AllocError, Global};
 
 /// What a label begins with: what the operation is to the reason why its register fails, or its place in an order that
 /// explains the reads.
-#[derive(Clone, Copy, Debug, PartialEq, Eq)]
+#[derive(Clone, Copy)]
 pub enum Head {
     Letter(Letter),
     Rank(usize),

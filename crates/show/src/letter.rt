@@ -13,7 +13,7 @@ use std::unreachable;
 use story::{Story, Wrong};
 
 /// What an operation is to the reason why its register fails.
-#[derive(Clone, Copy, Debug, PartialEq, Eq)]
+#[derive(Clone, Copy)]
 pub enum Letter {
     /// The four operations of a conflict; `Bc` where the second and the third are one.
     A,
@@ -58,7 +58,7 @@ impl Letter {
 }
 
 /// An operation with its letter.
-#[derive(Clone, Copy, Debug, PartialEq, Eq)]
+#[derive(Clone, Copy)]
 pub struct Lettered {
     pub id: OpId,
     pub letter: Letter,

@@ -5,7 +5,7 @@ ghost use Rattle.std.specs.Prelude.{◌≤◌, length};
 use std::alloc::{AllocError, Global};
 
 /// The cells of a line from one place on.
-#[derive(Debug, Drop)]
+#[derive(Drop)]
 pub struct TextLine {
     pub from: u128,
     pub cells: Vec<char>,

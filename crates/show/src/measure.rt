@@ -11,7 +11,7 @@ use std::alloc::{AllocError, Global};
 use timeline::{BarSpan, Want};
 
 /// How wide things are, in cells or units.
-#[derive(Clone, Copy, Debug, PartialEq, Eq)]
+#[derive(Clone, Copy)]
 pub struct Measure {
     /// The least distance between two marks.
     pub gap: u32,

@@ -5,7 +5,7 @@ use register_book::Side;
 use story::{Story, Wrong};
 
 /// What an operation is to the reason why its register fails.
-#[derive(Clone, Copy, Debug, PartialEq, Eq)]
+#[derive(Clone, Copy)]
 pub enum Role {
     /// Of the first value of a conflict; a write whose value a wrong read may return; the write that a read came too
     /// early for; the first of two reads that cannot both be right.

@@ -22,7 +22,7 @@ use timeline::{BarSpan, Extent, Mark, Seat, choose, folded, marks, seats, spans}
 const FIRST_FOR_EACH: usize = 8;
 
 /// The operations that are shown, by beginning, with their labels, marks and seats.
-#[derive(Debug, Drop)]
+#[derive(Drop)]
 pub struct Scene<'t> {
     pub story: Story<'t>,
     pub letters: Vec<Lettered>,

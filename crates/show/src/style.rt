@@ -3,7 +3,7 @@
 use std::alloc::AllocError;
 
 /// Which colours a picture has.
-#[derive(Clone, Copy, Debug, PartialEq, Eq)]
+#[derive(Clone, Copy)]
 pub enum Theme {
     /// Light or dark, as the reader's machine asks for.
     Auto,

@@ -6,7 +6,7 @@ use register_book::Witness;
 /// A register with its operations: its name, its kind, its value at first, the operations that stand in the order of
 /// their appends with some places empty, and the witness, if it fails. The order has all operations, in an order that
 /// explains the reads; it is empty where there is none.
-#[derive(Clone, Copy, Debug)]
+#[derive(Clone, Copy)]
 pub struct Subject<'a, 't> {
     pub name: &'a [u8],
     pub kind: Kind,

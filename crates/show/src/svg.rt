@@ -22,7 +22,7 @@ use timeline::Extent;
 
 /// How a picture looks: how much it shows, how many units wide its rows are, its colours, whether it has the rules for
 /// them itself, and a number by which its ids differ from those of the other pictures of a page.
-#[derive(Clone, Copy, Debug, PartialEq, Eq)]
+#[derive(Clone, Copy)]
 pub struct Sheet {
     pub extent: Extent,
     pub width: u32,

@@ -16,7 +16,7 @@ use timeline::Extent;
 
 /// How a timeline looks: how much it shows, how many cells a line may have, and whether its characters are all of
 /// ASCII.
-#[derive(Clone, Copy, Debug, PartialEq, Eq)]
+#[derive(Clone, Copy)]
 pub struct Look {
     pub extent: Extent,
     pub width: u32,

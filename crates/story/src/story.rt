@@ -11,7 +11,7 @@ use register_book::{Side, Witness};
 use std::alloc::{AllocError, Global};
 
 /// Why a register fails, by the operations that show it; or that it holds.
-#[derive(Debug, Drop)]
+#[derive(Drop)]
 pub enum Story<'t> {
     Holds,
     Wrong(Wrong<'t>),
@@ -33,7 +33,7 @@ pub enum Story<'t> {
 }
 
 /// A read of a safe or regular register that returned what it may not, and the writes that explain it.
-#[derive(Debug, Drop)]
+#[derive(Drop)]
 pub struct Wrong<'t> {
     pub read: Op<'t>,
     /// The last write that precedes the read.

@@ -8,7 +8,7 @@ use intervals::{Moment, Value};
 use summary_tree::Keyed;
 
 /// A value whose first read has no write, or ended before its write begins.
-#[derive(Clone, Copy, Debug)]
+#[derive(Clone, Copy)]
 pub struct Stretch {
     /// When the first read of the value ended.
     pub end: Moment,

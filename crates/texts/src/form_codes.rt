@@ -22,18 +22,18 @@ pub enum FormCode {
 }
 
 impl FormCode {
-    pub(crate) fn entry(self) -> Explanation
-        ensures { result.code.now ≡ form_code self }
+    pub(crate) fn entry(self) -> &'static Explanation
+        ensures { result.now.code.now ≡ form_code self }
     {
         match self {
-            FormCode::NotAMap => NOT_A_MAP,
-            FormCode::MissingField => MISSING_FIELD,
-            FormCode::DuplicateField => DUPLICATE_FIELD,
-            FormCode::BadType => BAD_TYPE,
-            FormCode::UnsupportedF => UNSUPPORTED_F,
-            FormCode::BadValue => BAD_VALUE,
-            FormCode::BadMoment => BAD_MOMENT,
-            FormCode::NoRegister => NO_REGISTER,
+            FormCode::NotAMap => &NOT_A_MAP,
+            FormCode::MissingField => &MISSING_FIELD,
+            FormCode::DuplicateField => &DUPLICATE_FIELD,
+            FormCode::BadType => &BAD_TYPE,
+            FormCode::UnsupportedF => &UNSUPPORTED_F,
+            FormCode::BadValue => &BAD_VALUE,
+            FormCode::BadMoment => &BAD_MOMENT,
+            FormCode::NoRegister => &NO_REGISTER,
         }
     }
 }

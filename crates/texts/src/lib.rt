@@ -2,7 +2,7 @@
 //!
 //! ```text
 //! Topic::named("x7")                        Some(Topic::Register(RegisterCode::WritesOverlap))
-//! push_entry(&mut text, &topic.entry())?    what is said of it
+//! push_entry(&mut text, topic.entry())?     what is said of it
 //! push_list(&mut text)?                     a line for each topic
 //! VERSION                                   which build this is
 //! ```

@@ -19,18 +19,18 @@ pub enum Note {
 }
 
 impl Note {
-    pub(crate) fn entry(self) -> Explanation
-        ensures { result.code.now ≡ note_code self }
+    pub(crate) fn entry(self) -> &'static Explanation
+        ensures { result.now.code.now ≡ note_code self }
     {
         match self {
-            Note::SkippedClient => SKIPPED_CLIENT,
-            Note::NoOperation => NO_OPERATION,
-            Note::NoValue => NO_VALUE,
-            Note::UnreadField => UNREAD_FIELD,
-            Note::Unanswered => UNANSWERED,
-            Note::SilentWriter => SILENT_WRITER,
-            Note::TiedMoments => TIED_MOMENTS,
-            Note::RestsOnARefusal => RESTS_ON_A_REFUSAL,
+            Note::SkippedClient => &SKIPPED_CLIENT,
+            Note::NoOperation => &NO_OPERATION,
+            Note::NoValue => &NO_VALUE,
+            Note::UnreadField => &UNREAD_FIELD,
+            Note::Unanswered => &UNANSWERED,
+            Note::SilentWriter => &SILENT_WRITER,
+            Note::TiedMoments => &TIED_MOMENTS,
+            Note::RestsOnARefusal => &RESTS_ON_A_REFUSAL,
         }
     }
 }

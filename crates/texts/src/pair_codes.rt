@@ -18,14 +18,14 @@ pub enum PairCode {
 }
 
 impl PairCode {
-    pub(crate) fn entry(self) -> Explanation
-        ensures { result.code.now ≡ pair_code self }
+    pub(crate) fn entry(self) -> &'static Explanation
+        ensures { result.now.code.now ≡ pair_code self }
     {
         match self {
-            PairCode::ProcessBusy => PROCESS_BUSY,
-            PairCode::NoInvocation => NO_INVOCATION,
-            PairCode::AnswerMismatch => ANSWER_MISMATCH,
-            PairCode::NoMemoryForPair => NO_MEMORY_FOR_PAIR,
+            PairCode::ProcessBusy => &PROCESS_BUSY,
+            PairCode::NoInvocation => &NO_INVOCATION,
+            PairCode::AnswerMismatch => &ANSWER_MISMATCH,
+            PairCode::NoMemoryForPair => &NO_MEMORY_FOR_PAIR,
         }
     }
 }

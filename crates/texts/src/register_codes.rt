@@ -28,24 +28,24 @@ pub enum RegisterCode {
 }
 
 impl RegisterCode {
-    pub(crate) fn entry(self) -> Explanation
-        ensures { result.code.now ≡ register_code self }
+    pub(crate) fn entry(self) -> &'static Explanation
+        ensures { result.now.code.now ≡ register_code self }
     {
         match self {
-            RegisterCode::UnknownOp => UNKNOWN_OP,
-            RegisterCode::OpTaken => OP_TAKEN,
-            RegisterCode::EndNotAfterBegin => END_NOT_AFTER_BEGIN,
-            RegisterCode::MomentTaken => MOMENT_TAKEN,
-            RegisterCode::MomentTooLarge => MOMENT_TOO_LARGE,
-            RegisterCode::NotAWriter => NOT_A_WRITER,
-            RegisterCode::WritesOverlap => WRITES_OVERLAP,
-            RegisterCode::ValueTaken => VALUE_TAKEN,
-            RegisterCode::OutOfDomain => OUT_OF_DOMAIN,
-            RegisterCode::ClaimFixed => CLAIM_FIXED,
-            RegisterCode::ClaimWriters => CLAIM_WRITERS,
-            RegisterCode::ClaimOverlap => CLAIM_OVERLAP,
-            RegisterCode::ClaimRepeats => CLAIM_REPEATS,
-            RegisterCode::ClaimInitial => CLAIM_INITIAL,
+            RegisterCode::UnknownOp => &UNKNOWN_OP,
+            RegisterCode::OpTaken => &OP_TAKEN,
+            RegisterCode::EndNotAfterBegin => &END_NOT_AFTER_BEGIN,
+            RegisterCode::MomentTaken => &MOMENT_TAKEN,
+            RegisterCode::MomentTooLarge => &MOMENT_TOO_LARGE,
+            RegisterCode::NotAWriter => &NOT_A_WRITER,
+            RegisterCode::WritesOverlap => &WRITES_OVERLAP,
+            RegisterCode::ValueTaken => &VALUE_TAKEN,
+            RegisterCode::OutOfDomain => &OUT_OF_DOMAIN,
+            RegisterCode::ClaimFixed => &CLAIM_FIXED,
+            RegisterCode::ClaimWriters => &CLAIM_WRITERS,
+            RegisterCode::ClaimOverlap => &CLAIM_OVERLAP,
+            RegisterCode::ClaimRepeats => &CLAIM_REPEATS,
+            RegisterCode::ClaimInitial => &CLAIM_INITIAL,
         }
     }
 }

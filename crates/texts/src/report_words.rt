@@ -21,20 +21,20 @@ pub enum ReportWord {
 }
 
 impl ReportWord {
-    pub(crate) fn entry(self) -> Explanation
-        ensures { result.code.now ≡ report_word self }
+    pub(crate) fn entry(self) -> &'static Explanation
+        ensures { result.now.code.now ≡ report_word self }
     {
         match self {
-            ReportWord::Wrong => WRONG,
-            ReportWord::Unwritten => UNWRITTEN,
-            ReportWord::Early => EARLY,
-            ReportWord::Conflict => CONFLICT,
-            ReportWord::Culprit => CULPRIT,
-            ReportWord::Answer => ANSWER,
-            ReportWord::Refused => REFUSED,
-            ReportWord::Broken => BROKEN,
-            ReportWord::Order => ORDER,
-            ReportWord::Status => STATUS,
+            ReportWord::Wrong => &WRONG,
+            ReportWord::Unwritten => &UNWRITTEN,
+            ReportWord::Early => &EARLY,
+            ReportWord::Conflict => &CONFLICT,
+            ReportWord::Culprit => &CULPRIT,
+            ReportWord::Answer => &ANSWER,
+            ReportWord::Refused => &REFUSED,
+            ReportWord::Broken => &BROKEN,
+            ReportWord::Order => &ORDER,
+            ReportWord::Status => &STATUS,
         }
     }
 }

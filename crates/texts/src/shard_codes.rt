@@ -20,16 +20,16 @@ pub enum ShardCode {
 }
 
 impl ShardCode {
-    pub(crate) fn entry(self) -> Explanation
-        ensures { result.code.now ≡ shard_code self }
+    pub(crate) fn entry(self) -> &'static Explanation
+        ensures { result.now.code.now ≡ shard_code self }
     {
         match self {
-            ShardCode::UnknownRegister => UNKNOWN_REGISTER,
-            ShardCode::NoMemoryForShard => NO_MEMORY_FOR_SHARD,
-            ShardCode::JournalBehind => JOURNAL_BEHIND,
-            ShardCode::PassMissing => PASS_MISSING,
-            ShardCode::Stranger => STRANGER,
-            ShardCode::ForeignPass => FOREIGN_PASS,
+            ShardCode::UnknownRegister => &UNKNOWN_REGISTER,
+            ShardCode::NoMemoryForShard => &NO_MEMORY_FOR_SHARD,
+            ShardCode::JournalBehind => &JOURNAL_BEHIND,
+            ShardCode::PassMissing => &PASS_MISSING,
+            ShardCode::Stranger => &STRANGER,
+            ShardCode::ForeignPass => &FOREIGN_PASS,
         }
     }
 }

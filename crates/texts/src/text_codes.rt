@@ -23,19 +23,19 @@ pub enum TextCode {
 }
 
 impl TextCode {
-    pub(crate) fn entry(self) -> Explanation
-        ensures { result.code.now ≡ text_code self }
+    pub(crate) fn entry(self) -> &'static Explanation
+        ensures { result.now.code.now ≡ text_code self }
     {
         match self {
-            TextCode::Truncated => TRUNCATED,
-            TextCode::StrayClose => STRAY_CLOSE,
-            TextCode::WrongClose => WRONG_CLOSE,
-            TextCode::TooDeep => TOO_DEEP,
-            TextCode::OddMap => ODD_MAP,
-            TextCode::TagWithoutElement => TAG_WITHOUT_ELEMENT,
-            TextCode::NoMemoryForText => NO_MEMORY_FOR_TEXT,
-            TextCode::ReadFailed => READ_FAILED,
-            TextCode::TooLong => TOO_LONG,
+            TextCode::Truncated => &TRUNCATED,
+            TextCode::StrayClose => &STRAY_CLOSE,
+            TextCode::WrongClose => &WRONG_CLOSE,
+            TextCode::TooDeep => &TOO_DEEP,
+            TextCode::OddMap => &ODD_MAP,
+            TextCode::TagWithoutElement => &TAG_WITHOUT_ELEMENT,
+            TextCode::NoMemoryForText => &NO_MEMORY_FOR_TEXT,
+            TextCode::ReadFailed => &READ_FAILED,
+            TextCode::TooLong => &TOO_LONG,
         }
     }
 }

@@ -47,8 +47,8 @@ impl Topic {
 
     /// What is said of the topic.
     #[tactic(auto, unfolding(crate::specs::Topics::topic_code))]
-    pub fn entry(self) -> Explanation
-        ensures { result.code.now ≡ topic_code self }
+    pub fn entry(self) -> &'static Explanation
+        ensures { result.now.code.now ≡ topic_code self }
     {
         match self {
             Topic::Text(code) => code.entry(),
@@ -163,7 +163,7 @@ fn push_lines(text: &mut String, topics: array::IntoIter<Topic, 69>) -> Result<(
     ensures { OnOk result ((lines : List ℕ) × AreLines (array_into_iter_items topics) lines × (string_bytes text.new ≡ string_bytes text.old ++ lines)) }
 {
     for topic in topics {
-        push_line(text, &topic.entry())?;
+        push_line(text, topic.entry())?;
     }
     Ok(())
 }

@@ -24,20 +24,20 @@ pub enum TowerCode {
 }
 
 impl TowerCode {
-    pub(crate) fn entry(self) -> Explanation
-        ensures { result.code.now ≡ tower_code self }
+    pub(crate) fn entry(self) -> &'static Explanation
+        ensures { result.now.code.now ≡ tower_code self }
     {
         match self {
-            TowerCode::Edn => EDN,
-            TowerCode::Shape => SHAPE,
-            TowerCode::NameTaken => NAME_TAKEN,
-            TowerCode::WriterCount => WRITER_COUNT,
-            TowerCode::UnknownPart => UNKNOWN_PART,
-            TowerCode::EmptyDomain => EMPTY_DOMAIN,
-            TowerCode::InitialOutOfDomain => INITIAL_OUT_OF_DOMAIN,
-            TowerCode::TooMany => TOO_MANY,
-            TowerCode::NoMemoryForTower => NO_MEMORY_FOR_TOWER,
-            TowerCode::UnknownInitial => UNKNOWN_INITIAL,
+            TowerCode::Edn => &EDN,
+            TowerCode::Shape => &SHAPE,
+            TowerCode::NameTaken => &NAME_TAKEN,
+            TowerCode::WriterCount => &WRITER_COUNT,
+            TowerCode::UnknownPart => &UNKNOWN_PART,
+            TowerCode::EmptyDomain => &EMPTY_DOMAIN,
+            TowerCode::InitialOutOfDomain => &INITIAL_OUT_OF_DOMAIN,
+            TowerCode::TooMany => &TOO_MANY,
+            TowerCode::NoMemoryForTower => &NO_MEMORY_FOR_TOWER,
+            TowerCode::UnknownInitial => &UNKNOWN_INITIAL,
         }
     }
 }

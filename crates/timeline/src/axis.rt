@@ -11,7 +11,7 @@ use std::alloc::{AllocError, Global};
 use std::unreachable;
 
 /// Where an operation begins or ends. At one moment beginnings come before ends.
-#[derive(Clone, Copy, Debug, PartialEq, Eq, PartialOrd, Ord)]
+#[derive(Clone, Copy, PartialEq, Eq, PartialOrd, Ord)]
 pub struct Mark {
     pub moment: Moment,
     pub is_end: bool,
@@ -20,7 +20,7 @@ pub struct Mark {
 }
 
 /// The indices of the marks at which an operation begins and ends; an unfinished one has no end.
-#[derive(Clone, Copy, Debug, PartialEq, Eq)]
+#[derive(Clone, Copy)]
 pub struct BarSpan {
     pub begin: usize,
     pub end: Option<usize>,

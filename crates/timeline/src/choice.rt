@@ -10,7 +10,7 @@ use intervals::{Moment, Op, OpId};
 use std::alloc::{AllocError, Global};
 
 /// How much of a history is shown.
-#[derive(Clone, Copy, Debug, PartialEq, Eq)]
+#[derive(Clone, Copy)]
 pub enum Extent {
     /// Each operation.
     All,
@@ -20,7 +20,7 @@ pub enum Extent {
 }
 
 /// The operations of a register that are shown, and the beginnings of the others, both in the order of beginnings.
-#[derive(Debug, Drop)]
+#[derive(Drop)]
 pub struct Chosen<'t> {
     pub shown: Vec<Op<'t>>,
     pub hidden: Vec<Moment>,

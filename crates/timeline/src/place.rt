@@ -8,7 +8,7 @@ ghost use Rattle.timeline.specs.Place.{AreSpaced, AreBounded, AreTight, IsBounde
 use std::alloc::{AllocError, Global};
 
 /// The least distance that is wanted between two marks, by their numbers, `from` the earlier.
-#[derive(Clone, Copy, Debug, PartialEq, Eq)]
+#[derive(Clone, Copy)]
 pub struct Want {
     pub from: usize,
     pub to: usize,

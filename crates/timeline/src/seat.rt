@@ -14,7 +14,7 @@ use std::unreachable;
 
 /// The lane that an operation is drawn in. A process in a trace has lanes of its own, and of two operations in one
 /// lane the first precedes the second.
-#[derive(Clone, Copy, Debug, PartialEq, Eq, PartialOrd, Ord)]
+#[derive(Clone, Copy, PartialEq, Eq, PartialOrd, Ord)]
 pub struct Seat {
     pub process: i64,
     pub feeder: u32,
@@ -24,7 +24,7 @@ pub struct Seat {
 }
 
 /// The last operation of a lane so far.
-#[derive(Clone, Copy, Debug)]
+#[derive(Clone, Copy)]
 struct Tail {
     process: i64,
     feeder: u32,

@@ -16,7 +16,7 @@ use std::alloc::Global;
 use std::marker::Model;
 
 /// What is kept of a register beside its name.
-#[derive(Debug, Drop)]
+#[derive(Drop)]
 pub struct NameEntry {
     pub claim: Claim,
     pub level: usize,

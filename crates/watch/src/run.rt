@@ -31,7 +31,7 @@ use std::thread::Threads;
 use tower_file::Tower;
 
 /// How registers are watched.
-#[derive(Clone, Copy, Debug)]
+#[derive(Clone, Copy)]
 pub struct Terms {
     /// The field that has the moments.
     pub field: MomentField,

@@ -14,7 +14,7 @@ use shards::VerdictChange;
 use std::alloc::{AllocError, Global};
 
 /// How far a feeder has come.
-#[derive(Clone, Copy, Debug, PartialEq, Eq)]
+#[derive(Clone, Copy)]
 pub struct Progress {
     /// How many elements it took.
     pub taken: u64,
@@ -23,7 +23,7 @@ pub struct Progress {
 }
 
 /// What a feeder did.
-#[derive(Clone, Copy, Debug, PartialEq, Eq)]
+#[derive(Clone, Copy)]
 pub enum Advance {
     /// It took one more element.
     Took,

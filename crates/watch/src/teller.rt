@@ -58,7 +58,7 @@ pub struct Output<'a, W: Write> {
 }
 
 /// Whether a teller takes notices.
-#[derive(Clone, Copy, Debug, PartialEq, Eq)]
+#[derive(Clone, Copy)]
 pub enum TellerState {
     /// It takes any.
     Going,
@@ -444,7 +444,7 @@ fn write_notice<W: Write>(
 }
 
 /// Why a notice was not written.
-#[derive(Clone, Copy, Debug, PartialEq, Eq)]
+#[derive(Clone, Copy)]
 enum Unwritten {
     Memory,
     Write,

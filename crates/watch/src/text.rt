@@ -12,7 +12,7 @@ use std::alloc::{AllocError, Global};
 use tower_file::Tower;
 
 /// How a notice is written.
-#[derive(Clone, Copy, Debug, PartialEq, Eq)]
+#[derive(Clone, Copy)]
 pub enum NoticeForm {
     /// As a line for people.
     Line,

@@ -9,14 +9,14 @@ use clap::ArgMatches;
 use std::alloc::{AllocError, Global};
 
 /// The field that holds an event's moment.
-#[derive(Clone, Copy, Debug, PartialEq, Eq)]
+#[derive(Clone, Copy)]
 pub enum MomentKey {
     Index,
     Time,
 }
 
 /// What is printed of a check.
-#[derive(Clone, Copy, Debug, PartialEq, Eq)]
+#[derive(Clone, Copy)]
 pub enum ReportForm {
     /// The report, line by line.
     Report,
@@ -41,7 +41,7 @@ impl ReportForm {
 }
 
 /// What `check` asks for.
-#[derive(Debug, Drop)]
+#[derive(Drop)]
 pub struct Check<'a> {
     /// The tower file.
     pub tower: &'a str,

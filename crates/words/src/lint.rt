@@ -10,7 +10,7 @@ use clap::ArgMatches;
 use std::alloc::{AllocError, Global};
 
 /// How findings are printed.
-#[derive(Clone, Copy, Debug, PartialEq, Eq)]
+#[derive(Clone, Copy)]
 pub enum LintForm {
     /// With the lines of the file that they are about.
     Human,
@@ -23,7 +23,7 @@ pub enum LintForm {
 }
 
 /// What `lint` asks for: a tower file, traces, or both.
-#[derive(Debug, Drop)]
+#[derive(Drop)]
 pub struct Lint<'a> {
     /// The tower file; where there is none, the traces are of the one register of `safe`.
     pub tower: Option<&'a str>,

@@ -10,7 +10,7 @@ use clap::ArgMatches;
 use std::alloc::{AllocError, Global};
 
 /// How a picture is drawn.
-#[derive(Clone, Copy, Debug, PartialEq, Eq)]
+#[derive(Clone, Copy)]
 pub enum Picture {
     /// In lines of a terminal.
     Text,
@@ -23,7 +23,7 @@ pub enum Picture {
 }
 
 /// The colours of a picture.
-#[derive(Clone, Copy, Debug, PartialEq, Eq)]
+#[derive(Clone, Copy)]
 pub enum Theme {
     /// Light or dark, as the reader's machine asks for.
     Auto,
@@ -32,7 +32,7 @@ pub enum Theme {
 }
 
 /// What `show` asks for.
-#[derive(Debug, Drop)]
+#[derive(Drop)]
 pub struct Show<'a> {
     /// The tower file.
     pub tower: &'a str,

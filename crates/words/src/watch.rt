@@ -11,7 +11,7 @@ use clap::ArgMatches;
 use std::alloc::{AllocError, Global};
 
 /// What is written of a notice.
-#[derive(Clone, Copy, Debug, PartialEq, Eq)]
+#[derive(Clone, Copy)]
 pub enum LineForm {
     /// A line for people.
     Text,
@@ -20,7 +20,7 @@ pub enum LineForm {
 }
 
 /// What `watch` asks for.
-#[derive(Debug, Drop)]
+#[derive(Drop)]
 pub struct Watch<'a> {
     /// The tower file.
     pub tower: &'a str,

@@ -22,7 +22,7 @@ use std::alloc::{AllocError, Global};
 use std::convert::AsStr;
 
 /// A command with what it asks for.
-#[derive(Debug, Drop)]
+#[derive(Drop)]
 pub enum Command<'a> {
     /// Judges the trace that is named, or standard input.
     Safe(Option<&'a str>),

@@ -7,7 +7,7 @@ use intervals::Moment;
 
 /// The left or the right end of a zone. A write that ended before all events has its edges at `Before`, a write
 /// without an end has its end at `Never`.
-#[derive(Clone, Copy, Debug, PartialEq, Eq, PartialOrd, Ord)]
+#[derive(Clone, Copy, PartialEq, Eq, PartialOrd, Ord)]
 pub enum Edge {
     Before,
     At(Moment),

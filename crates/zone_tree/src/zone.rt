@@ -11,7 +11,7 @@ use summary_tree::Keyed;
 /// The part of the clock between the least end and the greatest beginning in the cluster of a value. Where the end
 /// comes first the zone is forward and runs from it to the beginning, else it is backward and runs from the
 /// beginning to the end.
-#[derive(Clone, Copy, Debug, PartialEq, Eq)]
+#[derive(Clone, Copy)]
 pub struct Zone {
     pub left: Edge,
     pub right: Edge,

@@ -22,7 +22,7 @@ use intervals::{Op, OpTable, Value, is_same_value};
 
 /// Four operations that no order has room for: `a` and `d` are of one value, `b` and `c` of another, `a` precedes
 /// `b` and `c` precedes `d`. `None` is the initial write.
-#[derive(Clone, Copy, Debug)]
+#[derive(Clone, Copy)]
 pub struct Crossing<'t> {
     pub a: Option<Op<'t>>,
     pub b: Op<'t>,

@@ -16,14 +16,14 @@ use std::alloc::Global;
 use zone_tree::Edge;
 
 /// What the operations are sorted by: the left edge of the zone of the value, a write before reads, the beginning.
-#[derive(Clone, Copy, Debug, PartialEq, Eq, PartialOrd, Ord)]
+#[derive(Clone, Copy, PartialEq, Eq, PartialOrd, Ord)]
 struct TurnKey {
     left: Edge,
     is_read: bool,
     begin: Moment,
 }
 
-#[derive(Clone, Copy, Debug)]
+#[derive(Clone, Copy)]
 struct Placed<'t> {
     turn: TurnKey,
     op: Op<'t>,

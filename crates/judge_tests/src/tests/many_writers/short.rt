@@ -42,7 +42,7 @@ const ZERO_AT_FIRST: Claim = Claim {
 };
 
 /// When an operation begins and ends, and its place in the list of operations.
-#[derive(Clone, Copy, Debug)]
+#[derive(Clone, Copy)]
 struct Span {
     place: usize,
     begin: u64,
@@ -301,17 +301,13 @@ fn judge_lists<R: AllocGlobal + Abort>(
 {
     let orders = orders_of(rt.alloc(), spans)?;
     let mut clusters = begun(rt.alloc(), claim)?;
-    for acts in lists {
+    for (number, acts) in lists.iter().enumerate() {
         clear(&mut clusters, spans, acts);
         fill(&mut clusters, spans, acts)?;
         let is_whole = clusters.operations().len() == acts.len();
         let wanted = is_arranged(&orders, acts, claim.initial);
         let is_so = is_whole && clusters.holds() == wanted;
-        assert!(rt;
-            is_so,
-            "{:?} at first: {acts:?} at {spans:?}",
-            claim.initial
-        );
+        assert!(rt; is_so, "list {number} of {} acts", acts.len());
     }
     Ok(())
 }
