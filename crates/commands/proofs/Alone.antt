@@ -15,12 +15,12 @@ use Rattle.shards.specs.Plan.{Plan}
 use Rattle.shards.specs.Journal.{IsLegalJournal, edits_of, left_by}
 use Rattle.shards.specs.Pass.{PassModel, IsPassOf}
 use Rattle.shards.specs.Closing.{ClosedShard, IsClosed, IsSettledJournal, book_of, journal_of}
-use Rattle.feeders.specs.declared.log.Broken.{Broken}
-use Rattle.feeders.specs.declared.log.Log.{Log}
-use Rattle.feeders.specs.Steps.{AreItemsOfTrace, StepResult, edits_among, steps_of}
-use Rattle.feeders.specs.Doings.{taken_of, lines_from}
+use Rattle.logs.specs.declared.log.Broken.{Broken}
+use Rattle.logs.specs.declared.log.Log.{Log}
+use Rattle.logs.specs.Steps.{AreItemsOfTrace, StepResult, edits_among, steps_of}
+use Rattle.logs.specs.Doings.{taken_of, lines_from}
 use Rattle.feeders.specs.Readers.{AreReadOf, IsReadOf}
-use Rattle.feeders.specs.Run.{IsTraced, IsRun}
+use Rattle.logs.specs.Run.{IsTraced, IsRun}
 use Rattle.commands.specs.declared.safe.Audit.{Audit}
 use Rattle.report.specs.Refused.{is_refused_line}
 use Rattle.commands.specs.Status.{has_refused}

@@ -23,8 +23,8 @@ use Rattle.shards.specs.Plain.{PlainEntry, plain_numbered}
 use Rattle.shards.specs.Journal.{IsAnswered, IsLegalJournal, edits_of, is_of, is_accepted, left_by}
 use Rattle.shards.specs.Merge.{numbered, is_numbered_by, entries_of}
 use Rattle.shards.specs.Steps.{entry_of, numbered_entry}
-use Rattle.feeders.specs.Steps.{StepResult, edit_on, edits_among}
-use Rattle.feeders.specs.Doings.{Doing, refused, nothing, entered, answered, taken_of, entered_in}
+use Rattle.logs.specs.Steps.{StepResult, edit_on, edits_among}
+use Rattle.logs.specs.Doings.{Doing, refused, nothing, entered, answered, taken_of, entered_in}
 use Rattle.commands.specs.Verdict.{standing_after, IsRefused}
 use Rattle.commands.proofs.AloneReplies.{same_bare, refusal_of, reply_after, one_reply, after_front, front_of}
 use Rattle.commands.proofs.AloneRefusals.{AreReplied, is_refusing}

@@ -6,8 +6,8 @@ use Rattle.std.proofs.lemmas.List.Folds.{list_any-append}
 use Rattle.register_book.specs.declared.reply.Reply.{Reply}
 use Rattle.register_book.specs.declared.reply.Reply.TheVariants.{Accepted, Refused}
 use Rattle.shards.specs.Journal.{is_accepted}
-use Rattle.feeders.specs.Steps.{StepResult}
-use Rattle.feeders.specs.Doings.{Doing, refused, nothing, entered, answered, taken_of, what_of, what_of_reply, lines_at, lines_from}
+use Rattle.logs.specs.Steps.{StepResult}
+use Rattle.logs.specs.Doings.{Doing, refused, nothing, entered, answered, taken_of, what_of, what_of_reply, lines_at, lines_from}
 use Rattle.report.specs.Refused.{is_refused_line}
 use Rattle.commands.specs.Verdict.{IsRefused, HasRefused}
 use Rattle.commands.proofs.AloneReplies.{either_true, true_either}

@@ -8,10 +8,10 @@ use Rattle.jepsen_form.specs.declared.item.MomentField.{MomentField}
 use Rattle.tower_file.specs.Contents.{TowerModel}
 use Rattle.tower_file.specs.Tower.{IsTowerOf}
 use Rattle.shards.specs.Closing.{ClosedShard}
-use Rattle.feeders.specs.declared.log.Log.{Log}
+use Rattle.logs.specs.declared.log.Log.{Log}
 use Rattle.feeders.specs.Readers.{AreReadOf}
-use Rattle.feeders.specs.Run.{IsRun}
-use Rattle.feeders.specs.declared.watcher.Notice.{Notice}
+use Rattle.logs.specs.Run.{IsRun}
+use Rattle.logs.specs.declared.notice.Notice.{Notice}
 use Rattle.watch.specs.declared.fault.WatchFault.{WatchFault}
 use Rattle.watch.specs.declared.fault.WatchFault.TheVariants as watches
 use Rattle.watch.specs.declared.run.Terms.{Terms}

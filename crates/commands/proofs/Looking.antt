@@ -5,9 +5,9 @@ use Rattle.std.specs.Borrow.{Bor}
 use Rattle.jepsen_form.specs.declared.item.MomentField.{MomentField}
 use Rattle.tower_file.specs.Contents.{TowerModel}
 use Rattle.shards.specs.Closing.{ClosedShard}
-use Rattle.feeders.specs.declared.log.Log.{Log}
+use Rattle.logs.specs.declared.log.Log.{Log}
 use Rattle.feeders.specs.Readers.{AreReadOf}
-use Rattle.feeders.specs.Run.{IsRun}
+use Rattle.logs.specs.Run.{IsRun}
 use Rattle.lint.specs.declared.finding.TraceFindings.{TraceFindings}
 use Rattle.lint.specs.Found.{AreFoundIn}
 use Rattle.clap.specs.Words.{Text}

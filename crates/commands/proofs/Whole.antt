@@ -2,8 +2,8 @@
 use Rattle.std.proofs.Common.{◌≡◌, ◌≢◌, ◌||◌, ℕ, not, subst, Bool, true, false, List, [], ◌∷◌, map, Option, Some, None, refl}
 use Rattle.std.specs.Prelude.{is_some}
 use Rattle.std.specs.List.{list_any}
-use Rattle.feeders.specs.declared.log.Broken.{Broken}
-use Rattle.feeders.specs.declared.log.Log.{Log}
+use Rattle.logs.specs.declared.log.Broken.{Broken}
+use Rattle.logs.specs.declared.log.Log.{Log}
 use Rattle.feeders.specs.Readers.{AreReadOf, IsReadOf}
 use Rattle.words.specs.Words.{AskedCheck}
 use Rattle.report.specs.Summary.{is_broken}

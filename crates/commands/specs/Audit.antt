@@ -5,7 +5,7 @@ use Rattle.jepsen_form.specs.declared.item.Item.{Item}
 use Rattle.jepsen_form.specs.declared.item.MomentField.TheVariants.{Index}
 use Rattle.tower_file.specs.Alone.{alone_tower}
 use Rattle.feeders.specs.Readers.{IsReadOf}
-use Rattle.feeders.specs.Steps.{AreItemsOfTrace}
+use Rattle.logs.specs.Steps.{AreItemsOfTrace}
 use Rattle.commands.specs.declared.safe.Audit.{Audit}
 use Rattle.commands.specs.Verdict.{IsVerdict}
 

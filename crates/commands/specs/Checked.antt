@@ -9,9 +9,9 @@ use Rattle.jepsen_form.specs.declared.item.MomentField.TheVariants as fields
 use Rattle.tower_file.specs.Contents.{TowerModel, number_of}
 use Rattle.tower_file.specs.Tower.{IsTowerOf}
 use Rattle.shards.specs.Closing.{ClosedShard}
-use Rattle.feeders.specs.declared.log.Log.{Log}
+use Rattle.logs.specs.declared.log.Log.{Log}
 use Rattle.feeders.specs.Readers.{AreReadOf}
-use Rattle.feeders.specs.Run.{IsRun}
+use Rattle.logs.specs.Run.{IsRun}
 use Rattle.report.specs.Report.{IsReport}
 use Rattle.report.specs.Summary.{IsSummary}
 use Rattle.records.specs.declared.line.Notation.{Notation}

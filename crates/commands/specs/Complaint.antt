@@ -10,7 +10,7 @@ use Rattle.commands.specs.declared.fault.CommandFault.{CommandFault}
 use Rattle.commands.specs.declared.fault.CommandFault.TheVariants.{Usage, TooManyTraces, Unreadable, Tower, NoRegister, NoCode, Shard, Memory, Unwritable, Untold}
 use Rattle.feeders.specs.declared.whole.InputFault.{InputFault}
 use Rattle.feeders.specs.declared.whole.InputFault.TheVariants as inputs
-use Rattle.report.specs.Names.{printed}
+use Rattle.phrases.specs.Names.{printed}
 
 -- the line that says why a run broke off; none for a usage fault, whose text is clap's
 abbrev pub complaint_of : CommandFault → Option (List ℕ)

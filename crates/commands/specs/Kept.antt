@@ -1,8 +1,8 @@
 -- The texts that `check` keeps of traces, for the places of elements that records name.
 use Rattle.std.specs.Prelude.{◌≡◌, ◌≤◌, ℕ, true, List, ◌++◌, length, Option, Some, None}
 use Rattle.std.specs.List.{slice_get}
-use Rattle.feeders.specs.declared.log.Broken.{Broken}
-use Rattle.feeders.specs.declared.log.Log.{Log}
+use Rattle.logs.specs.declared.log.Broken.{Broken}
+use Rattle.logs.specs.declared.log.Log.{Log}
 use Rattle.places.specs.declared.copying.Kept.{Kept}
 use Rattle.places.specs.Copied.{IsKeptOf}
 use Rattle.words.specs.declared.check.ReportForm.{ReportForm}

@@ -10,9 +10,9 @@ use Rattle.tower_file.specs.Located.{HasFaultAt, ByteSpan}
 use Rattle.tower_file.specs.Tower.{HasTowerFault, IsTowerOf}
 use Rattle.tower_file.specs.declared.fault.TowerFault.{TowerFault}
 use Rattle.shards.specs.Closing.{ClosedShard}
-use Rattle.feeders.specs.declared.log.Log.{Log}
+use Rattle.logs.specs.declared.log.Log.{Log}
 use Rattle.feeders.specs.Readers.{AreReadOf}
-use Rattle.feeders.specs.Run.{IsRun}
+use Rattle.logs.specs.Run.{IsRun}
 use Rattle.lint.specs.declared.finding.TraceFindings.{TraceFindings}
 use Rattle.lint.specs.declared.source.SourceText.{SourceText}
 use Rattle.lint.specs.Found.{AreFoundIn}

@@ -5,9 +5,9 @@ use Rattle.intervals.specs.declared.operation.RegId.{RegId}
 use Rattle.tower_file.specs.Contents.{TowerModel}
 use Rattle.tower_file.specs.Tower.{IsTowerOf}
 use Rattle.shards.specs.Closing.{ClosedShard}
-use Rattle.feeders.specs.declared.log.Log.{Log}
+use Rattle.logs.specs.declared.log.Log.{Log}
 use Rattle.feeders.specs.Readers.{AreReadOf}
-use Rattle.feeders.specs.Run.{IsRun}
+use Rattle.logs.specs.Run.{IsRun}
 use Rattle.report.specs.Counts.{standing_in}
 use Rattle.words.specs.Words.{AskedShow}
 use Rattle.commands.specs.Checked.{IsNamed, IsStatus, chosen_field}

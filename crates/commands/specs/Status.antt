@@ -3,7 +3,7 @@ use Rattle.std.specs.Prelude.{◌<◌, ◌⊎◌, Contains, sum, ℕ, Bool, List
 use Rattle.std.specs.List.{list_any}
 use Rattle.tower_file.specs.Contents.{TowerModel}
 use Rattle.shards.specs.Closing.{ClosedShard}
-use Rattle.feeders.specs.declared.log.Log.{Log}
+use Rattle.logs.specs.declared.log.Log.{Log}
 use Rattle.report.specs.Counts.{standing_counts}
 use Rattle.report.specs.Culprit.{Fails}
 use Rattle.report.specs.Refused.{is_refused_line}

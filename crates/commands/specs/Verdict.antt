@@ -10,10 +10,10 @@ use Rattle.jepsen_form.specs.declared.item.Item.{Item}
 use Rattle.jepsen_form.specs.declared.item.MomentField.TheVariants.{Index}
 use Rattle.pairing.specs.declared.step.Step.TheVariants as steps
 use Rattle.tower_file.specs.Alone.{alone_claim, alone_tower}
-use Rattle.feeders.specs.declared.log.Broken.{Broken}
+use Rattle.logs.specs.declared.log.Broken.{Broken}
 use Rattle.feeders.specs.Readers.{IsReadOf}
-use Rattle.feeders.specs.Steps.{AreItemsOfTrace, StepResult, edits_among, steps_of}
-use Rattle.report.specs.Section.{register_line}
+use Rattle.logs.specs.Steps.{AreItemsOfTrace, StepResult, edits_among, steps_of}
+use Rattle.phrases.specs.Register.{register_line}
 use Rattle.commands.specs.Status.{status_of}
 
 -- the one register as steps leave it: its claim, and the operations that stand

@@ -4,8 +4,8 @@ use Rattle.std.specs.Io.KnownBytes.{Appends}
 use Rattle.tower_file.specs.Contents.{TowerModel}
 use Rattle.tower_file.specs.Tower.{IsTowerOf}
 use Rattle.shards.specs.Closing.{ClosedShard}
-use Rattle.feeders.specs.declared.log.Log.{Log}
-use Rattle.feeders.specs.declared.watcher.Notice.{Notice}
+use Rattle.logs.specs.declared.log.Log.{Log}
+use Rattle.logs.specs.declared.notice.Notice.{Notice}
 use Rattle.watch.specs.declared.run.Terms.{Terms}
 use Rattle.watch.specs.declared.text.NoticeForm.{NoticeForm}
 use Rattle.watch.specs.declared.text.NoticeForm.TheVariants.{Line, Record}

@@ -6,7 +6,8 @@ ghost use Rattle.commands.specs.Complaint.{broken_off, complaint_of, unread, unr
 ghost use Rattle.commands.specs.Watching.{unfollowed};
 
 use feeders::{InputFault, RunFault};
-use report::{ReportFault, push_printed};
+use phrases::push_printed;
+use report::ReportFault;
 use shards::ShardFault;
 use std::alloc::{AllocError, Global};
 use std::io::{self, Write};

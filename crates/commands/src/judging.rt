@@ -6,7 +6,8 @@ ghost use Rattle.commands.specs.Kept.{AreTracesKept, AreKeptIn};
 
 use crate::check::field_of;
 use crate::kept::texts_of;
-use feeders::{Pages, Run, RunFault, run_readers};
+use feeders::{Pages, RunFault, run_readers};
+use logs::Run;
 use places::{Copies, Originals, copied_to};
 use shards::NoGate;
 use std::alloc::Global;

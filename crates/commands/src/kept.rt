@@ -2,11 +2,11 @@
 
 ghost use Rattle.std.specs.Prelude.{◌≡◌, ◌↔◌, List, ℕ, Option, Some, IfOk, IsTrue, length, map};
 ghost use Rattle.std.specs.List.{slice_get};
-ghost use Rattle.feeders.specs.declared.log.Log.{Log as ALog};
+ghost use Rattle.logs.specs.declared.log.Log.{Log as ALog};
 ghost use Rattle.places.specs.Copied.{AreCopiesOf};
 ghost use Rattle.commands.specs.Kept.{AreTracesKept, IsEnough, IsTextOf};
 
-use feeders::{Broken, Log};
+use logs::{Broken, Log};
 use places::Kept;
 use std::alloc::{AllocError, Global};
 

@@ -8,8 +8,8 @@ ghost use Rattle.report.specs.Refused.{is_refused_line};
 ghost use Rattle.report.specs.Summary.{is_broken};
 ghost use Rattle.commands.specs.Status.{HasFailing, HasTooFew, has_refused, status_of};
 
-use feeders::{Line, Log, What};
 use intervals::RegId;
+use logs::{Line, Log, What};
 use report::standing_counts;
 use shards::Closed;
 use std::alloc::{AllocError, Global};

@@ -9,10 +9,11 @@ mod readers;
 
 ghost use Rattle.std.specs.Prelude.{◌≤◌};
 
-use feeders::{Code, Line, Log, Pages, Run, RunFault, What, run_readers, run_traces};
+use feeders::{Pages, RunFault, run_readers, run_traces};
 use gates::Watch;
 use intervals::RegId;
 use jepsen_form::MomentField;
+use logs::{Code, Line, Log, Run, What};
 use readers::{Endless, Given, Reader};
 use std::alloc::{AllocError, Global};
 use std::process::Abort;

@@ -14,7 +14,7 @@ use Rattle.feeders.specs.Intake.{HasFed}
 use Rattle.feeders.specs.Pending.{IsPendingAs}
 use Rattle.feeders.specs.Progress.{HasDone}
 use Rattle.feeders.specs.Setting.{Setting}
-use Rattle.feeders.specs.Steps.{steps_of}
+use Rattle.logs.specs.Steps.{steps_of}
 
 abbrev Before : Setting → List (Result Item FormFault) → List ElementModel → Intake → PassModel → Type 0
 Before setting items waiting intake pass = (length waiting ≤ 1) × HasDone setting.plan setting.start pass intake.progress.log.lines.items (steps_of setting.start.feeder items)

@@ -9,11 +9,11 @@ use Rattle.edn_reader.specs.Splitting.{EndsOn, SplitterModel, StandsAfter, IsAft
 use Rattle.shards.specs.Pass.{PassModel}
 use Rattle.feeders.specs.declared.intake.Intake.{Intake}
 use Rattle.feeders.specs.declared.tail_buffer.TailBuffer.{TailBuffer}
-use Rattle.feeders.specs.declared.log.Broken.{Broken}
+use Rattle.logs.specs.declared.log.Broken.{Broken}
 use Rattle.feeders.specs.declared.pending.Pending.{Pending}
 use Rattle.feeders.specs.declared.pending.Pending.TheVariants.{Nothing, Whole}
 use Rattle.feeders.specs.declared.progress.Progress.{Progress}
-use Rattle.feeders.specs.Broken.{AreElements, broken_by}
+use Rattle.logs.specs.Broken.{AreElements, broken_by}
 use Rattle.feeders.specs.Intake.{CanGoOn, HasFed, IsAtEnd}
 use Rattle.feeders.specs.Pending.{CanSettle, CanSettleAs, IsPendingAs}
 use Rattle.feeders.specs.Progress.{IsAhead, IsAt}

@@ -10,7 +10,7 @@ use Rattle.shards.specs.Pass.{IsPassOf, PassModel, own_entries}
 use Rattle.feeders.specs.declared.feeder.FeedState.{FeedState}
 use Rattle.feeders.specs.declared.feeder.FeedState.TheVariants.{Open, Paused, Ending, Broke, Ended}
 use Rattle.feeders.specs.declared.intake.Intake.{Intake}
-use Rattle.feeders.specs.declared.log.Line.{Line}
+use Rattle.logs.specs.declared.log.Line.{Line}
 use Rattle.feeders.specs.declared.pending.Pending.{Pending}
 use Rattle.feeders.specs.declared.pending.Pending.TheVariants.{Nothing, Whole, Lent, Paired}
 use Rattle.feeders.specs.declared.progress.Progress.{Progress}
@@ -18,8 +18,9 @@ use Rattle.feeders.specs.Feeding.{IsFedAs}
 use Rattle.feeders.specs.Intake.{HasEnded, HasFed, IsAtEnd}
 use Rattle.feeders.specs.Pending.{IsPendingAs}
 use Rattle.feeders.specs.Progress.{HasDone, IsAt, IsPaired}
-use Rattle.feeders.specs.Setting.{Setting, Start, setting_of}
-use Rattle.feeders.specs.Steps.{StepResult}
+use Rattle.feeders.specs.Setting.{Setting, setting_of}
+use Rattle.logs.specs.Start.{Start}
+use Rattle.logs.specs.Steps.{StepResult}
 
 module _ (plan : Plan) (start : Start) (tower : TowerModel) (chosen : MomentField) (old new : PassModel) (feeder : new.feeder ≡ old.feeder) (of : IsPassOf plan old → IsPassOf plan new)
     (same : (at : ℕ) → own_entries new at ≡ own_entries old at) where

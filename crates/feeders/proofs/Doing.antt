@@ -7,10 +7,11 @@ use Rattle.shards.specs.declared.entry.NumberedEntry.{NumberedEntry}
 use Rattle.shards.specs.Journal.{EachAfter}
 use Rattle.shards.specs.Plan.{Plan}
 use Rattle.shards.specs.Pass.{IsPassOf, IsSightOf, PassModel, new_pass, own_entries}
-use Rattle.feeders.specs.declared.log.Line.{Line}
-use Rattle.feeders.specs.Steps.{StepResult}
-use Rattle.feeders.specs.Doings.{Doing, IsAnsweredAfter, entered_in, entry_in, lines_at, lines_from, own_after, taken_of, what_of}
-use Rattle.feeders.specs.Setting.{IsAtStart, Start, first_start}
+use Rattle.logs.specs.declared.log.Line.{Line}
+use Rattle.logs.specs.Steps.{StepResult}
+use Rattle.logs.specs.Doings.{Doing, IsAnsweredAfter, entered_in, entry_in, lines_at, lines_from, own_after, taken_of, what_of}
+use Rattle.feeders.specs.Setting.{IsAtStart}
+use Rattle.logs.specs.Start.{Start, first_start}
 use Rattle.feeders.specs.Progress.{HasDone}
 
 each_after_push : {X : Type 0} (R : List X → X → Type 0) (before xs : List X) (x : X) → EachAfter R before xs → R (before ++ xs) x → EachAfter R before (xs ++ x ∷ [])

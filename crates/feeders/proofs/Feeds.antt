@@ -12,18 +12,19 @@ use Rattle.shards.specs.Pass.{PassModel}
 use Rattle.feeders.specs.declared.feeder.FeedState.{FeedState}
 use Rattle.feeders.specs.declared.feeder.FeedState.TheVariants.{Open, Paused, Ending, Broke, Ended}
 use Rattle.feeders.specs.declared.intake.Intake.{Intake}
-use Rattle.feeders.specs.declared.log.Broken.{Broken}
+use Rattle.logs.specs.declared.log.Broken.{Broken}
 use Rattle.feeders.specs.declared.pending.Pending.{Pending}
 use Rattle.feeders.specs.declared.pending.Pending.TheVariants.{Nothing}
-use Rattle.feeders.specs.Broken.{AreElements, broken_by, is_of_reading}
+use Rattle.logs.specs.Broken.{AreElements, broken_by, is_of_reading}
 use Rattle.feeders.specs.TailBuffer.{AreLastBytes}
 use Rattle.feeders.specs.Readers.{broke_reading}
 use Rattle.feeders.specs.Progress.{HasDone, IsAhead, IsAt}
-use Rattle.feeders.specs.Steps.{steps_of}
+use Rattle.logs.specs.Steps.{steps_of}
 use Rattle.feeders.specs.Feeding.{FeederModel, IsFedUpTo, IsFedAs}
 use Rattle.feeders.specs.Intake.{CanGoOn, HasBroken, HasEnded, HasFed, HasTaken, IsAtEnd}
 use Rattle.feeders.specs.Pending.{CanSettleAs, IsPending, IsPendingAs, AreSettled}
-use Rattle.feeders.specs.Setting.{Setting, Start, setting_of}
+use Rattle.feeders.specs.Setting.{Setting, setting_of}
+use Rattle.logs.specs.Start.{Start}
 use Rattle.feeders.proofs.Pieces.{all_fed, can_more, fed_more, none_holds, none_waiting, taken_is, zip_join}
 
 -- how far a feeder has come, by its state

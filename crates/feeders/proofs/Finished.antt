@@ -14,13 +14,14 @@ use Rattle.shards.specs.Closing.{AreComplete, AreItsPasses, ClosedShard, ShardMo
 use Rattle.shards.specs.declared.fault.ShardFault.{ShardFault}
 use Rattle.shards.specs.declared.fault.ShardFault.TheVariants as faults
 use Rattle.feeders.specs.declared.outcome.FeederOutcome.{FeederOutcome}
-use Rattle.feeders.specs.declared.log.Log.{Log}
-use Rattle.feeders.specs.Doings.{entered_in}
+use Rattle.logs.specs.declared.log.Log.{Log}
+use Rattle.logs.specs.Doings.{entered_in}
 use Rattle.feeders.specs.Ending.{MayEnd, ended_by}
 use Rattle.feeders.specs.Progress.{AreFedBy, AreReadAndFed, IsFed}
 use Rattle.feeders.specs.Readers.{AreReadOf}
-use Rattle.feeders.specs.Run.{EachNumbered, IsRun, IsTraced, plan_of_run}
-use Rattle.feeders.specs.Setting.{first_start, setting_of}
+use Rattle.logs.specs.Run.{EachNumbered, IsRun, IsTraced, plan_of_run}
+use Rattle.logs.specs.Start.{first_start}
+use Rattle.feeders.specs.Setting.{setting_of}
 
 -- the entries of a pass's feeder in the journal of a shard read as those that the pass submitted there
 abbrev IsMergedAt : List ClosedShard → ℕ → PassModel → Type 0

@@ -11,13 +11,14 @@ use Rattle.pairing.specs.Step.{step_of}
 use Rattle.pairing.specs.Known.{PairingModel, KnowsItems}
 use Rattle.shards.specs.Plan.{Plan}
 use Rattle.shards.specs.Pass.{PassModel}
-use Rattle.feeders.specs.declared.log.Code.TheVariants.{Form}
-use Rattle.feeders.specs.declared.log.Line.{Line}
-use Rattle.feeders.specs.declared.log.Log.{Log}
+use Rattle.logs.specs.declared.log.Code.TheVariants.{Form}
+use Rattle.logs.specs.declared.log.Line.{Line}
+use Rattle.logs.specs.declared.log.Log.{Log}
 use Rattle.feeders.specs.declared.progress.Progress.{Progress}
-use Rattle.feeders.specs.Steps.{StepResult, by_pairing, placed, step_behind, steps_of}
+use Rattle.logs.specs.Steps.{StepResult, by_pairing, placed, step_behind, steps_of}
 use Rattle.feeders.specs.Progress.{GoesOn, HasDone, IsAt, HasSameLines, IsPaired}
-use Rattle.feeders.specs.Setting.{IsAtStart, Start}
+use Rattle.feeders.specs.Setting.{IsAtStart}
+use Rattle.logs.specs.Start.{Start}
 use Rattle.feeders.proofs.Doing.{nothing_done}
 use Rattle.feeders.proofs.Items.{not_placed, one_step_each, placed_on, steps_on}
 

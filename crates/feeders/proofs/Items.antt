@@ -3,7 +3,7 @@ use Rattle.std.proofs.Common.{◌≡◌, ℕ, ◌+◌, List, [], ◌∷◌, ◌+
 use Rattle.jepsen_form.specs.declared.fault.FormFault.{FormFault}
 use Rattle.jepsen_form.specs.declared.item.Item.{Item}
 use Rattle.pairing.specs.Accepted.{Placed}
-use Rattle.feeders.specs.Steps.{StepResult, placed, placed_from, step_behind, steps_behind, steps_of}
+use Rattle.logs.specs.Steps.{StepResult, placed, placed_from, step_behind, steps_behind, steps_of}
 
 placed_behind : (place : ℕ) (items : List (Result Item FormFault)) (item : Item) → placed_from place (items ++ Ok item ∷ []) ≡ placed_from place items ++ record { place = place + length items; item = item } ∷ []
 placed_behind place [] item = ap (λ (n : ℕ). record { place = n; item = item } ∷ []) (omega arith)

@@ -18,8 +18,8 @@ use Rattle.pairing.specs.Step.{step_of, event_step, edit_step, id_of, given_by, 
 use Rattle.shards.specs.Plan.{Plan}
 use Rattle.shards.specs.Pass.{PassModel}
 use Rattle.feeders.specs.declared.progress.Progress.{Progress}
-use Rattle.feeders.specs.Setting.{Start}
-use Rattle.feeders.specs.Steps.{StepResult, by_pairing, placed, step_behind}
+use Rattle.logs.specs.Start.{Start}
+use Rattle.logs.specs.Steps.{StepResult, by_pairing, placed, step_behind}
 use Rattle.feeders.specs.Texts.{brought, brought_at}
 use Rattle.feeders.specs.Progress.{IsAt, IsPaired}
 use Rattle.feeders.specs.Lending.{LendsNone, is_lent}

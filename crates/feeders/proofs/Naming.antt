@@ -17,7 +17,8 @@ use Rattle.pairing.specs.Accepted.{Placed, accepted}
 use Rattle.pairing.specs.Answering.{step_register}
 use Rattle.pairing.specs.Step.{step_of}
 use Rattle.shards.specs.Plan.{Plan, claims_of}
-use Rattle.feeders.specs.Steps.{IsKnownStep, StepResult, by_pairing, placed, placed_from, step_behind}
+use Rattle.feeders.specs.Progress.{IsKnownStep}
+use Rattle.logs.specs.Steps.{StepResult, by_pairing, placed, placed_from, step_behind}
 
 -- the laws of the crates below
 abbrev pub ItemsName : Type 0

@@ -13,17 +13,17 @@ use Rattle.jepsen_form.specs.Item.{IsItem}
 use Rattle.shards.specs.Pass.{PassModel}
 use Rattle.feeders.specs.declared.intake.Intake.{Intake}
 use Rattle.feeders.specs.declared.tail_buffer.TailBuffer.{TailBuffer}
-use Rattle.feeders.specs.declared.log.Broken.{Broken}
+use Rattle.logs.specs.declared.log.Broken.{Broken}
 use Rattle.feeders.specs.declared.pending.Pending.{Pending}
 use Rattle.feeders.specs.declared.pending.Pending.TheVariants.{Nothing, Whole, Lent, Paired}
 use Rattle.feeders.specs.declared.progress.Progress.{Progress}
-use Rattle.feeders.specs.Broken.{AreElements, broken_by}
+use Rattle.logs.specs.Broken.{AreElements, broken_by}
 use Rattle.feeders.specs.Intake.{CanGoOn, HasBroken, HasFed, HasTaken}
 use Rattle.feeders.specs.TailBuffer.{AreLastBytes}
 use Rattle.feeders.specs.Pending.{CanSettle, CanSettleAs, HoldsAs, IsBeside, WaitsBetweenElements, IsPending, IsPendingAs, AreSettled, count_of}
 use Rattle.feeders.specs.Progress.{HasDone, IsAhead, IsAt}
 use Rattle.feeders.specs.Setting.{Setting}
-use Rattle.feeders.specs.Steps.{steps_of}
+use Rattle.logs.specs.Steps.{steps_of}
 use Rattle.feeders.proofs.Holding.{drop_twice}
 
 -- more bytes that come next may be named

@@ -31,10 +31,10 @@ use Rattle.pairing.specs.Accepted.{Placed, is_event_of, invocation, last_of, una
 use Rattle.pairing.specs.Invocation.{invocation_by, invocation_of}
 use Rattle.pairing.specs.Step.{id_of, invoke_step, ok_step, event_step, edit_step, given_by, unless, step_of}
 use Rattle.shards.specs.Plain.{PlainLent, PlainEdit, amend, plain_lent, plain_edit}
-use Rattle.feeders.specs.declared.log.Broken.{Broken}
-use Rattle.feeders.specs.Broken.{AreElements}
+use Rattle.logs.specs.declared.log.Broken.{Broken}
+use Rattle.logs.specs.Broken.{AreElements}
 use Rattle.feeders.specs.Readers.{broke_reading}
-use Rattle.feeders.specs.Steps.{AreItemsOfTrace, StepResult, placed, placed_from, by_pairing, step_behind, steps_behind, steps_of}
+use Rattle.logs.specs.Steps.{AreItemsOfTrace, StepResult, placed, placed_from, by_pairing, step_behind, steps_behind, steps_of}
 use Rattle.feeders.specs.Prefixes.{PlainTaken, edit, plain_step, plain_taken, plain_steps}
 
 -- ---- texts in one place of memory

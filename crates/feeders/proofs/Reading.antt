@@ -12,12 +12,13 @@ use Rattle.jepsen_form.specs.Item.{IsItem}
 use Rattle.shards.specs.Plan.{Plan, claims_of}
 use Rattle.shards.specs.Pass.{IsPassOf, PassModel}
 use Rattle.feeders.specs.declared.outcome.FeederOutcome.{FeederOutcome}
-use Rattle.feeders.specs.declared.log.Broken.{Broken}
+use Rattle.logs.specs.declared.log.Broken.{Broken}
 use Rattle.feeders.specs.declared.progress.Progress.{Progress}
-use Rattle.feeders.specs.Broken.{AreElements, broken_by}
-use Rattle.feeders.specs.Setting.{Setting, Start}
-use Rattle.feeders.specs.Steps.{IsKnownStep, StepResult, steps_of}
-use Rattle.feeders.specs.Progress.{HasDone, IsAt, IsFed, IsPaired}
+use Rattle.logs.specs.Broken.{AreElements, broken_by}
+use Rattle.feeders.specs.Setting.{Setting}
+use Rattle.logs.specs.Start.{Start}
+use Rattle.feeders.specs.Progress.{IsKnownStep, HasDone, IsAt, IsFed, IsPaired}
+use Rattle.logs.specs.Steps.{StepResult, steps_of}
 use Rattle.feeders.proofs.Naming.{ItemsName, StepsAreOn, known_step}
 
 -- the state is that of the elements up to a place

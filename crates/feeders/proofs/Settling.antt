@@ -15,9 +15,10 @@ use Rattle.feeders.specs.declared.pending.Pending.TheVariants.{Nothing, Whole, L
 use Rattle.feeders.specs.declared.progress.Progress.{Progress}
 use Rattle.feeders.specs.TailBuffer.{AreLastBytes}
 use Rattle.feeders.specs.Pending.{CanSettle, CanSettleAs, HoldsAs, IsBeside, WaitsBetweenElements, IsPending, IsPendingAs, IsReadAs, AreSettled, IsToBeCarriedOut, IsToBePaired, KeepsElement, count_of}
-use Rattle.feeders.specs.Progress.{IsAhead, IsAt, IsPaired, PairedUpTo}
-use Rattle.feeders.specs.Setting.{Setting, Start}
-use Rattle.feeders.specs.Steps.{IsKnownStep, StepResult}
+use Rattle.feeders.specs.Progress.{IsAhead, IsAt, IsPaired, PairedUpTo, IsKnownStep}
+use Rattle.feeders.specs.Setting.{Setting}
+use Rattle.logs.specs.Start.{Start}
+use Rattle.logs.specs.Steps.{StepResult}
 use Rattle.feeders.proofs.Naming.{ItemsName, StepsAreOn, known_step}
 
 -- nothing was done

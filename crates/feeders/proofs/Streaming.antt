@@ -4,18 +4,19 @@ use Rattle.shards.specs.Plan.{Plan}
 use Rattle.shards.specs.Pass.{PassModel}
 use Rattle.feeders.specs.declared.outcome.FeederOutcome.{FeederOutcome}
 use Rattle.feeders.specs.declared.intake.Intake.{Intake}
-use Rattle.feeders.specs.declared.log.BreakCode.{BreakCode}
-use Rattle.feeders.specs.declared.log.BreakCode.TheVariants.{ReadFailed, TooLong}
-use Rattle.feeders.specs.declared.log.Broken.{Broken}
-use Rattle.feeders.specs.declared.log.Log.{Log}
-use Rattle.feeders.specs.Broken.{is_of_reading}
+use Rattle.logs.specs.declared.log.BreakCode.{BreakCode}
+use Rattle.logs.specs.declared.log.BreakCode.TheVariants.{ReadFailed, TooLong}
+use Rattle.logs.specs.declared.log.Broken.{Broken}
+use Rattle.logs.specs.declared.log.Log.{Log}
+use Rattle.logs.specs.Broken.{is_of_reading}
 use Rattle.feeders.specs.Feeding.{FeederModel, IsFedUpTo}
 use Rattle.feeders.specs.Intake.{HasBroken, HasEnded}
 use Rattle.feeders.specs.Progress.{HasDone, IsFed, IsReadAndFed}
 use Rattle.feeders.specs.Readers.{IsReadOf, IsReadUpTo, broke_reading}
-use Rattle.feeders.specs.Setting.{Setting, Start}
+use Rattle.feeders.specs.Setting.{Setting}
+use Rattle.logs.specs.Start.{Start}
 use Rattle.feeders.specs.Source.{AreBytesOf}
-use Rattle.feeders.specs.Steps.{AreItemsOfTrace, steps_of}
+use Rattle.logs.specs.Steps.{AreItemsOfTrace, steps_of}
 use Rattle.feeders.proofs.Sourcing.{given_front}
 
 -- the bytes that a source gave are fed

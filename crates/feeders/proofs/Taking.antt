@@ -13,8 +13,8 @@ use Rattle.feeders.specs.declared.tail_buffer.TailBuffer.{TailBuffer}
 use Rattle.feeders.specs.declared.pending.Pending.{Pending}
 use Rattle.feeders.specs.declared.pending.Pending.TheVariants.{Nothing}
 use Rattle.feeders.specs.declared.progress.Progress.{Progress}
-use Rattle.feeders.specs.declared.log.Broken.{Broken}
-use Rattle.feeders.specs.Broken.{broken_by}
+use Rattle.logs.specs.declared.log.Broken.{Broken}
+use Rattle.logs.specs.Broken.{broken_by}
 use Rattle.feeders.specs.Intake.{CanGoOn, HasFed, HasTaken, HasUsed}
 use Rattle.feeders.specs.TailBuffer.{AreLastBytes}
 use Rattle.feeders.specs.Pending.{CanReadBehind, CanSettle, CanSettleAs, IsBeside, IsPending, count_of}

@@ -12,8 +12,8 @@ use Rattle.shards.specs.Plan.{Plan}
 use Rattle.shards.specs.Pass.{HasEntry, IsSightOf, PassModel, last_in, own_entries, with_own, with_seen}
 use Rattle.shards.specs.Steps.{IsLive, IsSubmitted, entered as with_entry, entry_of, last_entry, numbered_entry}
 use Rattle.shards.specs.Journal.{count_by}
-use Rattle.feeders.specs.Doings.{Doing, IsAnsweredAfter, answered, entered, own_after}
-use Rattle.feeders.specs.Setting.{Start}
+use Rattle.logs.specs.Doings.{Doing, IsAnsweredAfter, answered, entered, own_after}
+use Rattle.logs.specs.Start.{Start}
 use Rattle.feeders.proofs.Doing.{IsTold}
 
 -- an entry comes after those of its shard, and the other shards keep theirs

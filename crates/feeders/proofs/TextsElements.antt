@@ -5,8 +5,8 @@ use Rattle.std.proofs.Math.Seq.{drop-append_seam, take-append_seam}
 use Rattle.edn_reader.specs.Grammar.{ElementModel, IsElements, none, next}
 use Rattle.edn_reader.specs.Text.{IsFront}
 use Rattle.edn_reader.proofs.Places.{moved_gap, moved_element}
-use Rattle.feeders.specs.declared.log.Broken.{Broken}
-use Rattle.feeders.specs.Broken.{AreElements}
+use Rattle.logs.specs.declared.log.Broken.{Broken}
+use Rattle.logs.specs.Broken.{AreElements}
 use Rattle.feeders.specs.Texts.{IsSlice}
 
 -- an element after a prefix of the input

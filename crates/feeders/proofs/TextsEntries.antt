@@ -26,10 +26,10 @@ use Rattle.shards.specs.Plain.{PlainParts, PlainLent, PlainEdit, PlainEntry, ans
 use Rattle.shards.specs.Merge.{numbered, is_numbered_by, entries_of}
 use Rattle.shards.specs.Steps.{entry_of, numbered_entry}
 use Rattle.shards.specs.Closing.{ClosedShard, journal_of}
-use Rattle.feeders.specs.declared.log.Log.{Log}
-use Rattle.feeders.specs.Steps.{StepResult, steps_of}
-use Rattle.feeders.specs.Doings.{Doing, refused, nothing, entered, answered, taken_of, entry_in, entered_in}
-use Rattle.feeders.specs.Run.{IsTraced}
+use Rattle.logs.specs.declared.log.Log.{Log}
+use Rattle.logs.specs.Steps.{StepResult, steps_of}
+use Rattle.logs.specs.Doings.{Doing, refused, nothing, entered, answered, taken_of, entry_in, entered_in}
+use Rattle.logs.specs.Run.{IsTraced}
 use Rattle.feeders.specs.Texts.{TextKind, invocation, answer, amendment, text_of, text_in, settled, IsPlaced, IsSlice, IsOfStep}
 use Rattle.feeders.proofs.TextsElements.{slices_of}
 use Rattle.feeders.proofs.TextsItems.{item_carries}

@@ -6,7 +6,7 @@ use Rattle.std.proofs.lemmas.List.{reverse-append}
 use Rattle.shards.specs.declared.entry.Entry.{Entry}
 use Rattle.shards.specs.declared.entry.NumberedEntry.{NumberedEntry}
 use Rattle.shards.specs.Merge.{numbered}
-use Rattle.feeders.specs.Run.{EachNumbered}
+use Rattle.logs.specs.Run.{EachNumbered}
 
 -- the list has this element
 abbrev pub Has : {X : Type 0} → List X → X → Type 0

@@ -20,8 +20,8 @@ use Rattle.shards.specs.declared.entry.Entry.{Entry}
 use Rattle.shards.specs.Pass.{PassModel, IsPassOf}
 use Rattle.shards.specs.Journal.{standing_of, left_by}
 use Rattle.shards.specs.Closing.{ClosedShard, journal_of, book_of}
-use Rattle.feeders.specs.declared.log.Log.{Log}
-use Rattle.feeders.specs.Run.{IsTraced, IsRun, plan_of_run}
+use Rattle.logs.specs.declared.log.Log.{Log}
+use Rattle.logs.specs.Run.{IsTraced, IsRun, plan_of_run}
 use Rattle.feeders.specs.Texts.{TextKind, invocation, answer, amendment, text_of, text_in, settled, IsLastSettled, brought, TraceReading, IsPlaced, IsOfStep, IsLentAt, IsLentBehind, IsLentByTrace}
 use Rattle.feeders.proofs.TextsLists.{get_behind, numbered_get}
 use Rattle.feeders.proofs.TextsEntries.{of_entry}

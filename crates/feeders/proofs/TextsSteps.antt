@@ -23,7 +23,7 @@ use Rattle.pairing.specs.declared.step.Step.TheVariants as steps
 use Rattle.pairing.specs.Accepted.{Placed, invocation as invoked, is_event_of, last_of, unanswered_of, register_of, fault_of, with_accepted, accepted}
 use Rattle.pairing.specs.Step.{id_of, append_of, amendment_of, invoke_step, ok_step, event_step, edit_step, given_by, unless}
 use Rattle.pairing.proofs.Standing.{invocation_place}
-use Rattle.feeders.specs.Steps.{placed_from, placed, by_pairing, step_behind, steps_behind, steps_of}
+use Rattle.logs.specs.Steps.{placed_from, placed, by_pairing, step_behind, steps_behind, steps_of}
 use Rattle.feeders.specs.Texts.{TextKind, invocation, answer, amendment, text_of, text_in, settled, brought_at, brought, IsPlaced}
 use Rattle.feeders.proofs.TextsItems.{Carries}
 use Rattle.feeders.proofs.TextsLists.{all_reverse, all_found, all_filter_map}

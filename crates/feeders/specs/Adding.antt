@@ -7,10 +7,10 @@ use Rattle.jepsen_form.specs.declared.fault.FormFault.{FormFault}
 use Rattle.jepsen_form.specs.declared.item.Item.{Item}
 use Rattle.jepsen_form.specs.Item.{IsItem}
 use Rattle.shards.specs.Pass.{PassModel}
-use Rattle.feeders.specs.declared.log.Log.{Log}
+use Rattle.logs.specs.declared.log.Log.{Log}
 use Rattle.feeders.specs.Progress.{HasDone}
 use Rattle.feeders.specs.Setting.{Setting}
-use Rattle.feeders.specs.Steps.{steps_of}
+use Rattle.logs.specs.Steps.{steps_of}
 
 -- of the elements that have ended in `bytes` at most one waits; the pass and the log have the steps of those before it,
 -- in order, and of no others

@@ -8,7 +8,8 @@ use Rattle.feeders.specs.declared.feeder.FeedState.{FeedState}
 use Rattle.feeders.specs.declared.feeder.FeedState.TheVariants.{Open, Paused, Ending, Broke, Ended}
 use Rattle.feeders.specs.declared.intake.Intake.{Intake}
 use Rattle.feeders.specs.Intake.{HasBroken, HasFed, IsAtEnd}
-use Rattle.feeders.specs.Setting.{Setting, Start, setting_of}
+use Rattle.feeders.specs.Setting.{Setting, setting_of}
+use Rattle.logs.specs.Start.{Start}
 
 -- what a feeder is seen as: its moment field, its tower, what it has taken of its trace, and whether it goes on
 pub record FeederModel : Type 0 where

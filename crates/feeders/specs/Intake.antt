@@ -8,7 +8,7 @@ use Rattle.jepsen_form.specs.declared.item.Item.{Item}
 use Rattle.jepsen_form.specs.Item.{IsItem}
 use Rattle.shards.specs.Pass.{PassModel}
 use Rattle.feeders.specs.declared.intake.Intake.{Intake}
-use Rattle.feeders.specs.Broken.{AreElements}
+use Rattle.logs.specs.Broken.{AreElements}
 use Rattle.feeders.specs.TailBuffer.{AreLastBytes}
 use Rattle.feeders.specs.Pending.{CanSettle, HoldsAs, IsPending}
 use Rattle.feeders.specs.Progress.{IsFed}

@@ -4,7 +4,7 @@ use Rattle.intervals.specs.declared.edit.Edit.TheVariants as edits
 use Rattle.jepsen_form.specs.declared.fault.FormFault.{FormFault}
 use Rattle.jepsen_form.specs.declared.item.Item.{Item}
 use Rattle.pairing.specs.declared.step.Step.TheVariants as steps
-use Rattle.feeders.specs.Steps.{StepResult}
+use Rattle.logs.specs.Steps.{StepResult}
 use Rattle.feeders.specs.Texts.{brought}
 
 -- whether an item's step may lend its text: that of an invocation, of an answer that is `:ok`, or of an amendment

@@ -1,11 +1,6 @@
 -- words of the public clauses
 pub mod Setting
-pub mod Steps
 pub mod Prefixes
-pub mod Broken
-pub mod Code
-pub mod Doings
-pub mod Run
 pub mod Readers
 pub mod Feeding
 pub mod Intake

@@ -18,7 +18,8 @@ use Rattle.feeders.specs.declared.pending.Pending.TheVariants.{Nothing, Whole, L
 use Rattle.feeders.specs.declared.progress.Progress.{Progress}
 use Rattle.feeders.specs.TailBuffer.{AreLastBytes}
 use Rattle.feeders.specs.Progress.{IsAhead, IsAt, IsPaired, PairedUpTo}
-use Rattle.feeders.specs.Setting.{Setting, Start}
+use Rattle.feeders.specs.Setting.{Setting}
+use Rattle.logs.specs.Start.{Start}
 
 -- the item, where one was read, is that of the element that ended last, if that element has this text
 abbrev pub IsItemOfLast : TowerModel → MomentField → SplitterModel → List ℕ → Option (Result Item FormFault) → Type 0

@@ -6,8 +6,8 @@ use Rattle.jepsen_form.specs.declared.item.Item.{Item}
 use Rattle.pairing.specs.declared.step.Step.{Step}
 use Rattle.pairing.specs.declared.step.Step.TheVariants as steps
 use Rattle.shards.specs.Plain.{PlainEdit, plain_edit}
-use Rattle.feeders.specs.declared.log.Code.{Code}
-use Rattle.feeders.specs.Steps.{StepResult, steps_of}
+use Rattle.logs.specs.declared.log.Code.{Code}
+use Rattle.logs.specs.Steps.{StepResult, steps_of}
 
 -- a step as it reads, with its texts by their bytes: an edit of a register, or a question about one
 pub data PlainStep : Type 0 where

@@ -1,23 +1,25 @@
 -- How far a feeder has come, and what it leaves. Only private clauses speak of it.
-use Rattle.std.specs.Prelude.{◌≡◌, ◌<◌, ◌≤◌, ℕ, List, [], ◌∷◌, ◌++◌, length, map, Option, Result, Ok, Err}
+use Rattle.std.specs.Prelude.{◌≡◌, ◌<◌, ◌≤◌, ℕ, List, [], ◌∷◌, ◌++◌, length, map, Option, Some, None, Result, Ok, Err}
 use Rattle.std.specs.Borrow.{Bor}
 use Rattle.std.specs.Option.{ForSome}
 use Rattle.tower_file.specs.Contents.{TowerModel}
 use Rattle.jepsen_form.specs.declared.fault.FormFault.{FormFault}
 use Rattle.jepsen_form.specs.declared.item.Item.{Item}
 use Rattle.jepsen_form.specs.declared.item.MomentField.{MomentField}
+use Rattle.pairing.specs.declared.step.Step.TheVariants as steps
 use Rattle.pairing.specs.Known.{KnowsItems}
 use Rattle.shards.specs.Plan.{Plan}
 use Rattle.shards.specs.Pass.{IsPassOf, PassModel, new_pass, own_entries}
 use Rattle.feeders.specs.declared.fault.RunFault.{RunFault}
 use Rattle.feeders.specs.declared.outcome.FeederOutcome.{FeederOutcome}
-use Rattle.feeders.specs.declared.log.Line.{Line}
-use Rattle.feeders.specs.declared.log.Log.{Log}
+use Rattle.logs.specs.declared.log.Line.{Line}
+use Rattle.logs.specs.declared.log.Log.{Log}
 use Rattle.feeders.specs.declared.progress.Progress.{Progress}
 use Rattle.feeders.specs.Readers.{IsReadOf}
-use Rattle.feeders.specs.Setting.{Setting, Start, first_start, setting_of}
-use Rattle.feeders.specs.Steps.{AreItemsOfTrace, StepResult, placed, step_behind, steps_of}
-use Rattle.feeders.specs.Doings.{Doing, AreDone, own_after}
+use Rattle.feeders.specs.Setting.{Setting, setting_of}
+use Rattle.logs.specs.Start.{Start, first_start}
+use Rattle.logs.specs.Steps.{AreItemsOfTrace, StepResult, placed, step_behind, steps_of}
+use Rattle.logs.specs.Doings.{Doing, AreDone, own_after}
 
 -- the feeder has done these steps: its pass has the entries that it began with and then those of its doings, and its
 -- log has their lines
@@ -101,3 +103,10 @@ AreFresh plan (pass ∷ passes) = IsFresh plan pass × AreFresh plan passes
 -- of what feeders ended with, in order, this is the first fault: those before left an outcome
 abbrev pub IsFirstFault : List (Result FeederOutcome RunFault) → RunFault → Type 0
 IsFirstFault ended fault = (before : List FeederOutcome) × (rest : List (Result FeederOutcome RunFault)) × (ended ≡ map Ok before ++ Err fault ∷ rest)
+
+-- the register of the step, where there is a step, is one of the plan's
+abbrev pub IsKnownStep : Plan → StepResult → Type 0
+IsKnownStep plan (Err code) = Unit {0}
+IsKnownStep plan (Ok None) = Unit {0}
+IsKnownStep plan (Ok (Some (steps.Edit register edit))) = register.0 < length plan.claims
+IsKnownStep plan (Ok (Some (steps.Ask register))) = register.0 < length plan.claims

@@ -1,8 +1,8 @@
 -- Which bytes of a reader are its trace.
 use Rattle.std.specs.Prelude.{◌≡◌, ℕ, Bool, true, false, List, [], ◌∷◌, ◌++◌, Option, Some, None}
-use Rattle.feeders.specs.declared.log.Broken.{Broken}
-use Rattle.feeders.specs.declared.log.Log.{Log}
-use Rattle.feeders.specs.Broken.{is_of_reading}
+use Rattle.logs.specs.declared.log.Broken.{Broken}
+use Rattle.logs.specs.declared.log.Log.{Log}
+use Rattle.logs.specs.Broken.{is_of_reading}
 
 -- whether a trace's reading broke off (N1 or N2); false where the trace did not break, or by a fault of its text
 abbrev pub broke_reading : Option Broken → Bool

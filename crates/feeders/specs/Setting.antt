@@ -1,19 +1,10 @@
 -- What a feeder works with during a run.
-use Rattle.std.specs.Prelude.{◌≡◌, ◌<◌, ℕ, List, []}
+use Rattle.std.specs.Prelude.{◌≡◌, ◌<◌, ℕ}
 use Rattle.tower_file.specs.Contents.{TowerModel}
 use Rattle.jepsen_form.specs.declared.item.MomentField.{MomentField}
-use Rattle.shards.specs.declared.entry.NumberedEntry.{NumberedEntry}
 use Rattle.shards.specs.Plan.{Plan}
 use Rattle.shards.specs.Pass.{IsPassOf, PassModel, own_entries}
-
--- how a feeder begins: its number, and the entries of its own that its pass has in each shard by then
-pub record Start : Type 0 where
-  pub feeder : ℕ
-  pub had : ℕ → List NumberedEntry
-
--- the start of the feeder of this number, whose pass has no entry yet
-abbrev pub first_start : ℕ → Start
-first_start feeder = record { feeder = feeder; had = λ at. [] }
+use Rattle.logs.specs.Start.{Start}
 
 -- the pass is one of the plan's, of the start's feeder, and its own entries in each shard are those of the start
 pub record IsAtStart (plan : Plan) (start : Start) (pass : PassModel) : Type 0 where

@@ -22,8 +22,8 @@ use Rattle.pairing.specs.declared.step.Step.TheVariants as steps
 use Rattle.shards.specs.declared.entry.Entry.{Entry}
 use Rattle.shards.specs.Journal.{is_accepted_of}
 use Rattle.shards.specs.Plain.{plain_edit}
-use Rattle.feeders.specs.declared.log.Log.{Log}
-use Rattle.feeders.specs.Steps.{AreItemsOfTrace, steps_of}
+use Rattle.logs.specs.declared.log.Log.{Log}
+use Rattle.logs.specs.Steps.{AreItemsOfTrace, steps_of}
 
 -- a kind of text that an operation has: of its invocation, of its answer, or of its amendment
 pub data TextKind : Type 0 where

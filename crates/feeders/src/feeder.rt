@@ -3,16 +3,16 @@
 ghost use Rattle.std.specs.Prelude.{◌≡◌, ◌≢◌, ◌+◌, ◌≤◌, ◌<◌, ◌^◌, ◌++◌, [], ℕ, List, length, take, drop, Ok, Some, IfErr, OnErr, OnOk, IsTrue, ◌↔◌, ◌⊎◌};
 ghost use Rattle.shards.specs.Pass.{PassModel};
 ghost use Rattle.shards.specs.Plan.{Plan, claims_of};
-ghost use Rattle.feeders.specs.Broken.{is_of_reading};
+ghost use Rattle.logs.specs.Broken.{is_of_reading};
 ghost use Rattle.feeders.specs.Ending.{MayEnd};
 ghost use Rattle.feeders.specs.Feeding.{IsFedUpTo};
 ghost use Rattle.feeders.specs.Intake.{CanGoOn, HasEnded, IsAtEnd};
 ghost use Rattle.feeders.specs.Readers.{IsNotOfReading};
-ghost use Rattle.feeders.specs.Setting.{IsAtStart, Start, setting_of};
+ghost use Rattle.feeders.specs.Setting.{IsAtStart, setting_of};
+ghost use Rattle.logs.specs.Start.{Start};
 
 use crate::fault::FeedFault;
 use crate::intake::Intake;
-use crate::log::{BreakCode, Broken, Log};
 use crate::outcome::FeederOutcome;
 use crate::pages::Pages;
 use crate::paging::Paging;
@@ -24,6 +24,7 @@ use crate::watcher::Watcher;
 use edn_reader::Splitter;
 use edn_reader::laws::{no_fault_so_far, told_so_far};
 use jepsen_form::MomentField;
+use logs::{BreakCode, Broken, Log};
 use shards::{Auditor, Opening, Pass};
 use std::alloc::Global;
 use std::marker::Model;

@@ -7,17 +7,16 @@
 //!     let run = run_readers(rt, alloc, &tower, readers, &pages, MomentField::Index, 2, &NoGate)?;
 //!
 //! Begin with `trace`, and with `feeder` for a trace that comes in chunks: an element becomes an item, an item a
-//! step, and a step an entry of a journal or a question. `specs/Steps.antt` says which steps a trace has,
-//! `specs/Doings.antt` what is done for them and noted, and `specs/Run.antt` what a run leaves. `laws` has what
-//! follows from these.
+//! step, and a step an entry of a journal or a question. The crate `logs` says which steps a trace has, what is done for
+//! them and noted, and what a run leaves; `noting` does and notes it. `laws` has what follows from these.
 #![tactic(auto)]
 
 mod fault;
 mod feeder;
 mod intake;
 pub mod laws;
-mod log;
 mod next;
+mod noting;
 mod outcome;
 mod pages;
 mod paging;
@@ -35,8 +34,7 @@ mod whole;
 
 pub use fault::{FeedFault, RunFault};
 pub use feeder::Feeder;
-pub use log::{BreakCode, Broken, Code, Line, Log, What};
 pub use pages::Pages;
-pub use run::{Run, run_in_turn, run_readers, run_traces};
-pub use watcher::{Notice, Watcher};
+pub use run::{run_in_turn, run_readers, run_traces};
+pub use watcher::Watcher;
 pub use whole::{InputFault, read_whole};

@@ -1,6 +1,6 @@
 //! What a feeder leaves.
 
-use crate::log::Log;
+use logs::Log;
 use shards::Pass;
 
 /// A feeder's pass, and its log.

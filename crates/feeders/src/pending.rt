@@ -12,9 +12,8 @@ ghost use Rattle.shards.specs.Plan.{Plan};
 ghost use Rattle.feeders.specs.Lending.{LendsNone, is_lent};
 ghost use Rattle.feeders.specs.Pending.{IsItemOfLast, IsPageOf, IsReadAs};
 ghost use Rattle.feeders.specs.Progress.{IsAhead};
-ghost use Rattle.feeders.specs.Setting.{Start};
+ghost use Rattle.logs.specs.Start.{Start};
 
-use crate::log::Code;
 use crate::pages::Pages;
 use crate::progress::Progress;
 use crate::site::Site;
@@ -23,6 +22,7 @@ use edn_reader::{Element, Splitter};
 use intervals::{Edit, Memory};
 use jepsen_form::laws::one_item;
 use jepsen_form::{FormFault, Item, Stage, read_item};
+use logs::Code;
 use pairing::Step;
 use shards::Opening;
 use std::sync::Wait;

@@ -6,17 +6,19 @@ ghost use Rattle.jepsen_form.specs.declared.item.Item.{Item as AnItem};
 ghost use Rattle.shards.specs.Pass.{IsPassOf, PassModel};
 ghost use Rattle.shards.specs.Plan.{Plan};
 ghost use Rattle.feeders.specs.Ending.{MayEnd};
-ghost use Rattle.feeders.specs.Progress.{IsAhead, IsAt, IsPaired, PairedUpTo};
-ghost use Rattle.feeders.specs.Setting.{IsAtStart, Start};
-ghost use Rattle.feeders.specs.Steps.{IsKnownStep, by_pairing};
+ghost use Rattle.feeders.specs.Progress.{IsAhead, IsAt, IsPaired, PairedUpTo, IsKnownStep};
+ghost use Rattle.feeders.specs.Setting.{IsAtStart};
+ghost use Rattle.logs.specs.Start.{Start};
+ghost use Rattle.logs.specs.Steps.{by_pairing};
 
 use crate::fault::RunFault;
-use crate::log::{Broken, Code, Log};
+use crate::noting::{carry_out, refuse};
 use crate::outcome::FeederOutcome;
 use crate::site::Site;
-use crate::watcher::{Notice, Watcher};
+use crate::watcher::Watcher;
 use intervals::Memory;
 use jepsen_form::{FormFault, Item};
+use logs::{Broken, Code, Log, Notice};
 use pairing::{PairFault, Pairing, Step};
 use shards::{Opening, Pass};
 use std::alloc::Global;
@@ -92,9 +94,9 @@ impl<'t> Progress<'t> {
         ensures fault { IfErr result (λ fault. IsPassOf O.plan pass.old → IsKnownStep O.plan step.entry → MayEnd fault) }
     {
         match step {
-            Ok(step) => self.log.carry_out(site, pass, self.place, step)?,
+            Ok(step) => carry_out(&mut self.log, site, pass, self.place, step)?,
             Err(code) => {
-                self.log.refuse::<O>(self.place, code)?;
+                refuse::<O>(&mut self.log, self.place, code)?;
                 site.gate.told(Notice::Refused {
                     feeder: pass.feeder(),
                     place: self.place,

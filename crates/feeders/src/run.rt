@@ -4,29 +4,22 @@ ghost use Rattle.std.specs.Prelude.{◌≡◌, ◌≤◌, ℕ, List, All, IfErr,
 ghost use Rattle.shards.specs.Plan.{plan_of};
 ghost use Rattle.feeders.specs.Ending.{MayEnd};
 ghost use Rattle.feeders.specs.Readers.{AreReadOf, IsNotOfReading};
-ghost use Rattle.feeders.specs.Run.{IsRun};
+ghost use Rattle.logs.specs.Run.{IsRun};
 
 use crate::fault::RunFault;
-use crate::log::Log;
 use crate::pages::Pages;
 use crate::several::{feed_all, read_all, read_in_turn, unzipped};
 use crate::site::Site;
 use crate::watcher::Watcher;
 use jepsen_form::MomentField;
-use shards::{Auditor, Closed, Opening};
+use logs::Run;
+use shards::{Auditor, Opening};
 use std::alloc::Global;
 use std::io::Read;
 use std::marker::Brand;
 use std::sync::Wait;
 use std::thread::Threads;
 use tower_file::Tower;
-
-/// What a run leaves: the journals and the books, and a log for each trace, by the trace's number.
-#[derive(Drop)]
-pub struct Run<'t> {
-    pub closed: Closed<'t>,
-    pub logs: Vec<Log<'t>>,
-}
 
 /// Feeds traces to the registers of a tower, each by a thread of its own, this one among them: feeder `i` has
 /// trace `i`. Moments are read under `:index` or under `:time`, as `field` says. It waits for the shards' locks.

@@ -4,7 +4,7 @@ ghost use Rattle.std.specs.Prelude.{◌≡◌, ◌≤◌, ◌<◌, ◌+◌, ◌+
 ghost use Rattle.feeders.specs.Source.{AreBytesOf};
 ghost use Rattle.feeders.specs.declared.source.TheConstants.{BYTE_LIMIT, CALL_LIMIT};
 
-use crate::log::BreakCode;
+use logs::BreakCode;
 use std::io::{ErrorKind, Read};
 
 /// The most bytes that an input may have.

@@ -5,7 +5,8 @@ ghost use Rattle.shards.specs.Pass.{new_pass};
 ghost use Rattle.shards.specs.Plan.{claims_of};
 ghost use Rattle.feeders.specs.Ending.{MayEnd};
 ghost use Rattle.feeders.specs.Progress.{IsReadAndFed};
-ghost use Rattle.feeders.specs.Setting.{first_start, setting_of};
+ghost use Rattle.logs.specs.Start.{first_start};
+ghost use Rattle.feeders.specs.Setting.{setting_of};
 
 use crate::fault::RunFault;
 use crate::feeder::Feeder;

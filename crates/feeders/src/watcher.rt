@@ -1,34 +1,7 @@
-//! What a watcher is told while traces are read.
+//! A watcher: a gate that is told what happens while traces are read.
 
-use crate::log::{Broken, Code};
+use logs::{Broken, Notice};
 use shards::{Gate, NoGate, VerdictChange};
-
-/// What a watcher is told while traces are read. A trace is given by its number, and an element by its place in it.
-#[derive(Clone, Copy)]
-pub enum Notice {
-    /// An edit by this element changed the verdict on a register.
-    Changed {
-        feeder: u32,
-        place: u64,
-        change: VerdictChange,
-    },
-    /// This element was refused.
-    Refused {
-        feeder: u32,
-        place: u64,
-        code: Code,
-    },
-    /// The trace broke.
-    Broke {
-        feeder: u32,
-        broken: Broken,
-    },
-    /// The trace ended or broke, after so many elements.
-    Ended {
-        feeder: u32,
-        elements: u64,
-    },
-}
 
 /// A gate that is told what happens while traces are read.
 pub trait Watcher: Gate {

@@ -4,8 +4,8 @@ ghost use Rattle.std.specs.Prelude.{◌≡◌, ◌≤◌, ◌<◌, ◌+◌, ◌^
 ghost use Rattle.feeders.specs.Source.{AreBytesOf};
 ghost use Rattle.feeders.specs.declared.source.TheConstants.{BYTE_LIMIT};
 
-use crate::log::BreakCode;
 use crate::source::Source;
+use logs::BreakCode;
 use std::alloc::{AllocError, Global};
 use std::io::Read;
 

@@ -17,15 +17,15 @@ use Rattle.jepsen_form.specs.declared.item.MomentField.{MomentField}
 use Rattle.jepsen_form.specs.Item.{IsItem}
 use Rattle.shards.specs.Closing.{ClosedShard}
 use Rattle.shards.specs.Plan.{Plan}
-use Rattle.feeders.specs.declared.log.Broken.{Broken}
-use Rattle.feeders.specs.declared.log.Line.{Line}
-use Rattle.feeders.specs.declared.log.Log.{Log}
-use Rattle.feeders.specs.declared.log.What.{What}
-use Rattle.feeders.specs.Broken.{AreElements, BrokeByReading, BrokeByText, broken_by, is_of_reading}
-use Rattle.feeders.specs.Doings.{Doing, lines_at, lines_from, taken_of, what_of}
+use Rattle.logs.specs.declared.log.Broken.{Broken}
+use Rattle.logs.specs.declared.log.Line.{Line}
+use Rattle.logs.specs.declared.log.Log.{Log}
+use Rattle.logs.specs.declared.log.What.{What}
+use Rattle.logs.specs.Broken.{AreElements, BrokeByReading, BrokeByText, broken_by, is_of_reading}
+use Rattle.logs.specs.Doings.{Doing, lines_at, lines_from, taken_of, what_of}
 use Rattle.feeders.specs.Readers.{AreReadOf, IsReadUpTo, broke_reading}
-use Rattle.feeders.specs.Run.{EachNumbered, IsTraced}
-use Rattle.feeders.specs.Steps.{steps_behind}
+use Rattle.logs.specs.Run.{EachNumbered, IsTraced}
+use Rattle.logs.specs.Steps.{steps_behind}
 use Rattle.lint.specs.Found.{NamesElements}
 
 -- a text has elements before its fault, and all of them where it has no fault

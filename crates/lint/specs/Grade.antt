@@ -3,7 +3,7 @@ use Rattle.std.specs.Prelude.{ℕ, Bool, true, false, List, codes, ◌||◌, if�
 use Rattle.std.specs.Borrow.{Bor}
 use Rattle.std.specs.List.{list_any}
 use Rattle.std.specs.Str.{bytes_eq}
-use Rattle.feeders.specs.Code.{break_code_of, refused_code as code_of_refused}
+use Rattle.logs.specs.Code.{break_code_of, refused_code as code_of_refused}
 use Rattle.tower_file.specs.Tower.{tower_fault_code as code_of_fault}
 use Rattle.lint.specs.declared.finding.Amiss.{Amiss}
 use Rattle.lint.specs.declared.finding.Amiss.TheVariants.{Refused, Broken, Tower, Noted}

@@ -19,10 +19,10 @@ use Rattle.jepsen_form.specs.declared.fault.FormField.{FormField}
 use Rattle.jepsen_form.specs.declared.fault.FormField.TheVariants as fields
 use Rattle.pairing.specs.declared.fault.PairFault.{PairFault}
 use Rattle.pairing.specs.declared.fault.PairFault.TheVariants as pairs
-use Rattle.feeders.specs.declared.log.BreakCode.{BreakCode}
-use Rattle.feeders.specs.declared.log.BreakCode.TheVariants as breaks
-use Rattle.feeders.specs.declared.log.Code.{Code}
-use Rattle.feeders.specs.declared.log.Code.TheVariants as codings
+use Rattle.logs.specs.declared.log.BreakCode.{BreakCode}
+use Rattle.logs.specs.declared.log.BreakCode.TheVariants as breaks
+use Rattle.logs.specs.declared.log.Code.{Code}
+use Rattle.logs.specs.declared.log.Code.TheVariants as codings
 use Rattle.lint.specs.declared.finding.Amiss.{Amiss}
 use Rattle.lint.specs.declared.finding.Amiss.TheVariants as amiss
 use Rattle.lint.specs.declared.finding.Note.{Note}

@@ -4,19 +4,20 @@ ghost use Rattle.std.specs.Prelude.{◌≡◌, ◌≤◌, ◌<◌, ◌++◌, ℕ
 ghost use Rattle.std.specs.List.{AllZip, flat_map};
 ghost use Rattle.std.specs.Option.{option_to_list};
 ghost use Rattle.shards.specs.Closing.{ClosedShard};
-ghost use Rattle.feeders.specs.declared.log.Log.{Log as ALog};
+ghost use Rattle.logs.specs.declared.log.Log.{Log as ALog};
 ghost use Rattle.feeders.specs.Ending.{MayEnd};
 ghost use Rattle.feeders.specs.Readers.{AreReadOf};
-ghost use Rattle.feeders.specs.Run.{IsRun};
+ghost use Rattle.logs.specs.Run.{IsRun};
 ghost use Rattle.lint.specs.Found.{AreFoundIn, IsFoundIn, NamesElements, found_of_break, found_of_line};
 
 use crate::finding::{Amiss, Finding, Findings, TraceFindings};
 use crate::notes::{Look, Noted, notes_of};
 use crate::suspect::Suspects;
 use edn_reader::laws::elements_of_a_prefix;
-use feeders::{Broken, Line, Log, Pages, RunFault, What, run_in_turn};
+use feeders::{Pages, RunFault, run_in_turn};
 use intervals::RegId;
 use jepsen_form::MomentField;
+use logs::{Broken, Line, Log, What};
 use places::{Location, elements_of, spot_of_one};
 use shards::{Closed, NoGate};
 use std::alloc::{AllocError, Global};

@@ -4,9 +4,9 @@ ghost use Rattle.std.specs.Prelude.{◌≡◌, ◌++◌, OnOk};
 ghost use Rattle.std.specs.List.{list_any};
 ghost use Rattle.lint.specs.Grade.{finding_code, code_of_note, grade_of, grade_word, has_denied, has_grade, has_note, is_of_code, is_of_grade, lint_status};
 
-use feeders::{BreakCode, Code};
 use intervals::OpId;
 use jepsen_form::FormField;
+use logs::{BreakCode, Code};
 use places::Location;
 use std::alloc::AllocError;
 use std::collections::BTreeSet;

@@ -4,7 +4,7 @@ use crate::finding::{Amiss, Finding, Findings, Note};
 use crate::message::push_message;
 use crate::quoted::push_quoted;
 use crate::source::SourceText;
-use feeders::Code;
+use logs::Code;
 use std::alloc::{AllocError, Global};
 
 /// A record for each finding, by trace and place. The fields come in a fixed order.

@@ -5,9 +5,9 @@ ghost use Rattle.lint.specs.Message.{break_words, details_of, field_word, field_
 
 use crate::finding::{Amiss, Note};
 use edn_reader::EdnFault;
-use feeders::{BreakCode, Code};
 use intervals::{Holder, OpId, Refusal};
 use jepsen_form::{FormFault, FormField};
+use logs::{BreakCode, Code};
 use pairing::PairFault;
 use std::alloc::AllocError;
 use tower_file::{TowerFault, TowerField};

@@ -20,15 +20,15 @@ use Rattle.intervals.specs.Operation.{is_write, value_of}
 use Rattle.tower_file.specs.Contents.{Register, TowerModel}
 use Rattle.shards.specs.Closing.{ClosedShard}
 use Rattle.shards.specs.declared.entry.VerdictChange.{VerdictChange}
-use Rattle.feeders.specs.Code.{break_code_of, refused_code}
-use Rattle.feeders.specs.declared.log.Broken.{Broken}
-use Rattle.feeders.specs.declared.log.Code.{Code}
-use Rattle.feeders.specs.declared.log.Line.{Line}
-use Rattle.feeders.specs.declared.log.Log.{Log}
-use Rattle.feeders.specs.declared.log.What.{What}
-use Rattle.feeders.specs.declared.log.What.TheVariants.{Refused, Answered}
-use Rattle.feeders.specs.declared.watcher.Notice.{Notice}
-use Rattle.feeders.specs.declared.watcher.Notice.TheVariants as notices
+use Rattle.logs.specs.Code.{break_code_of, refused_code}
+use Rattle.logs.specs.declared.log.Broken.{Broken}
+use Rattle.logs.specs.declared.log.Code.{Code}
+use Rattle.logs.specs.declared.log.Line.{Line}
+use Rattle.logs.specs.declared.log.Log.{Log}
+use Rattle.logs.specs.declared.log.What.{What}
+use Rattle.logs.specs.declared.log.What.TheVariants.{Refused, Answered}
+use Rattle.logs.specs.declared.notice.Notice.{Notice}
+use Rattle.logs.specs.declared.notice.Notice.TheVariants as notices
 use Rattle.register_book.specs.declared.fault.Fault.{Fault}
 use Rattle.register_book.specs.declared.fault.Fault.TheVariants as faults
 use Rattle.register_book.specs.declared.fault.Witness.{Witness}
@@ -40,7 +40,7 @@ use Rattle.report.specs.declared.finding.Finding.{Finding}
 use Rattle.report.specs.Culprit.{is_culprit}
 use Rattle.report.specs.Finding.{fails_of}
 use Rattle.report.specs.Listing.{level_name}
-use Rattle.report.specs.Names.{kind_word, register_name}
+use Rattle.phrases.specs.Names.{kind_word, register_name}
 use Rattle.report.specs.Section.{shown_of}
 use Rattle.records.specs.declared.allowed.Allowed.{Allowed}
 use Rattle.records.specs.declared.allowed.Source.{Source}

@@ -19,12 +19,12 @@ use Rattle.intervals.specs.declared.operation.Value.TheVariants.{Nil, Int}
 use Rattle.intervals.specs.Operation.{value_of}
 use Rattle.tower_file.specs.Contents.{Register, TowerModel}
 use Rattle.shards.specs.Closing.{ClosedShard}
-use Rattle.feeders.specs.declared.log.Broken.{Broken}
-use Rattle.feeders.specs.declared.log.Code.{Code}
-use Rattle.feeders.specs.declared.log.Line.{Line}
-use Rattle.feeders.specs.declared.log.Log.{Log}
-use Rattle.feeders.specs.declared.log.What.{What}
-use Rattle.feeders.specs.declared.log.What.TheVariants.{Refused, Answered}
+use Rattle.logs.specs.declared.log.Broken.{Broken}
+use Rattle.logs.specs.declared.log.Code.{Code}
+use Rattle.logs.specs.declared.log.Line.{Line}
+use Rattle.logs.specs.declared.log.Log.{Log}
+use Rattle.logs.specs.declared.log.What.{What}
+use Rattle.logs.specs.declared.log.What.TheVariants.{Refused, Answered}
 use Rattle.register_book.specs.declared.fault.Fault.TheVariants as faults
 use Rattle.register_book.specs.declared.fault.Witness.{Witness}
 use Rattle.register_book.specs.declared.fault.Witness.TheVariants.{Wrong, Unwritten, Split, Early, Crossing}
@@ -33,11 +33,13 @@ use Rattle.report.specs.declared.finding.Finding.{Finding}
 use Rattle.report.specs.Culprit.{culprits_from, culprits_of, is_culprit}
 use Rattle.report.specs.Finding.{fails_of}
 use Rattle.report.specs.Listing.{level_name}
-use Rattle.report.specs.Names.{id_text, place_text, printed, register_name, verdict_word}
+use Rattle.phrases.specs.Names.{id_text, place_text, printed, register_name, verdict_word}
 use Rattle.report.specs.Notes.{broken_line, log_text, logs_text, note_line, what_line}
 use Rattle.report.specs.Order.{ids_text, order_line}
 use Rattle.report.specs.Report.{IsReport, culprit_line, report_text}
-use Rattle.report.specs.Section.{fault_line, holder_text, part_line, part_line_of, part_lines, register_line, section_text, sections_text, shown_of, witness_text}
+use Rattle.phrases.specs.Fault.{fault_line, holder_text}
+use Rattle.report.specs.Section.{part_line, part_line_of, part_lines, section_text, sections_text, shown_of, witness_text}
+use Rattle.phrases.specs.Register.{register_line}
 use Rattle.places.specs.declared.location.Location.{Location}
 use Rattle.places.specs.Spots.{PlacesModel}
 use Rattle.records.specs.declared.allowed.Allowed.{Allowed}

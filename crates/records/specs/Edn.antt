@@ -1,7 +1,7 @@
 -- A record in EDN.
 use Rattle.std.specs.Prelude.{ℕ, Bool, true, false, List, [], ◌∷◌, ◌++◌, ◌&&◌, ◌||◌, ◌==◌, map, flat_map, codes, encode_utf8_all, if◌then◌else◌}
 use Rattle.bstr.specs.Utf8.{lossy_chars}
-use Rattle.report.specs.Names.{place_text, printed_char}
+use Rattle.phrases.specs.Names.{place_text, printed_char}
 use Rattle.records.specs.Symbol.{Symbol, begin_record, end_record, begin_list, end_list, key, word, text, place, number, flag, nothing}
 
 -- a character as it is in a string of EDN: a quote and a backslash after a backslash

@@ -2,7 +2,7 @@
 use Rattle.std.specs.Prelude.{ℕ, List, map}
 use Rattle.json.specs.Token as json
 use Rattle.json.specs.Print.{print}
-use Rattle.report.specs.Names.{place_text, printed}
+use Rattle.phrases.specs.Names.{place_text, printed}
 use Rattle.records.specs.Symbol.{Symbol, begin_record, end_record, begin_list, end_list, key, word, text, place, number, flag, nothing}
 
 -- a token of a record as a token of JSON

@@ -6,9 +6,9 @@ use Rattle.tower_file.specs.Contents.{Register}
 use Rattle.register_book.specs.declared.fault.Fault.{Fault}
 use Rattle.register_book.specs.declared.fault.Fault.TheVariants.{Wrong, Unwritten, Split, Early, Crossing}
 use Rattle.shards.specs.declared.entry.VerdictChange.{VerdictChange}
-use Rattle.feeders.specs.declared.watcher.Notice.{Notice}
-use Rattle.feeders.specs.declared.watcher.Notice.TheVariants.{Changed, Refused, Broke, Ended}
-use Rattle.report.specs.Names.{kind_word, register_name}
+use Rattle.logs.specs.declared.notice.Notice.{Notice}
+use Rattle.logs.specs.declared.notice.Notice.TheVariants.{Changed, Refused, Broke, Ended}
+use Rattle.phrases.specs.Names.{kind_word, register_name}
 use Rattle.records.specs.Fault.{early_symbols, kind_symbols, pair_symbols, split_symbols, unwritten_symbols}
 use Rattle.records.specs.Field.{flag_symbols, number_symbols, place_symbols, text_field, type_symbols, word_symbols}
 use Rattle.records.specs.Log.{broken_symbols, refused_symbols}

@@ -2,7 +2,7 @@
 use Rattle.std.specs.Prelude.{ℕ, Bool, List, [], ◌∷◌, ◌++◌, Option, Some, None, codes, flat_map, is_none}
 use Rattle.register_book.specs.declared.fault.Witness.{Witness}
 use Rattle.report.specs.declared.finding.Finding.{Finding}
-use Rattle.report.specs.Names.{kind_word}
+use Rattle.phrases.specs.Names.{kind_word}
 use Rattle.report.specs.Section.{shown_of}
 use Rattle.places.specs.Spots.{PlacesModel}
 use Rattle.records.specs.declared.allowed.Allowed.{Allowed}

@@ -6,17 +6,17 @@ use Rattle.intervals.specs.declared.operation.OpId.{OpId}
 use Rattle.intervals.specs.declared.operation.RegId.{RegId}
 use Rattle.tower_file.specs.Contents.{Register, TowerModel}
 use Rattle.shards.specs.Closing.{ClosedShard}
-use Rattle.feeders.specs.declared.log.Broken.{Broken}
-use Rattle.feeders.specs.declared.log.Line.{Line}
-use Rattle.feeders.specs.declared.log.Log.{Log}
-use Rattle.feeders.specs.declared.log.What.{What}
-use Rattle.feeders.specs.declared.log.What.TheVariants.{Refused, Answered}
+use Rattle.logs.specs.declared.log.Broken.{Broken}
+use Rattle.logs.specs.declared.log.Line.{Line}
+use Rattle.logs.specs.declared.log.Log.{Log}
+use Rattle.logs.specs.declared.log.What.{What}
+use Rattle.logs.specs.declared.log.What.TheVariants.{Refused, Answered}
 use Rattle.places.specs.Spots.{HasSpots, PlacesModel}
 use Rattle.report.specs.declared.finding.Finding.{Finding}
 use Rattle.report.specs.Culprit.{culprits_of, is_culprit}
 use Rattle.report.specs.Finding.{AreFindings, fails_of}
 use Rattle.report.specs.Listing.{level_name}
-use Rattle.report.specs.Names.{register_name}
+use Rattle.phrases.specs.Names.{register_name}
 use Rattle.report.specs.Order.{IsAsked}
 use Rattle.report.specs.Refused.{refused}
 use Rattle.report.specs.Summary.{is_broken, is_failing, operations}

@@ -2,7 +2,7 @@
 use Rattle.std.specs.Prelude.{ℕ, Bool, false, List, [], ◌∷◌, ◌++◌, ◌&&◌, ◌||◌, codes, flat_map, unwrap_or, if◌then◌else◌}
 use Rattle.std.specs.List.{slice_get}
 use Rattle.std.specs.Str.{bytes_eq}
-use Rattle.report.specs.Names.{place_text, printed, verdict_word}
+use Rattle.phrases.specs.Names.{place_text, printed, verdict_word}
 use Rattle.report.specs.Section.{part_line}
 use Rattle.records.specs.Symbol.{Symbol, key, word, text, place, number, flag, nothing}
 

@@ -6,7 +6,7 @@ ghost use Rattle.records.specs.Edn.{begins, blank_before, edn_from, edn_text, en
 
 use crate::token::Token;
 use bstr::ByteSlice;
-use report::printed_char;
+use phrases::printed_char;
 use std::alloc::AllocError;
 
 /// Adds a record in EDN. Where memory is refused, the text may have got a prefix of it.

@@ -7,7 +7,7 @@ ghost use Rattle.records.specs.Json.{json_text, json_token};
 
 use crate::token::Token;
 use json::Writer;
-use report::push_printed;
+use phrases::push_printed;
 use std::alloc::{AllocError, Global};
 
 /// Adds a record in JSON.

@@ -13,8 +13,8 @@ use crate::field::{
 use crate::spot::{add_holder_place, add_spot, known_token};
 use crate::token::Token;
 use crate::value::holder_token;
-use feeders::{Broken, Code};
 use intervals::{Holder, Refusal};
+use logs::{Broken, Code};
 use places::Places;
 use std::alloc::AllocError;
 

@@ -1,7 +1,7 @@
 //! The records of what a watcher is told.
 
 ghost use Rattle.std.specs.Prelude.{◌≡◌, ◌++◌, ◌∷◌, [], OnOk};
-ghost use Rattle.report.specs.Names.{register_name};
+ghost use Rattle.phrases.specs.Names.{register_name};
 ghost use Rattle.records.specs.Json.{json_text};
 ghost use Rattle.records.specs.Notice.{change_symbols, changed_symbols, conflict_ids_symbols, ended_symbols, fault_field, fault_ids_symbols, notice_symbols, optional_fault_symbols, wrong_id_symbols};
 ghost use Rattle.records.specs.Symbol.{symbols_of};
@@ -11,10 +11,10 @@ use crate::field::{add_flag, add_number, add_place, add_text, add_type, add_word
 use crate::line::{Notation, push_record};
 use crate::log::{add_broken, add_refused};
 use crate::token::Token;
-use feeders::Notice;
 use intervals::{Holder, OpId};
+use logs::Notice;
+use phrases::{kind_word, name_of};
 use register_book::Fault;
-use report::{kind_word, name_of};
 use shards::VerdictChange;
 use std::alloc::{AllocError, Global};
 use tower_file::Tower;

@@ -9,9 +9,10 @@ use crate::fault::add_fault;
 use crate::field::{add_end, add_flag, add_list, add_number, add_text, add_type, add_word};
 use crate::operation::add_ops;
 use crate::token::Token;
+use phrases::kind_word;
 use places::Places;
 use register_book::Witness;
-use report::{Finding, kind_word, shown_of};
+use report::{Finding, shown_of};
 use std::alloc::AllocError;
 
 /// Adds the record of a register: its number, the name of its level, its name, what is found of it, whether it is to

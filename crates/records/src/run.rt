@@ -21,12 +21,13 @@ use crate::line::{Notation, push_record};
 use crate::log::{add_answer, add_placed_break, add_placed_refusal};
 use crate::register::add_register;
 use crate::token::Token;
-use feeders::{Broken, Line, Log, Run, What};
 use intervals::{OpId, RegId};
+use logs::{Broken, Line, Log, Run, What};
+use phrases::name_of;
 use places::Places;
 use report::{
     Finding, ReportFault, count_broken, count_failing, count_operations, count_refused,
-    culprits_in, failing_of, find_all, is_culprit, level_name, name_of, order_of,
+    culprits_in, failing_of, find_all, is_culprit, level_name, order_of,
 };
 use shards::Closed;
 use std::alloc::{AllocError, Global};

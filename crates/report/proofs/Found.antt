@@ -13,8 +13,8 @@ use Rattle.jepsen_form.specs.declared.item.MomentField.{MomentField}
 use Rattle.shards.specs.declared.entry.Entry.{Entry}
 use Rattle.shards.specs.Journal.{left_by}
 use Rattle.shards.specs.Closing.{ClosedShard, book_of, journal_of}
-use Rattle.feeders.specs.declared.log.Log.{Log}
-use Rattle.feeders.specs.Run.{IsRun}
+use Rattle.logs.specs.declared.log.Log.{Log}
+use Rattle.logs.specs.Run.{IsRun}
 use Rattle.report.specs.declared.finding.Finding.{Finding}
 use Rattle.report.specs.Finding.{AreFailing, AreFindings, IsFindingOf, IsOfTower, fails_of, fails_in, holds_in}
 use Rattle.report.specs.Culprit.{RegisterHolds, Fails}

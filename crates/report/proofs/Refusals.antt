@@ -6,13 +6,13 @@ use Rattle.std.specs.Str.{bytes_eq}
 use Rattle.intervals.specs.declared.refusal.Refusal.TheVariants.{UnknownOp, OpTaken, EndNotAfterBegin, MomentTaken, MomentTooLarge, NotAWriter, WritesOverlap, ValueTaken, OutOfDomain, ClaimFixed, ClaimWriters, ClaimOverlap, ClaimRepeats, ClaimInitial}
 use Rattle.jepsen_form.specs.declared.fault.FormFault.TheVariants.{NotAMap, MissingField, DuplicateField, BadType, UnsupportedF, BadValue, BadMoment, NoRegister}
 use Rattle.pairing.specs.declared.fault.PairFault.TheVariants.{ProcessBusy, NoInvocation, AnswerMismatch, Memory}
-use Rattle.feeders.specs.Code.{refused_code}
-use Rattle.feeders.specs.declared.log.Code.{Code}
-use Rattle.feeders.specs.declared.log.Code.TheVariants.{Form, Pair, Register}
-use Rattle.feeders.specs.declared.log.Line.{Line}
-use Rattle.feeders.specs.declared.log.Log.{Log}
-use Rattle.feeders.specs.declared.log.What.{What}
-use Rattle.feeders.specs.declared.log.What.TheVariants.{Refused, Answered}
+use Rattle.logs.specs.Code.{refused_code}
+use Rattle.logs.specs.declared.log.Code.{Code}
+use Rattle.logs.specs.declared.log.Code.TheVariants.{Form, Pair, Register}
+use Rattle.logs.specs.declared.log.Line.{Line}
+use Rattle.logs.specs.declared.log.Log.{Log}
+use Rattle.logs.specs.declared.log.What.{What}
+use Rattle.logs.specs.declared.log.What.TheVariants.{Refused, Answered}
 use Rattle.report.specs.Refused.{is_refusal, is_refusal_by, is_refused_by, is_refused_line, refusal_codes, refused, refused_by}
 
 both : {X : Type 0} (f g : X → ℕ) (xs : List X) → sum_by (λ x. f x + g x) xs ≡ sum_by f xs + sum_by g xs

@@ -7,11 +7,11 @@ use Rattle.intervals.specs.declared.operation.RegId.{RegId}
 use Rattle.tower_file.specs.Contents.{TowerModel, Register}
 use Rattle.register_book.specs.Fault.{ids_of}
 use Rattle.report.specs.declared.finding.Finding.{Finding}
-use Rattle.report.specs.Names.{printed, kind_word, register_name}
+use Rattle.phrases.specs.Names.{printed, kind_word, register_name}
 use Rattle.report.specs.Finding.{fails_in}
 use Rattle.report.specs.Culprit.{is_culprit}
 use Rattle.report.specs.Listing.{level_name}
-use Rattle.report.specs.Section.{fault_line}
+use Rattle.phrases.specs.Fault.{fault_line}
 
 -- the ids of all registers of a tower, by number
 abbrev pub ids_of_tower : TowerModel → List RegId

@@ -1,5 +1,4 @@
 -- words of the public clauses
-pub mod Names
 pub mod Listing
 pub mod Finding
 pub mod Culprit

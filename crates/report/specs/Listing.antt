@@ -3,7 +3,7 @@ use Rattle.std.specs.Prelude.{ℕ, ◌+◌, List, [], ◌∷◌, ◌++◌, unwra
 use Rattle.std.specs.List.{slice_get}
 use Rattle.std.specs.Fmt.{decimal}
 use Rattle.tower_file.specs.Contents.{Register, TowerModel}
-use Rattle.report.specs.Names.{printed, kind_word}
+use Rattle.phrases.specs.Names.{printed, kind_word}
 
 -- the name of a level; empty where there is none of that number
 abbrev pub level_name : List (List ℕ) → ℕ → List ℕ

@@ -2,13 +2,13 @@
 use Rattle.std.specs.Prelude.{ℕ, ◌+◌, List, [], ◌∷◌, ◌++◌, flat_map, Option, Some, None, codes}
 use Rattle.std.specs.Fmt.{decimal}
 use Rattle.tower_file.specs.Contents.{Register as Said}
-use Rattle.feeders.specs.Code.{break_code_of, refused_code}
-use Rattle.feeders.specs.declared.log.Broken.{Broken}
-use Rattle.feeders.specs.declared.log.Line.{Line}
-use Rattle.feeders.specs.declared.log.Log.{Log}
-use Rattle.feeders.specs.declared.log.What.{What}
-use Rattle.feeders.specs.declared.log.What.TheVariants.{Refused, Answered}
-use Rattle.report.specs.Names.{printed, verdict_word, place_text, register_name}
+use Rattle.logs.specs.Code.{break_code_of, refused_code}
+use Rattle.logs.specs.declared.log.Broken.{Broken}
+use Rattle.logs.specs.declared.log.Line.{Line}
+use Rattle.logs.specs.declared.log.Log.{Log}
+use Rattle.logs.specs.declared.log.What.{What}
+use Rattle.logs.specs.declared.log.What.TheVariants.{Refused, Answered}
+use Rattle.phrases.specs.Names.{printed, verdict_word, place_text, register_name}
 
 -- the line of a refusal or an answer: the place of its element, and the code, or the register with its verdict
 abbrev pub what_line : List Said → ℕ → ℕ → What → List ℕ

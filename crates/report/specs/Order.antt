@@ -9,7 +9,7 @@ use Rattle.zones.specs.AtFirst.{with_start}
 use Rattle.zones.specs.Turn.{IsOrder}
 use Rattle.tower_file.specs.Contents.{Register}
 use Rattle.shards.specs.Closing.{ClosedShard, book_of}
-use Rattle.report.specs.Names.{printed, id_text, register_name}
+use Rattle.phrases.specs.Names.{printed, id_text, register_name}
 
 -- an order of a register's operations if the register is atomic and holds, else none; the register has to be there
 abbrev pub IsOrderOf : Option RegisterState → Option (List OpId) → Type 0

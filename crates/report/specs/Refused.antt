@@ -3,12 +3,12 @@ use Rattle.std.specs.Prelude.{ℕ, ◌+◌, Bool, true, false, List, [], ◌∷�
 use Rattle.std.specs.Option.{option_map_or}
 use Rattle.std.specs.Str.{bytes_eq}
 use Rattle.std.specs.Fmt.{decimal}
-use Rattle.feeders.specs.Code.{refused_code}
-use Rattle.feeders.specs.declared.log.Line.{Line}
-use Rattle.feeders.specs.declared.log.Log.{Log}
-use Rattle.feeders.specs.declared.log.What.{What}
-use Rattle.feeders.specs.declared.log.What.TheVariants.{Refused, Answered}
-use Rattle.report.specs.Names.{place_text}
+use Rattle.logs.specs.Code.{refused_code}
+use Rattle.logs.specs.declared.log.Line.{Line}
+use Rattle.logs.specs.declared.log.Log.{Log}
+use Rattle.logs.specs.declared.log.What.{What}
+use Rattle.logs.specs.declared.log.What.TheVariants.{Refused, Answered}
+use Rattle.phrases.specs.Names.{place_text}
 
 -- all codes of refused elements: F of their form, P of the pairing of events, X of a register
 abbrev pub refusal_codes : List (List ℕ)

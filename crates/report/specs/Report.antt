@@ -4,9 +4,9 @@ use Rattle.intervals.specs.declared.operation.OpId.{OpId}
 use Rattle.intervals.specs.declared.operation.RegId.{RegId}
 use Rattle.tower_file.specs.Contents.{TowerModel, Register}
 use Rattle.shards.specs.Closing.{ClosedShard}
-use Rattle.feeders.specs.declared.log.Log.{Log}
+use Rattle.logs.specs.declared.log.Log.{Log}
 use Rattle.report.specs.declared.finding.Finding.{Finding}
-use Rattle.report.specs.Names.{printed, register_name}
+use Rattle.phrases.specs.Names.{printed, register_name}
 use Rattle.report.specs.Finding.{AreFindings}
 use Rattle.report.specs.Culprit.{culprits_of}
 use Rattle.report.specs.Section.{sections_text}

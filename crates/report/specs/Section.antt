@@ -2,45 +2,18 @@
 use Rattle.std.specs.Prelude.{ℕ, Bool, false, List, [], ◌∷◌, ◌++◌, flat_map, Option, Some, None, is_none, codes, if◌then◌else◌}
 use Rattle.std.specs.Option.{option_map_or}
 use Rattle.std.specs.Borrow.{Bor}
-use Rattle.std.specs.Fmt.{decimal}
-use Rattle.intervals.specs.declared.claim.Holder.{Holder}
-use Rattle.intervals.specs.declared.claim.Holder.TheVariants as holders
-use Rattle.intervals.specs.declared.claim.Kind.{Kind}
 use Rattle.intervals.specs.declared.operation.Op.{Op}
 use Rattle.intervals.specs.Operation.{same_id}
 use Rattle.tower_file.specs.Contents.{Register}
-use Rattle.register_book.specs.declared.fault.Fault.{Fault}
-use Rattle.register_book.specs.declared.fault.Fault.TheVariants as faults
 use Rattle.register_book.specs.declared.fault.Side.{Side}
 use Rattle.register_book.specs.declared.fault.Side.TheVariants as sides
 use Rattle.register_book.specs.declared.fault.Witness.{Witness}
 use Rattle.register_book.specs.declared.fault.Witness.TheVariants.{Wrong, Unwritten, Split, Early, Crossing}
 use Rattle.register_book.specs.Fault.{ids_of, ops_at}
 use Rattle.report.specs.declared.finding.Finding.{Finding}
-use Rattle.report.specs.Names.{printed, kind_word, verdict_word, id_text}
-
--- the line of a register: its name, its kind, its verdict and how many operations it has
-abbrev pub register_line : List ℕ → Kind → Bool → ℕ → List ℕ
-register_line name kind holds operations =
-    codes "register " ++ printed name ++ codes " " ++ kind_word kind ++ codes " " ++ verdict_word holds ++ codes " " ++ decimal operations ++ 10 ∷ []
-
--- what holds a value, as it is printed: the id of an operation, or `initial` for the register at first
-abbrev pub holder_text : Holder → List ℕ
-holder_text (holders.Op id) = id_text id
-holder_text holders.Initial = codes "initial"
-
--- a fault as it is printed: its word, and the ids of the operations that show it
-abbrev pub fault_text : Fault → List ℕ
-fault_text (faults.Wrong read) = codes "wrong " ++ id_text read
-fault_text (faults.Unwritten read) = codes "unwritten " ++ id_text read
-fault_text (faults.Split first second) = codes "unwritten " ++ id_text first ++ codes " and " ++ id_text second
-fault_text (faults.Early read write) = codes "early " ++ id_text read ++ codes " before " ++ id_text write
-fault_text (faults.Crossing a b c d) =
-    codes "conflict " ++ holder_text a ++ codes " " ++ holder_text b ++ codes " " ++ holder_text c ++ codes " " ++ holder_text d
-
--- the line of a fault
-abbrev pub fault_line : Fault → List ℕ
-fault_line fault = codes "  " ++ fault_text fault ++ 10 ∷ []
+use Rattle.phrases.specs.Names.{printed}
+use Rattle.phrases.specs.Fault.{fault_line}
+use Rattle.phrases.specs.Register.{register_line}
 
 -- the line of a lent text, which begins with a bar
 abbrev pub part_line : List ℕ → List ℕ

@@ -6,9 +6,8 @@ ghost use Rattle.report.specs.Failing.{blamed_line, culprit_text, first_failing,
 use crate::culprit::is_culprit;
 use crate::finding::{Finding, fails};
 use crate::listing::level_name;
-use crate::names::{kind_word, name_of, push_printed};
-use crate::section::push_fault;
 use intervals::RegId;
+use phrases::{kind_word, name_of, push_fault, push_printed};
 use std::alloc::{AllocError, Global};
 use tower_file::Tower;
 

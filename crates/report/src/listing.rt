@@ -5,8 +5,8 @@ ghost use Rattle.std.specs.Option.{option_map_or};
 ghost use Rattle.std.specs.List.{slice_get};
 ghost use Rattle.report.specs.Listing.{listing_line, tower_lines, level_name};
 
-use crate::names::{kind_word, push_printed};
 use intervals::RegId;
+use phrases::{kind_word, push_printed};
 use std::alloc::{AllocError, Global};
 use tower_file::Tower;
 

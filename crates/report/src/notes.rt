@@ -3,8 +3,8 @@
 ghost use Rattle.std.specs.Prelude.{◌≡◌, ◌++◌, OnOk, string_bytes};
 ghost use Rattle.report.specs.Notes.{broken_line, log_text, logs_text, note_line};
 
-use crate::names::{name_of, push_printed, verdict_word};
-use feeders::{Broken, Line, Log, What};
+use logs::{Broken, Line, Log, What};
+use phrases::{name_of, push_printed, verdict_word};
 use std::alloc::AllocError;
 use tower_file::Tower;
 

@@ -5,8 +5,8 @@ ghost use Rattle.register_book.specs.BookModel.{claimed_of};
 ghost use Rattle.shards.specs.Closing.{book_of};
 ghost use Rattle.report.specs.Order.{IsOrderOf, ids_text, order_line};
 
-use crate::names::{name_of, push_id, push_printed};
 use intervals::{Memory, OpId, RegId};
+use phrases::{name_of, push_id, push_printed};
 use register_book::RegisterBook;
 use shards::Closed;
 use std::alloc::{AllocError, Global};

@@ -3,7 +3,7 @@
 ghost use Rattle.std.specs.Prelude.{◌≡◌, ◌++◌, OnOk, count_by, flat_map, string_bytes};
 ghost use Rattle.report.specs.Refused.{code_text, first_in, first_refused, is_refused_by, is_refused_line, refused, refused_by, refused_text, refusal_codes};
 
-use feeders::{Line, Log, What};
+use logs::{Line, Log, What};
 use std::alloc::AllocError;
 
 /// All codes of refused elements: of their form, of the pairing, and of a register.

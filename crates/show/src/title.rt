@@ -2,7 +2,7 @@
 
 use crate::scene::Scene;
 use crate::subject::Subject;
-use report::{kind_word, push_fault, push_printed};
+use phrases::{kind_word, push_fault, push_printed};
 use std::alloc::{AllocError, Global};
 use story::Story;
 

@@ -1,12 +1,12 @@
 //! What the codes of a text, E1 to E7, and of its reading, N1 and N2, say.
 
 ghost use Rattle.std.specs.Prelude.{◌≡◌, Some};
-ghost use Rattle.feeders.specs.Code.{break_code_of};
+ghost use Rattle.logs.specs.Code.{break_code_of};
 ghost use Rattle.texts.specs.Topics.{text_code, topic_code, topic_of, topic_of_lower};
 
 use crate::entry::{ENDS_THE_RUN, Explanation, NO_EXAMPLE, NOT_PRINTED, ONE_SAFE};
 use crate::topic::Topic;
-use feeders::BreakCode;
+use logs::BreakCode;
 
 /// The codes of a text and of its reading.
 #[derive(Clone, Copy)]

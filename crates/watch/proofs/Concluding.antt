@@ -4,10 +4,10 @@ use Rattle.std.specs.Prelude.{Result, Ok, Err, IfErr, IfOk, is_ok}
 use Rattle.std.specs.Io.KnownBytes.{Appends}
 use Rattle.tower_file.specs.Contents.{Register, TowerModel}
 use Rattle.feeders.specs.declared.fault.RunFault.{RunFault}
-use Rattle.feeders.specs.declared.run.Run.{Run}
-use Rattle.feeders.specs.declared.watcher.Notice.{Notice}
+use Rattle.logs.specs.declared.run.Run.{Run}
+use Rattle.logs.specs.declared.notice.Notice.{Notice}
 use Rattle.feeders.specs.Readers.{AreReadOf}
-use Rattle.feeders.specs.Run.{IsRun}
+use Rattle.logs.specs.Run.{IsRun}
 use Rattle.watch.specs.declared.fault.WatchFault.{WatchFault}
 use Rattle.watch.specs.declared.run.Terms.{Terms}
 use Rattle.watch.specs.declared.run.Watched.{Watched}

@@ -9,7 +9,7 @@ use Rattle.intervals.specs.Kind.{Holds}
 use Rattle.intervals.specs.Refusal.{standing}
 use Rattle.jepsen_form.specs.declared.fault.FormFault.{FormFault}
 use Rattle.jepsen_form.specs.declared.item.Item.{Item}
-use Rattle.feeders.specs.Steps.{StepResult, edits_among, placed, step_behind, steps_behind, steps_of}
+use Rattle.logs.specs.Steps.{StepResult, edits_among, placed, step_behind, steps_behind, steps_of}
 use Rattle.watch.specs.Coming.{ComeInOrder, LeaveReadValues}
 use Rattle.watch.specs.Trace.{EditsNothing, IsNoFail, IsPlainTrace}
 use Rattle.watch.proofs.Placing.{edit_list, edit_lists, plain_placed, edits_are, among_lists}

@@ -5,7 +5,7 @@ use Rattle.std.specs.Option.{option_to_list}
 use Rattle.std.proofs.Math.Seq.{split_at, take-suc}
 use Rattle.std.proofs.lemmas.List.{append-nil, append_assoc, append_cancel_left}
 use Rattle.std.proofs.lemmas.List.Elements.{filter_map-append}
-use Rattle.feeders.specs.declared.watcher.Notice.{Notice}
+use Rattle.logs.specs.declared.notice.Notice.{Notice}
 use Rattle.watch.specs.Noted.{IsToldOf}
 
 first_given : {A : Type 0} (gives : Notice → Option A) (notice : Notice) (after : List Notice) (found : Option A) → gives notice ≡ found

@@ -8,8 +8,8 @@ use Rattle.std.proofs.lemmas.List.{append-nil, append_assoc, map-append}
 use Rattle.std.proofs.lemmas.Bool.Decides.{nat_tests}
 use Rattle.std.proofs.lemmas.List.Elements.{filter-append}
 use Rattle.shards.specs.declared.entry.VerdictChange.{VerdictChange}
-use Rattle.feeders.specs.declared.watcher.Notice.{Notice}
-use Rattle.feeders.specs.declared.watcher.Notice.TheVariants.{Changed}
+use Rattle.logs.specs.declared.notice.Notice.{Notice}
+use Rattle.logs.specs.declared.notice.Notice.TheVariants.{Changed}
 use Rattle.watch.specs.declared.settling.Held.{Held}
 use Rattle.watch.specs.Settling.{IsHeldBack, IsSettledUpTo, LessPairs, nothing, kept, healed, is_change_of, is_no_change, notices_of, says_fails}
 use Rattle.watch.specs.Teller.{IsPassedOn, ArePassedOn, IsWrittenOrHeld, held_notice, held_notices}

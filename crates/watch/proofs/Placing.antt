@@ -12,7 +12,7 @@ use Rattle.jepsen_form.specs.declared.item.Item.{Item}
 use Rattle.pairing.specs.Accepted.{Placed, accepted}
 use Rattle.pairing.specs.Step.{step_of}
 use Rattle.pairing.specs.declared.step.Step.TheVariants as steps
-use Rattle.feeders.specs.Steps.{StepResult, by_pairing, edit_on, edits_among, placed, placed_from, steps_behind, steps_of}
+use Rattle.logs.specs.Steps.{StepResult, by_pairing, edit_on, edits_among, placed, placed_from, steps_behind, steps_of}
 use Rattle.feeders.proofs.Items.{placed_on, not_placed}
 use Rattle.watch.specs.Trace.{IsNoEdit, item_moment, EditsNothing, IsNotAfter, IsInOrderWith, IsPlainTrace}
 

@@ -32,7 +32,7 @@ use Rattle.pairing.specs.Invocation.{invocation_by, answers, is_on, same_act}
 use Rattle.pairing.specs.Accepted.{Placed, is_event_of, invocation, unanswered_of, event_fault, fault_of, accepted}
 use Rattle.pairing.specs.Step.{id_of, act_of, value_read, append_of, amendment_of, invoke_step, ok_step, event_step, unless, step_of}
 use Rattle.watch.specs.Coming.{ComesLast, ComeInOrder, IsLatest}
-use Rattle.feeders.specs.Steps.{by_pairing}
+use Rattle.logs.specs.Steps.{by_pairing}
 use Rattle.watch.specs.Trace.{IsNoEdit, item_moment, IsNotAfter}
 use Rattle.watch.proofs.Placing.{edit_list, GoesBefore, IsPlain, edits_behind, edits_of_items}
 use Rattle.watch.proofs.Members.{here, in_none, kept_stands}

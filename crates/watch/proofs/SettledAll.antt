@@ -6,10 +6,10 @@ use Rattle.tower_file.specs.Contents.{TowerModel}
 use Rattle.shards.specs.declared.entry.VerdictChange.{VerdictChange}
 use Rattle.shards.specs.Closing.{ClosedShard, journal_of}
 use Rattle.shards.specs.VerdictChange.{AreVerdictChanges}
-use Rattle.feeders.specs.declared.log.Log.{Log}
-use Rattle.feeders.specs.declared.watcher.Notice.{Notice}
-use Rattle.feeders.specs.declared.watcher.Notice.TheVariants.{Changed, Refused, Broke, Ended}
-use Rattle.feeders.specs.Run.{plan_of_run}
+use Rattle.logs.specs.declared.log.Log.{Log}
+use Rattle.logs.specs.declared.notice.Notice.{Notice}
+use Rattle.logs.specs.declared.notice.Notice.TheVariants.{Changed, Refused, Broke, Ended}
+use Rattle.logs.specs.Run.{plan_of_run}
 use Rattle.watch.specs.declared.run.Terms.{Terms}
 use Rattle.watch.specs.Settling.{LessPairs, nothing, kept, healed, change_fails, changes_on, is_no_change, notices_of, says_fails}
 use Rattle.watch.specs.Watched.{IsWatched, changes_in}

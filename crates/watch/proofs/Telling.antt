@@ -7,7 +7,7 @@ use Rattle.std.proofs.lemmas.List.{append-nil, append_assoc, length-append, map-
 use Rattle.std.proofs.lemmas.List.Concat.{flat_map-append}
 use Rattle.std.proofs.lemmas.List.Folds.{list_any-append}
 use Rattle.tower_file.specs.Contents.{Register}
-use Rattle.feeders.specs.declared.watcher.Notice.{Notice}
+use Rattle.logs.specs.declared.notice.Notice.{Notice}
 use Rattle.watch.specs.declared.run.Terms.{Terms}
 use Rattle.watch.specs.declared.settling.Held.{Held}
 use Rattle.watch.specs.declared.teller.TellerState.{TellerState}

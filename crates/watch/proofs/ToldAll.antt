@@ -4,8 +4,8 @@ use Rattle.tower_file.specs.Contents.{TowerModel}
 use Rattle.shards.specs.declared.entry.VerdictChange.{VerdictChange}
 use Rattle.shards.specs.Closing.{ClosedShard, journal_of}
 use Rattle.shards.specs.VerdictChange.{AreVerdictChanges}
-use Rattle.feeders.specs.declared.log.Log.{Log}
-use Rattle.feeders.specs.Run.{plan_of_run}
+use Rattle.logs.specs.declared.log.Log.{Log}
+use Rattle.logs.specs.Run.{plan_of_run}
 use Rattle.watch.specs.declared.run.Terms.{Terms}
 use Rattle.watch.specs.Watched.{IsWatched, changes_in}
 

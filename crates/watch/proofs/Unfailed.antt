@@ -22,7 +22,7 @@ use Rattle.pairing.specs.declared.step.Step.{Step}
 use Rattle.pairing.specs.declared.step.Step.TheVariants as steps
 use Rattle.pairing.specs.Accepted.{unanswered_of, event_fault, accepted}
 use Rattle.pairing.specs.Step.{invoke_step, ok_step, event_step, unless}
-use Rattle.feeders.specs.Steps.{by_pairing, placed, step_behind, steps_behind}
+use Rattle.logs.specs.Steps.{by_pairing, placed, step_behind, steps_behind}
 use Rattle.watch.specs.Coming.{LeavesReadValues, LeaveReadValues}
 use Rattle.watch.specs.Trace.{EditsNothing, IsNoFail}
 use Rattle.watch.proofs.Placing.{edit_list, edit_lists}

@@ -1,8 +1,8 @@
 -- When a failure that is held back is written: how far each feeder has come, and how far it is waited for.
 use Rattle.std.specs.Prelude.{◌≡◌, ◌==◌, ◌||◌, ◌+◌, ℕ, zero, suc, Bool, true, false, nat_le, List, [], ◌∷◌, ◌++◌, All, Contains, filter, map, not, replicate, if◌then◌else◌}
 use Rattle.std.specs.List.{list_all, zip}
-use Rattle.feeders.specs.declared.watcher.Notice.{Notice}
-use Rattle.feeders.specs.declared.watcher.Notice.TheVariants.{Changed, Refused, Broke, Ended}
+use Rattle.logs.specs.declared.notice.Notice.{Notice}
+use Rattle.logs.specs.declared.notice.Notice.TheVariants.{Changed, Refused, Broke, Ended}
 use Rattle.records.specs.Run.{at_most_u64}
 use Rattle.watch.specs.declared.settling.Advance.{Advance}
 use Rattle.watch.specs.declared.settling.Advance.TheVariants.{Took, Over}

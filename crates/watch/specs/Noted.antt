@@ -2,14 +2,14 @@
 use Rattle.std.specs.Prelude.{◌≡◌, ◌<◌, ◌==◌, ℕ, Bool, true, false, List, [], ◌∷◌, ◌++◌, Option, Some, None, option_map, length, All, filter_map, if◌then◌else◌}
 use Rattle.std.specs.List.{slice_get}
 use Rattle.std.specs.Option.{option_to_list}
-use Rattle.feeders.specs.Code.{break_code_of, refused_code}
-use Rattle.feeders.specs.declared.log.Broken.{Broken as ABreak}
-use Rattle.feeders.specs.declared.log.Line.{Line}
-use Rattle.feeders.specs.declared.log.Log.{Log}
-use Rattle.feeders.specs.declared.log.What.{What}
-use Rattle.feeders.specs.declared.log.What.TheVariants as whats
-use Rattle.feeders.specs.declared.watcher.Notice.{Notice}
-use Rattle.feeders.specs.declared.watcher.Notice.TheVariants as notices
+use Rattle.logs.specs.Code.{break_code_of, refused_code}
+use Rattle.logs.specs.declared.log.Broken.{Broken as ABreak}
+use Rattle.logs.specs.declared.log.Line.{Line}
+use Rattle.logs.specs.declared.log.Log.{Log}
+use Rattle.logs.specs.declared.log.What.{What}
+use Rattle.logs.specs.declared.log.What.TheVariants as whats
+use Rattle.logs.specs.declared.notice.Notice.{Notice}
+use Rattle.logs.specs.declared.notice.Notice.TheVariants as notices
 
 -- what was told is all that there is to tell; or, where the watch stopped, the first of it
 abbrev pub IsToldOf : {A : Type 0} → Bool → List A → List A → Type 0

@@ -1,8 +1,8 @@
 -- Which of the notices that are told are written, where a failure that heals soon is not.
 use Rattle.std.specs.Prelude.{◌≡◌, ◌==◌, ℕ, Bool, true, false, not, List, [], ◌∷◌, ◌++◌, filter}
 use Rattle.shards.specs.declared.entry.VerdictChange.{VerdictChange}
-use Rattle.feeders.specs.declared.watcher.Notice.{Notice}
-use Rattle.feeders.specs.declared.watcher.Notice.TheVariants.{Changed, Refused, Broke, Ended}
+use Rattle.logs.specs.declared.notice.Notice.{Notice}
+use Rattle.logs.specs.declared.notice.Notice.TheVariants.{Changed, Refused, Broke, Ended}
 
 -- whether a notice is a change of the verdict on the register of this number
 abbrev pub is_change_of : ℕ → Notice → Bool

@@ -2,8 +2,8 @@
 use Rattle.std.specs.Prelude.{◌≡◌, ◌⊎◌, ℕ, Bool, List, [], ◌∷◌, ◌++◌, Option, Result, Ok, Err, filter, map, if◌then◌else◌, true, false}
 use Rattle.std.specs.Io.KnownBytes.{Appends}
 use Rattle.tower_file.specs.Contents.{Register}
-use Rattle.feeders.specs.declared.watcher.Notice.{Notice}
-use Rattle.feeders.specs.declared.watcher.Notice.TheVariants.{Changed}
+use Rattle.logs.specs.declared.notice.Notice.{Notice}
+use Rattle.logs.specs.declared.notice.Notice.TheVariants.{Changed}
 use Rattle.watch.specs.declared.run.Terms.{Terms}
 use Rattle.watch.specs.declared.settling.Held.{Held}
 use Rattle.watch.specs.declared.settling.Progress.{Progress}

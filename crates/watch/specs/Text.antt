@@ -4,12 +4,12 @@ use Rattle.std.specs.Fmt.{decimal}
 use Rattle.register_book.specs.declared.fault.Fault.{Fault}
 use Rattle.tower_file.specs.Contents.{Register}
 use Rattle.shards.specs.declared.entry.VerdictChange.{VerdictChange}
-use Rattle.feeders.specs.Code.{refused_code}
-use Rattle.feeders.specs.declared.watcher.Notice.{Notice}
-use Rattle.feeders.specs.declared.watcher.Notice.TheVariants.{Changed, Refused, Broke, Ended}
-use Rattle.report.specs.Names.{kind_word, place_text, printed, register_name, verdict_word}
+use Rattle.logs.specs.Code.{refused_code}
+use Rattle.logs.specs.declared.notice.Notice.{Notice}
+use Rattle.logs.specs.declared.notice.Notice.TheVariants.{Changed, Refused, Broke, Ended}
+use Rattle.phrases.specs.Names.{kind_word, place_text, printed, register_name, verdict_word}
 use Rattle.report.specs.Notes.{broken_line}
-use Rattle.report.specs.Section.{fault_text}
+use Rattle.phrases.specs.Fault.{fault_text}
 use Rattle.records.specs.Json.{json_text}
 use Rattle.records.specs.Notice.{notice_symbols}
 use Rattle.watch.specs.declared.text.NoticeForm.{NoticeForm}

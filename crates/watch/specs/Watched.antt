@@ -8,11 +8,11 @@ use Rattle.shards.specs.declared.entry.VerdictChange.{VerdictChange}
 use Rattle.shards.specs.Closing.{ClosedShard, changes_of, journal_of}
 use Rattle.feeders.specs.declared.fault.RunFault.{RunFault}
 use Rattle.feeders.specs.declared.fault.RunFault.TheVariants as runs
-use Rattle.feeders.specs.declared.log.Log.{Log}
-use Rattle.feeders.specs.declared.watcher.Notice.{Notice}
-use Rattle.feeders.specs.declared.watcher.Notice.TheVariants.{Changed, Refused, Broke, Ended}
+use Rattle.logs.specs.declared.log.Log.{Log}
+use Rattle.logs.specs.declared.notice.Notice.{Notice}
+use Rattle.logs.specs.declared.notice.Notice.TheVariants.{Changed, Refused, Broke, Ended}
 use Rattle.feeders.specs.Readers.{AreReadOf}
-use Rattle.feeders.specs.Run.{IsRun}
+use Rattle.logs.specs.Run.{IsRun}
 use Rattle.watch.specs.declared.fault.WatchFault.{WatchFault}
 use Rattle.watch.specs.declared.fault.WatchFault.TheVariants.{Memory, Shard}
 use Rattle.watch.specs.declared.run.Terms.{Terms}

@@ -7,7 +7,7 @@ ghost use Rattle.watch.specs.Noted.{IsToldOf};
 ghost use Rattle.watch.specs.Watched.{AreTold, AreByEntries, HasEntryBy, IsByEntry, change_in, changes_in};
 
 use crate::same::is_same;
-use feeders::Notice;
+use logs::Notice;
 use shards::{Closed, VerdictChange};
 
 /// Whether notices tell, of each shard, the changes of verdicts by the entries of its journal, in order: all of them,

@@ -2,7 +2,8 @@
 
 use crate::settling::Advance;
 use crate::teller::{Beginning, Teller};
-use feeders::{Notice, Watcher};
+use feeders::Watcher;
+use logs::Notice;
 use shards::Gate;
 use std::io::Write;
 use std::sync::atomic::{AtomicBool, Ordering};

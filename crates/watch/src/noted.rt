@@ -3,13 +3,13 @@
 ghost use Rattle.std.specs.Prelude.{◌≡◌, ◌≢◌, ◌↔◌, ◌∷◌, ◌++◌, ◌<◌, [], ℕ, List, Some, All, IfSome, IsNone, IsTrue, filter_map};
 ghost use Rattle.std.specs.List.{slice_get};
 ghost use Rattle.std.specs.Option.{option_to_list};
-ghost use Rattle.feeders.specs.Code.{refused_code};
-ghost use Rattle.feeders.specs.declared.log.Log.{Log as ALog};
+ghost use Rattle.logs.specs.Code.{refused_code};
+ghost use Rattle.logs.specs.declared.log.Log.{Log as ALog};
 ghost use Rattle.watch.specs.Left.{notes_left};
 ghost use Rattle.watch.specs.Noted.{AreNoted, IsToldOf, Note, feeder_of_notice, note_of, note_of_break, note_of_line, notes_of_log};
 ghost use Rattle.watch.specs.Noted.Note.{Ended as NoteOfEnd, Refused as NoteOfRefusal};
 
-use feeders::{Broken, Code, Line, Log, Notice, What};
+use logs::{Broken, Code, Line, Log, Notice, What};
 
 /// What is left to be noted of a trace.
 #[derive(Clone, Copy)]

@@ -2,9 +2,9 @@
 
 ghost use Rattle.std.specs.Prelude.{◌≡◌, ◌≢◌, ◌≤◌, ℕ, Bool, List, Ok, IfErr, IfOk, map, vec_len};
 ghost use Rattle.std.specs.Io.KnownBytes.{Appends};
-ghost use Rattle.feeders.specs.declared.watcher.Notice.{Notice as ANotice};
+ghost use Rattle.logs.specs.declared.notice.Notice.{Notice as ANotice};
 ghost use Rattle.feeders.specs.Readers.{AreReadOf};
-ghost use Rattle.feeders.specs.Run.{IsRun};
+ghost use Rattle.logs.specs.Run.{IsRun};
 ghost use Rattle.watch.specs.Due.{progress_begun};
 ghost use Rattle.watch.specs.Noted.{AreNoted};
 ghost use Rattle.watch.specs.Teller.{AreWrittenIn, HasWritten, IsStateAfter};
@@ -20,8 +20,9 @@ use crate::settling::{Progress, at_the_beginning};
 use crate::stoppable::stopped_by;
 use crate::teller::{Beginning, Output, Teller, TellerState};
 use crate::text::NoticeForm;
-use feeders::{Notice, Pages, Run, RunFault, run_readers};
+use feeders::{Pages, RunFault, run_readers};
 use jepsen_form::MomentField;
+use logs::{Notice, Run};
 use std::alloc::{AllocError, Global};
 use std::io::{Read, Write};
 use std::marker::Brand;

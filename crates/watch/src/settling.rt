@@ -2,14 +2,14 @@
 
 ghost use Rattle.std.specs.Prelude.{◌≡◌, ◌++◌, ◌∷◌, [], List, IfOk, IfSome, IsNone, OnOk, false, replicate};
 ghost use Rattle.std.specs.Option.{option_to_list};
-ghost use Rattle.feeders.specs.declared.watcher.Notice.TheVariants.{Changed};
+ghost use Rattle.logs.specs.declared.notice.Notice.TheVariants.{Changed};
 ghost use Rattle.watch.specs.Settling.{notices_of};
 ghost use Rattle.watch.specs.declared.settling.Held.{Held as AHeld};
 ghost use Rattle.watch.specs.Due.{AreHeldFrom, advanced, advanced_at, has_come, is_due, until_of};
 ghost use Rattle.watch.specs.Teller.{ArePassedOn, held_notice, held_notices};
 
-use feeders::Notice;
 use intervals::RegId;
+use logs::Notice;
 use shards::VerdictChange;
 use std::alloc::{AllocError, Global};
 

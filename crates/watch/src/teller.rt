@@ -3,7 +3,7 @@
 ghost use Rattle.std.specs.Prelude.{◌≡◌, ◌≢◌, ◌⊎◌, ◌<◌, ◌++◌, ◌∷◌, [], true, List, Err, IfOk, OnOk, IsTrue, ◌↔◌, length, vec_len};
 ghost use Rattle.std.specs.Option.{option_to_list};
 ghost use Rattle.std.specs.Io.KnownBytes.{Appends};
-ghost use Rattle.feeders.specs.declared.watcher.Notice.{Notice as ANotice};
+ghost use Rattle.logs.specs.declared.notice.Notice.{Notice as ANotice};
 ghost use Rattle.watch.specs.declared.settling.Held.{Held as AHeld};
 ghost use Rattle.watch.specs.Due.{AreDueFirst, AreHeldFrom, advanced_at, has_due};
 ghost use Rattle.watch.specs.Teller.{HasTold, HasWrittenDue, ArePassedOn, IsToldAll, IsWritten, TellerModel, held_notices, state_after};
@@ -14,7 +14,7 @@ ghost use Rattle.watch.specs.declared.teller.Unwritten.TheVariants.{Memory as Ou
 use crate::run::Terms;
 use crate::settling::{Advance, Held, Progress, note_advance, passed_on};
 use crate::text::{NoticeForm, notice_text};
-use feeders::Notice;
+use logs::Notice;
 use std::alloc::{AllocError, Global};
 use std::io::{Error, Write};
 use std::marker::{Brand, Model, PhantomData};

@@ -3,10 +3,10 @@
 ghost use Rattle.std.specs.Prelude.{◌≡◌, ◌++◌, OnOk, IfOk, string_bytes};
 ghost use Rattle.watch.specs.Text.{changed_text, fault_part, line_of_notice, text_of_notice};
 
-use feeders::Notice;
+use logs::Notice;
+use phrases::{kind_word, name_of, push_fault_text, push_printed, verdict_word};
 use records::push_notice;
 use register_book::Fault;
-use report::{kind_word, name_of, push_fault_text, push_printed, verdict_word};
 use shards::VerdictChange;
 use std::alloc::{AllocError, Global};
 use tower_file::Tower;

@@ -1,8 +1,9 @@
 //! What a watcher is told while traces are read.
 
+use logs::Notice;
 use super::readers::{Given, Reader};
 use super::{Row, texts_of};
-use feeders::{Notice, Pages, RunFault, Watcher, run_in_turn, run_traces};
+use feeders::{Pages, RunFault, Watcher, run_in_turn, run_traces};
 use jepsen_form::MomentField;
 use shards::Gate;
 use std::alloc::AllocError;

@@ -3,7 +3,7 @@ use Rattle.std.proofs.lemmas.List.{append_assoc, length-map, map-append}
 use Rattle.std.specs.declared.alloc.Global.{Global}
 use Rattle.std.specs.List.{slice_get}
 use Rattle.std.specs.Vec.Iter.{into_iter_items}
-use Rattle.feeders.specs.declared.log.Log.{Log}
+use Rattle.logs.specs.declared.log.Log.{Log}
 use Rattle.commands.specs.Kept.{IsTextOf}
 use Rattle.places.specs.declared.copying.Kept.{Kept}
 use Rattle.commands.proofs.KeptTexts.{AreTextsOf, are_kept, one_more}

@@ -3,7 +3,7 @@ use Rattle.jepsen_form.specs.declared.item.MomentField.TheVariants.{Index}
 use Rattle.tower_file.specs.Alone.{alone_tower}
 use Rattle.tower_file.specs.Contents.{TowerModel}
 use Rattle.feeders.specs.Readers.{AreReadOf}
-use Rattle.feeders.specs.Run.{IsRun}
+use Rattle.logs.specs.Run.{IsRun}
 use Rattle.commands.proofs.Alone.{Says, audited_as_read}
 use Rattle.commands.proofs.safe.audit_trace.Goals as goal
 

@@ -7,8 +7,8 @@ use Rattle.shards.specs.Pass.{new_pass}
 use Rattle.feeders.specs.Ending.{MayEnd}
 use Rattle.feeders.specs.Progress.{AreFresh}
 use Rattle.feeders.specs.Readers.{AreReadOf}
-use Rattle.feeders.specs.Run.{IsRun}
-use Rattle.feeders.specs.declared.log.Log.{Log}
+use Rattle.logs.specs.Run.{IsRun}
+use Rattle.logs.specs.declared.log.Log.{Log}
 use Rattle.feeders.proofs.Split.{fresh_all}
 use Rattle.feeders.proofs.Finished.{may_end, read_of, run_of}
 use Rattle.feeders.proofs.run.read_in.Goals as goal

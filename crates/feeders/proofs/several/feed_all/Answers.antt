@@ -10,7 +10,8 @@ use Rattle.feeders.specs.contracts.several.feed_all.{O-row, R-row, G-row}
 use Rattle.feeders.proofs.Crosses.{closure_sync, site_sync}
 use Rattle.feeders.specs.Progress.{AreFed, IsFed}
 use Rattle.feeders.specs.Readers.{IsNotOfReading}
-use Rattle.feeders.specs.Setting.{first_start, setting_of}
+use Rattle.logs.specs.Start.{first_start}
+use Rattle.feeders.specs.Setting.{setting_of}
 use Rattle.feeders.specs.declared.outcome.FeederOutcome.{FeederOutcome}
 use Rattle.feeders.proofs.Split.{fed_all, fed_parts, fresh_at, ok_then}
 use Rattle.feeders.proofs.several.feed_all.Given.{Over}

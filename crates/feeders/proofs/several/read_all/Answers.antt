@@ -18,7 +18,8 @@ use Rattle.feeders.specs.contracts.pages.Pages as Pages
 use Rattle.feeders.specs.contracts.several.read_all.{O-row, R-row, G-row, S-row}
 use Rattle.feeders.proofs.Crosses.{closure_sync}
 use Rattle.feeders.specs.Progress.{IsReadAndFed}
-use Rattle.feeders.specs.Setting.{first_start, setting_of}
+use Rattle.logs.specs.Start.{first_start}
+use Rattle.feeders.specs.Setting.{setting_of}
 use Rattle.feeders.proofs.Split.{fed_all, fresh_at, of_given, ok_then}
 use Rattle.feeders.proofs.several.read_all.Goals as goal
 

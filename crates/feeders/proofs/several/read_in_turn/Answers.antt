@@ -1,7 +1,8 @@
 use Rattle.std.proofs.Common.{◌≡◌, List, length, map, sym, subst, rules}
 use Rattle.std.specs.Vec.Iter.{into_iter_items}
 use Rattle.feeders.specs.Progress.{IsReadAndFed}
-use Rattle.feeders.specs.Setting.{first_start, setting_of}
+use Rattle.logs.specs.Start.{first_start}
+use Rattle.feeders.specs.Setting.{setting_of}
 use Rattle.feeders.specs.declared.outcome.FeederOutcome.{FeederOutcome}
 use Rattle.feeders.proofs.Split.{Goes, begins, ends, goes_on, of_given}
 use Rattle.feeders.proofs.several.read_in_turn.Goals as goal

@@ -2,7 +2,8 @@
 use Rattle.std.proofs.Common.{◌≡◌, ◌≤◌, ◌+◌, length, map, vec_len, vec_capacity}
 use Rattle.std.specs.Vec.Iter.{into_iter_items, into_iter_len}
 use Rattle.feeders.specs.Progress.{IsReadAndFed}
-use Rattle.feeders.specs.Setting.{first_start, setting_of}
+use Rattle.logs.specs.Start.{first_start}
+use Rattle.feeders.specs.Setting.{setting_of}
 use Rattle.feeders.proofs.Split.{Goes}
 use Rattle.feeders.proofs.several.read_in_turn.Given as goal
 

@@ -4,7 +4,8 @@ use Rattle.jepsen_form.specs.declared.item.MomentField.{MomentField}
 use Rattle.shards.specs.Plan.{claims_of}
 use Rattle.feeders.specs.declared.feeder.FeedState.TheVariants.{Broke}
 use Rattle.feeders.specs.Progress.{IsReadAndFed}
-use Rattle.feeders.specs.Setting.{first_start, setting_of}
+use Rattle.logs.specs.Start.{first_start}
+use Rattle.feeders.specs.Setting.{setting_of}
 use Rattle.feeders.proofs.Doing.{first_is_start}
 use Rattle.feeders.proofs.Feeds.{by_course, open_next}
 use Rattle.feeders.proofs.Streaming.{broke_within, code_of_reading, read_up_to, read_whole}

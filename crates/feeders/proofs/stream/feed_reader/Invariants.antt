@@ -2,7 +2,7 @@
 use Rattle.std.proofs.Common.{◌≡◌, ◌-◌, ◌≤◌, length}
 use Rattle.feeders.specs.declared.feeder.FeedState.TheVariants.{Open}
 use Rattle.feeders.specs.declared.source.TheConstants.{CALL_LIMIT}
-use Rattle.feeders.specs.Setting.{first_start}
+use Rattle.logs.specs.Start.{first_start}
 use Rattle.feeders.proofs.Streaming.{HasStreamed}
 use Rattle.feeders.proofs.stream.feed_reader.Given as goal
 

@@ -3,9 +3,10 @@ use Rattle.edn_reader.specs.Grammar.{ElementModel}
 use Rattle.edn_reader.specs.Lent.{piece_of}
 use Rattle.edn_reader.specs.Text.{IsFront}
 use Rattle.edn_reader.specs.Reading.{ReaderModel}
-use Rattle.feeders.specs.Broken.{AreElements}
+use Rattle.logs.specs.Broken.{AreElements}
 use Rattle.feeders.specs.Progress.{IsAt}
-use Rattle.feeders.specs.Setting.{first_start, setting_of}
+use Rattle.logs.specs.Start.{first_start}
+use Rattle.feeders.specs.Setting.{setting_of}
 use Rattle.feeders.proofs.Doing.{first_is_start}
 use Rattle.feeders.proofs.Reading.{HasRead, begun, broken_at, ends, read_known, read_on}
 use Rattle.feeders.proofs.trace.feed_trace.Goals as goal

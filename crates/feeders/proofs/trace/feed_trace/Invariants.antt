@@ -1,7 +1,8 @@
 -- the state is that of the elements up to the reader's place
 use Rattle.std.proofs.Common.{◌≡◌, ◌≤◌, ◌-◌, length}
 use Rattle.feeders.specs.Progress.{IsAhead}
-use Rattle.feeders.specs.Setting.{first_start, setting_of}
+use Rattle.logs.specs.Start.{first_start}
+use Rattle.feeders.specs.Setting.{setting_of}
 use Rattle.feeders.proofs.Reading.{HasRead}
 use Rattle.feeders.proofs.trace.feed_trace.Given as goal
 

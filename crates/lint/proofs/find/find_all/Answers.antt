@@ -1,6 +1,6 @@
 use Rattle.std.proofs.Common.{ℕ, ◌<◌, List, [], get_or, ◌+◌, length, sym, subst, arith}
 use Rattle.std.specs.Borrow.{Bor}
-use Rattle.feeders.specs.declared.log.Log.{Log}
+use Rattle.logs.specs.declared.log.Log.{Log}
 use Rattle.lint.specs.declared.finding.TraceFindings.{TraceFindings}
 use Rattle.lint.specs.Found.{IsFoundIn, NamesElements}
 use Rattle.lint.proofs.Found.{GoesOn, begun, goes_on, went, zip_at}

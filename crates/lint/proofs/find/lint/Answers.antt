@@ -3,9 +3,9 @@ use Rattle.std.specs.List.{AllZip}
 use Rattle.std.specs.Borrow.{Bor}
 use Rattle.std.proofs.lemmas.List.{length-map}
 use Rattle.std.proofs.lemmas.Slice.Zip.{AllZip-long}
-use Rattle.feeders.specs.declared.log.Log.{Log}
+use Rattle.logs.specs.declared.log.Log.{Log}
 use Rattle.feeders.specs.Readers.{AreReadOf}
-use Rattle.feeders.specs.Run.{plan_of_run}
+use Rattle.logs.specs.Run.{plan_of_run}
 use Rattle.lint.specs.Found.{AreFoundIn, NamesElements}
 use Rattle.lint.proofs.Named.{each_names}
 use Rattle.lint.proofs.find.lint.Goals as goal

@@ -2,7 +2,7 @@
 use Rattle.std.proofs.Common.{◌≡◌, ◌++◌, map, flat_map, string_bytes}
 use Rattle.std.specs.Prelude.{codes, encode_utf8_all}
 use Rattle.bstr.specs.Utf8.{lossy_chars}
-use Rattle.report.specs.Names.{printed_char}
+use Rattle.phrases.specs.Names.{printed_char}
 use Rattle.records.specs.Edn.{edn_char}
 use Rattle.records.proofs.edn.push_text.Given as goal
 

@@ -2,7 +2,7 @@ use Rattle.std.proofs.Common.{◌≡◌, ◌∙◌, ℕ, List, Vec, length, map,
 use Rattle.std.proofs.lemmas.List.{length-map}
 use Rattle.std.specs.Prelude.{IfOk, Result, Ok, Err}
 use Rattle.std.specs.declared.alloc.Global.{Global}
-use Rattle.feeders.specs.declared.log.Log.{Log}
+use Rattle.logs.specs.declared.log.Log.{Log}
 use Rattle.report.specs.declared.finding.Finding.{Finding}
 use Rattle.report.specs.Finding.{AreFindings, fails_of}
 use Rattle.records.specs.declared.allowed.Allowed.{Allowed}

@@ -2,7 +2,7 @@
 use Rattle.std.proofs.Common.{ℕ, ◌≡◌, ◌<◌, Some}
 use Rattle.std.specs.Prelude.{filter_map}
 use Rattle.std.specs.List.{slice_get}
-use Rattle.feeders.specs.declared.log.Log.{Log}
+use Rattle.logs.specs.declared.log.Log.{Log}
 use Rattle.watch.specs.Noted.{IsToldOf, note_of, notes_of_log}
 use Rattle.watch.proofs.noted.are_each_noted.Given as goal
 

@@ -1,7 +1,7 @@
 use Rattle.std.proofs.Common.{ap, refl, ◌∙◌, ◌++◌, ◌∷◌, [], List}
 use Rattle.std.proofs.lemmas.List.{map-append}
-use Rattle.feeders.specs.declared.watcher.Notice.{Notice}
-use Rattle.feeders.specs.declared.watcher.Notice.TheVariants.{Changed}
+use Rattle.logs.specs.declared.notice.Notice.{Notice}
+use Rattle.logs.specs.declared.notice.Notice.TheVariants.{Changed}
 use Rattle.watch.specs.Teller.{held_notice, held_notices}
 use Rattle.watch.proofs.Advancing.{adds, all_stay, takes_out}
 use Rattle.watch.proofs.Passing.{passes_healed, passes_swapped}

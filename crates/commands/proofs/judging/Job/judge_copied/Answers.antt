@@ -1,7 +1,7 @@
 use Rattle.std.proofs.Common.{rules, ◌≡◌, ◌∙◌, ℕ, List, Option, Vec, length, map, subst, sym, vec_len}
 use Rattle.std.proofs.lemmas.List.{length-map}
 use Rattle.std.specs.declared.alloc.Global.{Global}
-use Rattle.feeders.specs.declared.log.Log.{Log}
+use Rattle.logs.specs.declared.log.Log.{Log}
 use Rattle.places.specs.Copied.{AreCopiesOf}
 use Rattle.commands.specs.Kept.{AreTracesKept}
 use Rattle.commands.proofs.judging.Job.judge_copied.Goals as goal

@@ -3,7 +3,8 @@ use Rattle.std.specs.Prelude.{IfSome}
 use Rattle.edn_reader.specs.Splitting.{SplitterModel}
 use Rattle.feeders.specs.declared.pending.Pending.TheVariants.{Nothing}
 use Rattle.feeders.specs.Intake.{GoesTo, HasFed, HasUsed}
-use Rattle.feeders.specs.Setting.{Start, setting_of}
+use Rattle.logs.specs.Start.{Start}
+use Rattle.feeders.specs.Setting.{setting_of}
 use Rattle.feeders.proofs.Pieces.{broke_in, can_beside, fed_along, fed_more, fed_rest, fed_settled, fed_waits, rest_is}
 use Rattle.feeders.proofs.Taking.{settled_place, used_rest, used_still}
 use Rattle.feeders.proofs.intake.Intake.take_piece.Goals as goal

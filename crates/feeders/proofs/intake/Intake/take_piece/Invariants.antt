@@ -2,7 +2,8 @@
 use Rattle.std.proofs.Common.{length, take, drop, ◌-◌, ◌≡◌, ◌+◌, ◌≤◌, ◌++◌, ℕ, List}
 use Rattle.feeders.specs.declared.pending.Pending.TheVariants.{Nothing}
 use Rattle.feeders.specs.Intake.{CanGoOn, HasFed}
-use Rattle.feeders.specs.Setting.{Start, setting_of}
+use Rattle.logs.specs.Start.{Start}
+use Rattle.feeders.specs.Setting.{setting_of}
 use Rattle.feeders.proofs.intake.Intake.take_piece.Given as goal
 
 abbrev pub invariant-loop-at : goal.invariant-loop-at

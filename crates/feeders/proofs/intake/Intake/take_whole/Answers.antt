@@ -2,7 +2,8 @@ use Rattle.std.proofs.Common.{◌-◌, ◌++◌, [], ◌∷◌, ℕ, List, drop,
 use Rattle.feeders.specs.declared.intake.Intake.{Intake}
 use Rattle.feeders.specs.declared.pending.Pending.TheVariants.{Whole}
 use Rattle.feeders.specs.Pending.{IsItemOfLast}
-use Rattle.feeders.specs.Setting.{first_start, setting_of}
+use Rattle.logs.specs.Start.{first_start}
+use Rattle.feeders.specs.Setting.{setting_of}
 use Rattle.feeders.proofs.Fronts.{can_read_at_once, can_whole, front_text, whole_waits}
 use Rattle.feeders.proofs.Holding.{kept_on}
 use Rattle.feeders.proofs.Settling.{read_as, read_place}

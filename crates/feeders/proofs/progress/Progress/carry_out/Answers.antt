@@ -14,12 +14,12 @@ returns-clause-done g c start items item paired =
     elim c.match-step.branch [
       | in-Ok+in_ok-carry_out-in-Ok w ↦
           subst (λ (p : Progress). IsAt plan start (items ++ item ∷ []) (record p { place = p.place + 1 }) c.match-step.pass) (sym w.self-is)
-          (subst (λ (q : PassModel). IsAt plan start (items ++ item ∷ []) (record old { place = old.place + 1; log = w.carry_out.new.self }) q) (sym w.pass-is)
-          (carried plan old pass w.carry_out.new.pass w.carry_out.new.self (Ok w.in-Ok.step) w.in_ok-carry_out-in-Ok.ensures.done start items item
+          (subst (λ (q : PassModel). IsAt plan start (items ++ item ∷ []) (record old { place = old.place + 1; log = w.carry_out.new.log }) q) (sym w.pass-is)
+          (carried plan old pass w.carry_out.new.pass w.carry_out.new.log (Ok w.in-Ok.step) w.in_ok-carry_out-in-Ok.ensures.done start items item
           (subst (λ s. IsPaired plan start items item s old pass) w.in-Ok.is paired)))
       | in-Err+in_ok-refuse-in-Err w ↦
           subst (λ (p : Progress). IsAt plan start (items ++ item ∷ []) (record p { place = p.place + 1 }) c.match-step.pass) (sym w.self-is)
-          (subst (λ (q : PassModel). IsAt plan start (items ++ item ∷ []) (record old { place = old.place + 1; log = w.refuse.new.self }) q) (sym w.pass-is)
-          (carried plan old pass pass w.refuse.new.self (Err w.in-Err.code) (w.in_ok-refuse-in-Err.ensures.done pass) start items item
+          (subst (λ (q : PassModel). IsAt plan start (items ++ item ∷ []) (record old { place = old.place + 1; log = w.refuse.new.log }) q) (sym w.pass-is)
+          (carried plan old pass pass w.refuse.new.log (Err w.in-Err.code) (w.in_ok-refuse-in-Err.ensures.done pass) start items item
           (subst (λ s. IsPaired plan start items item s old pass) w.in-Err.is paired)))
     ]

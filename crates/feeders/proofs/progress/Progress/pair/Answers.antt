@@ -1,8 +1,8 @@
 use Rattle.std.proofs.Common.{◌≢◌, Ok, Err, subst, sym}
 use Rattle.pairing.specs.declared.fault.PairFault.TheVariants as pairs
-use Rattle.feeders.specs.declared.log.Code.TheVariants.{Form}
+use Rattle.logs.specs.declared.log.Code.TheVariants.{Form}
 use Rattle.feeders.specs.Progress.{IsPaired}
-use Rattle.feeders.specs.Steps.{StepResult}
+use Rattle.logs.specs.Steps.{StepResult}
 use Rattle.feeders.proofs.Going.{paired, unformed}
 use Rattle.feeders.proofs.progress.Progress.pair.Goals as goal
 

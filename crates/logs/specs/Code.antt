@@ -3,10 +3,10 @@ use Rattle.std.specs.Prelude.{ℕ, List, codes}
 use Rattle.intervals.specs.Code.{refusal_code as code_of_refusal}
 use Rattle.jepsen_form.specs.Code.{form_fault_code as code_of_form}
 use Rattle.pairing.specs.Code.{pair_fault_code as code_of_pair}
-use Rattle.feeders.specs.declared.log.BreakCode.{BreakCode}
-use Rattle.feeders.specs.declared.log.BreakCode.TheVariants.{Truncated, StrayClose, WrongClose, TooDeep, OddMap, TagWithoutElement, ReadFailed, TooLong}
-use Rattle.feeders.specs.declared.log.Code.{Code}
-use Rattle.feeders.specs.declared.log.Code.TheVariants.{Form, Pair, Register}
+use Rattle.logs.specs.declared.log.BreakCode.{BreakCode}
+use Rattle.logs.specs.declared.log.BreakCode.TheVariants.{Truncated, StrayClose, WrongClose, TooDeep, OddMap, TagWithoutElement, ReadFailed, TooLong}
+use Rattle.logs.specs.declared.log.Code.{Code}
+use Rattle.logs.specs.declared.log.Code.TheVariants.{Form, Pair, Register}
 
 -- the printed code of why an element was refused: F of its form, P of the pairing, X of its register
 abbrev pub refused_code : Code → List ℕ

@@ -1,14 +1,14 @@
 use Rattle.std.proofs.Common.{◌≡◌, ◌++◌, append-nil}
-use Rattle.feeders.specs.Doings.{entered, lines_at, what_of_reply}
+use Rattle.logs.specs.Doings.{entered, lines_at, what_of_reply}
 use Rattle.feeders.proofs.Doing.{goes_on}
 use Rattle.feeders.proofs.Telling.{told_entered}
-use Rattle.feeders.proofs.log.Log.submit.Goals as goal
+use Rattle.feeders.proofs.noting.submit.Goals as goal
 
 pub returns-in-Refused-clause-done : goal.returns-in-Refused-clause-done
 returns-in-Refused-clause-done g c =
     let plan = g.O.Opening.plan in
     let receipt = c.in_ok-receipt.receipt in
-    let lines = c.args.self.now.lines.items in
+    let lines = c.args.log.now.lines.items in
     let noted : c.push_reserved.new.self.items ≡ lines ++ lines_at c.args.place (what_of_reply receipt.reply) = rw c.in-Refused.is cc in
     goes_on plan c.args.pass.now c.submit.new.pass lines c.push_reserved.new.self.items c.args.place (entered c.args.register c.args.edit receipt.number receipt.reply)
     (told_entered plan c.args.pass.now c.submit.new.pass c.args.register c.args.edit receipt c.requires.some c.in_ok-receipt.ensures.submitted c.in_ok-receipt.ensures.told
@@ -19,7 +19,7 @@ pub returns-in_default-clause-done : goal.returns-in_default-clause-done
 returns-in_default-clause-done g c =
     let plan = g.O.Opening.plan in
     let receipt = c.in_ok-receipt.receipt in
-    let lines = c.args.self.now.lines.items in
+    let lines = c.args.log.now.lines.items in
     let noted : c.reserve.new.self.items ≡ lines ++ lines_at c.args.place (what_of_reply receipt.reply) = rw (c.in_default.is, append-nil) c.reserve.ensures.items in
     goes_on plan c.args.pass.now c.submit.new.pass lines c.reserve.new.self.items c.args.place (entered c.args.register c.args.edit receipt.number receipt.reply)
     (told_entered plan c.args.pass.now c.submit.new.pass c.args.register c.args.edit receipt c.requires.some c.in_ok-receipt.ensures.submitted c.in_ok-receipt.ensures.told

@@ -9,10 +9,10 @@ use Rattle.shards.specs.Plain.{plain_numbered}
 use Rattle.shards.specs.Pass.{PassModel}
 use Rattle.shards.specs.Merge.{entries_of}
 use Rattle.shards.specs.Closing.{ClosedShard, IsClosed, journal_of}
-use Rattle.feeders.specs.declared.log.Log.{Log}
-use Rattle.feeders.specs.Setting.{first_start}
-use Rattle.feeders.specs.Steps.{AreItemsOfTrace, steps_of}
-use Rattle.feeders.specs.Doings.{Doing, AreDone, entered_in}
+use Rattle.logs.specs.declared.log.Log.{Log}
+use Rattle.logs.specs.Start.{first_start}
+use Rattle.logs.specs.Steps.{AreItemsOfTrace, steps_of}
+use Rattle.logs.specs.Doings.{Doing, AreDone, entered_in}
 
 -- the relation holds of each number and pair of two lists of one length; the number of the first pair is given
 abbrev pub EachNumbered : {X Y : Type 0} → (ℕ → X → Y → Type 0) → ℕ → List X → List Y → Type 0

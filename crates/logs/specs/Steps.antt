@@ -1,5 +1,5 @@
 -- The steps of a trace: what each of its elements comes to, given those before it.
-use Rattle.std.specs.Prelude.{ℕ, ◌+◌, ◌<◌, ◌==◌, List, [], ◌∷◌, ◌++◌, length, filter_map, Option, Some, None, Result, Ok, Err, if◌then◌else◌}
+use Rattle.std.specs.Prelude.{ℕ, ◌+◌, ◌==◌, List, [], ◌∷◌, ◌++◌, length, filter_map, Option, Some, None, Result, Ok, Err, if◌then◌else◌}
 use Rattle.std.specs.List.{AllZip}
 use Rattle.edn_reader.specs.Grammar.{ElementModel}
 use Rattle.intervals.specs.declared.edit.Edit.{Edit}
@@ -13,11 +13,10 @@ use Rattle.pairing.specs.declared.step.Step.{Step}
 use Rattle.pairing.specs.declared.step.Step.TheVariants as steps
 use Rattle.pairing.specs.Accepted.{Placed, accepted}
 use Rattle.pairing.specs.Step.{step_of}
-use Rattle.shards.specs.Plan.{Plan}
-use Rattle.feeders.specs.declared.log.Broken.{Broken}
-use Rattle.feeders.specs.declared.log.Code.{Code}
-use Rattle.feeders.specs.declared.log.Code.TheVariants.{Form, Pair}
-use Rattle.feeders.specs.Broken.{AreElements}
+use Rattle.logs.specs.declared.log.Broken.{Broken}
+use Rattle.logs.specs.declared.log.Code.{Code}
+use Rattle.logs.specs.declared.log.Code.TheVariants.{Form, Pair}
+use Rattle.logs.specs.Broken.{AreElements}
 
 -- the items of a trace's elements, in order, each with the fault of its form instead where it has one; of a trace that
 -- broke those of the elements before that
@@ -71,10 +70,3 @@ edit_on number (Ok (Some (steps.Ask register))) = None
 -- the edits of the register of this number among these steps, in order
 abbrev pub edits_among : ℕ → List StepResult → List Edit
 edits_among number steps = filter_map (edit_on number) steps
-
--- the register of the step, where there is a step, is one of the plan's
-abbrev pub IsKnownStep : Plan → StepResult → Type 0
-IsKnownStep plan (Err code) = Unit {0}
-IsKnownStep plan (Ok None) = Unit {0}
-IsKnownStep plan (Ok (Some (steps.Edit register edit))) = register.0 < length plan.claims
-IsKnownStep plan (Ok (Some (steps.Ask register))) = register.0 < length plan.claims

@@ -5,9 +5,9 @@ use Rattle.edn_reader.specs.declared.fault.EdnFault.TheVariants as edn
 use Rattle.edn_reader.specs.Grammar.{ElementModel}
 use Rattle.edn_reader.specs.Text.{IsText, IsViable}
 use Rattle.edn_reader.specs.Fault.{FaultOf, AreElementsBefore, AreElementsSoFar}
-use Rattle.feeders.specs.declared.log.Broken.{Broken}
-use Rattle.feeders.specs.declared.log.BreakCode.{BreakCode}
-use Rattle.feeders.specs.declared.log.BreakCode.TheVariants.{Truncated, StrayClose, WrongClose, TooDeep, OddMap, TagWithoutElement, ReadFailed, TooLong}
+use Rattle.logs.specs.declared.log.Broken.{Broken}
+use Rattle.logs.specs.declared.log.BreakCode.{BreakCode}
+use Rattle.logs.specs.declared.log.BreakCode.TheVariants.{Truncated, StrayClose, WrongClose, TooDeep, OddMap, TagWithoutElement, ReadFailed, TooLong}
 
 -- the break of a trace whose text has this first fault; none where the fault is that memory was refused
 abbrev pub broken_by : EdnFault → Option Broken

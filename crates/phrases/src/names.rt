@@ -1,7 +1,7 @@
 //! Names, ids and words as they are printed.
 
 ghost use Rattle.std.specs.Prelude.{◌≡◌, ◌++◌, OnOk, string_bytes};
-ghost use Rattle.report.specs.Names.{printed, printed_char, kind_word, verdict_word, id_text, register_name};
+ghost use Rattle.phrases.specs.Names.{printed, printed_char, kind_word, verdict_word, id_text, register_name};
 
 use bstr::ByteSlice;
 use intervals::{Kind, OpId, RegId};

@@ -12,13 +12,13 @@ use Rattle.shards.specs.Plan.{Plan}
 use Rattle.shards.specs.Pass.{HasEntry, last_in}
 use Rattle.shards.specs.Journal.{EachAfter, IsJournalOf, count_by}
 use Rattle.shards.specs.Steps.{IsStanding, entry_of, numbered_entry}
-use Rattle.feeders.specs.declared.log.Code.{Code}
-use Rattle.feeders.specs.declared.log.Code.TheVariants.{Register}
-use Rattle.feeders.specs.declared.log.Line.{Line}
-use Rattle.feeders.specs.declared.log.What.{What}
-use Rattle.feeders.specs.declared.log.What.TheVariants.{Refused, Answered}
-use Rattle.feeders.specs.Setting.{Start}
-use Rattle.feeders.specs.Steps.{StepResult}
+use Rattle.logs.specs.declared.log.Code.{Code}
+use Rattle.logs.specs.declared.log.Code.TheVariants.{Register}
+use Rattle.logs.specs.declared.log.Line.{Line}
+use Rattle.logs.specs.declared.log.What.{What}
+use Rattle.logs.specs.declared.log.What.TheVariants.{Refused, Answered}
+use Rattle.logs.specs.Start.{Start}
+use Rattle.logs.specs.Steps.{StepResult}
 
 -- what became of an element: it was refused by its form or the pairing; it had no step; its edit was entered in its
 -- shard's journal, at a number and with a reply; or its question was answered

@@ -1,0 +1,4 @@
+-- words of the public clauses
+pub mod Names
+pub mod Fault
+pub mod Register
