@@ -7,8 +7,8 @@
 //!     let run = run_readers(rt, alloc, &tower, readers, &pages, MomentField::Index, 2, &NoGate)?;
 //!
 //! Begin with `trace`, and with `feeder` for a trace that comes in chunks: an element becomes an item, an item a
-//! step, and a step an entry of a journal or a question. The crate `logs` says which steps a trace has, what is done for
-//! them and noted, and what a run leaves; `noting` does and notes it. `laws` has what follows from these.
+//! step, and a step an entry of a journal or a question. The crate `logs` says which steps a trace has, what is done
+//! for them and noted, and what a run leaves; `noting` does and notes it. `laws` has what follows from these.
 #![tactic(auto)]
 
 mod fault;

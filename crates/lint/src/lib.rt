@@ -15,7 +15,7 @@
 //! denied. `notes.rt` looks at the elements, `suspect.rt` at the operations that show that registers fail, and
 //! `tower.rt` at the tower file, whose fault it makes a finding.
 //!
-//! Begin with `find::lint`: its clause names the run (`specs/Run.antt` of `feeders`) and what is found by its logs
+//! Begin with `find::lint`: its clause names the run (`specs/Run.antt` of `logs`) and what is found by its logs
 //! (`specs/Found.antt`): one finding for each refusal and for each break, and no others. `specs/Grade.antt` has the
 //! status, and `specs/Short.antt` the form with a line for each finding; `places` has lines, columns and the spot of an
 //! element. The other forms are tested by `rows`.

@@ -5,9 +5,9 @@
 //!     // run.logs[1].broken: where trace 1 broke, if it did
 //!     // run.closed: the journals, and the operations of each register
 //!
-//! The crate `feeders` makes them. `specs/Steps.antt` says which steps a trace has, `specs/Doings.antt` what is done for
-//! them and noted, and `specs/Run.antt` what a run leaves; `specs/Broken.antt` which elements a broken trace has, and
-//! `specs/Code.antt` the codes that users see.
+//! The crate `feeders` makes them. `specs/Steps.antt` says which steps a trace has, `specs/Doings.antt` what is done
+//! for them and noted, and `specs/Run.antt` what a run leaves; `specs/Broken.antt` which elements a broken trace has,
+//! and `specs/Code.antt` the codes that users see.
 #![tactic(auto)]
 
 mod log;
