@@ -1,2 +1,0 @@
--- a check: its error is the refusal
-pub mod Refusals
