@@ -4,10 +4,7 @@ use Rattle.std.specs.Option.{option_map, option_map_or}
 use Rattle.std.specs.Str.{bytes_eq}
 use Rattle.std.specs.Str.Parse.{digits_value, without_leading_plus}
 use Rattle.clap.specs.Lexer.{usize_max}
-use Rattle.clap.specs.Words.{App, Row, Rule, Text, all_of, app_of, first_of, new_app, new_rule, rule_of, subcommand_of, with_rule, with_subcommand}
-use Rattle.clap.specs.declared.Arg.{Arg as Held}
-use Rattle.clap.specs.declared.builder.command.Command.{Command as Line}
-use Rattle.clap.specs.declared.builder.command.Command.TheViews.{out-Command as fields_of}
+use Rattle.clap.specs.Words.{App, Row, Rule, Text, all_of, first_of, new_app, new_rule, subcommand_of, with_rule, with_subcommand}
 use Rattle.clap.specs.Faults.{fault_of}
 use Rattle.clap.specs.ValueTests.{is_unsigned_in}
 use Rattle.clap.specs.declared.builder.action.ArgAction.TheVariants.{SetTrue}
@@ -183,14 +180,6 @@ with_audits line = with_subcommand (with_subcommand (with_subcommand (with_subco
 -- the whole command line: the program and its commands
 abbrev pub command_line : App
 command_line = with_subcommand (with_texts (with_files (with_audits program_line))) completion_line.top
-
--- `clap`'s value of a command is this command, and none of its arguments is global, that is, goes to commands below it
-abbrev pub IsLine : App → Line → Type 0
-IsLine app line = (app_of line ≡ app) × ((fields_of line).has_globals ≡ false)
-
--- `clap`'s value of an argument is the flag of this name, and it is not global
-abbrev pub IsFlag : Text → Held → Type 0
-IsFlag name arg = (rule_of arg ≡ flag_rule name) × (arg.global ≡ false)
 
 -- what the words of `check` ask for
 pub record AskedCheck : Type 0 where

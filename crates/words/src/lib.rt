@@ -37,6 +37,7 @@
 //! `specs/Words.antt` says what words ask for, and `laws` has cases of it that are written out.
 #![tactic(auto)]
 
+mod argument;
 mod check;
 mod cli;
 mod completion;
