@@ -113,16 +113,24 @@ fn refused<'a, S: AsStr>(alloc: Global, words: &'a [S]) -> Result<Error, AllocEr
     let mut line = command_line(alloc, Vocabulary::Closed)?;
     match line.try_get_matches_from_mut(words) {
         Err(error) => Ok(error),
-        Ok(matches) => match matches.subcommand_name() {
-            Some("check") => line.error(
-                ErrorKind::ArgumentConflict,
-                "--only needs --as json or --as edn",
-            ),
-            _ => line.error(
-                ErrorKind::MissingRequiredArgument,
-                "a tower file or a trace is required",
-            ),
-        },
+        Ok(matches) => {
+            let (kind, message) = complaint(matches.subcommand_name());
+            line.error(kind, message)
+        }
+    }
+}
+
+/// What is amiss with words of the command of this name that ask for nothing.
+fn complaint(name: Option<&str>) -> (ErrorKind, &'static str) {
+    match name {
+        Some("check") => (
+            ErrorKind::ArgumentConflict,
+            "--only needs --as json or --as edn",
+        ),
+        _ => (
+            ErrorKind::MissingRequiredArgument,
+            "a tower file or a trace is required",
+        ),
     }
 }
 
