@@ -27,6 +27,7 @@ use Rattle.lint.specs.declared.finding.Amiss.{Amiss}
 use Rattle.lint.specs.declared.finding.Amiss.TheVariants as amiss
 use Rattle.lint.specs.declared.finding.Note.{Note}
 use Rattle.lint.specs.declared.finding.Note.TheVariants as notes
+use Rattle.lint.specs.declared.sentences.TheConstants.{NO_MAP, FIELD_MISSING, FIELD_TWICE, BAD_TYPE, UNSUPPORTED_F, BAD_VALUE, BAD_MOMENT, NO_REGISTER, PROCESS_BUSY, NO_INVOCATION, ANSWER_MISMATCH, OUT_OF_MEMORY, UNKNOWN_OPERATION, OPERATION_TAKEN, END_NOT_AFTER_BEGIN, MOMENT_TAKEN, MOMENT_TOO_LARGE, NOT_A_WRITER, WRITES_OVERLAP, VALUE_TAKEN, OUT_OF_DOMAIN, CLAIM_FIXED, CLAIM_WRITERS, CLAIM_OVERLAP, CLAIM_REPEATS, CLAIM_INITIAL, TRUNCATED, STRAY_CLOSE, WRONG_CLOSE, TOO_DEEP, ODD_MAP, TAG_WITHOUT_ELEMENT, READ_FAILED, TOO_LONG, SKIPPED, NO_OPERATION, UNUSED, NO_VALUE, NEAR_FIELD, UNREAD, UNANSWERED, SILENT_WRITER, SAME_MOMENT, OUT_OF_PROPORTION, RESTS, RESTS_ON_EDIT, TEXT_BREAKS, PART_MISSHAPEN, NAME_TAKEN, WRITER_COUNT, UNKNOWN_PART, EMPTY_DOMAIN, INITIAL_OUT_OF_DOMAIN, TOO_MANY, UNKNOWN_INITIAL, E1_TRUNCATED, E2_STRAY_CLOSE, E3_WRONG_CLOSE, E4_TOO_DEEP, E5_ODD_MAP, E6_TAG_WITHOUT_ELEMENT, E7_MEMORY, AT_FIRST}
 
 -- an operation as it is printed: the number of its trace, a colon, and the place of its invocation
 abbrev pub operation_text : OpId → List ℕ
@@ -34,49 +35,49 @@ operation_text id = decimal id.feeder ++ codes ":" ++ decimal id.event
 
 -- the words for an element that is no item
 abbrev pub form_words : FormFault → List ℕ
-form_words forms.NotAMap = codes "an element that is no map"
-form_words (forms.MissingField field) = codes "a field is missing: "
-form_words (forms.DuplicateField field) = codes "a field stands twice: "
-form_words forms.BadType = codes "the :type, :edit or :kind is none that is known"
-form_words forms.UnsupportedF = codes "the :f is neither :read nor :write"
-form_words forms.BadValue = codes "a value that is neither nil nor an integer that fits"
-form_words forms.BadMoment = codes "a moment that is no integer from 0"
-form_words forms.NoRegister = codes "the tower has no register of this name"
+form_words forms.NotAMap = NO_MAP.now
+form_words (forms.MissingField field) = FIELD_MISSING.now
+form_words (forms.DuplicateField field) = FIELD_TWICE.now
+form_words forms.BadType = BAD_TYPE.now
+form_words forms.UnsupportedF = UNSUPPORTED_F.now
+form_words forms.BadValue = BAD_VALUE.now
+form_words forms.BadMoment = BAD_MOMENT.now
+form_words forms.NoRegister = NO_REGISTER.now
 
 -- the words for an item that the pairing of events refuses
 abbrev pub pair_words : PairFault → List ℕ
-pair_words pairs.ProcessBusy = codes "an invocation of a process whose last one has no answer yet"
-pair_words pairs.NoInvocation = codes "an answer or an edit, and no invocation that it is of"
-pair_words pairs.AnswerMismatch = codes "an :ok that does not fit its invocation"
-pair_words pairs.Memory = codes "out of memory"
+pair_words pairs.ProcessBusy = PROCESS_BUSY.now
+pair_words pairs.NoInvocation = NO_INVOCATION.now
+pair_words pairs.AnswerMismatch = ANSWER_MISMATCH.now
+pair_words pairs.Memory = OUT_OF_MEMORY.now
 
 -- the words for an edit that its register refuses
 abbrev pub refusal_words : Refusal → List ℕ
-refusal_words refusals.UnknownOp = codes "its operation does not stand"
-refusal_words refusals.OpTaken = codes "its operation stands already"
-refusal_words refusals.EndNotAfterBegin = codes "an end that is not after the beginning"
-refusal_words (refusals.MomentTaken moment id) = codes "a moment that another operation has: "
-refusal_words refusals.MomentTooLarge = codes "a moment past 4611686018427387903"
-refusal_words refusals.NotAWriter = codes "a write by a process that is no writer of the register"
-refusal_words (refusals.WritesOverlap id) = codes "a write that overlaps the write "
-refusal_words (refusals.ValueTaken holder) = codes "a write of a value that is had by "
-refusal_words refusals.OutOfDomain = codes "a write of a value outside the domain"
-refusal_words refusals.ClaimFixed = codes "a claim of a register whose kind is fixed"
-refusal_words refusals.ClaimWriters = codes "a claim to be safe or regular, and not exactly one writer"
-refusal_words (refusals.ClaimOverlap one other) = codes "a claim to be safe or regular, and writes overlap: "
-refusal_words (refusals.ClaimRepeats id holder) = codes "a claim to be atomic, and a value is had twice: by "
-refusal_words refusals.ClaimInitial = codes "a claim to be safe or regular, and the initial value is unknown"
+refusal_words refusals.UnknownOp = UNKNOWN_OPERATION.now
+refusal_words refusals.OpTaken = OPERATION_TAKEN.now
+refusal_words refusals.EndNotAfterBegin = END_NOT_AFTER_BEGIN.now
+refusal_words (refusals.MomentTaken moment id) = MOMENT_TAKEN.now
+refusal_words refusals.MomentTooLarge = MOMENT_TOO_LARGE.now
+refusal_words refusals.NotAWriter = NOT_A_WRITER.now
+refusal_words (refusals.WritesOverlap id) = WRITES_OVERLAP.now
+refusal_words (refusals.ValueTaken holder) = VALUE_TAKEN.now
+refusal_words refusals.OutOfDomain = OUT_OF_DOMAIN.now
+refusal_words refusals.ClaimFixed = CLAIM_FIXED.now
+refusal_words refusals.ClaimWriters = CLAIM_WRITERS.now
+refusal_words (refusals.ClaimOverlap one other) = CLAIM_OVERLAP.now
+refusal_words (refusals.ClaimRepeats id holder) = CLAIM_REPEATS.now
+refusal_words refusals.ClaimInitial = CLAIM_INITIAL.now
 
 -- the words for a trace that breaks
 abbrev pub break_words : BreakCode → List ℕ
-break_words breaks.Truncated = codes "the text ends inside an element"
-break_words breaks.StrayClose = codes "a closing bracket, and none is open"
-break_words breaks.WrongClose = codes "a closing bracket that does not fit the open one"
-break_words breaks.TooDeep = codes "more than 64 brackets, tags and discards are open"
-break_words breaks.OddMap = codes "a map closes after an odd number of elements"
-break_words breaks.TagWithoutElement = codes "a bracket closes, and a tag or discard in it has no element"
-break_words breaks.ReadFailed = codes "the trace could not be read to its end"
-break_words breaks.TooLong = codes "the trace is longer than 1073741824 bytes"
+break_words breaks.Truncated = TRUNCATED.now
+break_words breaks.StrayClose = STRAY_CLOSE.now
+break_words breaks.WrongClose = WRONG_CLOSE.now
+break_words breaks.TooDeep = TOO_DEEP.now
+break_words breaks.OddMap = ODD_MAP.now
+break_words breaks.TagWithoutElement = TAG_WITHOUT_ELEMENT.now
+break_words breaks.ReadFailed = READ_FAILED.now
+break_words breaks.TooLong = TOO_LONG.now
 
 -- a field of an element as it is written
 abbrev pub field_word : FormField → List ℕ
@@ -95,26 +96,26 @@ field_word fields.Claimed = codes ":kind"
 
 -- the words for a fault of a tower file
 abbrev pub tower_words : TowerFault → List ℕ
-tower_words (towers.Edn what) = codes "the text breaks: "
-tower_words (towers.Shape what) = codes "a part is missing, stands twice or has another form: "
-tower_words towers.NameTaken = codes "an earlier register has this name"
-tower_words towers.WriterCount = codes "a safe or regular register has not exactly one writer"
-tower_words towers.UnknownPart = codes "a part is no register of an earlier level"
-tower_words towers.EmptyDomain = codes "a domain without a value"
-tower_words towers.InitialOutOfDomain = codes "the initial value is not in the domain"
-tower_words towers.TooMany = codes "65536 registers come before this one"
-tower_words towers.Memory = codes "out of memory"
-tower_words towers.UnknownInitial = codes "the initial value of a safe or regular register is unknown"
+tower_words (towers.Edn what) = TEXT_BREAKS.now
+tower_words (towers.Shape what) = PART_MISSHAPEN.now
+tower_words towers.NameTaken = NAME_TAKEN.now
+tower_words towers.WriterCount = WRITER_COUNT.now
+tower_words towers.UnknownPart = UNKNOWN_PART.now
+tower_words towers.EmptyDomain = EMPTY_DOMAIN.now
+tower_words towers.InitialOutOfDomain = INITIAL_OUT_OF_DOMAIN.now
+tower_words towers.TooMany = TOO_MANY.now
+tower_words towers.Memory = OUT_OF_MEMORY.now
+tower_words towers.UnknownInitial = UNKNOWN_INITIAL.now
 
 -- the words for a fault of a tower file's text
 abbrev pub edn_words : EdnFault → List ℕ
-edn_words (edn.Truncated at) = codes "E1, it ends inside an element"
-edn_words (edn.StrayClose at) = codes "E2, a closing bracket, and none is open"
-edn_words (edn.WrongClose at) = codes "E3, a closing bracket that does not fit the open one"
-edn_words (edn.TooDeep at) = codes "E4, more than 64 brackets, tags and discards are open"
-edn_words (edn.OddMap at) = codes "E5, a map closes after an odd number of elements"
-edn_words (edn.TagWithoutElement at) = codes "E6, a tag or discard has no element"
-edn_words (edn.Memory at) = codes "E7, out of memory"
+edn_words (edn.Truncated at) = E1_TRUNCATED.now
+edn_words (edn.StrayClose at) = E2_STRAY_CLOSE.now
+edn_words (edn.WrongClose at) = E3_WRONG_CLOSE.now
+edn_words (edn.TooDeep at) = E4_TOO_DEEP.now
+edn_words (edn.OddMap at) = E5_ODD_MAP.now
+edn_words (edn.TagWithoutElement at) = E6_TAG_WITHOUT_ELEMENT.now
+edn_words (edn.Memory at) = E7_MEMORY.now
 
 -- a part of a tower file as it is written
 abbrev pub tower_word : TowerField → List ℕ
@@ -144,23 +145,23 @@ tower_text towers.UnknownInitial = []
 
 -- the words for a field of a tower file that is not read, and that may be meant for an absent one
 abbrev pub unread_words : Option TowerField → List ℕ
-unread_words (Some field) = codes "a field is not read, and this one is absent: "
-unread_words None = codes "a field is not read"
+unread_words (Some field) = NEAR_FIELD.now
+unread_words None = UNREAD.now
 
 -- the words for a note
 abbrev pub note_words : Note → List ℕ
-note_words notes.Skipped = codes "an event is skipped: its :process is no integer"
-note_words notes.NoOperation = codes "no element invokes an operation"
-note_words notes.Unused = codes "a register that has no operation"
-note_words notes.NoValue = codes "an event without a :value, which is taken as nil"
-note_words (notes.NearField field) = codes "a field is not read, and this one is absent: "
+note_words notes.Skipped = SKIPPED.now
+note_words notes.NoOperation = NO_OPERATION.now
+note_words notes.Unused = UNUSED.now
+note_words notes.NoValue = NO_VALUE.now
+note_words (notes.NearField field) = NEAR_FIELD.now
 note_words (notes.Unread meant) = unread_words meant
-note_words notes.Unanswered = codes "an invocation that has no answer"
-note_words (notes.SilentWriter process) = codes "a writer of an atomic register that has no event: process "
-note_words (notes.SameMoment event) = codes "a moment that another event of the trace has: number "
-note_words notes.OutOfProportion = codes "a moment at least 1000 times the ones before and after it"
-note_words (notes.Rests read) = codes "a refused write of the value for which its register fails: read by "
-note_words (notes.RestsOnEdit operation) = codes "a refused edit of a register that fails: shown by "
+note_words notes.Unanswered = UNANSWERED.now
+note_words (notes.SilentWriter process) = SILENT_WRITER.now
+note_words (notes.SameMoment event) = SAME_MOMENT.now
+note_words notes.OutOfProportion = OUT_OF_PROPORTION.now
+note_words (notes.Rests read) = RESTS.now
+note_words (notes.RestsOnEdit operation) = RESTS_ON_EDIT.now
 
 -- what the words for a note end with: a field, a process, an event or an operation
 abbrev pub noted_text : Note → List ℕ
@@ -180,7 +181,7 @@ noted_text (notes.RestsOnEdit operation) = operation_text operation
 -- what has a value, as it is printed: an operation, or the register at first
 abbrev pub value_holder_text : Holder → List ℕ
 value_holder_text (holders.Op id) = operation_text id
-value_holder_text holders.Initial = codes "the register at first"
+value_holder_text holders.Initial = AT_FIRST.now
 
 -- the field that is missing or given twice; empty for another fault of form
 abbrev pub field_text : FormFault → List ℕ

@@ -49,7 +49,7 @@ pub fn lint<R: Wait>(
         field,
         suspects: &suspects,
     };
-    let traces = find_all(look, texts, run.logs.as_slice())?;
+    let traces = find_all(&look, texts, run.logs.as_slice())?;
     let unused = unused_in(alloc, tower, &run.closed)?;
     Ok(Findings { traces, unused })
 }
@@ -71,7 +71,7 @@ fn is_unused(closed: &Closed, id: RegId) -> bool {
 }
 
 /// The findings of each trace, by its log.
-fn find_all(look: Look, texts: &[&[u8]], logs: &[Log]) -> Result<Vec<TraceFindings>, RunFault>
+fn find_all(look: &Look, texts: &[&[u8]], logs: &[Log]) -> Result<Vec<TraceFindings>, RunFault>
     requires each { length logs.now ≡ length texts.now }
     requires named { AllZip NamesElements (map (λ text. text.now) texts.now) logs.now }
     ensures found { IfOk result (λ traces. AreFoundIn (map (λ text. text.now) texts.entry.now) logs.now traces.items) }
@@ -85,7 +85,7 @@ fn find_all(look: Look, texts: &[&[u8]], logs: &[Log]) -> Result<Vec<TraceFindin
 }
 
 /// The findings of one trace: its refusals in the order of its elements, and where it broke.
-fn find_in(look: Look, feeder: usize, text: &[u8], log: &Log) -> Result<TraceFindings, RunFault>
+fn find_in(look: &Look, feeder: usize, text: &[u8], log: &Log) -> Result<TraceFindings, RunFault>
     requires named { NamesElements text.now log.now }
     ensures found { IfOk result (IsFoundIn text.now log.now) }
     ensures memory { IfErr result (λ fault. fault ≡ RunFault.Memory) }

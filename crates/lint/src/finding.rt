@@ -26,7 +26,7 @@ pub enum Amiss {
 }
 
 /// What is taken as it is, and may not be meant.
-#[derive(Clone, Copy, Debug)]
+#[derive(Clone, Copy)]
 pub enum Note {
     /// An element that looks like a client's read or write is skipped, since its process is no integer.
     Skipped,

@@ -38,18 +38,17 @@ fn push_command(
     source: &SourceText,
     finding: &Finding,
 ) -> Result<(), AllocError> {
-    text.push_str("::")?;
-    text.push_str(command_of(finding.what.grade()))?;
-    text.push_str(" file=")?;
+    let (what, place) = (&finding.what, &finding.spot.place);
+    write!(text, "::{} file=", command_of(what.grade()))?;
     push_property(text, source.name)?;
     write!(
         text,
-        ",line={},col={},title=",
-        finding.spot.place.line, finding.spot.place.column
+        ",line={},col={},title={}::",
+        place.line,
+        place.column,
+        what.code()
     )?;
-    text.push_str(finding.what.code())?;
-    text.push_str("::")?;
-    push_message(text, &finding.what)?;
+    push_message(text, what)?;
     text.push_str("\n")
 }
 

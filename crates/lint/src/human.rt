@@ -5,7 +5,7 @@ use crate::finding::{Amiss, Finding, Findings, Grade, Note};
 use crate::head::{push_head, push_place};
 use crate::hint::hint_of;
 use crate::message::{field_word, push_id, tower_word};
-use crate::snippet::{Underline, push_blanks, push_margin, push_mark, push_plain, width_of};
+use crate::snippet::{push_mark, push_plain, width_of};
 use crate::source::SourceText;
 use crate::suggest::{meant_in_element, meant_in_tower, meant_key};
 use crate::tally::{Count, Tally};
@@ -17,24 +17,23 @@ use places::{Location, spot_of_one};
 use std::alloc::{AllocError, Global};
 use tower_file::TowerFault;
 
+/// For how many findings of each code, at most, a word is suggested that may have been meant.
+const SUGGESTED: usize = 3;
+
 /// What is printed from: the files, what was found in them, and how many of each code are shown.
-#[derive(Clone, Copy)]
-struct View<'a, 't> {
+struct View<'a> {
     alloc: Global,
-    sources: &'a [SourceText<'t>],
+    sources: &'a [SourceText<'a>],
     found: &'a Findings,
     most: usize,
 }
 
-/// For how many findings of each code, at most, a word is suggested that may have been meant.
-const SUGGESTED: usize = 3;
-
-/// A finding, the trace it is of, the width of its line numbers, and how many findings of its code were shown before.
-#[derive(Clone, Copy)]
-struct Case<'t> {
+/// A finding, its file, the width of its line numbers, and how many findings of its code were shown before.
+struct Case<'a> {
+    view: &'a View<'a>,
     trace: usize,
-    source: SourceText<'t>,
-    finding: Finding,
+    source: &'a SourceText<'a>,
+    finding: &'a Finding,
     width: usize,
     before: usize,
 }
@@ -55,7 +54,7 @@ pub fn push_human(
     };
     let mut tally = Tally::of(alloc, found)?;
     for trace in 0..found.traces.len() {
-        push_trace(text, view, trace, &mut tally)?;
+        push_trace(text, &view, trace, &mut tally)?;
     }
     push_totals(text, &tally)
 }
@@ -63,7 +62,7 @@ pub fn push_human(
 /// Adds the findings of a trace, and then its notes.
 fn push_trace(
     text: &mut String,
-    view: View,
+    view: &View,
     trace: usize,
     tally: &mut Tally,
 ) -> Result<(), AllocError> {
@@ -75,41 +74,31 @@ fn push_trace(
     if found.findings.is_empty() && found.notes.is_empty() {
         return Ok(());
     }
-    push_hints(text, view, trace)
+    push_hints(text, view, trace, found.spots.is_empty())
 }
 
 /// What may help with a file in which something is amiss: by its first bytes, or since it is a copy of an earlier one.
-fn push_hints(text: &mut String, view: View, trace: usize) -> Result<(), AllocError> {
-    let (Some(source), Some(found)) = (view.sources.get(trace), view.found.traces.get(trace)) else {
+fn push_hints(
+    text: &mut String,
+    view: &View,
+    trace: usize,
+    is_tower: bool,
+) -> Result<(), AllocError> {
+    let Some(source) = view.sources.get(trace) else {
         return Ok(());
     };
-    if let Some(hint) = hint_of(source.text, found.spots.is_empty()) {
-        push_hint(text, source, hint.code, hint.words)?;
+    if let Some(hint) = hint_of(source.text, is_tower) {
+        write!(text, "help[{}]: {}: {}\n\n", hint.code, source.name, hint.words)?;
     }
-    if is_given_before(view.sources, trace, source) {
-        push_hint(text, source, "H6", "an earlier file has the same bytes")?;
+    if is_given_before(view.sources, trace, source.text) {
+        write!(text, "help[H6]: {}: an earlier file has the same bytes\n\n", source.name)?;
     }
     Ok(())
 }
 
-fn push_hint(
-    text: &mut String,
-    source: &SourceText,
-    code: &str,
-    words: &str,
-) -> Result<(), AllocError> {
-    text.push_str("help[")?;
-    text.push_str(code)?;
-    text.push_str("]: ")?;
-    text.push_str(source.name)?;
-    text.push_str(": ")?;
-    text.push_str(words)?;
-    text.push_str("\n\n")
-}
-
-fn is_given_before(sources: &[SourceText], trace: usize, source: &SourceText) -> bool {
+fn is_given_before(sources: &[SourceText], trace: usize, text: &[u8]) -> bool {
     for earlier in sources.iter().take(trace) {
-        if earlier.text == source.text {
+        if earlier.text == text {
             return true;
         }
     }
@@ -118,7 +107,7 @@ fn is_given_before(sources: &[SourceText], trace: usize, source: &SourceText) ->
 
 fn push_cases(
     text: &mut String,
-    view: View,
+    view: &View,
     trace: usize,
     findings: &[Finding],
     tally: &mut Tally,
@@ -129,99 +118,105 @@ fn push_cases(
     for finding in findings {
         if let Some(count) = tally.show(finding.what.code(), view.most) {
             let case = Case {
+                view,
                 trace,
-                source: *source,
-                finding: *finding,
+                source,
+                finding,
                 width: width_of(last_line(view, finding)),
                 before: count.shown.saturating_sub(1),
             };
-            push_case(text, view, case)?;
+            push_case(text, &case)?;
             push_left(text, case.width, &count, view.most)?;
-            text.push_str("\n")?;
         }
     }
     Ok(())
 }
 
-fn push_case(text: &mut String, view: View, case: Case) -> Result<(), AllocError> {
+fn push_case(text: &mut String, case: &Case) -> Result<(), AllocError> {
     push_head(text, &case.finding.what)?;
     text.push_str("\n")?;
-    match case.finding.what {
-        Amiss::Refused(event, code) => push_refused(text, view, case, event, code)?,
-        Amiss::Broken(code) => push_broken(text, view, case, code)?,
-        Amiss::Tower(fault) => push_fault(text, view, case, fault)?,
+    match &case.finding.what {
+        Amiss::Refused(event, code) => push_refused(text, case, *event, code)?,
+        Amiss::Broken(code) => push_broken(text, case, *code)?,
+        Amiss::Tower(fault) => push_fault(text, case, *fault)?,
         Amiss::Noted(_, Note::NoOperation) => push_file(text, case)?,
-        Amiss::Noted(event, note) => push_noted(text, view, case, event, note)?,
+        Amiss::Noted(event, note) => push_noted(text, case, *event, note)?,
     }
     push_foot(text, case.width)?;
-    text.push_str("regaudit explain ")?;
-    text.push_str(case.finding.what.code())?;
-    text.push_str("\n")
+    write!(text, "regaudit explain {}\n", case.finding.what.code())
 }
 
 /// The beginning of a line below the lines of a file.
 fn push_foot(text: &mut String, width: usize) -> Result<(), AllocError> {
-    push_blanks(text, width)?;
-    text.push_str(" = ")
+    write!(text, "{:width$} = ", "")
 }
 
 /// Where a finding is: the file, the line and the column.
-fn push_arrow(
-    text: &mut String,
-    width: usize,
-    source: SourceText,
-    spot: &Location,
-) -> Result<(), AllocError> {
-    push_blanks(text, width)?;
-    text.push_str("--> ")?;
-    push_place(text, &source, spot)
+fn push_arrow(text: &mut String, case: &Case, spot: &Location) -> Result<(), AllocError> {
+    let width = case.width;
+    write!(text, "{:width$}--> ", "")?;
+    push_place(text, case.source, spot)
+}
+
+/// The end of a line, and an empty line above those of the file.
+fn push_gap(text: &mut String, width: usize) -> Result<(), AllocError> {
+    write!(text, "\n{:width$} |\n", "")
+}
+
+/// The line of a finding, marked, and words behind the mark.
+fn push_marked(text: &mut String, case: &Case, words: &str) -> Result<(), AllocError> {
+    push_mark(text, case.width, case.source.text, &case.finding.spot, '^')?;
+    text.push_str(words)
 }
 
 /// A refused element, with the operations that it meets.
 fn push_refused(
     text: &mut String,
-    view: View,
-    case: Case,
+    case: &Case,
     event: u64,
-    code: Code,
+    code: &Code,
 ) -> Result<(), AllocError> {
-    let (first, second) = met_by(code);
-    push_arrow(text, case.width, case.source, &case.finding.spot)?;
+    push_arrow(text, case, &case.finding.spot)?;
     write!(text, "  ({}:{event})", case.trace)?;
     push_gap(text, case.width)?;
-    push_met(text, view, case, first)?;
-    push_met(text, view, case, second)?;
-    push_mark(text, case.width, mark_of(case, '^'))?;
-    text.push_str(" left out")?;
-    if let Some(word) = meant_by_refused(view, case, code)? {
+    let (first, second) = met_by(code);
+    push_met(text, case, first)?;
+    push_met(text, case, second)?;
+    push_marked(text, case, " left out")?;
+    if let Some(word) = meant_by_refused(case, code)? {
         text.push_str(":")?;
         push_meant(text, word)?;
     }
     text.push_str("\n")?;
-    if let (Code::Form(FormFault::UnsupportedF), 0) = (code, case.before) {
-        push_foot(text, case.width)?;
-        text.push_str(
-            "only reads and writes are judged: a register that meets another :f is not covered by its verdict\n",
-        )?;
+    push_covered(text, case, code)
+}
+
+/// Where the first element of another `:f` is left out: what the verdict of its register does not cover.
+fn push_covered(text: &mut String, case: &Case, code: &Code) -> Result<(), AllocError> {
+    match (code, case.before) {
+        (Code::Form(FormFault::UnsupportedF), 0) => {
+            push_foot(text, case.width)?;
+            text.push_str(
+                "only reads and writes are judged: a register that meets another :f is not covered by its verdict\n",
+            )
+        }
+        _ => Ok(()),
     }
-    Ok(())
 }
 
 /// What a refused element may have meant. The last file, after the traces, is the tower file.
-fn meant_by_refused<'t>(
-    view: View<'_, 't>,
-    case: Case,
-    code: Code,
-) -> Result<Option<&'t [u8]>, AllocError> {
+fn meant_by_refused<'a>(case: &Case<'a>, code: &Code) -> Result<Option<&'a [u8]>, AllocError> {
     if case.before >= SUGGESTED {
         return Ok(None);
     }
-    let spot = case.finding.spot;
+    let spot = &case.finding.spot;
     match (
         case.source.text.get(spot.start..spot.end),
-        view.sources.last(),
+        case.view.sources.last(),
     ) {
-        (Some(element), Some(last)) => meant_in_element(view.alloc, element, code, last.text),
+        (Some(element), Some(last)) => {
+            meant_in_element(case.view.alloc, element, code, last.text)
+        }
         _ => Ok(None),
     }
 }
@@ -229,39 +224,40 @@ fn meant_by_refused<'t>(
 /// What is noted of an element, or of a part of a tower file.
 fn push_noted(
     text: &mut String,
-    view: View,
-    case: Case,
+    case: &Case,
     event: Option<u64>,
-    note: Note,
+    note: &Note,
 ) -> Result<(), AllocError> {
-    push_arrow(text, case.width, case.source, &case.finding.spot)?;
+    push_arrow(text, case, &case.finding.spot)?;
     if let Some(event) = event {
         write!(text, "  ({}:{event})", case.trace)?;
     }
     push_gap(text, case.width)?;
-    push_met(text, view, case, beside(case, note))?;
-    push_mark(text, case.width, mark_of(case, '^'))?;
+    push_met(text, case, beside(case.trace, note))?;
+    push_marked(text, case, "")?;
     push_label(text, note)?;
     text.push_str("\n")
 }
 
 /// What becomes of what is noted, or what may have been meant.
-fn push_label(text: &mut String, note: Note) -> Result<(), AllocError> {
+fn push_label(text: &mut String, note: &Note) -> Result<(), AllocError> {
     match note {
-        Note::NearField(field) => push_meant(text, field_word(field).as_bytes()),
-        Note::Unread(Some(field)) => push_meant(text, tower_word(field).as_bytes()),
-        Note::Unread(None) => text.push_str(" not read"),
-        Note::Skipped => text.push_str(" skipped"),
-        Note::NoValue => text.push_str(" taken as nil"),
-        Note::Unanswered => text.push_str(" never answered"),
-        Note::Rests(_) | Note::RestsOnEdit(_) => text.push_str(
-            " left out, and the verdict rests on it",
-        ),
-        Note::Unused => text.push_str(" no operation"),
-        Note::SilentWriter(_) => text.push_str(" no event"),
-        Note::SameMoment(_) | Note::NoOperation | Note::OutOfProportion => {
-            text.push_str(" taken as it stands")
-        }
+        Note::NearField(field) => push_meant(text, field_word(*field).as_bytes()),
+        Note::Unread(Some(field)) => push_meant(text, tower_word(*field).as_bytes()),
+        _ => text.push_str(label_of(note)),
+    }
+}
+
+fn label_of(note: &Note) -> &'static str {
+    match note {
+        Note::NearField(_) | Note::Unread(_) => " not read",
+        Note::Skipped => " skipped",
+        Note::NoValue => " taken as nil",
+        Note::Unanswered => " never answered",
+        Note::Rests(_) | Note::RestsOnEdit(_) => " left out, and the verdict rests on it",
+        Note::Unused => " no operation",
+        Note::SilentWriter(_) => " no event",
+        Note::SameMoment(_) | Note::NoOperation | Note::OutOfProportion => " taken as it stands",
     }
 }
 
@@ -272,66 +268,55 @@ fn push_meant(text: &mut String, word: &[u8]) -> Result<(), AllocError> {
 }
 
 /// A note on a file as a whole.
-fn push_file(text: &mut String, case: Case) -> Result<(), AllocError> {
-    push_blanks(text, case.width)?;
-    text.push_str("--> ")?;
-    text.push_str(case.source.name)?;
-    text.push_str("\n")
+fn push_file(text: &mut String, case: &Case) -> Result<(), AllocError> {
+    let width = case.width;
+    write!(text, "{:width$}--> {}\n", "", case.source.name)
 }
 
 /// The other event or operation that a note speaks of.
-fn beside(case: Case, note: Note) -> Option<OpId> {
-    match (note, u32::try_from(case.trace)) {
-        (Note::SameMoment(event), Ok(feeder)) => Some(OpId { feeder, event }),
-        (Note::Rests(read), _) => Some(read),
-        (Note::RestsOnEdit(operation), _) => Some(operation),
+fn beside(trace: usize, note: &Note) -> Option<OpId> {
+    match (note, u32::try_from(trace)) {
+        (Note::SameMoment(event), Ok(feeder)) => Some(OpId {
+            feeder,
+            event: *event,
+        }),
+        (Note::Rests(operation) | Note::RestsOnEdit(operation), _) => Some(*operation),
         _ => None,
     }
 }
 
-fn mark_of<'t>(case: Case<'t>, sign: char) -> Underline<'t> {
-    Underline {
-        source: case.source,
-        spot: case.finding.spot,
-        sign,
-    }
-}
-
 /// The operations that a refused edit meets.
-fn met_by(code: Code) -> (Option<OpId>, Option<OpId>) {
+fn met_by(code: &Code) -> (Option<OpId>, Option<OpId>) {
     match code {
-        Code::Register(Refusal::MomentTaken(_, id)) => (Some(id), None),
-        Code::Register(Refusal::WritesOverlap(id)) => (Some(id), None),
-        Code::Register(Refusal::ValueTaken(Holder::Op(id))) => (Some(id), None),
-        Code::Register(Refusal::ClaimOverlap(one, other)) => (Some(one), Some(other)),
-        Code::Register(Refusal::ClaimRepeats(id, Holder::Op(other))) => (Some(other), Some(id)),
-        Code::Register(Refusal::ClaimRepeats(id, Holder::Initial)) => (Some(id), None),
+        Code::Register(
+            Refusal::MomentTaken(_, id)
+            | Refusal::WritesOverlap(id)
+            | Refusal::ValueTaken(Holder::Op(id))
+            | Refusal::ClaimRepeats(id, Holder::Initial),
+        ) => (Some(*id), None),
+        Code::Register(
+            Refusal::ClaimOverlap(one, other) | Refusal::ClaimRepeats(other, Holder::Op(one)),
+        ) => (Some(*one), Some(*other)),
         _ => (None, None),
     }
 }
 
 /// The invocation of an operation: its file and its spot.
-fn invocation_of<'t>(
-    view: View<'_, 't>,
-    id: Option<OpId>,
-) -> Option<(OpId, SourceText<'t>, Location)> {
-    let Some(id) = id else {
-        return None;
-    };
+fn invocation_of<'a>(view: &View<'a>, id: &OpId) -> Option<(&'a SourceText<'a>, &'a Location)> {
     let trace = id.feeder as usize;
     let (Some(source), Some(found)) = (view.sources.get(trace), view.found.traces.get(trace)) else {
         return None;
     };
     match found.spots.get(id.event as usize) {
-        Some(spot) => Some((id, *source, *spot)),
+        Some(spot) => Some((source, spot)),
         None => None,
     }
 }
 
 /// The greatest line number that is shown with a finding.
-fn last_line(view: View, finding: &Finding) -> usize {
+fn last_line(view: &View, finding: &Finding) -> usize {
     let line = finding.spot.place.line;
-    match finding.what {
+    match &finding.what {
         Amiss::Refused(_, code) => {
             let (first, second) = met_by(code);
             line.max(line_of(view, first)).max(line_of(view, second))
@@ -340,40 +325,51 @@ fn last_line(view: View, finding: &Finding) -> usize {
     }
 }
 
-fn line_of(view: View, id: Option<OpId>) -> usize {
-    match invocation_of(view, id) {
-        Some((_, _, spot)) => spot.place.line,
+fn line_of(view: &View, id: Option<OpId>) -> usize {
+    let Some(id) = id else {
+        return 0;
+    };
+    match invocation_of(view, &id) {
+        Some((_, spot)) => spot.place.line,
         None => 0,
     }
 }
 
 /// An operation that is met, at its invocation.
-fn push_met(text: &mut String, view: View, case: Case, id: Option<OpId>) -> Result<(), AllocError> {
-    let Some((id, source, spot)) = invocation_of(view, id) else {
+fn push_met(text: &mut String, case: &Case, id: Option<OpId>) -> Result<(), AllocError> {
+    let Some(id) = id else {
+        return Ok(());
+    };
+    let Some((source, spot)) = invocation_of(case.view, &id) else {
         return Ok(());
     };
     if id.feeder as usize != case.trace {
-        push_blanks(text, case.width)?;
-        text.push_str("::: ")?;
-        push_place(text, &source, &spot)?;
-        text.push_str("\n")?;
+        push_elsewhere(text, case.width, source, spot)?;
     }
-    let mark = Underline {
-        source,
-        spot,
-        sign: '-',
-    };
-    push_mark(text, case.width, mark)?;
+    push_mark(text, case.width, source.text, spot, '-')?;
     text.push_str(" ")?;
     push_id(text, id)?;
-    if is_unfinished(view, id) {
-        text.push_str(", which has no end")?;
-    }
+    text.push_str(if is_unfinished(case.view, &id) {
+        ", which has no end\n"
+    } else {
+        "\n"
+    })
+}
+
+/// The place of an operation in another file.
+fn push_elsewhere(
+    text: &mut String,
+    width: usize,
+    source: &SourceText,
+    spot: &Location,
+) -> Result<(), AllocError> {
+    write!(text, "{:width$}::: ", "")?;
+    push_place(text, source, spot)?;
     text.push_str("\n")
 }
 
 /// Whether the operation has neither an `:ok` nor a `:fail`.
-fn is_unfinished(view: View, id: OpId) -> bool {
+fn is_unfinished(view: &View, id: &OpId) -> bool {
     match view.found.traces.get(id.feeder as usize) {
         Some(found) => match found.unfinished.get(id.event as usize) {
             Some(is_unfinished) => *is_unfinished,
@@ -383,131 +379,105 @@ fn is_unfinished(view: View, id: OpId) -> bool {
     }
 }
 
-/// Where a text breaks, with the bracket that is open there. A text that ends too early is shown at that bracket.
-fn push_broken(
-    text: &mut String,
-    view: View,
-    case: Case,
-    code: BreakCode,
-) -> Result<(), AllocError> {
+/// Where a text breaks, and how many elements of the trace are judged.
+fn push_broken(text: &mut String, case: &Case, code: BreakCode) -> Result<(), AllocError> {
     match code {
-        BreakCode::Truncated => push_end(text, view, case)?,
-        BreakCode::WrongClose => push_wrong(text, case, open_at(view, case)?)?,
-        _ => push_wrong(text, case, None)?,
+        BreakCode::Truncated => push_end(text, case)?,
+        BreakCode::WrongClose => push_unfit(text, case)?,
+        _ => push_wrong(text, case)?,
     }
-    push_judged(text, view, case)
+    push_judged(text, case)
 }
 
 /// The fault of a tower file: the bytes that are wrong, and what may have been meant by them.
-fn push_fault(
-    text: &mut String,
-    view: View,
-    case: Case,
-    fault: TowerFault,
-) -> Result<(), AllocError> {
+fn push_fault(text: &mut String, case: &Case, fault: TowerFault) -> Result<(), AllocError> {
     match fault {
-        TowerFault::Edn(EdnFault::Truncated(_)) => push_end(text, view, case),
-        TowerFault::Edn(EdnFault::WrongClose(_)) => push_wrong(text, case, open_at(view, case)?),
-        TowerFault::Edn(_) => push_wrong(text, case, None),
-        _ => push_part(text, view, case, fault),
+        TowerFault::Edn(EdnFault::Truncated(_)) => push_end(text, case),
+        TowerFault::Edn(EdnFault::WrongClose(_)) => push_unfit(text, case),
+        TowerFault::Edn(_) => push_wrong(text, case),
+        _ => push_part(text, case, fault),
     }
 }
 
 /// The part of a tower file that is wrong.
-fn push_part(
-    text: &mut String,
-    view: View,
-    case: Case,
-    fault: TowerFault,
-) -> Result<(), AllocError> {
-    let (bytes, spot) = (case.source.text, &case.finding.spot);
+fn push_part(text: &mut String, case: &Case, fault: TowerFault) -> Result<(), AllocError> {
+    let (alloc, bytes, spot) = (case.view.alloc, case.source.text, &case.finding.spot);
     push_top(text, case, spot)?;
-    push_mark(text, case.width, mark_of(case, '^'))?;
-    if let Some(word) = meant_in_tower(view.alloc, bytes, fault, spot)? {
+    push_marked(text, case, "")?;
+    if let Some(word) = meant_in_tower(alloc, bytes, fault, spot)? {
         push_meant(text, word)?;
-    } else if let Some((key, field)) = meant_key(view.alloc, bytes, fault, spot)? {
-        text.push_str(" its ")?;
-        push_plain(text, key)?;
-        text.push_str(" is not read:")?;
-        push_meant(text, field.as_bytes())?;
+    } else if let Some((key, field)) = meant_key(alloc, bytes, fault, spot)? {
+        push_unread(text, key, field)?;
     } else {
         text.push_str(" here")?;
     }
     text.push_str("\n")
 }
 
+/// A key that is not read, and the field that may have been meant by it.
+fn push_unread(text: &mut String, key: &[u8], field: &str) -> Result<(), AllocError> {
+    text.push_str(" its ")?;
+    push_plain(text, key)?;
+    text.push_str(" is not read:")?;
+    push_meant(text, field.as_bytes())
+}
+
 /// Where a text ends too early: at the bracket that is open there, if one is.
-fn push_end(text: &mut String, view: View, case: Case) -> Result<(), AllocError> {
-    match open_at(view, case)? {
-        Some(open) => push_truncated(text, case, open),
-        None => push_wrong(text, case, None),
+fn push_end(text: &mut String, case: &Case) -> Result<(), AllocError> {
+    match open_at(case)? {
+        Some(open) => push_truncated(text, case, &open),
+        None => push_wrong(text, case),
     }
 }
 
 /// The innermost bracket that is open where a text breaks.
-fn open_at(view: View, case: Case) -> Result<Option<Location>, AllocError> {
-    let from = read_up_to(view, case.trace);
+fn open_at(case: &Case) -> Result<Option<Location>, AllocError> {
+    let from = read_up_to(case);
     let bytes = case.source.text;
-    match innermost_open(view.alloc, bytes, from, case.finding.spot.start)? {
+    match innermost_open(case.view.alloc, bytes, from, case.finding.spot.start)? {
         Some(open) => Ok(Some(spot_of_one(bytes, open))),
         None => Ok(None),
     }
 }
 
 /// The bracket that is never closed, and the next line inside it that begins with a brace.
-fn push_truncated(text: &mut String, case: Case, open: Location) -> Result<(), AllocError> {
-    push_top(text, case, &open)?;
-    let mark = Underline {
-        source: case.source,
-        spot: open,
-        sign: '^',
-    };
-    push_mark(text, case.width, mark)?;
+fn push_truncated(text: &mut String, case: &Case, open: &Location) -> Result<(), AllocError> {
+    let bytes = case.source.text;
+    push_top(text, case, open)?;
+    push_mark(text, case.width, bytes, open, '^')?;
     text.push_str(" is never closed\n")?;
-    let Some(line) = next_map_line(case.source.text, open.start) else {
+    let Some(line) = next_map_line(bytes, open.start) else {
         return Ok(());
     };
-    let suspect = Underline {
-        source: case.source,
-        spot: spot_of_one(case.source.text, line),
-        sign: '-',
-    };
-    push_mark(text, case.width, suspect)?;
+    push_mark(text, case.width, bytes, &spot_of_one(bytes, line), '-')?;
     text.push_str(" a line that begins with { inside it: is a } missing above?\n")
 }
 
-/// The byte at which a text breaks, and the bracket that it does not close.
-fn push_wrong(text: &mut String, case: Case, open: Option<Location>) -> Result<(), AllocError> {
+/// The closing bracket at which a text breaks, and the bracket that it does not close.
+fn push_unfit(text: &mut String, case: &Case) -> Result<(), AllocError> {
     push_top(text, case, &case.finding.spot)?;
-    if let Some(spot) = open {
-        let mark = Underline {
-            source: case.source,
-            spot,
-            sign: '-',
-        };
-        push_mark(text, case.width, mark)?;
+    if let Some(open) = open_at(case)? {
+        push_mark(text, case.width, case.source.text, &open, '-')?;
         text.push_str(" is open\n")?;
     }
-    push_mark(text, case.width, mark_of(case, '^'))?;
-    text.push_str(" here\n")
+    push_marked(text, case, " here\n")
+}
+
+/// The byte at which a text breaks.
+fn push_wrong(text: &mut String, case: &Case) -> Result<(), AllocError> {
+    push_top(text, case, &case.finding.spot)?;
+    push_marked(text, case, " here\n")
 }
 
 /// Where a break or a bracket is.
-fn push_top(text: &mut String, case: Case, spot: &Location) -> Result<(), AllocError> {
-    push_arrow(text, case.width, case.source, spot)?;
+fn push_top(text: &mut String, case: &Case, spot: &Location) -> Result<(), AllocError> {
+    push_arrow(text, case, spot)?;
     push_gap(text, case.width)
 }
 
-/// The end of a line, and an empty line above those of the file.
-fn push_gap(text: &mut String, width: usize) -> Result<(), AllocError> {
-    text.push_str("\n")?;
-    push_margin(text, width)?;
-    text.push_str("\n")
-}
-
 /// The byte after the last element of a trace.
-fn read_up_to(view: View, trace: usize) -> usize {
-    match view.found.traces.get(trace) {
+fn read_up_to(case: &Case) -> usize {
+    match case.view.found.traces.get(case.trace) {
         Some(found) => match found.spots.last() {
             Some(spot) => spot.end,
             None => 0,
@@ -517,8 +487,8 @@ fn read_up_to(view: View, trace: usize) -> usize {
 }
 
 /// How many elements of a trace are judged.
-fn push_judged(text: &mut String, view: View, case: Case) -> Result<(), AllocError> {
-    let many = match view.found.traces.get(case.trace) {
+fn push_judged(text: &mut String, case: &Case) -> Result<(), AllocError> {
+    let many = match case.view.found.traces.get(case.trace) {
         Some(found) => found.spots.len(),
         None => 0,
     };
@@ -530,7 +500,7 @@ fn push_judged(text: &mut String, view: View, case: Case) -> Result<(), AllocErr
     )
 }
 
-/// How many more findings of a code there are, after the last one that is shown.
+/// An empty line; and above it, after the last finding of a code that is shown, how many more there are.
 fn push_left(
     text: &mut String,
     width: usize,
@@ -539,15 +509,13 @@ fn push_left(
 ) -> Result<(), AllocError> {
     let left = count.left();
     if most == 0 || count.shown < most || left == 0 {
-        return Ok(());
+        return text.push_str("\n");
     }
     push_foot(text, width)?;
-    write!(text, "and {left} more of ")?;
-    text.push_str(count.code)?;
     write!(
         text,
-        ", the last at line {}; --max 0 shows all\n",
-        count.last
+        "and {left} more of {}, the last at line {}; --max 0 shows all\n\n",
+        count.code, count.last
     )
 }
 
@@ -564,11 +532,8 @@ fn push_totals(text: &mut String, tally: &Tally) -> Result<(), AllocError> {
 /// How many findings there are of a grade, and of each of its codes.
 fn push_total(text: &mut String, tally: &Tally, grade: Grade) -> Result<(), AllocError> {
     let many = tally.of_grade(grade);
-    write!(text, "{many} ")?;
-    text.push_str(grade.word())?;
-    if many != 1 {
-        text.push_str("s")?;
-    }
+    let end = if many == 1 { "" } else { "s" };
+    write!(text, "{many} {}{end}", grade.word())?;
     if many > 1 {
         push_counts(text, tally, grade)?;
     }
@@ -579,9 +544,7 @@ fn push_counts(text: &mut String, tally: &Tally, grade: Grade) -> Result<(), All
     let mut before = " (";
     for count in &tally.counts {
         if count.grade == grade {
-            text.push_str(before)?;
-            text.push_str(count.code)?;
-            write!(text, " {}", count.many)?;
+            write!(text, "{before}{} {}", count.code, count.many)?;
             before = ", ";
         }
     }

@@ -3,8 +3,10 @@
 use crate::finding::{Amiss, Finding, Findings, Note};
 use crate::message::push_message;
 use crate::quoted::push_quoted;
+use crate::snippet::part_of;
 use crate::source::SourceText;
-use logs::Code;
+use logs::{BreakCode, Code};
+use places::Location;
 use std::alloc::{AllocError, Global};
 
 /// A record for each finding, by trace and place. The fields come in a fixed order.
@@ -51,52 +53,40 @@ fn push_record(
     trace: usize,
     finding: &Finding,
 ) -> Result<(), AllocError> {
+    let what = &finding.what;
+    push_names(text, alloc, what)?;
     let mut message = String::new(alloc);
-    push_message(&mut message, &finding.what)?;
-    text.push_str("{\"t\":\"finding\",\"grade\":")?;
-    push_quoted(text, finding.what.grade().word().as_bytes())?;
-    text.push_str(",\"code\":")?;
-    push_quoted(text, finding.what.code().as_bytes())?;
-    text.push_str(",\"name\":")?;
-    push_name(text, alloc, &finding.what)?;
-    text.push_str(",\"message\":")?;
+    push_message(&mut message, what)?;
     push_quoted(text, message.as_bytes())?;
     text.push_str(",\"file\":")?;
     push_quoted(text, source.name.as_bytes())?;
-    push_spot(text, finding)?;
-    text.push_str(",\"id\":")?;
-    push_id(text, trace, &finding.what)?;
-    text.push_str(",\"text\":")?;
-    push_quoted(text, text_of(source, finding))?;
+    push_spot(text, &finding.spot)?;
+    push_id(text, trace, what)?;
+    push_quoted(text, part_of(source.text, finding.spot.start, finding.spot.end))?;
     text.push_str("}\n")
 }
 
-fn push_spot(text: &mut String, finding: &Finding) -> Result<(), AllocError> {
-    let spot = finding.spot;
+/// The grade, the code and the name of what is amiss; a printed fault has its name after its code.
+fn push_names(text: &mut String, alloc: Global, what: &Amiss) -> Result<(), AllocError> {
+    let mut printed = String::new(alloc);
+    push_printed(&mut printed, what)?;
+    let (grade, code) = (what.grade().word(), what.code());
+    let name = name_in(printed.as_str());
     write!(
         text,
-        ",\"line\":{},\"column\":{},\"byte\":{},\"end\":{}",
-        spot.place.line, spot.place.column, spot.start, spot.end
+        "{{\"t\":\"finding\",\"grade\":\"{grade}\",\"code\":\"{code}\",\"name\":\"{name}\",\"message\":"
     )
 }
 
-/// The name of what is amiss, which a printed fault has after its code.
-fn push_name(text: &mut String, alloc: Global, what: &Amiss) -> Result<(), AllocError> {
-    let printed = match what {
-        Amiss::Refused(_, Code::Form(fault)) => format!(in alloc; "{fault}")?,
-        Amiss::Refused(_, Code::Pair(fault)) => format!(in alloc; "{fault}")?,
-        Amiss::Refused(_, Code::Register(refusal)) => format!(in alloc; "{refusal}")?,
-        Amiss::Broken(code) => format!(in alloc; "{code:?}")?,
-        Amiss::Tower(fault) => format!(in alloc; "{fault}")?,
-        Amiss::Noted(_, Note::Unread(_)) => String::from_str(alloc, "Unread")?,
-        Amiss::Noted(_, Note::NearField(_)) => String::from_str(alloc, "NearField")?,
-        Amiss::Noted(_, Note::Rests(_)) => String::from_str(alloc, "Rests")?,
-        Amiss::Noted(_, Note::RestsOnEdit(_)) => String::from_str(alloc, "RestsOnEdit")?,
-        Amiss::Noted(_, Note::SilentWriter(_)) => String::from_str(alloc, "SilentWriter")?,
-        Amiss::Noted(_, Note::SameMoment(_)) => String::from_str(alloc, "SameMoment")?,
-        Amiss::Noted(_, note) => format!(in alloc; "{note:?}")?,
-    };
-    push_quoted(text, name_in(printed.as_str()).as_bytes())
+fn push_printed(text: &mut String, what: &Amiss) -> Result<(), AllocError> {
+    match what {
+        Amiss::Refused(_, Code::Form(fault)) => write!(text, "{fault}"),
+        Amiss::Refused(_, Code::Pair(fault)) => write!(text, "{fault}"),
+        Amiss::Refused(_, Code::Register(refusal)) => write!(text, "{refusal}"),
+        Amiss::Tower(fault) => write!(text, "{fault}"),
+        Amiss::Broken(code) => text.push_str(name_of_break(*code)),
+        Amiss::Noted(_, note) => text.push_str(name_of_note(note)),
+    }
 }
 
 fn name_in(printed: &str) -> &str {
@@ -106,19 +96,53 @@ fn name_in(printed: &str) -> &str {
     }
 }
 
+fn name_of_break(code: BreakCode) -> &'static str {
+    match code {
+        BreakCode::Truncated => "Truncated",
+        BreakCode::StrayClose => "StrayClose",
+        BreakCode::WrongClose => "WrongClose",
+        BreakCode::TooDeep => "TooDeep",
+        BreakCode::OddMap => "OddMap",
+        BreakCode::TagWithoutElement => "TagWithoutElement",
+        BreakCode::ReadFailed => "ReadFailed",
+        BreakCode::TooLong => "TooLong",
+    }
+}
+
+fn name_of_note(note: &Note) -> &'static str {
+    match note {
+        Note::Skipped => "Skipped",
+        Note::NoOperation => "NoOperation",
+        Note::Unused => "Unused",
+        Note::NoValue => "NoValue",
+        Note::NearField(_) => "NearField",
+        Note::Unread(_) => "Unread",
+        Note::Unanswered => "Unanswered",
+        Note::SilentWriter(_) => "SilentWriter",
+        Note::SameMoment(_) => "SameMoment",
+        Note::OutOfProportion => "OutOfProportion",
+        Note::Rests(_) => "Rests",
+        Note::RestsOnEdit(_) => "RestsOnEdit",
+    }
+}
+
+fn push_spot(text: &mut String, spot: &Location) -> Result<(), AllocError> {
+    let place = &spot.place;
+    write!(
+        text,
+        ",\"line\":{},\"column\":{},\"byte\":{},\"end\":{}",
+        place.line, place.column, spot.start, spot.end
+    )
+}
+
 /// The trace and the number of the element; null where the finding is of none.
 fn push_id(text: &mut String, trace: usize, what: &Amiss) -> Result<(), AllocError> {
     match what {
         Amiss::Refused(event, _) | Amiss::Noted(Some(event), _) => {
-            write!(text, "\"{trace}:{event}\"")
+            write!(text, ",\"id\":\"{trace}:{event}\",\"text\":")
         }
-        Amiss::Noted(None, _) | Amiss::Broken(_) | Amiss::Tower(_) => text.push_str("null"),
-    }
-}
-
-fn text_of<'t>(source: &SourceText<'t>, finding: &Finding) -> &'t [u8] {
-    match source.text.get(finding.spot.start..finding.spot.end) {
-        Some(text) => text,
-        None => b"",
+        Amiss::Noted(None, _) | Amiss::Broken(_) | Amiss::Tower(_) => {
+            text.push_str(",\"id\":null,\"text\":")
+        }
     }
 }

@@ -34,6 +34,7 @@ mod nearest;
 mod notes;
 mod print;
 mod quoted;
+mod sentences;
 mod short;
 mod snippet;
 mod source;

@@ -4,6 +4,7 @@ ghost use Rattle.std.specs.Prelude.{◌≡◌, ◌++◌, OnOk, string_bytes};
 ghost use Rattle.lint.specs.Message.{break_words, details_of, field_word, field_text, form_words, value_holder_text, operation_text, message_of, note_words, edn_words, noted_text, operations_text, pair_words, refusal_words, tower_text, tower_word, tower_words, words_of};
 
 use crate::finding::{Amiss, Note};
+use crate::sentences::*;
 use edn_reader::EdnFault;
 use intervals::{Holder, OpId, Refusal};
 use jepsen_form::{FormFault, FormField};
@@ -37,14 +38,14 @@ fn form_words(fault: &FormFault) -> &'static str
     ensures { result.now ≡ form_words fault.now }
 {
     match fault {
-        FormFault::NotAMap => "an element that is no map",
-        FormFault::MissingField(_) => "a field is missing: ",
-        FormFault::DuplicateField(_) => "a field stands twice: ",
-        FormFault::BadType => "the :type, :edit or :kind is none that is known",
-        FormFault::UnsupportedF => "the :f is neither :read nor :write",
-        FormFault::BadValue => "a value that is neither nil nor an integer that fits",
-        FormFault::BadMoment => "a moment that is no integer from 0",
-        FormFault::NoRegister => "the tower has no register of this name",
+        FormFault::NotAMap => NO_MAP,
+        FormFault::MissingField(_) => FIELD_MISSING,
+        FormFault::DuplicateField(_) => FIELD_TWICE,
+        FormFault::BadType => BAD_TYPE,
+        FormFault::UnsupportedF => UNSUPPORTED_F,
+        FormFault::BadValue => BAD_VALUE,
+        FormFault::BadMoment => BAD_MOMENT,
+        FormFault::NoRegister => NO_REGISTER,
     }
 }
 
@@ -52,10 +53,10 @@ fn pair_words(fault: &PairFault) -> &'static str
     ensures { result.now ≡ pair_words fault.now }
 {
     match fault {
-        PairFault::ProcessBusy => "an invocation of a process whose last one has no answer yet",
-        PairFault::NoInvocation => "an answer or an edit, and no invocation that it is of",
-        PairFault::AnswerMismatch => "an :ok that does not fit its invocation",
-        PairFault::Memory => "out of memory",
+        PairFault::ProcessBusy => PROCESS_BUSY,
+        PairFault::NoInvocation => NO_INVOCATION,
+        PairFault::AnswerMismatch => ANSWER_MISMATCH,
+        PairFault::Memory => OUT_OF_MEMORY,
     }
 }
 
@@ -63,20 +64,20 @@ fn refusal_words(refusal: &Refusal) -> &'static str
     ensures { result.now ≡ refusal_words refusal.now }
 {
     match refusal {
-        Refusal::UnknownOp => "its operation does not stand",
-        Refusal::OpTaken => "its operation stands already",
-        Refusal::EndNotAfterBegin => "an end that is not after the beginning",
-        Refusal::MomentTaken(..) => "a moment that another operation has: ",
-        Refusal::MomentTooLarge => "a moment past 4611686018427387903",
-        Refusal::NotAWriter => "a write by a process that is no writer of the register",
-        Refusal::WritesOverlap(_) => "a write that overlaps the write ",
-        Refusal::ValueTaken(_) => "a write of a value that is had by ",
-        Refusal::OutOfDomain => "a write of a value outside the domain",
-        Refusal::ClaimFixed => "a claim of a register whose kind is fixed",
-        Refusal::ClaimWriters => "a claim to be safe or regular, and not exactly one writer",
-        Refusal::ClaimOverlap(..) => "a claim to be safe or regular, and writes overlap: ",
-        Refusal::ClaimRepeats(..) => "a claim to be atomic, and a value is had twice: by ",
-        Refusal::ClaimInitial => "a claim to be safe or regular, and the initial value is unknown",
+        Refusal::UnknownOp => UNKNOWN_OPERATION,
+        Refusal::OpTaken => OPERATION_TAKEN,
+        Refusal::EndNotAfterBegin => END_NOT_AFTER_BEGIN,
+        Refusal::MomentTaken(..) => MOMENT_TAKEN,
+        Refusal::MomentTooLarge => MOMENT_TOO_LARGE,
+        Refusal::NotAWriter => NOT_A_WRITER,
+        Refusal::WritesOverlap(_) => WRITES_OVERLAP,
+        Refusal::ValueTaken(_) => VALUE_TAKEN,
+        Refusal::OutOfDomain => OUT_OF_DOMAIN,
+        Refusal::ClaimFixed => CLAIM_FIXED,
+        Refusal::ClaimWriters => CLAIM_WRITERS,
+        Refusal::ClaimOverlap(..) => CLAIM_OVERLAP,
+        Refusal::ClaimRepeats(..) => CLAIM_REPEATS,
+        Refusal::ClaimInitial => CLAIM_INITIAL,
     }
 }
 
@@ -84,15 +85,14 @@ fn break_words(code: BreakCode) -> &'static str
     ensures { result.now ≡ break_words code }
 {
     match code {
-        BreakCode::Truncated => "the text ends inside an element",
-        BreakCode::StrayClose => "a closing bracket, and none is open",
-        BreakCode::WrongClose => "a closing bracket that does not fit the open one",
-        BreakCode::TooDeep => "more than 64 brackets, tags and discards are open",
-        BreakCode::OddMap => "a map closes after an odd number of elements",
-        BreakCode::TagWithoutElement =>
-            "a bracket closes, and a tag or discard in it has no element",
-        BreakCode::ReadFailed => "the trace could not be read to its end",
-        BreakCode::TooLong => "the trace is longer than 1073741824 bytes",
+        BreakCode::Truncated => TRUNCATED,
+        BreakCode::StrayClose => STRAY_CLOSE,
+        BreakCode::WrongClose => WRONG_CLOSE,
+        BreakCode::TooDeep => TOO_DEEP,
+        BreakCode::OddMap => ODD_MAP,
+        BreakCode::TagWithoutElement => TAG_WITHOUT_ELEMENT,
+        BreakCode::ReadFailed => READ_FAILED,
+        BreakCode::TooLong => TOO_LONG,
     }
 }
 
@@ -100,19 +100,19 @@ fn note_words(note: &Note) -> &'static str
     ensures { result.now ≡ note_words note.now }
 {
     match note {
-        Note::Skipped => "an event is skipped: its :process is no integer",
-        Note::NoOperation => "no element invokes an operation",
-        Note::Unused => "a register that has no operation",
-        Note::NoValue => "an event without a :value, which is taken as nil",
-        Note::NearField(_) => "a field is not read, and this one is absent: ",
-        Note::Unread(Some(_)) => "a field is not read, and this one is absent: ",
-        Note::Unread(None) => "a field is not read",
-        Note::Unanswered => "an invocation that has no answer",
-        Note::SilentWriter(_) => "a writer of an atomic register that has no event: process ",
-        Note::SameMoment(_) => "a moment that another event of the trace has: number ",
-        Note::OutOfProportion => "a moment at least 1000 times the ones before and after it",
-        Note::Rests(_) => "a refused write of the value for which its register fails: read by ",
-        Note::RestsOnEdit(_) => "a refused edit of a register that fails: shown by ",
+        Note::Skipped => SKIPPED,
+        Note::NoOperation => NO_OPERATION,
+        Note::Unused => UNUSED,
+        Note::NoValue => NO_VALUE,
+        Note::NearField(_) => NEAR_FIELD,
+        Note::Unread(Some(_)) => NEAR_FIELD,
+        Note::Unread(None) => UNREAD,
+        Note::Unanswered => UNANSWERED,
+        Note::SilentWriter(_) => SILENT_WRITER,
+        Note::SameMoment(_) => SAME_MOMENT,
+        Note::OutOfProportion => OUT_OF_PROPORTION,
+        Note::Rests(_) => RESTS,
+        Note::RestsOnEdit(_) => RESTS_ON_EDIT,
     }
 }
 
@@ -154,16 +154,16 @@ fn tower_words(fault: &TowerFault) -> &'static str
     ensures { result.now ≡ tower_words fault.now }
 {
     match fault {
-        TowerFault::Edn(_) => "the text breaks: ",
-        TowerFault::Shape(_) => "a part is missing, stands twice or has another form: ",
-        TowerFault::NameTaken => "an earlier register has this name",
-        TowerFault::WriterCount => "a safe or regular register has not exactly one writer",
-        TowerFault::UnknownPart => "a part is no register of an earlier level",
-        TowerFault::EmptyDomain => "a domain without a value",
-        TowerFault::InitialOutOfDomain => "the initial value is not in the domain",
-        TowerFault::TooMany => "65536 registers come before this one",
-        TowerFault::Memory => "out of memory",
-        TowerFault::UnknownInitial => "the initial value of a safe or regular register is unknown",
+        TowerFault::Edn(_) => TEXT_BREAKS,
+        TowerFault::Shape(_) => PART_MISSHAPEN,
+        TowerFault::NameTaken => NAME_TAKEN,
+        TowerFault::WriterCount => WRITER_COUNT,
+        TowerFault::UnknownPart => UNKNOWN_PART,
+        TowerFault::EmptyDomain => EMPTY_DOMAIN,
+        TowerFault::InitialOutOfDomain => INITIAL_OUT_OF_DOMAIN,
+        TowerFault::TooMany => TOO_MANY,
+        TowerFault::Memory => OUT_OF_MEMORY,
+        TowerFault::UnknownInitial => UNKNOWN_INITIAL,
     }
 }
 
@@ -189,13 +189,13 @@ fn edn_words(fault: &EdnFault) -> &'static str
     ensures { result.now ≡ edn_words fault.now }
 {
     match fault {
-        EdnFault::Truncated(_) => "E1, it ends inside an element",
-        EdnFault::StrayClose(_) => "E2, a closing bracket, and none is open",
-        EdnFault::WrongClose(_) => "E3, a closing bracket that does not fit the open one",
-        EdnFault::TooDeep(_) => "E4, more than 64 brackets, tags and discards are open",
-        EdnFault::OddMap(_) => "E5, a map closes after an odd number of elements",
-        EdnFault::TagWithoutElement(_) => "E6, a tag or discard has no element",
-        EdnFault::Memory(_) => "E7, out of memory",
+        EdnFault::Truncated(_) => E1_TRUNCATED,
+        EdnFault::StrayClose(_) => E2_STRAY_CLOSE,
+        EdnFault::WrongClose(_) => E3_WRONG_CLOSE,
+        EdnFault::TooDeep(_) => E4_TOO_DEEP,
+        EdnFault::OddMap(_) => E5_ODD_MAP,
+        EdnFault::TagWithoutElement(_) => E6_TAG_WITHOUT_ELEMENT,
+        EdnFault::Memory(_) => E7_MEMORY,
     }
 }
 
@@ -289,7 +289,7 @@ fn push_holder(text: &mut String, holder: Holder) -> Result<(), AllocError>
 {
     match holder {
         Holder::Op(id) => push_id(text, id),
-        Holder::Initial => text.push_str("the register at first"),
+        Holder::Initial => text.push_str(AT_FIRST),
     }
 }
 

@@ -1,52 +1,36 @@
 //! Names of fields that are near others.
 
+use crate::message::field_word;
 use edn_reader::{Element, Field, MapView};
 use jepsen_form::FormField;
 use std::alloc::{AllocError, Global};
 use std::str::from_utf8;
 use strsim::osa_distance;
 
-/// Which of the fields of an event are absent.
-#[derive(Clone, Copy)]
-pub struct Absent {
-    pub process: bool,
-    pub stage: bool,
-    pub value: bool,
-}
+/// The fields that are read of some element.
+const READ: &[&str] = &[
+    ":process",
+    ":type",
+    ":f",
+    ":value",
+    ":index",
+    ":time",
+    ":edit",
+    ":of",
+    ":begin",
+    ":end",
+    ":ask",
+    ":register",
+    ":kind",
+];
 
-impl Absent {
-    /// The fields that a map does not have.
-    pub fn of(map: &MapView) -> Absent {
-        let mut absent = Absent {
-            process: true,
-            stage: true,
-            value: true,
-        };
-        let mut left = *map;
-        while let Some((key, _)) = left.next_pair() {
-            absent = absent.without(&key);
-        }
-        absent
-    }
-
-    fn without(self, key: &Element) -> Absent {
-        Absent {
-            process: self.process && !key.is_keyword(b":process"),
-            stage: self.stage && !key.is_keyword(b":type"),
-            value: self.value && !key.is_keyword(b":value"),
-        }
-    }
-
-    pub fn any(self) -> bool {
-        self.process || self.stage || self.value
-    }
-}
-
-/// The absent field that a key which is not read may have been meant for: its name is one or two edits away.
+/// The one of these fields that is absent from the map and for which a key that is not read may have been meant: its
+/// name is one or two edits away.
 pub fn meant_by(
     alloc: Global,
     key: &Element,
-    absent: Absent,
+    map: &MapView,
+    fields: &[FormField],
 ) -> Result<Option<FormField>, AllocError> {
     let Some(word) = key.as_keyword() else {
         return Ok(None);
@@ -54,37 +38,22 @@ pub fn meant_by(
     if is_read(word) {
         return Ok(None);
     }
-    if absent.process && is_close(alloc, word, ":process")? {
-        return Ok(Some(FormField::Process));
-    }
-    if absent.stage && is_close(alloc, word, ":type")? {
-        return Ok(Some(FormField::Stage));
-    }
-    if absent.value && is_close(alloc, word, ":value")? {
-        return Ok(Some(FormField::Value));
+    for field in fields {
+        if is_near(alloc, word, field_word(*field), map)? {
+            return Ok(Some(*field));
+        }
     }
     Ok(None)
 }
 
 /// Whether a field of this name is read of some element.
 fn is_read(word: &[u8]) -> bool {
-    word == b":process".as_slice()
-        || word == b":type".as_slice()
-        || word == b":f".as_slice()
-        || word == b":value".as_slice()
-        || word == b":index".as_slice()
-        || word == b":time".as_slice()
-        || is_read_of_edits(word)
-}
-
-fn is_read_of_edits(word: &[u8]) -> bool {
-    word == b":edit".as_slice()
-        || word == b":of".as_slice()
-        || word == b":begin".as_slice()
-        || word == b":end".as_slice()
-        || word == b":ask".as_slice()
-        || word == b":register".as_slice()
-        || word == b":kind".as_slice()
+    for name in READ {
+        if name.as_bytes() == word {
+            return true;
+        }
+    }
+    false
 }
 
 /// Whether the map has no field of this name, and the word is one or two edits away from it.

@@ -1,13 +1,11 @@
 //! What is taken of a trace as it is, and may not be meant. Nothing is left out for it.
 
-ghost use Rattle.std.specs.Prelude.{◌≡◌, length};
-
 use crate::finding::{Amiss, Finding, Note};
-use crate::nearest::{Absent, is_absent, meant_by};
+use crate::nearest::{is_absent, meant_by};
 use crate::suspect::Suspects;
 use edn_reader::{Element, Field, MapView};
 use intervals::OpId;
-use jepsen_form::{Action, Event, Item, MomentField, Stage, read_item};
+use jepsen_form::{Action, Event, FormField, Item, MomentField, Stage, read_item};
 use logs::{Line, What};
 use places::{Cursor, Elements, Location, spot_in, spot_of_one};
 use std::alloc::{AllocError, Global};
@@ -15,7 +13,6 @@ use std::collections::{BTreeMap, BTreeSet};
 use tower_file::Tower;
 
 /// What the elements of a trace are looked at with.
-#[derive(Clone, Copy)]
 pub struct Look<'a> {
     pub alloc: Global,
     pub tower: &'a Tower,
@@ -35,9 +32,11 @@ pub struct Noted {
 
 /// What is known of a trace after the elements so far.
 #[derive(Drop)]
-struct Watch {
+struct Watch<'a> {
+    /// Where the elements are.
+    spots: &'a [Location],
     /// The invocations that have no answer so far, by process.
-    unanswered: BTreeMap<i64, Invoked>,
+    unanswered: BTreeMap<i64, u64>,
     /// The first event of each moment.
     moments: BTreeMap<u64, u64>,
     /// The last event that has a moment.
@@ -46,44 +45,35 @@ struct Watch {
     noted: Noted,
 }
 
-/// An invocation, and where it is.
-#[derive(Clone, Copy)]
-struct Invoked {
-    number: u64,
-    spot: Location,
-}
-
-/// An event that has a moment: its own, the one before it (0 where there is none), and where it is.
+/// An event that has a moment: its own, and the one before it (0 where there is none).
 #[derive(Clone, Copy)]
 struct Timed {
     before: u64,
     moment: u64,
     number: u64,
-    spot: Location,
 }
 
-/// An element, and where it is.
-#[derive(Clone, Copy)]
-struct Seen<'t> {
+/// An element of a trace, by its number, and whether it is refused.
+struct Seen<'a> {
     feeder: usize,
     number: u64,
-    element: Element<'t>,
-    spot: Location,
+    element: &'a Element<'a>,
     refused: bool,
 }
 
+/// The fields of an event for which a field that is not read may have been meant.
+const MEANT: &[FormField] = &[FormField::Process, FormField::Stage, FormField::Value];
+
 /// The notes of a trace, by place. The elements are those of the text, and the lines those of its log.
 pub fn notes_of(
-    look: Look,
+    look: &Look,
     feeder: usize,
     text: &[u8],
     found: &Elements,
     lines: &[Line],
-) -> Result<Noted, AllocError>
-    requires each { length found.now.elements.items ≡ length found.now.spots.items }
-{
+) -> Result<Noted, AllocError> {
     let mut cursor = Cursor::new(text);
-    let mut watch = Watch::new(look.alloc);
+    let mut watch = Watch::new(look.alloc, found.spots.as_slice());
     let mut ahead = lines;
     for at in 0..found.elements.len() {
         let number = at as u64;
@@ -91,11 +81,10 @@ pub fn notes_of(
         let seen = Seen {
             feeder,
             number,
-            element: found.elements[at],
-            spot: found.spots[at],
+            element: &found.elements[at],
             refused: is_refused(ahead, number),
         };
-        watch.look_at(look, &mut cursor, seen)?;
+        watch.look_at(look, &mut cursor, &seen)?;
     }
     watch.end(text)
 }
@@ -116,9 +105,10 @@ fn is_refused(lines: &[Line], number: u64) -> bool {
     }
 }
 
-impl Watch {
-    fn new(alloc: Global) -> Watch {
+impl<'a> Watch<'a> {
+    fn new(alloc: Global, spots: &'a [Location]) -> Watch<'a> {
         Watch {
+            spots,
             unanswered: BTreeMap::new(alloc),
             moments: BTreeMap::new(alloc),
             last: None,
@@ -131,32 +121,38 @@ impl Watch {
         }
     }
 
-    fn note(&mut self, number: Option<u64>, note: Note, spot: Location) -> Result<(), AllocError> {
+    /// Notes this of the element of this number.
+    fn note(&mut self, number: u64, note: Note) -> Result<(), AllocError> {
+        match self.spots.get(number as usize) {
+            Some(spot) => self.note_at(number, note, *spot),
+            None => Ok(()),
+        }
+    }
+
+    fn note_at(&mut self, number: u64, note: Note, spot: Location) -> Result<(), AllocError> {
         self.noted.notes.push(Finding {
-            what: Amiss::Noted(number, note),
+            what: Amiss::Noted(Some(number), note),
             spot,
         })?;
         Ok(())
     }
 
-    fn look_at(&mut self, look: Look, cursor: &mut Cursor, seen: Seen) -> Result<(), AllocError> {
+    fn look_at(&mut self, look: &Look, cursor: &mut Cursor, seen: &Seen) -> Result<(), AllocError> {
         self.noted.unfinished.push(false)?;
         let Some(map) = seen.element.as_map() else {
             return Ok(());
         };
-        match read_item(seen.element, look.field, look.tower) {
+        match read_item(*seen.element, look.field, look.tower) {
             Ok(Item::Event(event)) => self.look_at_event(look, cursor, &map, &event, seen),
-            Ok(Item::Skipped) => self.look_at_skipped(&map, seen),
+            Ok(Item::Skipped) => self.look_at_skipped(&map, seen.number),
             Ok(item) => self.look_at_edit(look.suspects, &item, seen),
-            Err(_) => {
-                self.look_at_fields(look.alloc, cursor, &map, Absent::of(&map), seen.number)
-            }
+            Err(_) => self.look_at_fields(look.alloc, cursor, &map, MEANT, seen.number),
         }
     }
 
-    fn look_at_skipped(&mut self, map: &MapView, seen: Seen) -> Result<(), AllocError> {
+    fn look_at_skipped(&mut self, map: &MapView, number: u64) -> Result<(), AllocError> {
         if is_skipped_client(map) {
-            return self.note(Some(seen.number), Note::Skipped, seen.spot);
+            return self.note(number, Note::Skipped);
         }
         Ok(())
     }
@@ -166,31 +162,27 @@ impl Watch {
         &mut self,
         suspects: &Suspects,
         item: &Item,
-        seen: Seen,
+        seen: &Seen,
     ) -> Result<(), AllocError> {
         if let (true, Some(operation)) = (seen.refused, edited_by(suspects, item, seen.feeder)) {
-            return self.note(Some(seen.number), Note::RestsOnEdit(operation), seen.spot);
+            return self.note(seen.number, Note::RestsOnEdit(operation));
         }
         Ok(())
     }
 
-    /// Notes a field that is not read and is near an absent one.
+    /// Notes each field that is not read and is near an absent one of these.
     fn look_at_fields(
         &mut self,
         alloc: Global,
         cursor: &mut Cursor,
         map: &MapView,
-        absent: Absent,
+        fields: &[FormField],
         number: u64,
     ) -> Result<(), AllocError> {
-        if !absent.any() {
-            return Ok(());
-        }
         let mut left = *map;
         while let Some((key, _)) = left.next_pair() {
-            if let Some(meant) = meant_by(alloc, &key, absent)? {
-                let spot = spot_in(cursor, &key);
-                self.note(Some(number), Note::NearField(meant), spot)?;
+            if let Some(meant) = meant_by(alloc, &key, map, fields)? {
+                self.note_at(number, Note::NearField(meant), spot_in(cursor, &key))?;
             }
         }
         Ok(())
@@ -198,61 +190,40 @@ impl Watch {
 
     fn look_at_event(
         &mut self,
-        look: Look,
+        look: &Look,
         cursor: &mut Cursor,
         map: &MapView,
         event: &Event,
-        seen: Seen,
+        seen: &Seen,
     ) -> Result<(), AllocError> {
         self.noted.processes.insert(event.process)?;
         if is_absent(&map.field(b":value")) {
-            self.look_at_no_value(look.alloc, cursor, map, event, seen)?;
+            if wants_value(event) {
+                self.note(seen.number, Note::NoValue)?;
+            }
+            self.look_at_fields(look.alloc, cursor, map, &[FormField::Value], seen.number)?;
         }
         if let Some(moment) = event.moment {
-            self.look_at_moment(moment.0, seen.number, seen.spot)?;
-            self.look_at_last(moment.0, seen.number, seen.spot)?;
+            self.look_at_moment(moment.0, seen.number)?;
+            self.look_at_last(moment.0, seen.number)?;
         }
         if let (true, Some(read)) = (seen.refused, suspect_of(look.suspects, event)) {
-            self.note(Some(seen.number), Note::Rests(read), seen.spot)?;
+            self.note(seen.number, Note::Rests(read))?;
         }
-        self.look_at_stage(event, seen)
-    }
-
-    /// Notes an event without a value, and a field that may have been meant for it.
-    fn look_at_no_value(
-        &mut self,
-        alloc: Global,
-        cursor: &mut Cursor,
-        map: &MapView,
-        event: &Event,
-        seen: Seen,
-    ) -> Result<(), AllocError> {
-        if wants_value(event) {
-            self.note(Some(seen.number), Note::NoValue, seen.spot)?;
-        }
-        let absent = Absent {
-            process: false,
-            stage: false,
-            value: true,
-        };
-        self.look_at_fields(alloc, cursor, map, absent, seen.number)
+        self.look_at_stage(event, seen.number)
     }
 
     /// Pairs invocations with answers, without looking at refusals.
-    fn look_at_stage(&mut self, event: &Event, seen: Seen) -> Result<(), AllocError> {
+    fn look_at_stage(&mut self, event: &Event, number: u64) -> Result<(), AllocError> {
         match event.answer {
             Stage::Invoke => {
                 self.invoked = true;
-                self.set_unfinished(seen.number, true);
-                let invoked = Invoked {
-                    number: seen.number,
-                    spot: seen.spot,
-                };
-                self.unanswered.insert(event.process, invoked)?;
+                self.set_unfinished(number, true);
+                self.unanswered.insert(event.process, number)?;
             }
             Stage::Ok | Stage::Fail => {
                 if let Some(invoked) = self.unanswered.remove(&event.process) {
-                    self.set_unfinished(invoked.number, false);
+                    self.set_unfinished(invoked, false);
                 }
             }
             Stage::Info => {
@@ -268,25 +239,20 @@ impl Watch {
         }
     }
 
-    fn look_at_moment(
-        &mut self,
-        moment: u64,
-        number: u64,
-        spot: Location,
-    ) -> Result<(), AllocError> {
+    fn look_at_moment(&mut self, moment: u64, number: u64) -> Result<(), AllocError> {
         if let Some(first) = self.moments.get(&moment).copied() {
-            return self.note(Some(number), Note::SameMoment(first), spot);
+            return self.note(number, Note::SameMoment(first));
         }
         self.moments.insert(moment, number)?;
         Ok(())
     }
 
     /// Notes the last moment if it is out of proportion to the one before it and to this one.
-    fn look_at_last(&mut self, moment: u64, number: u64, spot: Location) -> Result<(), AllocError> {
+    fn look_at_last(&mut self, moment: u64, number: u64) -> Result<(), AllocError> {
         let mut before = 0;
         if let Some(last) = self.last {
             if is_out_of_proportion(last.before, last.moment, moment) {
-                self.note(Some(last.number), Note::OutOfProportion, last.spot)?;
+                self.note(last.number, Note::OutOfProportion)?;
             }
             before = last.moment;
         }
@@ -294,7 +260,6 @@ impl Watch {
             before,
             moment,
             number,
-            spot,
         });
         Ok(())
     }
@@ -302,16 +267,19 @@ impl Watch {
     /// The notes, with those of the end of a trace.
     fn end(self, text: &[u8]) -> Result<Noted, AllocError> {
         let Watch {
+            spots,
             unanswered,
             invoked,
             mut noted,
             ..
         } = self;
-        for (_, last) in &unanswered {
-            noted.notes.push(Finding {
-                what: Amiss::Noted(Some(last.number), Note::Unanswered),
-                spot: last.spot,
-            })?;
+        for (_, number) in &unanswered {
+            if let Some(spot) = spots.get(*number as usize) {
+                noted.notes.push(Finding {
+                    what: Amiss::Noted(Some(*number), Note::Unanswered),
+                    spot: *spot,
+                })?;
+            }
         }
         noted.notes.sort_by_key(|note| note.spot.start)?;
         if !invoked {

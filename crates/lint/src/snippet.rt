@@ -1,6 +1,5 @@
 //! A line of a file, with a mark under some of its bytes.
 
-use crate::source::SourceText;
 use bstr::ByteSlice;
 use memchr::memchr;
 use places::Location;
@@ -16,16 +15,7 @@ const BEFORE: usize = 40;
 /// The greatest length of a mark.
 const LONGEST: usize = 24;
 
-/// What is marked in a file, and with which sign.
-#[derive(Clone, Copy)]
-pub struct Underline<'t> {
-    pub source: SourceText<'t>,
-    pub spot: Location,
-    pub sign: char,
-}
-
 /// The line of a mark from `start` to `end`, what is shown of it from `from` to `to`, and the byte that is marked.
-#[derive(Clone, Copy)]
 struct Window {
     start: usize,
     from: usize,
@@ -45,38 +35,20 @@ pub fn width_of(line: usize) -> usize {
     width
 }
 
-/// Blanks in place of a line number, and the bar.
-pub fn push_margin(text: &mut String, width: usize) -> Result<(), AllocError> {
-    push_blanks(text, width)?;
-    text.push_str(" |")
-}
-
-pub fn push_blanks(text: &mut String, count: usize) -> Result<(), AllocError> {
-    for _ in 0..count {
-        text.push_str(" ")?;
-    }
-    Ok(())
-}
-
-/// The line of a mark, and the mark under it, without a line end.
-pub fn push_mark(text: &mut String, width: usize, mark: Underline) -> Result<(), AllocError> {
-    let bytes = mark.source.text;
-    let window = window_of(bytes, &mark.spot);
-    let line = mark.spot.place.line;
-    push_blanks(text, width.saturating_sub(width_of(line)))?;
-    write!(text, "{line} | ")?;
-    push_shown(text, bytes, window)?;
-    text.push_str("\n")?;
-    push_margin(text, width)?;
-    text.push_str(" ")?;
-    if window.start < window.from {
-        text.push_str("  ")?;
-    }
-    push_under(text, part_of(bytes, window.from, window.at))?;
-    for _ in 0..length_of(bytes, window, &mark.spot) {
-        text.push(mark.sign)?;
-    }
-    Ok(())
+/// The line of a spot, and signs under the spot, without a line end.
+pub fn push_mark(
+    text: &mut String,
+    width: usize,
+    bytes: &[u8],
+    spot: &Location,
+    sign: char,
+) -> Result<(), AllocError> {
+    let window = window_of(bytes, spot);
+    write!(text, "{:width$} | ", spot.place.line)?;
+    push_shown(text, bytes, &window)?;
+    write!(text, "\n{:width$} | ", "")?;
+    push_under(text, bytes, &window)?;
+    push_times(text, sign, length_of(bytes, &window, spot.end))
 }
 
 /// What is shown of a line: as much as there is room for, with some bytes before the marked one.
@@ -102,12 +74,12 @@ fn window_of(text: &[u8], spot: &Location) -> Window {
 }
 
 /// How many columns a mark takes: those of its element, or 1 where that is longer than a mark may be or is cut.
-fn length_of(text: &[u8], window: Window, spot: &Location) -> usize {
-    if spot.end > window.to {
+fn length_of(text: &[u8], window: &Window, end: usize) -> usize {
+    if end > window.to {
         return 1;
     }
     let mut length: usize = 0;
-    for character in part_of(text, window.at, spot.end).chars() {
+    for character in part_of(text, window.at, end).chars() {
         length = length.saturating_add(columns_of(character));
     }
     if length <= LONGEST { length.max(1) } else { 1 }
@@ -129,15 +101,7 @@ pub fn part_of(text: &[u8], from: usize, to: usize) -> &[u8] {
     }
 }
 
-/// Adds bytes of a file on one line. Control characters other than tabs become blanks.
-pub fn push_plain(text: &mut String, bytes: &[u8]) -> Result<(), AllocError> {
-    for character in bytes.chars() {
-        push_character(text, character)?;
-    }
-    Ok(())
-}
-
-fn push_shown(text: &mut String, bytes: &[u8], window: Window) -> Result<(), AllocError> {
+fn push_shown(text: &mut String, bytes: &[u8], window: &Window) -> Result<(), AllocError> {
     if window.start < window.from {
         text.push_str("..")?;
     }
@@ -148,23 +112,34 @@ fn push_shown(text: &mut String, bytes: &[u8], window: Window) -> Result<(), All
     Ok(())
 }
 
-/// A control character other than a tab becomes a blank.
-fn push_character(text: &mut String, character: char) -> Result<(), AllocError> {
-    if character.is_control() && character != '\t' {
-        text.push_str(" ")
-    } else {
-        text.push(character)
+/// Adds bytes of a file on one line. Control characters other than tabs become blanks.
+pub fn push_plain(text: &mut String, bytes: &[u8]) -> Result<(), AllocError> {
+    for character in bytes.chars() {
+        let is_shown = character == '\t' || !character.is_control();
+        text.push(if is_shown { character } else { ' ' })?;
     }
+    Ok(())
 }
 
-/// As many columns as the bytes take: a tab is a tab, and any other character as many blanks as it has columns.
-fn push_under(text: &mut String, bytes: &[u8]) -> Result<(), AllocError> {
-    for character in bytes.chars() {
+/// As many columns as what is shown before the marked byte takes: a tab is a tab, and any other character as many
+/// blanks as it has columns.
+fn push_under(text: &mut String, bytes: &[u8], window: &Window) -> Result<(), AllocError> {
+    if window.start < window.from {
+        text.push_str("  ")?;
+    }
+    for character in part_of(bytes, window.from, window.at).chars() {
         if character == '\t' {
             text.push(character)?;
         } else {
-            push_blanks(text, columns_of(character))?;
+            push_times(text, ' ', columns_of(character))?;
         }
+    }
+    Ok(())
+}
+
+fn push_times(text: &mut String, character: char, many: usize) -> Result<(), AllocError> {
+    for _ in 0..many {
+        text.push(character)?;
     }
     Ok(())
 }

@@ -11,11 +11,16 @@ use places::Location;
 use std::alloc::{AllocError, Global};
 use tower_file::{TowerFault, TowerField};
 
+const ACTIONS: &[&[u8]] = &[b":read", b":write"];
+const STAGES: &[&[u8]] = &[b":invoke", b":ok", b":fail", b":info"];
+const EDITS: &[&[u8]] = &[b":amend", b":withdraw", b":claim"];
+const KINDS: &[&[u8]] = &[b":safe", b":regular", b":atomic"];
+
 /// What a refused element may have meant, by its own text and by that of the tower file.
 pub fn meant_in_element<'t>(
     alloc: Global,
     text: &[u8],
-    code: Code,
+    code: &Code,
     tower: &'t [u8],
 ) -> Result<Option<&'t [u8]>, AllocError> {
     let Some(element) = element_in(alloc, text) else {
@@ -27,43 +32,19 @@ pub fn meant_in_element<'t>(
             None => Ok(None),
         },
         Code::Form(FormFault::BadType) => meant_type(alloc, &element),
-        Code::Form(FormFault::UnsupportedF) => meant_under(
-            alloc,
-            &element,
-            b":f",
-            &[b":read".as_slice(), b":write".as_slice()],
-        ),
+        Code::Form(FormFault::UnsupportedF) => meant_under(alloc, &element, b":f", ACTIONS),
         _ => Ok(None),
     }
 }
 
 fn meant_type<'t>(alloc: Global, element: &Element) -> Result<Option<&'t [u8]>, AllocError> {
-    let stages = [
-        b":invoke".as_slice(),
-        b":ok".as_slice(),
-        b":fail".as_slice(),
-        b":info".as_slice(),
-    ];
-    if let Some(stage) = meant_under(alloc, element, b":type", &stages)? {
+    if let Some(stage) = meant_under(alloc, element, b":type", STAGES)? {
         return Ok(Some(stage));
     }
-    let edits = [
-        b":amend".as_slice(),
-        b":withdraw".as_slice(),
-        b":claim".as_slice(),
-    ];
-    if let Some(edit) = meant_under(alloc, element, b":edit", &edits)? {
+    if let Some(edit) = meant_under(alloc, element, b":edit", EDITS)? {
         return Ok(Some(edit));
     }
-    meant_under(alloc, element, b":kind", &kinds())
-}
-
-fn kinds<'t>() -> [&'t [u8]; 3] {
-    [
-        b":safe".as_slice(),
-        b":regular".as_slice(),
-        b":atomic".as_slice(),
-    ]
+    meant_under(alloc, element, b":kind", KINDS)
 }
 
 /// The word that may have been meant by the value of a key.
@@ -88,16 +69,20 @@ pub fn meant_in_tower<'t>(
 ) -> Result<Option<&'t [u8]>, AllocError> {
     let word = part_of(text, spot.start, spot.end);
     match fault {
-        TowerFault::Shape(TowerField::Kind) => nearest(alloc, word, &kinds()),
-        TowerFault::Shape(TowerField::Writers) => nearest(alloc, word, &[b":any".as_slice()]),
-        TowerFault::Shape(TowerField::Initial) => nearest(alloc, word, &[b":unknown".as_slice()]),
-        TowerFault::Shape(TowerField::Fixed) => nearest(
-            alloc,
-            word,
-            &[b"true".as_slice(), b"false".as_slice()],
-        ),
+        TowerFault::Shape(field) => nearest(alloc, word, words_for(field)),
         TowerFault::UnknownPart => nearest(alloc, word, &names_in(alloc, text)?),
         _ => Ok(None),
+    }
+}
+
+/// The words that a field of a tower file may have, where it has words.
+fn words_for(field: TowerField) -> &'static [&'static [u8]] {
+    match field {
+        TowerField::Kind => KINDS,
+        TowerField::Writers => &[b":any"],
+        TowerField::Initial => &[b":unknown"],
+        TowerField::Fixed => &[b"true", b"false"],
+        _ => &[],
     }
 }
 

@@ -1,7 +1,7 @@
 //! The operations that show that registers fail, to which refused elements are compared.
 
-use intervals::{Holder, Op, OpId, RegId, Value};
-use register_book::{Fault, RegisterBook, Witness};
+use intervals::{Op, OpId, RegId, Value};
+use register_book::{Side, Witness};
 use shards::Closed;
 use std::alloc::{AllocError, Global};
 use std::collections::{BTreeMap, BTreeSet};
@@ -27,62 +27,50 @@ impl Suspects {
         for number in 0..tower.len() {
             let id = RegId(number as u32);
             if let Some(book) = closed.book(id) {
-                suspects.add_book(id, book)?;
+                if let Some(witness) = book.witness() {
+                    suspects.add(id, &witness)?;
+                }
             }
         }
         Ok(suspects)
     }
 
-    fn add_book(&mut self, id: RegId, book: &RegisterBook) -> Result<(), AllocError> {
-        let witness = book.witness();
-        if let Some(witness) = &witness {
-            self.name_all(id, witness.ids())?;
-        }
+    /// Adds the operations that show that this register fails.
+    fn add(&mut self, id: RegId, witness: &Witness) -> Result<(), AllocError> {
         match witness {
-            Some(Witness::Wrong(read)) | Some(Witness::Unwritten(read)) => self.add(id, &read),
-            Some(Witness::Split { first, second }) => {
-                self.add(id, &first)?;
-                self.add(id, &second)
+            Witness::Wrong(read) | Witness::Unwritten(read) => self.add_read(id, read),
+            Witness::Split { first, second } => {
+                self.add_read(id, first)?;
+                self.add_read(id, second)
             }
-            Some(Witness::Early { .. }) | Some(Witness::Crossing { .. }) | None => Ok(()),
-        }
-    }
-
-    fn name_all(&mut self, id: RegId, fault: Fault) -> Result<(), AllocError> {
-        match fault {
-            Fault::Wrong(read) | Fault::Unwritten(read) => self.name(id, read),
-            Fault::Split { first, second } => {
-                self.name(id, first)?;
-                self.name(id, second)
+            Witness::Early { read, write } => {
+                self.name(id, read.id)?;
+                self.name(id, write.id)
             }
-            Fault::Early { read, write } => {
-                self.name(id, read)?;
-                self.name(id, write)
-            }
-            Fault::Crossing { a, b, c, d } => {
-                self.name_holder(id, a)?;
-                self.name_holder(id, b)?;
-                self.name_holder(id, c)?;
-                self.name_holder(id, d)
+            Witness::Crossing { a, b, c, d } => {
+                self.name_side(id, a)?;
+                self.name_side(id, b)?;
+                self.name_side(id, c)?;
+                self.name_side(id, d)
             }
         }
     }
 
-    fn name_holder(&mut self, id: RegId, holder: Holder) -> Result<(), AllocError> {
-        match holder {
-            Holder::Op(operation) => self.name(id, operation),
-            Holder::Initial => Ok(()),
+    fn add_read(&mut self, id: RegId, read: &Op) -> Result<(), AllocError> {
+        self.reads.insert((id.0, read.value()), read.id)?;
+        self.name(id, read.id)
+    }
+
+    fn name_side(&mut self, id: RegId, side: &Side) -> Result<(), AllocError> {
+        match side {
+            Side::Op(operation) => self.name(id, operation.id),
+            Side::Initial => Ok(()),
         }
     }
 
     fn name(&mut self, id: RegId, operation: OpId) -> Result<(), AllocError> {
         self.named.insert(operation)?;
         self.of_register.insert(id.0, operation)?;
-        Ok(())
-    }
-
-    fn add(&mut self, id: RegId, read: &Op) -> Result<(), AllocError> {
-        self.reads.insert((id.0, read.value()), read.id)?;
         Ok(())
     }
 

@@ -8,7 +8,7 @@ use crate::message::tower_word;
 use crate::nearest::is_near;
 use edn_reader::{Element, Field, MapView, Reader, VectorView};
 use feeders::RunFault;
-use places::{Cursor, Location, spot_in, spot_of_one};
+use places::{Cursor, Location, spot_of_one};
 use std::alloc::{AllocError, Global};
 use std::collections::BTreeSet;
 use tower_file::{TowerFault, TowerField};
@@ -21,21 +21,41 @@ enum Part {
     Register,
 }
 
+impl Part {
+    /// The fields that are read of such a map, those first that may be absent.
+    fn fields(self) -> &'static [TowerField] {
+        match self {
+            Part::File => &[TowerField::Levels],
+            Part::Level => &[TowerField::Name, TowerField::Registers],
+            Part::Register => &[
+                TowerField::Writers,
+                TowerField::Initial,
+                TowerField::Domain,
+                TowerField::Fixed,
+                TowerField::Parts,
+                TowerField::Name,
+                TowerField::Kind,
+            ],
+        }
+    }
+}
+
 /// A walk through a tower file.
 #[derive(Drop)]
-struct Walk<'a, 't> {
+struct Walk<'a> {
     alloc: Global,
     /// What was found in the traces.
     found: &'a Findings,
     /// How many registers come before the next one.
     before: usize,
-    noted: Vec<Remark<'t>>,
+    noted: Vec<Remark>,
 }
 
-/// An element, and what is noted of it.
+/// The bytes of an element, and what is noted of it.
 #[derive(Clone, Copy)]
-struct Remark<'t> {
-    element: Element<'t>,
+struct Remark {
+    start: usize,
+    end: usize,
     note: Note,
 }
 
@@ -114,9 +134,10 @@ fn spot_of_span(text: &[u8], span: Option<(usize, usize)>) -> Location
     }
 }
 
-impl<'t> Walk<'_, 't> {
-    fn note(&mut self, element: Element<'t>, note: Note) -> Result<(), AllocError> {
-        self.noted.push(Remark { element, note })?;
+impl Walk<'_> {
+    fn note(&mut self, element: &Element, note: Note) -> Result<(), AllocError> {
+        let (start, end) = element.span();
+        self.noted.push(Remark { start, end, note })?;
         Ok(())
     }
 
@@ -127,19 +148,23 @@ impl<'t> Walk<'_, 't> {
             mut noted,
             ..
         } = self;
-        noted.sort_by_key(|remark| remark.element.span().0)?;
+        noted.sort_by_key(|remark| remark.start)?;
         let mut cursor = Cursor::new(text);
         let mut notes = Vec::new(alloc);
         for remark in &noted {
             notes.push(Finding {
                 what: Amiss::Noted(None, remark.note),
-                spot: spot_in(&mut cursor, &remark.element),
+                spot: Location {
+                    start: remark.start,
+                    end: remark.end,
+                    place: cursor.go_to(remark.start),
+                },
             })?;
         }
         Ok(notes)
     }
 
-    fn note_levels(&mut self, file: &Element<'t>) -> Result<(), AllocError> {
+    fn note_levels(&mut self, file: &Element) -> Result<(), AllocError> {
         let Some(mut levels) = members_of(file, b":levels") else {
             return Ok(());
         };
@@ -150,7 +175,7 @@ impl<'t> Walk<'_, 't> {
         Ok(())
     }
 
-    fn note_registers(&mut self, level: &Element<'t>) -> Result<(), AllocError> {
+    fn note_registers(&mut self, level: &Element) -> Result<(), AllocError> {
         let Some(mut registers) = members_of(level, b":registers") else {
             return Ok(());
         };
@@ -162,13 +187,13 @@ impl<'t> Walk<'_, 't> {
     }
 
     /// Notes a register that has no operation, and the writers of an atomic one that have no event.
-    fn note_register(&mut self, register: &Element<'t>) -> Result<(), AllocError> {
+    fn note_register(&mut self, register: &Element) -> Result<(), AllocError> {
         let Some(map) = register.as_map() else {
             return Ok(());
         };
         let is_unused = self.found.unused.get(self.before).copied();
         if let (Some(true), Field::Once(name)) = (is_unused, map.field(b":name")) {
-            self.note(name, Note::Unused)?;
+            self.note(&name, Note::Unused)?;
         }
         self.before = self.before.saturating_add(1);
         match map.field(b":kind") {
@@ -177,14 +202,14 @@ impl<'t> Walk<'_, 't> {
         }
     }
 
-    fn note_writers(&mut self, register: &Element<'t>) -> Result<(), AllocError> {
+    fn note_writers(&mut self, register: &Element) -> Result<(), AllocError> {
         let Some(mut writers) = members_of(register, b":writers") else {
             return Ok(());
         };
         while let Some(writer) = writers.next() {
             if let Some(process) = writer.as_int() {
                 if self.found.is_silent(process) {
-                    self.note(writer, Note::SilentWriter(process))?;
+                    self.note(&writer, Note::SilentWriter(process))?;
                 }
             }
         }
@@ -192,15 +217,15 @@ impl<'t> Walk<'_, 't> {
     }
 
     /// Notes the fields of a map that are not read.
-    fn note_map(&mut self, element: &Element<'t>, part: Part) -> Result<(), AllocError> {
+    fn note_map(&mut self, element: &Element, part: Part) -> Result<(), AllocError> {
         let Some(map) = element.as_map() else {
             return Ok(());
         };
         let mut left = map;
         while let Some((key, _)) = left.next_pair() {
-            if !is_read_of(part, &key) {
-                let meant = meant_in(self.alloc, part, &key, &map)?;
-                self.note(key, Note::Unread(meant))?;
+            if !is_one_of(part.fields(), &key) {
+                let meant = meant_of(self.alloc, &key, &map, part.fields())?;
+                self.note(&key, Note::Unread(meant))?;
             }
         }
         Ok(())
@@ -247,58 +272,25 @@ fn members_of<'t>(map: &Element<'t>, key: &[u8]) -> Option<VectorView<'t>> {
     }
 }
 
-fn is_read_of(part: Part, key: &Element) -> bool {
-    match part {
-        Part::File => key.is_keyword(b":levels"),
-        Part::Level => key.is_keyword(b":name") || key.is_keyword(b":registers"),
-        Part::Register => is_read_of_register(key),
+fn is_one_of(fields: &[TowerField], key: &Element) -> bool {
+    for field in fields {
+        if key.is_keyword(tower_word(*field).as_bytes()) {
+            return true;
+        }
     }
+    false
 }
 
-fn is_read_of_register(key: &Element) -> bool {
-    key.is_keyword(b":name")
-        || key.is_keyword(b":kind")
-        || key.is_keyword(b":writers")
-        || key.is_keyword(b":initial")
-        || key.is_keyword(b":domain")
-        || key.is_keyword(b":of")
-        || key.is_keyword(b":fixed")
-}
-
-/// The absent field that a key which is not read may have been meant for.
-fn meant_in(
+/// The one of these fields that is absent and for which a key that is not read may have been meant.
+fn meant_of(
     alloc: Global,
-    part: Part,
     key: &Element,
     map: &MapView,
+    fields: &[TowerField],
 ) -> Result<Option<TowerField>, AllocError> {
     let Some(word) = key.as_keyword() else {
         return Ok(None);
     };
-    match part {
-        Part::File => meant_of(alloc, word, map, &[TowerField::Levels]),
-        Part::Level => meant_of(alloc, word, map, &[TowerField::Name, TowerField::Registers]),
-        Part::Register => meant_of(
-            alloc,
-            word,
-            map,
-            &[
-                TowerField::Writers,
-                TowerField::Initial,
-                TowerField::Domain,
-                TowerField::Fixed,
-                TowerField::Parts,
-            ],
-        ),
-    }
-}
-
-fn meant_of(
-    alloc: Global,
-    word: &[u8],
-    map: &MapView,
-    fields: &[TowerField],
-) -> Result<Option<TowerField>, AllocError> {
     for field in fields {
         if is_near(alloc, word, tower_word(*field), map)? {
             return Ok(Some(*field));
