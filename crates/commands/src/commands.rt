@@ -121,15 +121,15 @@ fn carry_out<'a, A: AllocGlobal + Threads + Wait + Sync, F: Files, R: Read + Sen
     ensures quiet { IfErr result (λ fault. fault ≢ CommandFault.Unwritable → ¬ IsWatch (asked_of command.entry) → out.new ≡ out.old) }
     ensures whole { IfErr result (λ fault. fault ≢ CommandFault.Unwritable → WritesWhole (asked_of command.entry) (F.held files.old) (W.contents out.old) (W.contents out.new)) }
 {
-    match command {
+    match &command {
         Command::Safe(None) => judge(rt, input, out),
         Command::Safe(Some(name)) => judge(rt, open_file(files, name)?, out),
-        Command::Check(asked) => check(rt, &asked, files, out),
-        Command::Watch(asked) => follow(rt, &asked, files, out),
-        Command::Show(asked) => draw(rt, &asked, files, out),
-        Command::Lint(asked) => look(rt, &asked, files, out),
+        Command::Check(asked) => check(rt, asked, files, out),
+        Command::Watch(asked) => follow(rt, asked, files, out),
+        Command::Show(asked) => draw(rt, asked, files, out),
+        Command::Lint(asked) => look(rt, asked, files, out),
         Command::Tower(name) => list(rt, name, files, out),
-        Command::Explain(code) => explain(rt.alloc(), code, out),
+        Command::Explain(code) => explain(rt.alloc(), *code, out),
         Command::Version => print(VERSION, out),
         Command::Manual => print_manual(rt.alloc(), out),
         Command::Completion(shell) => print(shell.script(), out),

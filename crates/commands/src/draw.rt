@@ -5,14 +5,14 @@ ghost use Rattle.words.specs.Words.{asked_show};
 ghost use Rattle.commands.specs.Run.{AreHeld};
 ghost use Rattle.commands.specs.Shown.{IsShown};
 
-use crate::check::{TRACE_LIMIT, field_of, named, read_tower, status_after};
+use crate::check::{TRACE_LIMIT, named, read_tower, status_after};
 use crate::fault::CommandFault;
 use crate::files::{Files, open_files};
+use crate::judging::Job;
 use crate::picture::picture;
 use crate::write::write_text;
-use feeders::{Pages, run_readers};
+use feeders::Pages;
 use report::laws::a_run_is_of_its_tower;
-use shards::NoGate;
 use std::io::Write;
 use std::mem::forget;
 use std::sync::Wait;
@@ -44,16 +44,14 @@ pub fn draw<'a, A: AllocGlobal + Threads + Wait + Sync, F: Files, W: Write>(
         return Err(CommandFault::Memory);
     };
     a_run_is_of_its_tower();
-    let run = match run_readers(
+    let job = Job {
         rt,
-        alloc,
-        &tower,
-        readers,
-        &pages,
-        field_of(asked.moments),
-        1,
-        &NoGate,
-    ) {
+        tower: &tower,
+        pages: &pages,
+        moments: asked.moments,
+        shards: 1,
+    };
+    let run = match job.run(readers) {
         Ok(run) => run,
         Err(fault) => return Err(CommandFault::of_run(fault)),
     };

@@ -86,7 +86,7 @@ impl<'x, A: AllocGlobal + Threads + Wait + Sync> Job<'_, 'x, A> {
     }
 
     /// Feeds what each reader gives to the registers of the tower.
-    fn run<S: Read + Drop + Send>(&self, readers: Vec<S>) -> Result<Run<'x>, RunFault>
+    pub fn run<S: Read + Drop + Send>(&self, readers: Vec<S>) -> Result<Run<'x>, RunFault>
         requires readers { (1 ≤ vec_len readers) × (vec_len readers ≤ 256) }
         ensures run { IfOk result (λ run. IsRunOver self.now.tower.now self.now.moments self.now.shards (map S.remaining readers.items) run.closed run.logs.items) }
     {

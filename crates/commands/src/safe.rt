@@ -11,15 +11,14 @@ ghost use Rattle.commands.specs.Status.{has_refused};
 ghost use Rattle.commands.specs.Verdict.{IsAudited, verdict_line};
 
 use crate::fault::CommandFault;
+use crate::judging::Job;
 use crate::status::{is_refused, status};
 use crate::write::write_text;
-use feeders::{Pages, run_readers};
+use feeders::Pages;
 use intervals::laws::texts_decide_nothing;
 use intervals::{Kind, RegId};
-use jepsen_form::MomentField;
 use logs::{Broken, Run};
 use phrases::push_register;
-use shards::NoGate;
 use shards::laws::what_stands_is_after_all_edits;
 use std::alloc::{AllocError, Global};
 use std::io::{Read, Write};
@@ -29,6 +28,7 @@ use std::thread::Threads;
 use std::unreachable;
 use tower_file::laws::text_of_one_register;
 use tower_file::{Tower, one_register};
+use words::MomentKey;
 
 /// What is found of the one register: the kind that it claims to be, whether it holds, how many operations stand,
 /// whether an element was refused, and where the trace broke.
@@ -82,16 +82,14 @@ fn audit_trace<'a, A: AllocGlobal + Threads + Wait + Sync, S: Read + Drop + Send
         return Err(CommandFault::Memory);
     };
     readers.push_reserved(reader);
-    let run = match run_readers(
+    let job = Job {
         rt,
-        alloc,
-        &tower,
-        readers,
-        &pages,
-        MomentField::Index,
-        1,
-        &NoGate,
-    ) {
+        tower: &tower,
+        pages: &pages,
+        moments: MomentKey::Index,
+        shards: 1,
+    };
+    let run = match job.run(readers) {
         Ok(run) => run,
         Err(fault) => return Err(CommandFault::of_run(fault)),
     };

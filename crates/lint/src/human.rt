@@ -21,6 +21,7 @@ use tower_file::TowerFault;
 const SUGGESTED: usize = 3;
 
 /// What is printed from: the files, what was found in them, and how many of each code are shown.
+#[derive(Clone, Copy)]
 struct View<'a> {
     alloc: Global,
     sources: &'a [SourceText<'a>],
@@ -29,6 +30,7 @@ struct View<'a> {
 }
 
 /// A finding, its file, the width of its line numbers, and how many findings of its code were shown before.
+#[derive(Clone, Copy)]
 struct Case<'a> {
     view: &'a View<'a>,
     trace: usize,
@@ -88,10 +90,18 @@ fn push_hints(
         return Ok(());
     };
     if let Some(hint) = hint_of(source.text, is_tower) {
-        write!(text, "help[{}]: {}: {}\n\n", hint.code, source.name, hint.words)?;
+        write!(
+            text,
+            "help[{}]: {}: {}\n\n",
+            hint.code, source.name, hint.words
+        )?;
     }
     if is_given_before(view.sources, trace, source.text) {
-        write!(text, "help[H6]: {}: an earlier file has the same bytes\n\n", source.name)?;
+        write!(
+            text,
+            "help[H6]: {}: an earlier file has the same bytes\n\n",
+            source.name
+        )?;
     }
     Ok(())
 }
@@ -170,12 +180,7 @@ fn push_marked(text: &mut String, case: &Case, words: &str) -> Result<(), AllocE
 }
 
 /// A refused element, with the operations that it meets.
-fn push_refused(
-    text: &mut String,
-    case: &Case,
-    event: u64,
-    code: &Code,
-) -> Result<(), AllocError> {
+fn push_refused(text: &mut String, case: &Case, event: u64, code: &Code) -> Result<(), AllocError> {
     push_arrow(text, case, &case.finding.spot)?;
     write!(text, "  ({}:{event})", case.trace)?;
     push_gap(text, case.width)?;

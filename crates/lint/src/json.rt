@@ -62,7 +62,10 @@ fn push_record(
     push_quoted(text, source.name.as_bytes())?;
     push_spot(text, &finding.spot)?;
     push_id(text, trace, what)?;
-    push_quoted(text, part_of(source.text, finding.spot.start, finding.spot.end))?;
+    push_quoted(
+        text,
+        part_of(source.text, finding.spot.start, finding.spot.end),
+    )?;
     text.push_str("}\n")
 }
 

@@ -13,6 +13,7 @@ use std::collections::{BTreeMap, BTreeSet};
 use tower_file::Tower;
 
 /// What the elements of a trace are looked at with.
+#[derive(Clone, Copy)]
 pub struct Look<'a> {
     pub alloc: Global,
     pub tower: &'a Tower,
@@ -54,6 +55,7 @@ struct Timed {
 }
 
 /// An element of a trace, by its number, and whether it is refused.
+#[derive(Clone, Copy)]
 struct Seen<'a> {
     feeder: usize,
     number: u64,

@@ -16,6 +16,7 @@ const BEFORE: usize = 40;
 const LONGEST: usize = 24;
 
 /// The line of a mark from `start` to `end`, what is shown of it from `from` to `to`, and the byte that is marked.
+#[derive(Clone, Copy)]
 struct Window {
     start: usize,
     from: usize,

@@ -12,9 +12,20 @@ use std::alloc::{AllocError, Global};
 use tower_file::{TowerFault, TowerField};
 
 const ACTIONS: &[&[u8]] = &[b":read", b":write"];
+
 const STAGES: &[&[u8]] = &[b":invoke", b":ok", b":fail", b":info"];
+
 const EDITS: &[&[u8]] = &[b":amend", b":withdraw", b":claim"];
+
 const KINDS: &[&[u8]] = &[b":safe", b":regular", b":atomic"];
+
+const WRITERS: &[&[u8]] = &[b":any"];
+
+const INITIAL: &[&[u8]] = &[b":unknown"];
+
+const FIXED: &[&[u8]] = &[b"true", b"false"];
+
+const NONE: &[&[u8]] = &[];
 
 /// What a refused element may have meant, by its own text and by that of the tower file.
 pub fn meant_in_element<'t>(
@@ -79,10 +90,10 @@ pub fn meant_in_tower<'t>(
 fn words_for(field: TowerField) -> &'static [&'static [u8]] {
     match field {
         TowerField::Kind => KINDS,
-        TowerField::Writers => &[b":any"],
-        TowerField::Initial => &[b":unknown"],
-        TowerField::Fixed => &[b"true", b"false"],
-        _ => &[],
+        TowerField::Writers => WRITERS,
+        TowerField::Initial => INITIAL,
+        TowerField::Fixed => FIXED,
+        _ => NONE,
     }
 }
 

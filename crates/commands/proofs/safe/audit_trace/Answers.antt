@@ -9,10 +9,10 @@ use Rattle.commands.proofs.safe.audit_trace.Goals as goal
 
 pub returns-clause-audit : goal.returns-clause-audit
 returns-clause-audit g c =
-    let closed = c.in-Ok-run_readers.run'.closed in
-    let logs = c.in-Ok-run_readers.run'.logs.items in
+    let closed = c.in-Ok-run.run'.closed in
+    let logs = c.in-Ok-run.run'.logs.items in
     let left = g.S.Read.remaining c.args.reader in
-    let fed = c.in-Ok-run_readers.ensures.run in
+    let fed = c.in-Ok-run.ensures.run in
     let says : Says closed logs c.verdict_of-audit.result = record {
       kind = c.verdict_of-audit.ensures.kind;
       holds = c.verdict_of-audit.ensures.holds;
