@@ -31,8 +31,8 @@ struct View<'a> {
 
 /// A finding, its file, the width of its line numbers, and how many findings of its code were shown before.
 #[derive(Clone, Copy)]
-struct Case<'a> {
-    view: &'a View<'a>,
+struct Case<'c, 'a> {
+    view: &'c View<'a>,
     trace: usize,
     source: &'a SourceText<'a>,
     finding: &'a Finding,
@@ -115,11 +115,11 @@ fn is_given_before(sources: &[SourceText], trace: usize, text: &[u8]) -> bool {
     false
 }
 
-fn push_cases(
+fn push_cases<'a>(
     text: &mut String,
-    view: &View,
+    view: &View<'a>,
     trace: usize,
-    findings: &[Finding],
+    findings: &'a [Finding],
     tally: &mut Tally,
 ) -> Result<(), AllocError> {
     let Some(source) = view.sources.get(trace) else {
@@ -210,7 +210,7 @@ fn push_covered(text: &mut String, case: &Case, code: &Code) -> Result<(), Alloc
 }
 
 /// What a refused element may have meant. The last file, after the traces, is the tower file.
-fn meant_by_refused<'a>(case: &Case<'a>, code: &Code) -> Result<Option<&'a [u8]>, AllocError> {
+fn meant_by_refused<'a>(case: &Case<'_, 'a>, code: &Code) -> Result<Option<&'a [u8]>, AllocError> {
     if case.before >= SUGGESTED {
         return Ok(None);
     }

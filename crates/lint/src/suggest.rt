@@ -38,13 +38,22 @@ pub fn meant_in_element<'t>(
         return Ok(None);
     };
     match code {
-        Code::Form(FormFault::NoRegister) => match name_in(&element) {
-            Some(name) => nearest_name(alloc, name, &names_in(alloc, tower)?),
-            None => Ok(None),
-        },
+        Code::Form(FormFault::NoRegister) => meant_name(alloc, &element, tower),
         Code::Form(FormFault::BadType) => meant_type(alloc, &element),
         Code::Form(FormFault::UnsupportedF) => meant_under(alloc, &element, b":f", ACTIONS),
         _ => Ok(None),
+    }
+}
+
+/// The name of a register of the tower that may have been meant by an element.
+fn meant_name<'t>(
+    alloc: Global,
+    element: &Element,
+    tower: &'t [u8],
+) -> Result<Option<&'t [u8]>, AllocError> {
+    match name_in(element) {
+        Some(name) => nearest_name(alloc, name, &names_in(alloc, tower)?),
+        None => Ok(None),
     }
 }
 
@@ -63,10 +72,22 @@ fn meant_under<'t>(
     alloc: Global,
     element: &Element,
     key: &[u8],
-    words: &[&'t [u8]],
+    words: &'static [&'static [u8]],
 ) -> Result<Option<&'t [u8]>, AllocError> {
     match under(element, key) {
-        Some(word) => nearest(alloc, word.text(), words),
+        Some(word) => nearest_word(alloc, word.text(), words),
+        None => Ok(None),
+    }
+}
+
+/// The nearest of words that are always there.
+fn nearest_word<'t>(
+    alloc: Global,
+    word: &[u8],
+    words: &'static [&'static [u8]],
+) -> Result<Option<&'t [u8]>, AllocError> {
+    match nearest(alloc, word, words)? {
+        Some(found) => Ok(Some(found)),
         None => Ok(None),
     }
 }
@@ -80,7 +101,7 @@ pub fn meant_in_tower<'t>(
 ) -> Result<Option<&'t [u8]>, AllocError> {
     let word = part_of(text, spot.start, spot.end);
     match fault {
-        TowerFault::Shape(field) => nearest(alloc, word, words_for(field)),
+        TowerFault::Shape(field) => nearest_word(alloc, word, words_for(field)),
         TowerFault::UnknownPart => nearest(alloc, word, &names_in(alloc, text)?),
         _ => Ok(None),
     }
