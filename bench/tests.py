@@ -1,0 +1,24 @@
+"""The tests that the gate leaves out, as crates of a tree of their own. `./try-tests` and `./refuse-memory` use it."""
+import shutil
+
+from build import ROOT, below, compile, crates, link, lower
+
+# Each crate of tests, a folder of tests/, with the libraries that it uses.
+TESTS = {
+    "form_tests": ["edn_reader", "intervals", "jepsen_form", "pairing", "tower_file"],
+    "judge_tests": ["intervals", "read_tree", "register_book", "safe_regular", "zone_tree", "zones"],
+}
+
+
+def build_tests(name, room):
+    """Builds a crate of tests without a proof: what a proof would show of it, and of the libraries below it, is checked
+    while it runs."""
+    rows, tree = crates() | TESTS, room / "tree"
+    for crate in below([name], rows):
+        source = ROOT / "tests" / name if crate == name else ROOT / "crates" / crate / "src"
+        shutil.copytree(source, tree / "crates" / crate / "src")
+    for file in list((tree / "crates" / name).rglob("*.rattle")):
+        file.rename(file.with_suffix(".rt"))
+    compile(room, lower(name, rows, tree, room, tests=True))
+    link(room / "program.o", room / name)
+    return room / name
