@@ -1,70 +1,76 @@
 //! The moments below a picture.
 
 use crate::canvas::{Canvas, wide, window_of};
+use crate::filled::{Filling, push_filled, push_numbers};
 use crate::layout::Layout;
 use crate::measure::{digits_of, digits_of_moment};
-use std::alloc::{AllocError, Global};
+use std::alloc::AllocError;
 
 /// The line below the lanes, and the moments: first those that the caption speaks of, then each other that has room.
-pub fn push_axis(text: &mut String, alloc: Global, canvas: &Canvas) -> Result<(), AllocError> {
-    let layout = &canvas.layout;
-    let (edge, y) = (layout.right_edge(), canvas.bottom.saturating_add(4));
-    write!(text, "<path class=\"edge\" d=\"M0 {y}H{edge}\"/>\n")?;
-    for number in &layout.told {
-        push_moment(text, alloc, canvas, *number, "bold")?;
+pub fn push_axis(text: &mut String, canvas: &Canvas) -> Result<(), AllocError> {
+    let (edge, y) = (canvas.layout.right_edge(), canvas.bottom.saturating_add(4));
+    push_numbers(text, "<path class=\"edge\" d=\"M0 @H@\"/>\n", &[y, edge])?;
+    for number in &canvas.layout.told {
+        push_moment(text, canvas, *number, true)?;
     }
+    push_others(text, canvas)?;
+    let many = canvas.layout.later();
+    if many == 0 {
+        return Ok(());
+    }
+    push_numbers(
+        text,
+        "<text class=\"quiet\" x=\"@\" y=\"@\">@ ops →</text>\n",
+        &[edge.saturating_add(4), y.saturating_add(14), many as u128],
+    )
+}
+
+/// The moments that the caption does not speak of, from left to right.
+fn push_others(text: &mut String, canvas: &Canvas) -> Result<(), AllocError> {
     let mut free = 0;
-    for number in 0..layout.scene.marks.len() {
-        if let Some((left, right)) = moment_room(layout, number) {
-            if free <= left && !is_taken(layout, number, left, right) {
-                push_moment(text, alloc, canvas, number, "quiet")?;
-                free = right.saturating_add(6);
-            }
+    for number in 0..canvas.layout.scene.marks.len() {
+        let (left, right) = room_of(&canvas.layout, number);
+        if free <= left && !is_taken(&canvas.layout, number, left, right) {
+            push_moment(text, canvas, number, false)?;
+            free = right.saturating_add(6);
         }
-    }
-    if layout.later() > 0 {
-        let (x, y) = (edge.saturating_add(4), canvas.bottom.saturating_add(18));
-        write!(
-            text,
-            "<text class=\"quiet\" x=\"{x}\" y=\"{y}\">{} ops →</text>\n",
-            layout.later()
-        )?;
     }
     Ok(())
 }
 
 fn push_moment(
     text: &mut String,
-    alloc: Global,
     canvas: &Canvas,
     number: usize,
-    class: &str,
+    is_told: bool,
 ) -> Result<(), AllocError> {
-    let Some(mark) = canvas.layout.scene.marks.get(number) else {
-        return Ok(());
-    };
-    let y = canvas.bottom.saturating_add(18);
-    let moment = format!(in alloc; "{}", mark.moment.0)?;
-    let length = wide(moment.len());
-    let x = room_of(&canvas.layout, number, length)
-        .0
-        .saturating_add(length / 2);
-    let ink = if class == "bold" { "paper" } else { "quiet" };
-    write!(
+    let (left, right) = room_of(&canvas.layout, number);
+    let length = right.saturating_sub(left);
+    push_filled(
         text,
-        "<g class=\"{ink}\"><text class=\"{class}\" x=\"{x}\" y=\"{y}\" text-anchor=\"middle\""
-    )?;
-    write!(text, " textLength=\"{length}\">{moment}</text></g>\n")
+        "<g class=\"@\"><text class=\"@\" x=\"@\" y=\"@\" text-anchor=\"middle\" textLength=\"@\">@</text></g>\n",
+        &[
+            Filling::Word(if is_told { "paper" } else { "quiet" }),
+            Filling::Word(if is_told { "bold" } else { "quiet" }),
+            Filling::Number(left.saturating_add(length / 2)),
+            Filling::Number(canvas.bottom.saturating_add(18)),
+            Filling::Number(length),
+            Filling::Number(moment_of(&canvas.layout, number) as u128),
+        ],
+    )
 }
 
-/// Where the moment of a mark is written, from left to right.
-fn moment_room(layout: &Layout, number: usize) -> Option<(u128, u128)> {
-    let mark = layout.scene.marks.get(number)?;
-    Some(room_of(layout, number, wide(digits_of_moment(mark.moment.0))))
+fn moment_of(layout: &Layout, number: usize) -> u64 {
+    if number < layout.scene.marks.len() {
+        layout.scene.marks[number].moment.0
+    } else {
+        0
+    }
 }
 
-/// Where words of this length are written at a mark: with their middle below it, but within its row.
-fn room_of(layout: &Layout, number: usize, length: u128) -> (u128, u128) {
+/// Where the moment of a mark is written, from left to right: with its middle below the mark, but within its row.
+fn room_of(layout: &Layout, number: usize) -> (u128, u128) {
+    let length = wide(digits_of_moment(moment_of(layout, number)));
     let row = layout.starts.partition_point(|start| *start <= number);
     let window = window_of(layout, row.saturating_sub(1));
     let left = layout
@@ -78,10 +84,9 @@ fn room_of(layout: &Layout, number: usize, length: u128) -> (u128, u128) {
 /// Whether a moment that the caption speaks of, or the number of operations left out, is in the way.
 fn is_taken(layout: &Layout, number: usize, left: u128, right: u128) -> bool {
     for told in &layout.told {
-        if let Some((from, to)) = moment_room(layout, *told) {
-            if left <= to.saturating_add(6) && from <= right.saturating_add(6) {
-                return true;
-            }
+        let (from, to) = room_of(layout, *told);
+        if left <= to.saturating_add(6) && from <= right.saturating_add(6) {
+            return true;
         }
     }
     is_in_fold(layout, number, left, right)

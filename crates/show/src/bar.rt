@@ -1,6 +1,7 @@
 //! The bars of operations in a picture, and the line through those that have an order.
 
 use crate::canvas::{BAR, Canvas, lane_of, lane_top, wide};
+use crate::filled::{Filling, push_filled, push_numbers};
 use crate::layout::Bar;
 use crate::letter::letter_for;
 use crate::role::role_of;
@@ -11,23 +12,24 @@ use story::is_wrong;
 /// The width of the part of an unfinished write that fades.
 const FADE: u128 = 36;
 
+/// Adds the bars of all operations, over the line through those that have an order and under its points.
+pub fn push_bars(text: &mut String, alloc: Global, canvas: &Canvas) -> Result<(), AllocError> {
+    let points = points_of(alloc, canvas)?;
+    push_order(text, &points)?;
+    for number in 0..canvas.layout.scene.ops.len() {
+        push_bar(text, canvas, number)?;
+    }
+    push_dots(text, &points)
+}
+
 /// Adds the bar of an operation, with its id and its moments as a tooltip.
-pub fn push_bar(text: &mut String, canvas: &Canvas, number: usize) -> Result<(), AllocError> {
+fn push_bar(text: &mut String, canvas: &Canvas, number: usize) -> Result<(), AllocError> {
     let Some(bar) = canvas.layout.bar(number) else {
         return Ok(());
     };
     let scene = canvas.layout.scene;
     let y = lane_top(canvas, lane_of(canvas, number)).saturating_add(5);
-    let role = role_of(&scene.story, bar.op);
-    let class = role.word();
-    let form = if bar.op.is_write() { "write" } else { "read" };
-    let told = if letter_for(&scene.letters, bar.op.id).is_some() {
-        " told"
-    } else {
-        ""
-    };
-    let whole = if bar.is_finished { "" } else { " endless" };
-    write!(text, "<g class=\"{class} {form}{told}{whole}\">")?;
+    push_group(text, scene, &bar)?;
     push_tip(text, &bar)?;
     if bar.is_finished {
         push_whole(text, &bar, y)?;
@@ -41,47 +43,82 @@ pub fn push_bar(text: &mut String, canvas: &Canvas, number: usize) -> Result<(),
     Ok(())
 }
 
+/// Opens the group of a bar, with its classes.
+fn push_group(text: &mut String, scene: &Scene, bar: &Bar) -> Result<(), AllocError> {
+    let is_told = letter_for(&scene.letters, bar.op.id).is_some();
+    push_filled(
+        text,
+        "<g class=\"@ @@@\">",
+        &[
+            Filling::Word(role_of(&scene.story, bar.op).word()),
+            Filling::Word(if bar.op.is_write() { "write" } else { "read" }),
+            Filling::Word(if is_told { " told" } else { "" }),
+            Filling::Word(if bar.is_finished { "" } else { " endless" }),
+        ],
+    )
+}
+
 fn push_tip(text: &mut String, bar: &Bar) -> Result<(), AllocError> {
-    let (feeder, event) = (bar.op.id.feeder, bar.op.id.event);
-    let begin = bar.op.begin.0;
-    write!(text, "<title>{feeder}:{event} {}, ", bar.label)?;
+    push_filled(
+        text,
+        "<title>@:@ @, ",
+        &[
+            Filling::Number(bar.op.id.feeder as u128),
+            Filling::Number(bar.op.id.event as u128),
+            Filling::Word(bar.label),
+        ],
+    )?;
+    let begin = bar.op.begin.0 as u128;
     match bar.op.end {
-        Some(end) => write!(text, "{begin} to {}</title>", end.0),
-        None => write!(text, "from {begin}, without an end</title>"),
+        Some(end) => push_numbers(text, "@ to @</title>", &[begin, end.0 as u128]),
+        None => push_numbers(text, "from @, without an end</title>", &[begin]),
     }
 }
 
 fn push_whole(text: &mut String, bar: &Bar, y: u128) -> Result<(), AllocError> {
     let (x, width) = (bar.left, bar.right.saturating_sub(bar.left));
-    let round = if bar.op.is_write() { "" } else { " rx=\"7\"" };
-    write!(
+    let form = if bar.op.is_write() {
+        "<rect x=\"@\" y=\"@\" width=\"@\" height=\"@\"/>"
+    } else {
+        "<rect x=\"@\" y=\"@\" width=\"@\" height=\"@\" rx=\"7\"/>"
+    };
+    push_numbers(text, form, &[x, y, width, BAR])?;
+    push_words(
         text,
-        "<rect x=\"{x}\" y=\"{y}\" width=\"{width}\" height=\"{BAR}\"{round}/>"
-    )?;
-    push_words(text, x.saturating_add(width / 2), y, "middle", bar.label)
+        x.saturating_add(width / 2),
+        y,
+        "middle",
+        bar.label,
+    )
 }
 
 /// A bar without a right edge: that of a write fades, that of a read is dashed.
 fn push_endless(text: &mut String, bar: &Bar, y: u128) -> Result<(), AllocError> {
     let (x, right) = (bar.left, bar.right.saturating_sub(FADE).max(bar.left));
     if bar.op.is_write() {
-        write!(text, "<path d=\"M{right} {y}H{x}v{BAR}H{right}\"/>")?;
-        for step in 0..6usize {
-            let at = right.saturating_add((step as u128).saturating_mul(6));
-            let left = 6 - step;
-            write!(
-                text,
-                "<rect x=\"{at}\" y=\"{y}\" width=\"6\" height=\"{BAR}\" style=\"stroke:none\" opacity=\".{left}\"/>"
-            )?;
-        }
+        push_numbers(text, "<path d=\"M@ @H@v@H@\"/>", &[right, y, x, BAR, right])?;
+        push_fading(text, right, y)?;
     } else {
         let at = x.saturating_add(7);
-        write!(
+        push_numbers(
             text,
-            "<path d=\"M{right} {y}H{at}a7 7 0 0 0 0 {BAR}H{right}\"/>"
+            "<path d=\"M@ @H@a7 7 0 0 0 0 @H@\"/>",
+            &[right, y, at, BAR, right],
         )?;
     }
     push_words(text, x.saturating_add(5), y, "start", bar.label)
+}
+
+fn push_fading(text: &mut String, right: u128, y: u128) -> Result<(), AllocError> {
+    for step in 0..6u128 {
+        let x = right.saturating_add(step * 6);
+        push_numbers(
+            text,
+            "<rect x=\"@\" y=\"@\" width=\"6\" height=\"@\" style=\"stroke:none\" opacity=\".@\"/>",
+            &[x, y, BAR, 6 - step],
+        )?;
+    }
+    Ok(())
 }
 
 /// Adds the label of a bar, by its middle or its beginning.
@@ -92,21 +129,30 @@ pub fn push_words(
     anchor: &str,
     label: &str,
 ) -> Result<(), AllocError> {
-    let (y, length) = (y.saturating_add(11), wide(label.len()));
-    write!(text, "<text x=\"{x}\" y=\"{y}\" text-anchor=\"{anchor}\"")?;
-    write!(text, " textLength=\"{length}\">{label}</text>")
+    push_filled(
+        text,
+        "<text x=\"@\" y=\"@\" text-anchor=\"@\" textLength=\"@\">@</text>",
+        &[
+            Filling::Number(x),
+            Filling::Number(y.saturating_add(11)),
+            Filling::Word(anchor),
+            Filling::Number(wide(label.len())),
+            Filling::Word(label),
+        ],
+    )
 }
 
 fn push_cross(text: &mut String, x: u128, y: u128) -> Result<(), AllocError> {
-    write!(
+    push_numbers(
         text,
-        "<path class=\"wrong cross\" d=\"M{x} {y}l8 8m0-8l-8 8\"/>\n"
+        "<path class=\"wrong cross\" d=\"M@ @l8 8m0-8l-8 8\"/>\n",
+        &[x, y],
     )
 }
 
 /// The points of the operations of a register that holds, in an order that explains the reads: each as far left as the
 /// operation's beginning and the point before it allow.
-pub fn points_of(alloc: Global, canvas: &Canvas) -> Result<Vec<(u128, u128)>, AllocError> {
+fn points_of(alloc: Global, canvas: &Canvas) -> Result<Vec<(u128, u128)>, AllocError> {
     let mut points = Vec::new(alloc);
     let mut least = 0;
     for (_, number) in &by_rank(alloc, canvas.layout.scene)? {
@@ -121,25 +167,25 @@ pub fn points_of(alloc: Global, canvas: &Canvas) -> Result<Vec<(u128, u128)>, Al
 }
 
 /// Adds a line from point to point.
-pub fn push_order(text: &mut String, points: &[(u128, u128)]) -> Result<(), AllocError> {
+fn push_order(text: &mut String, points: &[(u128, u128)]) -> Result<(), AllocError> {
     for number in 1..points.len() {
-        let (from, to) = (points[number - 1], points[number]);
-        write!(
+        let (from, to) = (&points[number - 1], &points[number]);
+        push_numbers(
             text,
-            "<path class=\"arrow\" d=\"M{} {}L{} {}\"/>\n",
-            from.0, from.1, to.0, to.1
+            "<path class=\"arrow\" d=\"M@ @L@ @\"/>\n",
+            &[from.0, from.1, to.0, to.1],
         )?;
     }
     Ok(())
 }
 
 /// Adds a dot at each point.
-pub fn push_dots(text: &mut String, points: &[(u128, u128)]) -> Result<(), AllocError> {
+fn push_dots(text: &mut String, points: &[(u128, u128)]) -> Result<(), AllocError> {
     for point in points {
-        write!(
+        push_numbers(
             text,
-            "<circle class=\"head\" cx=\"{}\" cy=\"{}\" r=\"2.5\"/>\n",
-            point.0, point.1
+            "<circle class=\"head\" cx=\"@\" cy=\"@\" r=\"2.5\"/>\n",
+            &[point.0, point.1],
         )?;
     }
     Ok(())

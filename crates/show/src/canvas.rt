@@ -1,26 +1,27 @@
 //! Where the parts of an SVG picture are.
 
-use crate::layout::{Layout, layout_of, widest_name};
+use crate::layout::{Layout, earlier, layout_of, widest_name};
 use crate::measure::{Measure, digits_of};
 use crate::scene::Scene;
 use crate::subject::Subject;
-use crate::zone::{Zone, zones_of};
+use crate::svg::Sheet;
+use crate::told::number_of;
+use crate::zone::{Zone, conflict_in, zones_of};
 use intervals::Kind;
 use register_book::Side;
 use std::alloc::{AllocError, Global};
-use story::Story;
 use timeline::Extent;
 
 /// What is drawn, and where, in units. Each row is a window on one strip, which has all zones, lanes and moments.
 #[derive(Drop)]
 pub struct Canvas<'s, 't> {
     pub layout: Layout<'s, 't>,
-    /// For each lane, the number of the seat after its last.
-    pub lane_ends: Vec<usize>,
     /// The lane of each operation.
     pub lanes: Vec<usize>,
     /// The zones of all values, of an atomic register all of whose operations are shown.
     pub zones: Vec<Zone>,
+    /// The zones of the two values of a conflict, where there are no others.
+    pub conflict: Vec<Zone>,
     /// The width left of the strip, for the names of lanes.
     pub margin: u128,
     /// The top of the lanes within the strip.
@@ -72,59 +73,68 @@ const MEASURE: Measure = Measure {
 /// Where all operations are shown, they are closer to each other.
 const CLOSE: Measure = Measure { gap: 7, ..MEASURE };
 
-/// The canvas of a scene, in rows of this width, the names of lanes included.
+/// The canvas of a scene, in rows of the sheet's width, the names of lanes included.
 pub fn canvas_of<'s, 't>(
     alloc: Global,
     subject: &Subject,
     scene: &'s Scene<'t>,
-    extent: Extent,
-    width: u32,
+    sheet: &Sheet,
 ) -> Result<Canvas<'s, 't>, AllocError> {
-    let measure = match extent {
+    let measure = match sheet.extent {
         Extent::All => &CLOSE,
         Extent::Around(_) => &MEASURE,
     };
-    let margin = margin_of(alloc, scene)?;
-    let width = match u32::try_from(margin) {
-        Ok(margin) => width.saturating_sub(margin).max(100),
-        Err(_) => 100,
-    };
+    let margin = margin_of(scene);
+    let width = room_beside(sheet.width, margin);
     let layout = layout_of(alloc, subject, scene, measure, width)?;
-    let lane_ends = layout.lane_ends(alloc)?;
-    let lanes = lanes_of(alloc, scene, &lane_ends)?;
-    let zones = match (extent, subject.kind) {
+    let lanes = lanes_of(alloc, scene, &layout.lane_ends)?;
+    let zones = match (sheet.extent, subject.kind) {
         (Extent::All, Kind::Atomic) => zones_of(alloc, &layout, subject.initial)?,
         _ => Vec::new(alloc),
     };
-    let top = if zones.is_empty() {
-        match scene.story {
-            Story::Crossing { .. } => 2 * ZONE + 6,
-            _ => 0,
-        }
+    let conflict = if zones.is_empty() {
+        conflict_in(alloc, &layout)?
     } else {
-        rows_of_zones(&zones)
-            .saturating_mul(ZONE_ROW)
-            .saturating_add(10)
+        Vec::new(alloc)
     };
-    let bottom = (lane_ends.len() as u128)
+    let top = zones_height(&zones, &conflict);
+    let bottom = (layout.lane_ends.len() as u128)
         .saturating_mul(LANE)
         .saturating_add(top);
     Ok(Canvas {
         layout,
-        lane_ends,
         lanes,
         zones,
+        conflict,
         margin,
         top,
         bottom,
     })
 }
 
-/// How many rows the forward and the backward zones have together.
-fn rows_of_zones(zones: &[Zone]) -> u128 {
-    rows_of(zones, true).saturating_add(rows_of(zones, false))
+/// The width that is left beside the names of lanes, at least 100.
+fn room_beside(width: u32, margin: u128) -> u32 {
+    let beside = match u32::try_from(margin) {
+        Ok(margin) => width.saturating_sub(margin),
+        Err(_) => 0,
+    };
+    beside.max(100)
 }
 
+fn zones_height(zones: &[Zone], conflict: &[Zone]) -> u128 {
+    if !conflict.is_empty() {
+        return 2 * ZONE + 6;
+    }
+    if zones.is_empty() {
+        return 0;
+    }
+    rows_of(zones, true)
+        .saturating_add(rows_of(zones, false))
+        .saturating_mul(ZONE_ROW)
+        .saturating_add(10)
+}
+
+/// How many rows the forward or the backward zones have.
 pub fn rows_of(zones: &[Zone], is_forward: bool) -> u128 {
     let mut rows: u128 = 0;
     for zone in zones {
@@ -158,12 +168,13 @@ pub fn wide(characters: usize) -> u128 {
 }
 
 /// The width for the widest name, or for the number of operations left out before all.
-fn margin_of(alloc: Global, scene: &Scene) -> Result<u128, AllocError> {
-    let mut widest = widest_name(alloc, scene, "process ")?;
-    if scene.folded.first().is_some_and(|many| *many > 0) {
-        widest = widest.max(digits_of(scene.folded[0]).saturating_add(6));
-    }
-    Ok(wide(widest).saturating_add(28))
+fn margin_of(scene: &Scene) -> u128 {
+    let widest = widest_name(scene, "process ");
+    let earlier = match earlier(scene) {
+        0 => 0,
+        many => digits_of(many).saturating_add(6),
+    };
+    wide(widest.max(earlier)).saturating_add(28)
 }
 
 /// The window of a row on the strip.
@@ -209,9 +220,10 @@ pub fn lane_top(canvas: &Canvas, lane: usize) -> u128 {
 }
 
 pub fn lane_of(canvas: &Canvas, number: usize) -> usize {
-    match canvas.lanes.get(number) {
-        Some(lane) => *lane,
-        None => 0,
+    if number < canvas.lanes.len() {
+        canvas.lanes[number]
+    } else {
+        0
     }
 }
 
@@ -219,18 +231,10 @@ pub fn lane_of(canvas: &Canvas, number: usize) -> usize {
 pub fn middle_of(canvas: &Canvas, side: &Side) -> u128 {
     let top = match side {
         Side::Initial => canvas.top,
-        Side::Op(op) => {
-            match canvas
-                .layout
-                .scene
-                .ops
-                .iter()
-                .position(|shown| shown.id == op.id)
-            {
-                Some(number) => lane_top(canvas, lane_of(canvas, number)),
-                None => canvas.top,
-            }
-        }
+        Side::Op(op) => match number_of(canvas.layout.scene, op.id) {
+            Some(number) => lane_top(canvas, lane_of(canvas, number)),
+            None => canvas.top,
+        },
     };
     top.saturating_add(LANE / 2)
 }

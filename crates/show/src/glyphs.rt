@@ -1,7 +1,7 @@
 //! The characters that a timeline is drawn with.
 
 /// Characters of one cell each.
-#[derive(Clone, Copy)]
+#[derive(Drop)]
 pub struct Glyphs {
     /// The line of a bar that has a letter.
     pub bold: char,
@@ -27,7 +27,7 @@ pub struct Glyphs {
     pub later: &'static str,
 }
 
-pub const DRAWN: Glyphs = Glyphs {
+pub static DRAWN: Glyphs = Glyphs {
     bold: '═',
     thin: '─',
     dots: '╌',
@@ -44,7 +44,7 @@ pub const DRAWN: Glyphs = Glyphs {
     later: "→",
 };
 
-pub const ASCII: Glyphs = Glyphs {
+pub static ASCII: Glyphs = Glyphs {
     bold: '=',
     thin: '-',
     dots: '.',

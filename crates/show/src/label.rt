@@ -1,11 +1,11 @@
 //! The labels of bars.
 
-ghost use Rattle.std.specs.Prelude.{◌≡◌, ◌++◌, IfOk, OnOk, string_bytes};
+ghost use Rattle.std.specs.Prelude.{◌≡◌, ◌++◌, OnOk, string_bytes};
 ghost use Rattle.show.specs.Label.{act_text, head_for, label_head_text, label_text, read_text, value_text};
 
 use crate::letter::Letter;
 use intervals::{Moment, Op, Value};
-use std::alloc::{AllocError, Global};
+use std::alloc::AllocError;
 
 /// What a label begins with: what the operation is to the reason why its register fails, or its place in an order that
 /// explains the reads.
@@ -76,13 +76,4 @@ pub fn push_value(text: &mut String, value: Value) -> Result<(), AllocError>
         Value::Nil => text.push_str("nil"),
         Value::Int(number) => write!(text, "{number}"),
     }
-}
-
-/// A value as it is printed, as a text of its own.
-pub fn value_word(alloc: Global, value: Value) -> Result<String, AllocError>
-    ensures { IfOk result (λ word. string_bytes word ≡ value_text value) }
-{
-    let mut word = String::new(alloc);
-    push_value(&mut word, value)?;
-    Ok(word)
 }

@@ -4,15 +4,15 @@ ghost use Rattle.std.specs.Prelude.{IfOk};
 ghost use Rattle.show.specs.Layout.{ArePlaced, IsLayout};
 
 use crate::label::push_value;
-use crate::measure::{Measure, steps_of, wants_of, width_of};
+use crate::measure::{Measure, digits_of_moment, steps_of, wants_of, width_of};
 use crate::scene::Scene;
 use crate::subject::Subject;
-use crate::told::{span_for, told_of};
+use crate::told::{begin_mark, end_mark, told_of};
 use intervals::{Initial, Op, Value};
 use register_book::Side;
 use std::alloc::{AllocError, Global};
 use story::Story;
-use timeline::{BarSpan, Seat, places, rows};
+use timeline::{Seat, places, rows};
 
 /// A scene, with the places of its marks.
 #[derive(Drop)]
@@ -26,6 +26,8 @@ pub struct Layout<'s, 't> {
     pub told: Vec<usize>,
     /// The label of the box of the value at first; empty where the caption does not speak of it.
     pub at_first: String,
+    /// For each lane, the number of the seat after its last.
+    pub lane_ends: Vec<usize>,
 }
 
 /// An operation as it is drawn, from its beginning to its end, or to the right edge where it has none.
@@ -56,12 +58,14 @@ pub fn layout_of<'s, 't>(
     };
     let places = placed(alloc, scene, &measure, &told)?;
     let starts = rows(alloc, &scene.marks, &places, width)?;
+    let lane_ends = lane_ends(alloc, &scene.seats)?;
     Ok(Layout {
         scene,
         places,
         starts,
         told,
         at_first,
+        lane_ends,
     })
 }
 
@@ -116,41 +120,35 @@ fn text_at_first(alloc: Global, subject: &Subject, story: &Story) -> Result<Stri
 impl<'s, 't> Layout<'s, 't> {
     /// The place of a mark.
     pub fn place_of(&self, number: usize) -> u128 {
-        match self.places.get(number) {
-            Some(place) => *place,
-            None => 0,
+        if number < self.places.len() {
+            self.places[number]
+        } else {
+            0
         }
     }
 
     pub fn right_edge(&self) -> u128 {
-        match self.places.last() {
-            Some(place) => *place,
-            None => 0,
-        }
+        self.place_of(self.places.len().saturating_sub(1))
     }
 
     /// How many operations are left out between this mark and the one before it.
     pub fn left_out_before(&self, number: usize) -> usize {
-        match self.scene.folded.get(number) {
-            Some(many) if number > 0 && number < self.scene.marks.len() => *many,
-            _ => 0,
+        if number > 0 && number < self.scene.marks.len() {
+            many_of(&self.scene.folded, number)
+        } else {
+            0
         }
     }
 
     /// How many operations are left out before all marks.
     pub fn earlier(&self) -> usize {
-        match self.scene.folded.first() {
-            Some(many) => *many,
-            None => 0,
-        }
+        earlier(self.scene)
     }
 
     /// How many operations are left out after all marks.
     pub fn later(&self) -> usize {
-        match self.scene.folded.last() {
-            Some(many) => *many,
-            None => 0,
-        }
+        let folded = self.scene.folded.as_slice();
+        many_of(folded, folded.len().saturating_sub(1))
     }
 
     /// The middle between a mark and the one before it.
@@ -160,24 +158,35 @@ impl<'s, 't> Layout<'s, 't> {
         left.saturating_add(right.saturating_sub(left) / 2)
     }
 
-    /// Where a side ended: the left edge for the value at first, the right edge where the operation has no end.
-    pub fn end_place(&self, side: &Side) -> u128 {
-        match side {
-            Side::Initial => 0,
-            Side::Op(op) => match span_for(self.scene, op.id) {
-                Some(BarSpan { end: Some(end), .. }) => self.place_of(end),
-                _ => self.right_edge(),
-            },
+    /// Where an operation begins; the left edge where it is not shown.
+    pub fn begin_of(&self, op: &Op) -> u128 {
+        match begin_mark(self.scene, op) {
+            Some(mark) => self.place_of(mark),
+            None => 0,
         }
     }
 
+    /// Where an operation ends; the right edge where it has no end.
+    pub fn end_of(&self, op: &Op) -> u128 {
+        match end_mark(self.scene, op) {
+            Some(mark) => self.place_of(mark),
+            None => self.right_edge(),
+        }
+    }
+
+    /// Where a side begins; the left edge for the value at first.
     pub fn begin_place(&self, side: &Side) -> u128 {
         match side {
             Side::Initial => 0,
-            Side::Op(op) => match span_for(self.scene, op.id) {
-                Some(span) => self.place_of(span.begin),
-                None => 0,
-            },
+            Side::Op(op) => self.begin_of(op),
+        }
+    }
+
+    /// Where a side ends; the left edge for the value at first.
+    pub fn end_place(&self, side: &Side) -> u128 {
+        match side {
+            Side::Initial => 0,
+            Side::Op(op) => self.end_of(op),
         }
     }
 
@@ -197,25 +206,35 @@ impl<'s, 't> Layout<'s, 't> {
             is_finished: span.end.is_some(),
         })
     }
+}
 
-    /// For each lane, the number of the seat after its last.
-    pub fn lane_ends(&self, alloc: Global) -> Result<Vec<usize>, AllocError> {
-        let seats = self.scene.seats.as_slice();
-        let mut ends = Vec::new(alloc);
-        for number in 0..seats.len() {
-            if is_last_of_lane(seats, number) {
-                ends.push(number + 1)?;
-            }
-        }
-        Ok(ends)
+/// How many operations are left out before all marks.
+pub fn earlier(scene: &Scene) -> usize {
+    many_of(&scene.folded, 0)
+}
+
+fn many_of(folded: &[usize], number: usize) -> usize {
+    if number < folded.len() {
+        folded[number]
+    } else {
+        0
     }
 }
 
-fn is_last_of_lane(seats: &[Seat], number: usize) -> bool {
-    match (seats.get(number), seats.get(number.saturating_add(1))) {
-        (Some(seat), Some(next)) => seat.lane != next.lane,
-        _ => true,
+/// For each lane, the number of the seat after its last.
+fn lane_ends(alloc: Global, seats: &[Seat]) -> Result<Vec<usize>, AllocError> {
+    let mut ends = Vec::new(alloc);
+    for number in 0..seats.len() {
+        if is_last_of_lane(seats, number) {
+            ends.push(number + 1)?;
+        }
     }
+    Ok(ends)
+}
+
+fn is_last_of_lane(seats: &[Seat], number: usize) -> bool {
+    let next = number.saturating_add(1);
+    next >= seats.len() || seats[number].lane != seats[next].lane
 }
 
 /// Adds the process of a seat after a word, and its trace where several traces have a process of that number.
@@ -225,56 +244,77 @@ pub fn push_lane_name(
     seats: &[Seat],
     number: usize,
 ) -> Result<(), AllocError> {
-    let Some(seat) = seats.get(number) else {
+    if number >= seats.len() {
         return Ok(());
-    };
-    write!(text, "{word}{}", seat.process)?;
-    if is_of_several(seats, seat.process) {
-        write!(text, " of {}", seat.feeder)?;
     }
-    Ok(())
+    let seat = &seats[number];
+    if is_of_several(seats, seat.process) {
+        write!(text, "{word}{} of {}", seat.process, seat.feeder)
+    } else {
+        write!(text, "{word}{}", seat.process)
+    }
 }
 
 /// Whether several traces have a process of this number. The seats of one process are together, by trace.
 fn is_of_several(seats: &[Seat], process: i64) -> bool {
-    let first = seats.partition_point(|seat| seat.process < process);
-    let end = seats.partition_point(|seat| seat.process <= process);
-    if end == 0 {
-        return false;
-    }
-    match (seats.get(first), seats.get(end - 1)) {
-        (Some(first), Some(last)) => first.feeder != last.feeder,
-        _ => false,
-    }
+    let first = seats_below(seats, process as i128);
+    let end = seats_below(seats, (process as i128).saturating_add(1));
+    first < end && end <= seats.len() && seats[first].feeder != seats[end - 1].feeder
+}
+
+/// How many seats are of processes of lower numbers.
+fn seats_below(seats: &[Seat], process: i128) -> usize {
+    seats.partition_point(|seat| (seat.process as i128) < process)
 }
 
 /// How many characters the widest name beside a row has: that of a lane, after this word, or of a zone of a conflict.
-pub fn widest_name(alloc: Global, scene: &Scene, word: &str) -> Result<usize, AllocError> {
+pub fn widest_name(scene: &Scene, word: &str) -> usize {
     let mut widest = 0;
     for number in 0..scene.seats.len() {
         if is_last_of_lane(&scene.seats, number) {
-            let mut name = String::new(alloc);
-            push_lane_name(&mut name, word, &scene.seats, number)?;
-            widest = widest.max(name.len());
+            let wide = lane_name_width(&scene.seats, number);
+            widest = widest.max(wide.saturating_add(word.len()));
         }
     }
     if let Story::Crossing { b, d, .. } = &scene.story {
-        widest = widest.max(side_name(alloc, b)?.len());
-        widest = widest.max(side_name(alloc, d)?.len());
+        widest = widest.max(side_name_width(b)).max(side_name_width(d));
     }
-    Ok(widest)
+    widest
 }
 
-fn side_name(alloc: Global, side: &Side) -> Result<String, AllocError> {
+/// How many characters the name of a lane has after its word.
+pub fn lane_name_width(seats: &[Seat], number: usize) -> usize {
+    if number >= seats.len() {
+        return 0;
+    }
+    let seat = &seats[number];
+    let process = digits_of_signed(seat.process);
+    if is_of_several(seats, seat.process) {
+        process
+            .saturating_add(4)
+            .saturating_add(digits_of_moment(seat.feeder as u64))
+    } else {
+        process
+    }
+}
+
+fn side_name_width(side: &Side) -> usize {
     match side {
-        Side::Op(op) => zone_name(alloc, op.value()),
-        Side::Initial => Ok(String::new(alloc)),
+        Side::Op(op) => zone_name_width(op.value()),
+        Side::Initial => 0,
     }
 }
 
-/// The name of the zone of a value.
-pub fn zone_name(alloc: Global, value: Value) -> Result<String, AllocError> {
-    let mut text = String::from_str(alloc, "zone of ")?;
-    push_value(&mut text, value)?;
-    Ok(text)
+/// How many characters the name of the zone of a value has.
+pub fn zone_name_width(value: Value) -> usize {
+    match value {
+        Value::Nil => 11,
+        Value::Int(number) => digits_of_signed(number).saturating_add(8),
+    }
+}
+
+/// How many characters a number has, with its sign.
+fn digits_of_signed(number: i64) -> usize {
+    let digits = digits_of_moment(number.unsigned_abs());
+    if number < 0 { digits.saturating_add(1) } else { digits }
 }

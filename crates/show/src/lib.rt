@@ -28,6 +28,7 @@ mod bar;
 mod canvas;
 mod caption;
 mod escape;
+mod filled;
 mod glyphs;
 mod label;
 pub mod laws;

@@ -2,7 +2,10 @@
 
 ghost use Rattle.std.specs.Prelude.{◌≤◌, length};
 
+use crate::measure::digits_of_moment;
 use std::alloc::{AllocError, Global};
+
+const DIGITS: [char; 10] = ['0', '1', '2', '3', '4', '5', '6', '7', '8', '9'];
 
 /// The cells of a line from one place on.
 #[derive(Drop)]
@@ -41,6 +44,19 @@ impl TextLine {
                 self.cells[number] = character;
             }
         }
+    }
+
+    /// Puts the digits of a number one after another, and returns the place after them.
+    pub fn put_number(&mut self, place: u128, number: u64) -> u128 {
+        let end = place.saturating_add(digits_of_moment(number) as u128);
+        let mut at = end;
+        let mut left = number;
+        while at > place {
+            at -= 1;
+            self.put(at, DIGITS[(left % 10) as usize]);
+            left /= 10;
+        }
+        end
     }
 
     /// Puts the characters of a text one after another.

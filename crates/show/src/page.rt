@@ -4,12 +4,15 @@ ghost use Rattle.std.specs.Prelude.{◌≡◌, ◌++◌, OnOk, string_bytes};
 ghost use Rattle.show.specs.Svg.{quoted_text, part_head_text};
 
 use crate::escape::push_element;
+use crate::scene::scene_of;
 use crate::style::{Theme, push_style};
 use crate::subject::Subject;
-use crate::svg::{Sheet, push_picture};
-use crate::title::push_heading;
+use crate::svg::{Sheet, push_scene};
+use crate::title::heading_of;
 use std::alloc::{AllocError, Global};
-use story::story_of;
+
+/// What comes before the title of a page.
+const BEGINNING: &str = "<!DOCTYPE html>\n<html xmlns=\"http://www.w3.org/1999/xhtml\" lang=\"en\">\n<head>\n<meta charset=\"utf-8\"/>\n<title>";
 
 /// The rules for what is around the pictures.
 const PAGE: &str = "<style>:root{color-scheme:light dark}
@@ -28,19 +31,20 @@ const DARK: &str = "<style>:root{color-scheme:dark;background:#0d1117;color:#e6e
 
 /// Begins a page, with this line as its title and heading.
 pub fn push_page_head(text: &mut String, theme: Theme, line: &str) -> Result<(), AllocError> {
-    text.push_str(
-        "<!DOCTYPE html>\n<html xmlns=\"http://www.w3.org/1999/xhtml\" lang=\"en\">\n<head>\n<meta charset=\"utf-8\"/>\n",
-    )?;
-    push_element(text, "<title>", line, "</title>\n")?;
+    push_element(text, BEGINNING, line, "</title>\n")?;
     text.push_str(PAGE)?;
-    match theme {
-        Theme::Auto => {}
-        Theme::Light => text.push_str(LIGHT)?,
-        Theme::Dark => text.push_str(DARK)?,
-    }
+    text.push_str(ground_of(theme))?;
     push_style(text, theme)?;
-    text.push_str("</head>\n<body>\n")?;
-    push_element(text, "<h1>", line, "</h1>\n")
+    push_element(text, "</head>\n<body>\n<h1>", line, "</h1>\n")
+}
+
+/// The rules for the ground of a page of one theme; none where the reader's machine chooses.
+fn ground_of(theme: Theme) -> &'static str {
+    match theme {
+        Theme::Auto => "",
+        Theme::Light => LIGHT,
+        Theme::Dark => DARK,
+    }
 }
 
 /// Adds a register to a page: its picture, which is seen at once where it is unfolded, and what the report says of it.
@@ -57,13 +61,22 @@ pub fn push_page_part(
     } else {
         "<details>\n"
     })?;
-    let story = story_of(alloc, subject.slots, subject.witness)?;
-    let mut heading = String::new(alloc);
-    push_heading(&mut heading, subject, &story)?;
-    push_part_head(text, &heading)?;
-    push_picture(text, alloc, subject, sheet)?;
+    push_shown(text, alloc, subject, sheet)?;
     push_quoted(text, report)?;
     text.push_str("</details>\n")
+}
+
+/// Adds the heading of a register and its picture.
+fn push_shown(
+    text: &mut String,
+    alloc: Global,
+    subject: &Subject,
+    sheet: &Sheet,
+) -> Result<(), AllocError> {
+    let scene = scene_of(alloc, subject, sheet.extent)?;
+    let heading = heading_of(alloc, subject, &scene.story)?;
+    push_part_head(text, &heading)?;
+    push_scene(text, alloc, subject, &scene, &heading, sheet)
 }
 
 fn push_part_head(text: &mut String, heading: &str) -> Result<(), AllocError>

@@ -1,11 +1,11 @@
 //! What is in a picture: the time in which a read was wrong, bars, arrows, zones and moments.
 
 use crate::axis::push_axis;
-use crate::bar::{points_of, push_bar, push_dots, push_order, push_words};
+use crate::bar::{push_bars, push_words};
 use crate::canvas::{BAR, Canvas, ZONE, ZONE_ROW, box_width, middle_of, rows_of};
-use crate::label::push_value;
+use crate::filled::{Filling, push_filled, push_numbers};
 use crate::role::{Role, role_of_value};
-use crate::zone::{Zone, conflict_in};
+use crate::zone::Zone;
 use register_book::Side;
 use std::alloc::{AllocError, Global};
 use story::Story;
@@ -17,71 +17,77 @@ pub fn push_strip(text: &mut String, alloc: Global, canvas: &Canvas) -> Result<(
     push_folds(text, canvas)?;
     push_at_first(text, canvas)?;
     push_arrows(text, canvas)?;
-    let points = points_of(alloc, canvas)?;
-    push_order(text, &points)?;
-    for number in 0..canvas.layout.scene.ops.len() {
-        push_bar(text, canvas, number)?;
-    }
-    push_dots(text, &points)?;
+    push_bars(text, alloc, canvas)?;
     push_zones(text, canvas)?;
-    push_axis(text, alloc, canvas)
+    push_axis(text, canvas)
 }
 
 /// The time in which a read was wrong, as a band under the lanes.
 fn push_band(text: &mut String, canvas: &Canvas) -> Result<(), AllocError> {
     let layout = &canvas.layout;
-    let (from, to) = match &layout.scene.story {
-        Story::Wrong(wrong) => (
-            layout.begin_place(&Side::Op(wrong.read)),
-            layout.end_place(&Side::Op(wrong.read)),
-        ),
-        Story::Unwritten(read) => (
-            layout.begin_place(&Side::Op(*read)),
-            layout.end_place(&Side::Op(*read)),
-        ),
-        Story::Early { read, write } => (
-            layout.end_place(&Side::Op(*read)),
-            layout.begin_place(&Side::Op(*write)),
-        ),
-        _ => return Ok(()),
-    };
-    let (top, width) = (canvas.top, to.saturating_sub(from));
-    let height = canvas.bottom.saturating_sub(top);
-    write!(
+    match &layout.scene.story {
+        Story::Wrong(wrong) => {
+            let to = layout.end_of(&wrong.read);
+            push_band_between(text, canvas, layout.begin_of(&wrong.read), to)
+        }
+        Story::Unwritten(read) => {
+            push_band_between(text, canvas, layout.begin_of(read), layout.end_of(read))
+        }
+        Story::Early { read, write } => {
+            push_band_between(text, canvas, layout.end_of(read), layout.begin_of(write))
+        }
+        _ => Ok(()),
+    }
+}
+
+fn push_band_between(
+    text: &mut String,
+    canvas: &Canvas,
+    from: u128,
+    to: u128,
+) -> Result<(), AllocError> {
+    let height = canvas.bottom.saturating_sub(canvas.top);
+    push_numbers(
         text,
-        "<rect class=\"band\" x=\"{from}\" y=\"{top}\" width=\"{width}\" height=\"{height}\"/>\n"
+        "<rect class=\"band\" x=\"@\" y=\"@\" width=\"@\" height=\"@\"/>\n",
+        &[from, canvas.top, to.saturating_sub(from), height],
     )
 }
 
 /// A dotted line at each moment that the caption speaks of.
 fn push_told(text: &mut String, canvas: &Canvas) -> Result<(), AllocError> {
+    let to = canvas.bottom.saturating_add(4);
     for number in &canvas.layout.told {
-        let x = canvas.layout.place_of(*number);
-        let to = canvas.bottom.saturating_add(4);
-        write!(text, "<path class=\"drop\" d=\"M{x} 0V{to}\"/>\n")?;
+        push_numbers(
+            text,
+            "<path class=\"drop\" d=\"M@ 0V@\"/>\n",
+            &[canvas.layout.place_of(*number), to],
+        )?;
+    }
+    Ok(())
+}
+
+fn push_folds(text: &mut String, canvas: &Canvas) -> Result<(), AllocError> {
+    for number in 1..canvas.layout.scene.marks.len() {
+        let many = canvas.layout.left_out_before(number);
+        if many > 0 {
+            push_fold(text, canvas, canvas.layout.middle_before(number), many)?;
+        }
     }
     Ok(())
 }
 
 /// A jagged line where operations are left out, with how many.
-fn push_folds(text: &mut String, canvas: &Canvas) -> Result<(), AllocError> {
-    for number in 1..canvas.layout.scene.marks.len() {
-        let many = canvas.layout.left_out_before(number);
-        if many > 0 {
-            let x = canvas.layout.middle_before(number);
-            write!(text, "<path class=\"edge\" d=\"M{x} {}", canvas.top)?;
-            for _ in 0..canvas.lane_ends.len() {
-                text.push_str("l3 3-6 6 6 6-6 6 3 3")?;
-            }
-            text.push_str("\"/>\n")?;
-            let y = canvas.bottom.saturating_add(18);
-            write!(
-                text,
-                "<text class=\"quiet\" x=\"{x}\" y=\"{y}\" text-anchor=\"middle\">+{many} ops</text>\n"
-            )?;
-        }
+fn push_fold(text: &mut String, canvas: &Canvas, x: u128, many: usize) -> Result<(), AllocError> {
+    push_numbers(text, "<path class=\"edge\" d=\"M@ @", &[x, canvas.top])?;
+    for _ in 0..canvas.layout.lane_ends.len() {
+        text.push_str("l3 3-6 6 6 6-6 6 3 3")?;
     }
-    Ok(())
+    push_numbers(
+        text,
+        "\"/>\n<text class=\"quiet\" x=\"@\" y=\"@\" text-anchor=\"middle\">+@ ops</text>\n",
+        &[x, canvas.bottom.saturating_add(18), many as u128],
+    )
 }
 
 /// The box of the value at first, and right of it a line, before which there was nothing.
@@ -91,78 +97,75 @@ fn push_at_first(text: &mut String, canvas: &Canvas) -> Result<(), AllocError> {
         return Ok(());
     }
     let width = box_width(at_first);
-    let role = match &canvas.layout.scene.story {
-        Story::Crossing {
-            a: Side::Initial,
-            ..
-        } => Role::One,
-        Story::Crossing { .. } => Role::Two,
-        _ => Role::One,
-    };
-    let class = role.word();
     let y = canvas.top.saturating_add(5);
-    write!(
+    push_filled(
         text,
-        "<g class=\"{class} write told\"><rect x=\"0\" y=\"{y}\" width=\"{width}\" height=\"{BAR}\"/>"
+        "<g class=\"@ write told\"><rect x=\"0\" y=\"@\" width=\"@\" height=\"@\"/>",
+        &[
+            Filling::Word(role_at_first(&canvas.layout.scene.story).word()),
+            Filling::Number(y),
+            Filling::Number(width),
+            Filling::Number(BAR),
+        ],
     )?;
     push_words(text, width / 2, y, "middle", at_first)?;
-    let (x, top, bottom) = (width.saturating_add(4), canvas.top, canvas.bottom);
-    write!(
+    push_numbers(
         text,
-        "</g><path class=\"edge\" d=\"M{x} {top}V{bottom}\"/>\n"
+        "</g><path class=\"edge\" d=\"M@ @V@\"/>\n",
+        &[width.saturating_add(4), canvas.top, canvas.bottom],
     )
+}
+
+/// What the value at first is to the reason why a register fails.
+fn role_at_first(story: &Story) -> Role {
+    match story {
+        Story::Crossing { a: Side::Op(_), .. } => Role::Two,
+        _ => Role::One,
+    }
 }
 
 /// The zones of all values, or of the two of a conflict.
 fn push_zones(text: &mut String, canvas: &Canvas) -> Result<(), AllocError> {
-    if !canvas.zones.is_empty() {
-        return push_all_zones(text, canvas);
-    }
-    let Some((first, second)) = conflict_in(&canvas.layout) else {
-        return Ok(());
-    };
-    push_zone(text, &first, Role::One, 0)?;
-    push_zone(text, &second, Role::Two, ZONE)
-}
-
-fn push_all_zones(text: &mut String, canvas: &Canvas) -> Result<(), AllocError> {
     let forward = rows_of(&canvas.zones, true);
     for zone in &canvas.zones {
         let before = if zone.is_forward { 0 } else { forward };
-        let y = before
-            .saturating_add(zone.row as u128)
-            .saturating_mul(ZONE_ROW);
-        push_zone(
-            text,
-            zone,
-            role_of_value(&canvas.layout.scene.story, zone.value),
-            y,
-        )?;
+        let rows = before.saturating_add(zone.row as u128);
+        push_zone(text, canvas, zone, rows.saturating_mul(ZONE_ROW))?;
+    }
+    let mut y = 0;
+    for zone in &canvas.conflict {
+        push_zone(text, canvas, zone, y)?;
+        y = y.saturating_add(ZONE);
     }
     Ok(())
 }
 
 /// A forward zone points to the right and is filled, a backward one points to the left and is hollow.
-fn push_zone(text: &mut String, zone: &Zone, role: Role, y: u128) -> Result<(), AllocError> {
-    let class = role.word();
-    let (middle, bottom) = (y.saturating_add(6), y.saturating_add(12));
+fn push_zone(text: &mut String, canvas: &Canvas, zone: &Zone, y: u128) -> Result<(), AllocError> {
+    let role = role_of_value(&canvas.layout.scene.story, zone.value);
     let (left, right) = (zone.left, zone.right);
-    if zone.is_forward {
-        let tip = right.saturating_sub(6).max(left);
-        write!(
-            text,
-            "<path class=\"{class} write\" d=\"M{left} {y}H{tip}L{right} {middle}L{tip} {bottom}H{left}z\">"
-        )?;
+    let (form, from, tip, to) = if zone.is_forward {
+        ("write", left, right.saturating_sub(6).max(left), right)
     } else {
-        let tip = left.saturating_add(6).min(right);
-        write!(
-            text,
-            "<path class=\"{class} read\" d=\"M{right} {y}H{tip}L{left} {middle}L{tip} {bottom}H{right}z\">"
-        )?;
-    }
-    text.push_str("<title>zone of ")?;
-    push_value(text, zone.value)?;
-    text.push_str("</title></path>\n")
+        ("read", right, left.saturating_add(6).min(right), left)
+    };
+    push_filled(
+        text,
+        "<path class=\"@ @\" d=\"M@ @H@L@ @L@ @H@z\"><title>zone of @</title></path>\n",
+        &[
+            Filling::Word(role.word()),
+            Filling::Word(form),
+            Filling::Number(from),
+            Filling::Number(y),
+            Filling::Number(tip),
+            Filling::Number(to),
+            Filling::Number(y.saturating_add(6)),
+            Filling::Number(tip),
+            Filling::Number(y.saturating_add(12)),
+            Filling::Number(from),
+            Filling::Value(zone.value),
+        ],
+    )
 }
 
 /// An arrow from each operation of a conflict to the next that it precedes.
@@ -182,15 +185,15 @@ fn push_arrow(
 ) -> Result<(), AllocError> {
     let x = match from {
         Side::Initial => box_width(&canvas.layout.at_first),
-        Side::Op(_) => canvas.layout.end_place(from),
+        Side::Op(op) => canvas.layout.end_of(op),
     };
     let (y, to_y) = (middle_of(canvas, from), middle_of(canvas, to));
     let to_x = canvas.layout.begin_place(to);
     let (tip, base) = (to_x.saturating_sub(1), to_x.saturating_sub(8));
     let half = x.saturating_add(base.saturating_sub(x) / 2);
-    write!(
+    push_numbers(
         text,
-        "<path class=\"arrow\" d=\"M{x} {y}C{half} {y} {half} {to_y} {base} {to_y}\"/>"
-    )?;
-    write!(text, "<path class=\"head\" d=\"M{tip} {to_y}l-8-4v8z\"/>\n")
+        "<path class=\"arrow\" d=\"M@ @C@ @ @ @ @ @\"/><path class=\"head\" d=\"M@ @l-8-4v8z\"/>\n",
+        &[x, y, half, y, half, to_y, base, to_y, tip, to_y],
+    )
 }

@@ -9,16 +9,17 @@ use crate::canvas::{
 };
 use crate::caption::push_caption;
 use crate::escape::push_element;
-use crate::layout::{push_lane_name, zone_name};
-use crate::role::caption_roles;
+use crate::filled::{Filling, push_filled, push_numbers};
+use crate::layout::push_lane_name;
+use crate::role::{Role, caption_roles};
 use crate::scene::{Scene, scene_of};
 use crate::strip::push_strip;
 use crate::style::{Theme, push_style};
 use crate::subject::Subject;
-use crate::title::push_heading;
-use crate::zone::{Zone, conflict_in};
+use crate::title::heading_of;
+use crate::zone::Zone;
 use std::alloc::{AllocError, Global};
-use timeline::Extent;
+use timeline::{Extent, Seat};
 
 /// How a picture looks: how much it shows, how many units wide its rows are, its colours, whether it has the rules for
 /// them itself, and a number by which its ids differ from those of the other pictures of a page.
@@ -39,20 +40,42 @@ pub fn push_picture(
     sheet: &Sheet,
 ) -> Result<(), AllocError> {
     let scene = scene_of(alloc, subject, sheet.extent)?;
-    let canvas = canvas_of(alloc, subject, &scene, sheet.extent, sheet.width)?;
-    let mut heading = String::new(alloc);
-    push_heading(&mut heading, subject, &scene.story)?;
+    let heading = heading_of(alloc, subject, &scene.story)?;
+    push_scene(text, alloc, subject, &scene, &heading, sheet)
+}
+
+/// Adds the picture of a scene.
+pub fn push_scene(
+    text: &mut String,
+    alloc: Global,
+    subject: &Subject,
+    scene: &Scene,
+    heading: &str,
+    sheet: &Sheet,
+) -> Result<(), AllocError> {
     let mut caption = String::new(alloc);
-    push_caption(&mut caption, alloc, subject, &scene)?;
-    push_root(text, &canvas, &heading, &caption)?;
+    push_caption(&mut caption, subject, scene)?;
+    let canvas = canvas_of(alloc, subject, scene, sheet)?;
+    push_canvas(text, alloc, &canvas, heading, &caption, sheet)
+}
+
+fn push_canvas(
+    text: &mut String,
+    alloc: Global,
+    canvas: &Canvas,
+    heading: &str,
+    caption: &str,
+    sheet: &Sheet,
+) -> Result<(), AllocError> {
+    push_root(text, canvas, heading, caption)?;
     if sheet.has_style {
         push_style(text, sheet.theme)?;
     }
     text.push_str("<rect class=\"paper\" width=\"100%\" height=\"100%\"/>\n")?;
-    push_head(text, &heading)?;
-    push_count(text, &scene)?;
-    push_rows(text, alloc, &canvas, sheet.number)?;
-    push_sentences(text, &canvas, &caption)?;
+    push_head(text, heading)?;
+    push_count(text, canvas.layout.scene)?;
+    push_rows(text, alloc, canvas, sheet.number as u128)?;
+    push_sentences(text, canvas, caption)?;
     text.push_str("</svg>\n")
 }
 
@@ -64,16 +87,12 @@ fn push_root(
     caption: &str,
 ) -> Result<(), AllocError> {
     let width = picture_width(canvas, heading, caption);
-    let lines = caption.lines().count() as u128;
-    let height = row_top(canvas, canvas.layout.starts.len())
-        .saturating_add(lines.saturating_mul(LINE))
-        .saturating_add(8);
-    let (shown_width, shown_height) = (enlarged(width), enlarged(height));
-    write!(
+    let height = picture_height(canvas, caption);
+    push_numbers(
         text,
-        "<svg xmlns=\"http://www.w3.org/2000/svg\" class=\"ra\" role=\"img\" width=\"{shown_width}\" height=\"{shown_height}\""
+        "<svg xmlns=\"http://www.w3.org/2000/svg\" class=\"ra\" role=\"img\" width=\"@\" height=\"@\" viewBox=\"0 0 @ @\">\n",
+        &[enlarged(width), enlarged(height), width, height],
     )?;
-    write!(text, " viewBox=\"0 0 {width} {height}\">\n")?;
     push_spoken(text, heading, caption)
 }
 
@@ -89,23 +108,39 @@ fn enlarged(units: u128) -> u128 {
     units.saturating_mul(13) / 10
 }
 
+fn picture_height(canvas: &Canvas, caption: &str) -> u128 {
+    row_top(canvas, canvas.layout.starts.len())
+        .saturating_add((caption.lines().count() as u128).saturating_mul(LINE))
+        .saturating_add(8)
+}
+
 fn picture_width(canvas: &Canvas, heading: &str, caption: &str) -> u128 {
+    words_width(heading, caption)
+        .saturating_add(32)
+        .max(rows_width(canvas))
+}
+
+fn words_width(heading: &str, caption: &str) -> u128 {
     let mut width = (heading.chars().count() as u128)
         .saturating_mul(9)
         .max(wide(SCALE.len() + 40));
     for line in caption.lines() {
         width = width.max(wide(line.chars().count()).saturating_add(20));
     }
-    let mut width = width.saturating_add(32);
-    for row in 0..canvas.layout.starts.len() {
-        let window = window_of(&canvas.layout, row);
-        let row_width = canvas
-            .margin
-            .saturating_add(window.to.saturating_sub(window.from))
-            .saturating_add(12);
-        width = width.max(row_width);
-    }
     width
+}
+
+/// The width of the widest row, with the names of lanes.
+fn rows_width(canvas: &Canvas) -> u128 {
+    let mut width: u128 = 0;
+    for row in 0..canvas.layout.starts.len() {
+        width = width.max(window_width(&window_of(&canvas.layout, row)));
+    }
+    width.saturating_add(canvas.margin).saturating_add(12)
+}
+
+fn window_width(window: &Window) -> u128 {
+    window.to.saturating_sub(window.from)
 }
 
 const SCALE: &str = "Left to right by the order of moments, not to scale.";
@@ -123,13 +158,13 @@ fn push_head(text: &mut String, heading: &str) -> Result<(), AllocError>
 
 /// Adds how many operations are shown, of how many.
 fn push_count(text: &mut String, scene: &Scene) -> Result<(), AllocError> {
-    text.push_str("<text class=\"quiet\" x=\"16\" y=\"40\">")?;
-    let (shown, all) = (scene.ops.len(), scene.all);
-    if shown == all {
-        write!(text, "{all} operations. ")?;
+    let (shown, all) = (scene.ops.len() as u128, scene.all as u128);
+    let many = if shown == all {
+        "<text class=\"quiet\" x=\"16\" y=\"40\">@ operations. "
     } else {
-        write!(text, "{shown} of {all} operations. ")?;
-    }
+        "<text class=\"quiet\" x=\"16\" y=\"40\">@ of @ operations. "
+    };
+    push_numbers(text, many, &[shown, all])?;
     write!(text, "{SCALE}</text>\n")
 }
 
@@ -138,131 +173,158 @@ fn push_rows(
     text: &mut String,
     alloc: Global,
     canvas: &Canvas,
-    number: u32,
+    number: u128,
 ) -> Result<(), AllocError> {
     let rows = canvas.layout.starts.len();
     if rows > 1 {
-        write!(text, "<defs><g class=\"ra\" id=\"strip{}\">\n", number)?;
+        push_numbers(text, "<defs><g class=\"ra\" id=\"strip@\">\n", &[number])?;
         push_strip(text, alloc, canvas)?;
         text.push_str("</g></defs>\n")?;
     }
     for row in 0..rows {
-        let window = window_of(&canvas.layout, row);
-        push_zone_names(text, alloc, canvas, row, window)?;
-        push_lane_names(text, alloc, canvas, row)?;
-        push_window(text, canvas, row, window)?;
-        if rows > 1 {
-            write!(text, "<use href=\"#strip{}\"/>", number)?;
-        } else {
-            push_strip(text, alloc, canvas)?;
-        }
-        text.push_str("</svg>\n")?;
+        push_row(text, alloc, canvas, row, number)?;
     }
     Ok(())
+}
+
+fn push_row(
+    text: &mut String,
+    alloc: Global,
+    canvas: &Canvas,
+    row: usize,
+    number: u128,
+) -> Result<(), AllocError> {
+    let window = window_of(&canvas.layout, row);
+    let top = row_top(canvas, row);
+    push_zone_names(text, canvas, &window, top)?;
+    push_lane_names(text, canvas, row, top)?;
+    push_window(text, canvas, &window, top)?;
+    if canvas.layout.starts.len() > 1 {
+        push_numbers(text, "<use href=\"#strip@\"/>", &[number])?;
+    } else {
+        push_strip(text, alloc, canvas)?;
+    }
+    text.push_str("</svg>\n")
 }
 
 fn push_window(
     text: &mut String,
     canvas: &Canvas,
-    row: usize,
-    window: Window,
+    window: &Window,
+    top: u128,
 ) -> Result<(), AllocError> {
-    let (x, y) = (canvas.margin, row_top(canvas, row));
-    let (from, width) = (window.from, window.to.saturating_sub(window.from));
-    let height = strip_height(canvas);
-    write!(
+    let (width, height) = (window_width(window), strip_height(canvas));
+    push_numbers(
         text,
-        "<svg x=\"{x}\" y=\"{y}\" width=\"{width}\" height=\"{height}\""
-    )?;
-    write!(text, " viewBox=\"{from} 0 {width} {height}\">\n")
+        "<svg x=\"@\" y=\"@\" width=\"@\" height=\"@\" viewBox=\"@ 0 @ @\">\n",
+        &[canvas.margin, top, width, height, window.from, width, height],
+    )
 }
 
 /// The names beside the lanes of a row, and a stripe under every other lane.
 fn push_lane_names(
     text: &mut String,
-    alloc: Global,
     canvas: &Canvas,
     row: usize,
+    top: u128,
 ) -> Result<(), AllocError> {
-    let seats = canvas.layout.scene.seats.as_slice();
-    let top = row_top(canvas, row);
     let mut from = 0;
-    let mut before = None;
-    for lane in 0..canvas.lane_ends.len() {
-        let mut name = String::new(alloc);
-        push_lane_name(&mut name, "process ", seats, from)?;
+    for lane in 0..canvas.layout.lane_ends.len() {
         let y = top.saturating_add(lane_top(canvas, lane));
-        if lane % 2 == 0 {
-            write!(
-                text,
-                "<rect class=\"stripe\" x=\"12\" y=\"{y}\" width=\"100%\" height=\"{LANE}\"/>\n"
-            )?;
-        }
-        if !is_same_name(&before, &name) {
-            push_name(text, y.saturating_add(16), &name)?;
-        }
-        before = Some(name);
-        from = canvas.lane_ends[lane];
+        push_stripe(text, lane, y)?;
+        push_process(text, &canvas.layout.scene.seats, from, y.saturating_add(16))?;
+        from = canvas.layout.lane_ends[lane];
     }
-    if row == 0 && canvas.layout.earlier() > 0 {
-        let y = top.saturating_add(canvas.bottom).saturating_add(18);
-        let many = canvas.layout.earlier();
-        push_name(text, y, &format!(in alloc; "← {many} ops")?)?;
+    let many = canvas.layout.earlier();
+    if row > 0 || many == 0 {
+        return Ok(());
     }
-    Ok(())
+    let y = top.saturating_add(canvas.bottom).saturating_add(18);
+    push_numbers(
+        text,
+        "<text class=\"quiet\" x=\"16\" y=\"@\">← @ ops</text>\n",
+        &[y, many as u128],
+    )
+}
+
+fn push_stripe(text: &mut String, lane: usize, y: u128) -> Result<(), AllocError> {
+    if lane % 2 == 1 {
+        return Ok(());
+    }
+    push_numbers(
+        text,
+        "<rect class=\"stripe\" x=\"12\" y=\"@\" width=\"100%\" height=\"@\"/>\n",
+        &[y, LANE],
+    )
+}
+
+/// The process of a lane that begins with this seat, unless it is that of the lane above it.
+fn push_process(
+    text: &mut String,
+    seats: &[Seat],
+    number: usize,
+    y: u128,
+) -> Result<(), AllocError> {
+    if is_same_process(seats, number) {
+        return Ok(());
+    }
+    push_numbers(text, "<text class=\"quiet\" x=\"16\" y=\"@\">", &[y])?;
+    push_lane_name(text, "process ", seats, number)?;
+    text.push_str("</text>\n")
+}
+
+/// Whether a seat is of the process of the seat before it, in one trace.
+fn is_same_process(seats: &[Seat], number: usize) -> bool {
+    if number == 0 || number >= seats.len() {
+        return false;
+    }
+    let (before, seat) = (&seats[number - 1], &seats[number]);
+    before.process == seat.process && before.feeder == seat.feeder
 }
 
 /// The names beside the zones: `forward` and `backward`, or those of a conflict's zones that are in the window.
 fn push_zone_names(
     text: &mut String,
-    alloc: Global,
     canvas: &Canvas,
-    row: usize,
-    window: Window,
+    window: &Window,
+    top: u128,
 ) -> Result<(), AllocError> {
-    let first = row_top(canvas, row).saturating_add(10);
+    let mut y = top.saturating_add(10);
+    for zone in &canvas.conflict {
+        push_zone_name(text, window, zone, y)?;
+        y = y.saturating_add(ZONE);
+    }
     let forward = rows_of(&canvas.zones, true);
     if forward > 0 {
-        push_name(text, first, "forward")?;
+        push_numbers(
+            text,
+            "<text class=\"quiet\" x=\"16\" y=\"@\">forward</text>\n",
+            &[y],
+        )?;
     }
-    if rows_of(&canvas.zones, false) > 0 {
-        let y = forward.saturating_mul(ZONE_ROW).saturating_add(first);
-        push_name(text, y, "backward")?;
+    if rows_of(&canvas.zones, false) == 0 {
+        return Ok(());
     }
-    if canvas.zones.is_empty() {
-        if let Some((one, two)) = conflict_in(&canvas.layout) {
-            push_zone_name(text, alloc, window, &one, first)?;
-            push_zone_name(text, alloc, window, &two, first.saturating_add(ZONE))?;
-        }
-    }
-    Ok(())
+    push_numbers(
+        text,
+        "<text class=\"quiet\" x=\"16\" y=\"@\">backward</text>\n",
+        &[forward.saturating_mul(ZONE_ROW).saturating_add(y)],
+    )
 }
 
 fn push_zone_name(
     text: &mut String,
-    alloc: Global,
-    window: Window,
+    window: &Window,
     zone: &Zone,
     y: u128,
 ) -> Result<(), AllocError> {
-    if zone.left < window.to && window.from <= zone.right {
-        push_name(text, y, &zone_name(alloc, zone.value)?)?;
+    if zone.left >= window.to || window.from > zone.right {
+        return Ok(());
     }
-    Ok(())
-}
-
-/// Whether a lane has the name of the lane above it.
-fn is_same_name(before: &Option<String>, name: &str) -> bool {
-    match before {
-        Some(before) => before.as_str() == name,
-        None => false,
-    }
-}
-
-fn push_name(text: &mut String, y: u128, name: &str) -> Result<(), AllocError> {
-    write!(
+    push_filled(
         text,
-        "<text class=\"quiet\" x=\"16\" y=\"{y}\">{name}</text>\n"
+        "<text class=\"quiet\" x=\"16\" y=\"@\">zone of @</text>\n",
+        &[Filling::Number(y), Filling::Value(zone.value)],
     )
 }
 
@@ -272,18 +334,25 @@ fn push_sentences(text: &mut String, canvas: &Canvas, caption: &str) -> Result<(
     let roles = caption_roles(&canvas.layout.scene.story);
     let mut number = 0;
     for line in caption.lines() {
-        if let Some(role) = roles.get(number) {
-            let class = role.word();
-            write!(
-                text,
-                "<rect class=\"{class} write\" x=\"16\" y=\"{y}\" width=\"9\" height=\"9\"/>"
-            )?;
+        if number < roles.len() {
+            push_square(text, roles[number], y)?;
+            number += 1;
         }
-        let base = y.saturating_add(8);
-        write!(text, "<g class=\"paper\"><text x=\"30\" y=\"{base}\"")?;
-        push_element(text, ">", line, "</text></g>\n")?;
+        push_sentence(text, line, y.saturating_add(8))?;
         y = y.saturating_add(LINE);
-        number = number.saturating_add(1);
     }
     Ok(())
+}
+
+fn push_square(text: &mut String, role: Role, y: u128) -> Result<(), AllocError> {
+    push_filled(
+        text,
+        "<rect class=\"@ write\" x=\"16\" y=\"@\" width=\"9\" height=\"9\"/>",
+        &[Filling::Word(role.word()), Filling::Number(y)],
+    )
+}
+
+fn push_sentence(text: &mut String, line: &str, y: u128) -> Result<(), AllocError> {
+    push_numbers(text, "<g class=\"paper\"><text x=\"30\" y=\"@\"", &[y])?;
+    push_element(text, ">", line, "</text></g>\n")
 }

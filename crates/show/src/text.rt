@@ -2,7 +2,10 @@
 
 use crate::caption::push_caption;
 use crate::glyphs::{ASCII, DRAWN, Glyphs};
-use crate::layout::{Bar, Layout, layout_of, push_lane_name, widest_name, zone_name};
+use crate::label::push_value;
+use crate::layout::{
+    Bar, Layout, earlier, lane_name_width, layout_of, push_lane_name, widest_name, zone_name_width,
+};
 use crate::letter::letter_for;
 use crate::line::TextLine;
 use crate::measure::{Measure, digits_of, digits_of_moment};
@@ -27,17 +30,15 @@ pub struct Look {
 #[derive(Drop)]
 struct Drawing<'s, 't> {
     layout: Layout<'s, 't>,
-    glyphs: Glyphs,
+    glyphs: &'static Glyphs,
     /// How many cells come before the lines of lanes.
     margin: usize,
-    /// For each lane, the number of the seat after its last.
-    lane_ends: Vec<usize>,
     /// The zones of the two values of a conflict.
-    conflict: Option<(Zone, Zone)>,
+    conflict: Vec<Zone>,
 }
 
 /// Cells from one place up to another, and marks from one number up to another.
-#[derive(Clone, Copy)]
+#[derive(Drop)]
 struct Window {
     from: u128,
     to: u128,
@@ -62,42 +63,41 @@ pub fn push_timeline(
     look: &Look,
 ) -> Result<(), AllocError> {
     let scene = scene_of(alloc, subject, look.extent)?;
-    push_title(text, alloc, subject, &scene)?;
+    push_title(text, subject, &scene)?;
     if !scene.ops.is_empty() {
-        let drawing = drawing_of(alloc, subject, &scene, look)?;
-        push_rows(text, alloc, &drawing)?;
+        push_drawing(text, alloc, subject, &scene, look)?;
     }
     text.push_str("\n")?;
-    push_caption(text, alloc, subject, &scene)
+    push_caption(text, subject, &scene)
 }
 
-fn drawing_of<'s, 't>(
+fn push_drawing(
+    text: &mut String,
     alloc: Global,
     subject: &Subject,
-    scene: &'s Scene<'t>,
+    scene: &Scene,
     look: &Look,
-) -> Result<Drawing<'s, 't>, AllocError> {
-    let margin = margin_of(alloc, scene)?;
+) -> Result<(), AllocError> {
+    let margin = margin_of(scene);
     let width = room_beside(look.width, margin);
     let layout = layout_of(alloc, subject, scene, &MEASURE, width)?;
-    let lane_ends = layout.lane_ends(alloc)?;
-    let conflict = conflict_in(&layout);
-    Ok(Drawing {
+    let conflict = conflict_in(alloc, &layout)?;
+    let drawing = Drawing {
         layout,
-        glyphs: if look.is_ascii { ASCII } else { DRAWN },
+        glyphs: if look.is_ascii { &ASCII } else { &DRAWN },
         margin,
-        lane_ends,
         conflict,
-    })
+    };
+    push_rows(text, alloc, &drawing)
 }
 
 /// The cells for the widest name, or for the number of operations left out before all, and two more.
-fn margin_of(alloc: Global, scene: &Scene) -> Result<usize, AllocError> {
-    let mut margin = widest_name(alloc, scene, "p")?;
-    if scene.folded.first().is_some_and(|many| *many > 0) {
-        margin = margin.max(digits_of(scene.folded[0]).saturating_add(2));
-    }
-    Ok(margin.saturating_add(2))
+fn margin_of(scene: &Scene) -> usize {
+    let many = match earlier(scene) {
+        0 => 0,
+        many => digits_of(many).saturating_add(2),
+    };
+    widest_name(scene, "p").max(many).saturating_add(2)
 }
 
 /// The cells that are left beside the names of lanes, at least 20.
@@ -110,41 +110,43 @@ fn room_beside(width: u32, margin: usize) -> u32 {
 }
 
 fn push_rows(text: &mut String, alloc: Global, drawing: &Drawing) -> Result<(), AllocError> {
-    let mut nexts = first_seats(alloc, drawing)?;
+    let mut nexts = first_seats(alloc, &drawing.layout.lane_ends)?;
     for row in 0..drawing.layout.starts.len() {
-        let window = window_of(&drawing.layout, row);
-        text.push_str("\n")?;
-        push_zones(text, alloc, drawing, window)?;
-        push_at_first(text, alloc, drawing, window)?;
-        push_lanes(text, alloc, drawing, window, &mut nexts)?;
-        push_axis(text, alloc, drawing, window)?;
+        push_row(text, alloc, drawing, &window_of(&drawing.layout, row), &mut nexts)?;
     }
     Ok(())
 }
 
+/// The lines of a row. `nexts` has the first seat of each lane that does not end in an earlier row.
+fn push_row(
+    text: &mut String,
+    alloc: Global,
+    drawing: &Drawing,
+    window: &Window,
+    nexts: &mut [usize],
+) -> Result<(), AllocError> {
+    text.push_str("\n")?;
+    push_zones(text, alloc, drawing, window)?;
+    push_at_first(text, alloc, drawing, window)?;
+    push_lanes(text, alloc, drawing, window, nexts)?;
+    push_axis(text, alloc, drawing, window)
+}
+
 fn window_of(layout: &Layout, row: usize) -> Window {
-    let first = match layout.starts.get(row) {
-        Some(first) => *first,
-        None => 0,
-    };
-    let from = if row == 0 {
-        0
+    let next = row.saturating_add(1);
+    let (to, end) = if next < layout.starts.len() {
+        let end = layout.starts[next];
+        (layout.place_of(end).saturating_sub(1), end)
     } else {
-        layout.place_of(first).saturating_sub(1)
+        let edge = layout.right_edge().saturating_add(tail_width(layout));
+        (edge, layout.scene.marks.len())
     };
-    match layout.starts.get(row.saturating_add(1)) {
-        Some(end) => Window {
-            from,
-            to: layout.place_of(*end).saturating_sub(1),
-            first,
-            end: *end,
-        },
-        None => Window {
-            from,
-            to: layout.right_edge().saturating_add(tail_width(layout)),
-            first,
-            end: layout.scene.marks.len(),
-        },
+    if row > 0 && row < layout.starts.len() {
+        let first = layout.starts[row];
+        let from = layout.place_of(first).saturating_sub(1);
+        Window { from, to, first, end }
+    } else {
+        Window { from: 0, to, first: 0, end }
     }
 }
 
@@ -156,9 +158,14 @@ fn tail_width(layout: &Layout) -> u128 {
 }
 
 /// A line with the moments that the caption speaks of, and with where operations are left out.
-fn new_line(alloc: Global, drawing: &Drawing, window: Window) -> Result<TextLine, AllocError> {
-    let layout = &drawing.layout;
+fn new_line(alloc: Global, drawing: &Drawing, window: &Window) -> Result<TextLine, AllocError> {
     let mut line = blank_line(alloc, window)?;
+    put_folds_and_drops(&mut line, drawing, window);
+    Ok(line)
+}
+
+fn put_folds_and_drops(line: &mut TextLine, drawing: &Drawing, window: &Window) {
+    let layout = &drawing.layout;
     for number in window.first..window.end {
         if layout.left_out_before(number) > 0 {
             line.put(layout.middle_before(number), drawing.glyphs.fold);
@@ -167,10 +174,9 @@ fn new_line(alloc: Global, drawing: &Drawing, window: Window) -> Result<TextLine
     for number in &layout.told {
         line.put(layout.place_of(*number), drawing.glyphs.drop);
     }
-    Ok(line)
 }
 
-fn blank_line(alloc: Global, window: Window) -> Result<TextLine, AllocError> {
+fn blank_line(alloc: Global, window: &Window) -> Result<TextLine, AllocError> {
     let width = match usize::try_from(window.to.saturating_sub(window.from)) {
         Ok(width) => width,
         Err(_) => 0,
@@ -178,47 +184,43 @@ fn blank_line(alloc: Global, window: Window) -> Result<TextLine, AllocError> {
     TextLine::blank(alloc, window.from, width)
 }
 
-/// Adds a line after a name and blanks up to the margin.
-fn push_named(
+/// Adds a line after a name that takes so many cells, and blanks up to the margin.
+fn push_after(
     text: &mut String,
-    name: &str,
+    name: usize,
     margin: usize,
     line: &TextLine,
 ) -> Result<(), AllocError> {
-    text.push_str(name)?;
     if line.has_some() {
-        for _ in name.chars().count()..margin {
+        for _ in name..margin {
             text.push_str(" ")?;
         }
     }
     line.push(text)
 }
 
+/// The zones of a conflict that are in the window, and a line without a zone below them.
 fn push_zones(
     text: &mut String,
     alloc: Global,
     drawing: &Drawing,
-    window: Window,
+    window: &Window,
 ) -> Result<(), AllocError> {
-    let Some((first, second)) = &drawing.conflict else {
-        return Ok(());
-    };
-    let is_first_in = is_zone_in(window, first);
-    let is_second_in = is_zone_in(window, second);
-    if is_first_in {
-        push_zone(text, alloc, drawing, window, first)?;
+    let mut is_there = false;
+    for zone in &drawing.conflict {
+        if is_zone_in(window, zone) {
+            push_zone(text, alloc, drawing, window, zone)?;
+            is_there = true;
+        }
     }
-    if is_second_in {
-        push_zone(text, alloc, drawing, window, second)?;
-    }
-    if is_first_in || is_second_in {
-        push_named(text, "", drawing.margin, &new_line(alloc, drawing, window)?)?;
+    if is_there {
+        push_after(text, 0, drawing.margin, &new_line(alloc, drawing, window)?)?;
     }
     Ok(())
 }
 
 /// Whether some of a zone is in the window.
-fn is_zone_in(window: Window, zone: &Zone) -> bool {
+fn is_zone_in(window: &Window, zone: &Zone) -> bool {
     zone.left < window.to && window.from <= zone.right
 }
 
@@ -227,21 +229,25 @@ fn push_zone(
     text: &mut String,
     alloc: Global,
     drawing: &Drawing,
-    window: Window,
+    window: &Window,
     zone: &Zone,
 ) -> Result<(), AllocError> {
-    let glyphs = &drawing.glyphs;
     let mut line = new_line(alloc, drawing, window)?;
-    if zone.is_forward {
-        line.fill(zone.left, zone.right, glyphs.forward);
-        line.put(zone.left, glyphs.left_end);
-        line.put(zone.right, glyphs.right_head);
+    draw_zone(&mut line, zone, drawing.glyphs);
+    text.push_str("zone of ")?;
+    push_value(text, zone.value)?;
+    push_after(text, zone_name_width(zone.value), drawing.margin, &line)
+}
+
+fn draw_zone(line: &mut TextLine, zone: &Zone, glyphs: &Glyphs) {
+    let (between, left, right) = if zone.is_forward {
+        (glyphs.forward, glyphs.left_end, glyphs.right_head)
     } else {
-        line.fill(zone.left, zone.right, glyphs.backward);
-        line.put(zone.left, glyphs.left_head);
-        line.put(zone.right, glyphs.right_end);
-    }
-    push_named(text, &zone_name(alloc, zone.value)?, drawing.margin, &line)
+        (glyphs.backward, glyphs.left_head, glyphs.right_end)
+    };
+    line.fill(zone.left, zone.right, between);
+    line.put(zone.left, left);
+    line.put(zone.right, right);
 }
 
 /// A line with the box of the value at first, left of all moments.
@@ -249,7 +255,7 @@ fn push_at_first(
     text: &mut String,
     alloc: Global,
     drawing: &Drawing,
-    window: Window,
+    window: &Window,
 ) -> Result<(), AllocError> {
     let at_first = &drawing.layout.at_first;
     if at_first.is_empty() || window.from > 0 {
@@ -259,14 +265,14 @@ fn push_at_first(
     line.put(0, '[');
     line.put_text(1, at_first.as_str());
     line.put((at_first.len() as u128).saturating_add(1), ']');
-    push_named(text, "", drawing.margin, &line)
+    push_after(text, 0, drawing.margin, &line)
 }
 
 /// The first seat of each lane.
-fn first_seats(alloc: Global, drawing: &Drawing) -> Result<Vec<usize>, AllocError> {
+fn first_seats(alloc: Global, lane_ends: &[usize]) -> Result<Vec<usize>, AllocError> {
     let mut firsts = Vec::new(alloc);
     let mut from = 0;
-    for end in &drawing.lane_ends {
+    for end in lane_ends {
         firsts.push(from)?;
         from = *end;
     }
@@ -278,69 +284,75 @@ fn push_lanes(
     text: &mut String,
     alloc: Global,
     drawing: &Drawing,
-    window: Window,
+    window: &Window,
     nexts: &mut [usize],
 ) -> Result<(), AllocError> {
-    for lane in 0..drawing.lane_ends.len() {
+    let ends = drawing.layout.lane_ends.as_slice();
+    for lane in 0..ends.len() {
         if lane < nexts.len() {
-            nexts[lane] = push_lane(
-                text,
-                alloc,
-                drawing,
-                window,
-                nexts[lane],
-                drawing.lane_ends[lane],
-            )?;
+            let mut line = new_line(alloc, drawing, window)?;
+            let from = nexts[lane];
+            let (next, end) = draw_lane(&mut line, drawing, window, from, ends[lane]);
+            if next < end {
+                push_lane(text, drawing, from.min(ends[lane].saturating_sub(1)), &line)?;
+            }
+            nexts[lane] = next;
         }
     }
     Ok(())
 }
 
-/// A lane with the seats from one number up to another, if some of it is in the window. Returns the first seat that
-/// does not end before the window.
+/// A lane after the name of the process of this seat.
 fn push_lane(
     text: &mut String,
-    alloc: Global,
     drawing: &Drawing,
-    window: Window,
+    number: usize,
+    line: &TextLine,
+) -> Result<(), AllocError> {
+    let seats = drawing.layout.scene.seats.as_slice();
+    push_lane_name(text, "p", seats, number)?;
+    let name = lane_name_width(seats, number).saturating_add(1);
+    push_after(text, name, drawing.margin, line)
+}
+
+/// Draws those of the seats from one number up to another that are in the window. Returns the first that does not end
+/// before the window, and the first that begins after it.
+fn draw_lane(
+    line: &mut TextLine,
+    drawing: &Drawing,
+    window: &Window,
     from: usize,
     to: usize,
-) -> Result<usize, AllocError> {
-    let seats = drawing.layout.scene.seats.as_slice();
-    let mut line = new_line(alloc, drawing, window)?;
+) -> (usize, usize) {
     let mut next = from;
-    let mut is_there = false;
     for number in from..to {
-        let Some(seat) = seats.get(number) else {
-            break;
-        };
-        let Some(bar) = drawing.layout.bar(seat.op) else {
-            break;
+        let Some(bar) = bar_at(&drawing.layout, number) else {
+            return (next, number);
         };
         if bar.right < window.from {
             next = number.saturating_add(1);
         } else if bar.left < window.to {
-            draw_bar(&mut line, drawing, &bar);
-            is_there = true;
+            draw_bar(line, drawing, &bar);
         } else {
-            break;
+            return (next, number);
         }
     }
-    if is_there {
-        let mut name = String::new(alloc);
-        push_lane_name(&mut name, "p", seats, from.min(to.saturating_sub(1)))?;
-        push_named(text, name.as_str(), drawing.margin, &line)?;
-    }
-    Ok(next)
+    (next, to)
+}
+
+/// The bar of the operation in a seat.
+fn bar_at<'s, 't>(layout: &Layout<'s, 't>, number: usize) -> Option<Bar<'s, 't>> {
+    let seat = layout.scene.seats.get(number)?;
+    layout.bar(seat.op)
 }
 
 fn draw_bar(line: &mut TextLine, drawing: &Drawing, bar: &Bar) {
     let scene = drawing.layout.scene;
     if bar.is_finished {
         let is_told = letter_for(&scene.letters, bar.op.id).is_some();
-        draw_whole(line, bar, is_told, &drawing.glyphs);
+        draw_whole(line, bar, is_told, drawing.glyphs);
     } else {
-        draw_endless(line, bar, &drawing.glyphs);
+        draw_endless(line, bar, drawing.glyphs);
     }
     if is_wrong(&scene.story, bar.op) {
         line.put(bar.right.saturating_add(1), drawing.glyphs.cross);
@@ -385,66 +397,61 @@ fn push_axis(
     text: &mut String,
     alloc: Global,
     drawing: &Drawing,
-    window: Window,
+    window: &Window,
 ) -> Result<(), AllocError> {
-    let layout = &drawing.layout;
     let mut line = blank_line(alloc, window)?;
+    draw_axis(&mut line, drawing, window);
+    let many = drawing.layout.earlier();
+    if window.from > 0 || many == 0 {
+        return push_after(text, 0, drawing.margin, &line);
+    }
+    let sign = drawing.glyphs.earlier;
+    write!(text, "{sign}{many}")?;
+    let name = digits_of(many).saturating_add(sign.chars().count());
+    push_after(text, name, drawing.margin, &line)
+}
+
+fn draw_axis(line: &mut TextLine, drawing: &Drawing, window: &Window) {
+    let layout = &drawing.layout;
     for number in &layout.told {
-        put_moment(&mut line, alloc, layout, window, *number)?;
+        put_moment(line, layout, window, *number);
     }
     for number in window.first..window.end {
-        put_left_out(&mut line, alloc, layout, number)?;
+        put_left_out(line, layout, number);
     }
     for number in window.first..window.end {
-        put_moment(&mut line, alloc, layout, window, number)?;
+        put_moment(line, layout, window, number);
     }
-    if layout.later() > 0 {
-        let tail = format!(in alloc; "{}{}", layout.later(), drawing.glyphs.later)?;
-        line.put_text(layout.right_edge().saturating_add(1), tail.as_str());
+    let many = layout.later();
+    if many > 0 {
+        let end = line.put_number(layout.right_edge().saturating_add(1), many as u64);
+        line.put_text(end, drawing.glyphs.later);
     }
-    let mut head = String::new(alloc);
-    if window.from == 0 && layout.earlier() > 0 {
-        write!(head, "{}{}", drawing.glyphs.earlier, layout.earlier())?;
-    }
-    push_named(text, head.as_str(), drawing.margin, &line)
 }
 
 /// The moment of a mark, where there is room for it.
-fn put_moment(
-    line: &mut TextLine,
-    alloc: Global,
-    layout: &Layout,
-    window: Window,
-    number: usize,
-) -> Result<(), AllocError> {
-    let Some(mark) = layout.scene.marks.get(number) else {
-        return Ok(());
-    };
-    let place = layout.place_of(number);
-    let end = place.saturating_add(digits_of_moment(mark.moment.0) as u128);
-    if end <= window.to && line.is_blank(place.saturating_sub(1), end.saturating_add(1)) {
-        let moment = format!(in alloc; "{}", mark.moment.0)?;
-        line.put_text(place, moment.as_str());
+fn put_moment(line: &mut TextLine, layout: &Layout, window: &Window, number: usize) {
+    if number >= layout.scene.marks.len() {
+        return;
     }
-    Ok(())
+    let moment = layout.scene.marks[number].moment.0;
+    let place = layout.place_of(number);
+    let end = place.saturating_add(digits_of_moment(moment) as u128);
+    if end <= window.to && line.is_blank(place.saturating_sub(1), end.saturating_add(1)) {
+        line.put_number(place, moment);
+    }
 }
 
 /// How many operations are left out before a mark, if any are and nothing is in the way.
-fn put_left_out(
-    line: &mut TextLine,
-    alloc: Global,
-    layout: &Layout,
-    number: usize,
-) -> Result<(), AllocError> {
+fn put_left_out(line: &mut TextLine, layout: &Layout, number: usize) {
     let many = layout.left_out_before(number);
     if many == 0 {
-        return Ok(());
+        return;
     }
-    let label = format!(in alloc; "+{many}")?;
-    let wide = label.len() as u128;
+    let wide = (digits_of(many) as u128).saturating_add(1);
     let place = layout.middle_before(number).saturating_sub(wide / 2);
     if line.is_blank(place, place.saturating_add(wide)) {
-        line.put_text(place, label.as_str());
+        line.put(place, '+');
+        line.put_number(place.saturating_add(1), many as u64);
     }
-    Ok(())
 }

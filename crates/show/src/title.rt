@@ -2,21 +2,16 @@
 
 use crate::scene::Scene;
 use crate::subject::Subject;
-use phrases::{kind_word, push_fault, push_printed};
+use phrases::{kind_word, push_fault_text, push_printed};
 use std::alloc::{AllocError, Global};
 use story::Story;
 
 /// Adds the register, its kind, why it fails or that it holds, and how many of its operations are shown.
-pub fn push_title(
-    text: &mut String,
-    alloc: Global,
-    subject: &Subject,
-    scene: &Scene,
-) -> Result<(), AllocError> {
+pub fn push_title(text: &mut String, subject: &Subject, scene: &Scene) -> Result<(), AllocError> {
     text.push_str("register ")?;
     push_printed(text, subject.name)?;
     write!(text, "  {}  ", kind_word(subject.kind))?;
-    push_verdict(text, alloc, subject)?;
+    push_verdict(text, subject)?;
     write!(
         text,
         "   {} of {} operations, by order of moments\n",
@@ -25,18 +20,29 @@ pub fn push_title(
     )
 }
 
-/// Adds that the register holds, or the line of its fault.
-fn push_verdict(text: &mut String, alloc: Global, subject: &Subject) -> Result<(), AllocError> {
-    let Some(witness) = &subject.witness else {
-        return text.push_str("holds");
-    };
-    let mut line = String::new(alloc);
-    push_fault(&mut line, witness.ids())?;
-    write!(text, "fails: {}", line.as_str().trim())
+/// Adds that the register holds, or its fault.
+fn push_verdict(text: &mut String, subject: &Subject) -> Result<(), AllocError> {
+    match &subject.witness {
+        Some(witness) => {
+            text.push_str("fails: ")?;
+            push_fault_text(text, witness.ids())
+        }
+        None => text.push_str("holds"),
+    }
 }
 
-/// Adds the register and why it fails, in words.
-pub fn push_heading(text: &mut String, subject: &Subject, story: &Story) -> Result<(), AllocError> {
+/// The register and why it fails, in words.
+pub fn heading_of(
+    alloc: Global,
+    subject: &Subject,
+    story: &Story,
+) -> Result<String, AllocError> {
+    let mut heading = String::new(alloc);
+    push_heading(&mut heading, subject, story)?;
+    Ok(heading)
+}
+
+fn push_heading(text: &mut String, subject: &Subject, story: &Story) -> Result<(), AllocError> {
     text.push_str(kind_word(subject.kind))?;
     text.push_str(" register ")?;
     push_printed(text, subject.name)?;

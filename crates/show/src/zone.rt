@@ -1,6 +1,7 @@
 //! The zones of the values of an atomic register, as they are drawn.
 
-use crate::layout::Layout;
+use crate::layout::{Bar, Layout};
+use crate::scene::Scene;
 use intervals::{Initial, Op, Value, is_same_value};
 use register_book::Side;
 use std::alloc::{AllocError, Global};
@@ -18,14 +19,14 @@ pub struct Zone {
     pub row: usize,
 }
 
-/// The zones of the two values of a conflict.
-pub fn conflict_in(layout: &Layout) -> Option<(Zone, Zone)> {
-    match &layout.scene.story {
-        Story::Crossing { a, b, c, d } => {
-            Some((zone_between(layout, a, d), zone_between(layout, c, b)))
-        }
-        _ => None,
+/// The zones of the two values of a conflict; empty where there is none.
+pub fn conflict_in(alloc: Global, layout: &Layout) -> Result<Vec<Zone>, AllocError> {
+    let mut zones = Vec::new(alloc);
+    if let Story::Crossing { a, b, c, d } = &layout.scene.story {
+        zones.push(zone_between(layout, a, d))?;
+        zones.push(zone_between(layout, c, b))?;
     }
+    Ok(zones)
 }
 
 /// The zone from the end of one side to the beginning of another side of the same value.
@@ -57,40 +58,54 @@ fn zones_by_value(
     layout: &Layout,
     initial: Initial,
 ) -> Result<Vec<Zone>, AllocError> {
-    let mut bars = Vec::with_capacity(alloc, layout.scene.ops.len())?;
-    for number in 0..layout.scene.ops.len() {
-        if let Some(bar) = layout.bar(number) {
-            if bar.is_finished || bar.op.is_write() {
-                bars.push(bar)?;
-            }
-        }
-    }
-    bars.sort_unstable_by_key(|bar| (key_of(bar.op.value()), !bar.op.is_write()));
-    let mut zones: Vec<Zone> = Vec::new(alloc);
-    for bar in &bars {
-        let value = bar.op.value();
-        match zones.last_mut() {
-            Some(zone) if key_of(zone.value) == key_of(value) => {
-                zone.left = zone.left.min(bar.right);
-                zone.right = zone.right.max(bar.left);
-            }
-            _ => zones.push(Zone {
-                value,
-                left: if is_at_first(initial, bar.op) {
-                    0
-                } else {
-                    bar.right
-                },
-                right: bar.left,
-                is_forward: true,
-                row: 0,
-            })?,
+    let mut zones = Vec::new(alloc);
+    for (_, _, number) in &by_value(alloc, layout.scene)? {
+        if let Some(bar) = layout.bar(*number) {
+            add_bar(&mut zones, &bar, initial)?;
         }
     }
     for zone in &mut zones {
         turn(zone);
     }
     Ok(zones)
+}
+
+/// The numbers of the operations whose values are known, by value, and of each value the writes first.
+fn by_value(alloc: Global, scene: &Scene) -> Result<Vec<(Value, bool, usize)>, AllocError> {
+    let mut numbers = Vec::new(alloc);
+    for number in 0..scene.ops.len() {
+        let op = &scene.ops[number];
+        if op.is_write() || op.end.is_some() {
+            numbers.push((op.value(), !op.is_write(), number))?;
+        }
+    }
+    numbers.sort_unstable();
+    Ok(numbers)
+}
+
+/// Widens the last zone by the bar of an operation of its value, or begins the zone of another value.
+fn add_bar(zones: &mut Vec<Zone>, bar: &Bar, initial: Initial) -> Result<(), AllocError> {
+    let value = bar.op.value();
+    if let Some(zone) = zones.last_mut() {
+        if is_same_value(zone.value, value) {
+            zone.left = zone.left.min(bar.right);
+            zone.right = zone.right.max(bar.left);
+            return Ok(());
+        }
+    }
+    let left = if is_at_first(initial, bar.op) {
+        0
+    } else {
+        bar.right
+    };
+    zones.push(Zone {
+        value,
+        left,
+        right: bar.left,
+        is_forward: true,
+        row: 0,
+    })?;
+    Ok(())
 }
 
 /// Makes a zone backward if its greatest beginning, so far its right edge, is left of its least end, its left edge.
@@ -105,32 +120,28 @@ fn turn(zone: &mut Zone) {
 
 /// Puts the zones of one direction into rows, each into the first that is free.
 fn seat(alloc: Global, zones: &mut [Zone], is_forward: bool) -> Result<(), AllocError> {
-    let mut ends: Vec<u128> = Vec::new(alloc);
-    for number in 0..zones.len() {
-        if zones[number].is_forward == is_forward {
-            let left = zones[number].left;
-            match ends.iter().position(|end| *end < left) {
-                Some(row) => {
-                    if row < ends.len() {
-                        ends[row] = zones[number].right;
-                    }
-                    zones[number].row = row;
-                }
-                None => {
-                    zones[number].row = ends.len();
-                    ends.push(zones[number].right)?;
-                }
+    let mut ends = Vec::new(alloc);
+    for zone in zones {
+        if zone.is_forward == is_forward {
+            let row = free_row(&ends, zone.left);
+            if row < ends.len() {
+                ends[row] = zone.right;
+            } else {
+                ends.push(zone.right)?;
             }
+            zone.row = row;
         }
     }
     Ok(())
 }
 
-fn key_of(value: Value) -> (bool, i64) {
-    match value {
-        Value::Nil => (false, 0),
-        Value::Int(number) => (true, number),
+/// The first row that ends left of a place, or a new one.
+fn free_row(ends: &[u128], left: u128) -> usize {
+    let mut row = 0;
+    while row < ends.len() && ends[row] >= left {
+        row += 1;
     }
+    row
 }
 
 /// Whether the value of an operation, the first of its value, was there at first. Where the value at first is unknown,
