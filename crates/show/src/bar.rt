@@ -83,13 +83,7 @@ fn push_whole(text: &mut String, bar: &Bar, y: u128) -> Result<(), AllocError> {
         "<rect x=\"@\" y=\"@\" width=\"@\" height=\"@\" rx=\"7\"/>"
     };
     push_numbers(text, form, &[x, y, width, BAR])?;
-    push_words(
-        text,
-        x.saturating_add(width / 2),
-        y,
-        "middle",
-        bar.label,
-    )
+    push_words(text, x.saturating_add(width / 2), y, "middle", bar.label)
 }
 
 /// A bar without a right edge: that of a write fades, that of a read is dashed.
@@ -122,12 +116,12 @@ fn push_fading(text: &mut String, right: u128, y: u128) -> Result<(), AllocError
 }
 
 /// Adds the label of a bar, by its middle or its beginning.
-pub fn push_words(
+pub fn push_words<'a>(
     text: &mut String,
     x: u128,
     y: u128,
-    anchor: &str,
-    label: &str,
+    anchor: &'a str,
+    label: &'a str,
 ) -> Result<(), AllocError> {
     push_filled(
         text,

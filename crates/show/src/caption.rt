@@ -14,11 +14,7 @@ use std::alloc::AllocError;
 use story::{Story, Wrong};
 
 /// Adds what there is to say of the register, a sentence a line.
-pub fn push_caption(
-    text: &mut String,
-    subject: &Subject,
-    scene: &Scene,
-) -> Result<(), AllocError> {
+pub fn push_caption(text: &mut String, subject: &Subject, scene: &Scene) -> Result<(), AllocError> {
     match &scene.story {
         Story::Holds if scene.all == 0 => text.push_str("No operation stands.\n"),
         Story::Holds => push_holds(text, subject.kind),

@@ -316,5 +316,9 @@ pub fn zone_name_width(value: Value) -> usize {
 /// How many characters a number has, with its sign.
 fn digits_of_signed(number: i64) -> usize {
     let digits = digits_of_moment(number.unsigned_abs());
-    if number < 0 { digits.saturating_add(1) } else { digits }
+    if number < 0 {
+        digits.saturating_add(1)
+    } else {
+        digits
+    }
 }

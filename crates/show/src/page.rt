@@ -12,7 +12,8 @@ use crate::title::heading_of;
 use std::alloc::{AllocError, Global};
 
 /// What comes before the title of a page.
-const BEGINNING: &str = "<!DOCTYPE html>\n<html xmlns=\"http://www.w3.org/1999/xhtml\" lang=\"en\">\n<head>\n<meta charset=\"utf-8\"/>\n<title>";
+const BEGINNING: &str =
+    "<!DOCTYPE html>\n<html xmlns=\"http://www.w3.org/1999/xhtml\" lang=\"en\">\n<head>\n<meta charset=\"utf-8\"/>\n<title>";
 
 /// The rules for what is around the pictures.
 const PAGE: &str = "<style>:root{color-scheme:light dark}

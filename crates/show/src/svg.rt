@@ -217,7 +217,15 @@ fn push_window(
     push_numbers(
         text,
         "<svg x=\"@\" y=\"@\" width=\"@\" height=\"@\" viewBox=\"@ 0 @ @\">\n",
-        &[canvas.margin, top, width, height, window.from, width, height],
+        &[
+            canvas.margin,
+            top,
+            width,
+            height,
+            window.from,
+            width,
+            height,
+        ],
     )
 }
 

@@ -112,7 +112,13 @@ fn room_beside(width: u32, margin: usize) -> u32 {
 fn push_rows(text: &mut String, alloc: Global, drawing: &Drawing) -> Result<(), AllocError> {
     let mut nexts = first_seats(alloc, &drawing.layout.lane_ends)?;
     for row in 0..drawing.layout.starts.len() {
-        push_row(text, alloc, drawing, &window_of(&drawing.layout, row), &mut nexts)?;
+        push_row(
+            text,
+            alloc,
+            drawing,
+            &window_of(&drawing.layout, row),
+            &mut nexts,
+        )?;
     }
     Ok(())
 }
@@ -144,9 +150,19 @@ fn window_of(layout: &Layout, row: usize) -> Window {
     if row > 0 && row < layout.starts.len() {
         let first = layout.starts[row];
         let from = layout.place_of(first).saturating_sub(1);
-        Window { from, to, first, end }
+        Window {
+            from,
+            to,
+            first,
+            end,
+        }
     } else {
-        Window { from: 0, to, first: 0, end }
+        Window {
+            from: 0,
+            to,
+            first: 0,
+            end,
+        }
     }
 }
 

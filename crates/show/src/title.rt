@@ -32,11 +32,7 @@ fn push_verdict(text: &mut String, subject: &Subject) -> Result<(), AllocError> 
 }
 
 /// The register and why it fails, in words.
-pub fn heading_of(
-    alloc: Global,
-    subject: &Subject,
-    story: &Story,
-) -> Result<String, AllocError> {
+pub fn heading_of(alloc: Global, subject: &Subject, story: &Story) -> Result<String, AllocError> {
     let mut heading = String::new(alloc);
     push_heading(&mut heading, subject, story)?;
     Ok(heading)
