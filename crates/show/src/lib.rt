@@ -15,7 +15,7 @@
 //! (`canvas.rt`), with the parts of a picture (`strip.rt`, `bar.rt`, `axis.rt`) and the colours of `role.rt` and
 //! `style.rt`. Both draw the zones of a conflict (`zone.rt`), lanes by process, and the moments below; the moments
 //! that the sentences speak of (`told.rt`) come first. `title.rt` has the first line, `caption.rt` the sentences;
-//! `page.rt` puts pictures on a page.
+//! `page.rt` puts pictures on a page. `filled.rt` fills numbers, words and values into their texts.
 //!
 //! Begin with `laws.rt`: an operation that is shown stands, and is shown once; those that are shown and those that are
 //! counted are all; one that has a letter is shown; of two the first ends left of where the second begins exactly where
