@@ -159,12 +159,19 @@ fn push_head(text: &mut String, heading: &str) -> Result<(), AllocError>
 /// Adds how many operations are shown, of how many.
 fn push_count(text: &mut String, scene: &Scene) -> Result<(), AllocError> {
     let (shown, all) = (scene.ops.len() as u128, scene.all as u128);
-    let many = if shown == all {
-        "<text class=\"quiet\" x=\"16\" y=\"40\">@ operations. "
+    if shown == all {
+        push_numbers(
+            text,
+            "<text class=\"quiet\" x=\"16\" y=\"40\">@ operations. ",
+            &[all],
+        )?;
     } else {
-        "<text class=\"quiet\" x=\"16\" y=\"40\">@ of @ operations. "
-    };
-    push_numbers(text, many, &[shown, all])?;
+        push_numbers(
+            text,
+            "<text class=\"quiet\" x=\"16\" y=\"40\">@ of @ operations. ",
+            &[shown, all],
+        )?;
+    }
     write!(text, "{SCALE}</text>\n")
 }
 
