@@ -4,14 +4,18 @@ import subprocess
 import sys
 import time
 
+from build import NOT_PROVED
+
 PROGRAM = pathlib.Path(__file__).resolve().parent.parent / "crates/regaudit/out/regaudit"
 RUNS = 3
 
 
 def built(program=PROGRAM):
-    """The program, which is built."""
+    """The program, which is built and proved."""
     if not program.exists():
-        sys.exit("bench: the program is not built yet; a call of ./regaudit at the root builds it")
+        sys.exit("bench: the program is not built yet; ./regaudit prove at the root proves and builds it")
+    if NOT_PROVED in subprocess.run([program, "version"], stdout=subprocess.PIPE, text=True).stdout:
+        sys.exit("bench: the program is not proved, and its checks take time; ./regaudit prove at the root proves it")
     return program
 
 

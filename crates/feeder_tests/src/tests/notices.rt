@@ -1,10 +1,10 @@
 //! What a watcher is told while traces are read.
 
-use logs::Notice;
 use super::readers::{Given, Reader};
 use super::{Row, texts_of};
 use feeders::{Pages, RunFault, Watcher, run_in_turn, run_traces};
 use jepsen_form::MomentField;
+use logs::Notice;
 use shards::Gate;
 use std::alloc::AllocError;
 use std::process::Abort;
