@@ -104,7 +104,8 @@ fn push_endless(text: &mut String, bar: &Bar, y: u128) -> Result<(), AllocError>
 }
 
 fn push_fading(text: &mut String, right: u128, y: u128) -> Result<(), AllocError> {
-    for step in 0..6u128 {
+    for number in 0..6usize {
+        let step = number as u128;
         let x = right.saturating_add(step * 6);
         push_numbers(
             text,

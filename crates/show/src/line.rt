@@ -48,11 +48,12 @@ impl TextLine {
 
     /// Puts the digits of a number one after another, and returns the place after them.
     pub fn put_number(&mut self, place: u128, number: u64) -> u128 {
-        let end = place.saturating_add(digits_of_moment(number) as u128);
+        let digits = digits_of_moment(number);
+        let end = place.saturating_add(digits as u128);
         let mut at = end;
         let mut left = number;
-        while at > place {
-            at -= 1;
+        for _ in 0..digits {
+            at = at.saturating_sub(1);
             self.put(at, DIGITS[(left % 10) as usize]);
             left /= 10;
         }

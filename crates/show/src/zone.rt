@@ -137,11 +137,12 @@ fn seat(alloc: Global, zones: &mut [Zone], is_forward: bool) -> Result<(), Alloc
 
 /// The first row that ends left of a place, or a new one.
 fn free_row(ends: &[u128], left: u128) -> usize {
-    let mut row = 0;
-    while row < ends.len() && ends[row] >= left {
-        row += 1;
+    for (row, end) in ends.iter().enumerate() {
+        if *end < left {
+            return row;
+        }
     }
-    row
+    ends.len()
 }
 
 /// Whether the value of an operation, the first of its value, was there at first. Where the value at first is unknown,
