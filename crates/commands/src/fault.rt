@@ -1,7 +1,6 @@
 //! Why a run of the program broke off, and what is printed of it.
 
-ghost use Rattle.std.specs.Prelude.{◌≡◌, ◌≢◌, ◌∷◌, ◌++◌, [], Some, IfOk, IfSome, OnOk, codes, string_bytes};
-ghost use Rattle.phrases.specs.Names.{printed};
+ghost use Rattle.std.specs.Prelude.{◌≡◌, ◌≢◌, ◌∷◌, ◌++◌, [], Some, IfOk, IfSome, codes, string_bytes};
 ghost use Rattle.tower_file.specs.Tower.{tower_fault_code};
 ghost use Rattle.commands.specs.Complaint.{broken_off, complaint_of, unread, unreported};
 ghost use Rattle.commands.specs.Watching.{unfollowed};
@@ -126,43 +125,40 @@ fn complaint(alloc: Global, fault: &CommandFault<'_>) -> Result<String, AllocErr
     ensures { IfOk result (λ text. IfSome (complaint_of fault.now) (λ said. string_bytes text ≡ said)) }
 {
     let mut text = String::new(alloc);
-    push_complaint(&mut text, fault)?;
-    Ok(text)
-}
-
-fn push_complaint(text: &mut String, fault: &CommandFault<'_>) -> Result<(), AllocError>
-    ensures { OnOk result (IfSome (complaint_of fault.now) (λ said. string_bytes text.new ≡ string_bytes text.old ++ said)) }
-{
     match fault {
-        CommandFault::Usage(error) => write!(text, "{error}"),
-        CommandFault::TooManyTraces => text.push_str("regaudit: too many traces\n"),
+        CommandFault::Usage(error) => write!(text, "{error}")?,
+        CommandFault::TooManyTraces => text.push_str("regaudit: too many traces\n")?,
         CommandFault::Unreadable(name) => {
-            push_named(text, "regaudit: cannot read ", name)?;
-            text.push_str("\n")
+            text.push_str("regaudit: cannot read ")?;
+            push_printed(&mut text, name.as_bytes())?;
+            text.push_str("\n")?;
         }
-        CommandFault::Tower(code) => write!(text, "regaudit: tower {code}\n"),
+        CommandFault::Tower(code) => {
+            text.push_str("regaudit: tower ")?;
+            text.push_str(code)?;
+            text.push_str("\n")?;
+        }
         CommandFault::NoRegister(name) => {
-            push_named(text, "regaudit: no register ", name)?;
-            text.push_str("\n")
+            text.push_str("regaudit: no register ")?;
+            push_printed(&mut text, name.as_bytes())?;
+            text.push_str("\n")?;
         }
         CommandFault::NoCode(name) => {
-            push_named(text, "regaudit: no code ", name)?;
+            text.push_str("regaudit: no code ")?;
+            push_printed(&mut text, name.as_bytes())?;
             text.push_str("; regaudit explain lists them")?;
-            text.push_str("\n")
+            text.push_str("\n")?;
         }
-        CommandFault::Shard(fault) => write!(text, "regaudit: {}\n", fault.code()),
-        CommandFault::Memory => text.push_str("regaudit: out of memory\n"),
-        CommandFault::Unwritable => text.push_str("regaudit: cannot write\n"),
+        CommandFault::Shard(fault) => {
+            text.push_str("regaudit: ")?;
+            text.push_str(fault.code())?;
+            text.push_str("\n")?;
+        }
+        CommandFault::Memory => text.push_str("regaudit: out of memory\n")?,
+        CommandFault::Unwritable => text.push_str("regaudit: cannot write\n")?,
         CommandFault::Untold => {
-            text.push_str("regaudit: what was written is not what the registers did\n")
+            text.push_str("regaudit: what was written is not what the registers did\n")?
         }
     }
-}
-
-/// Words, and a name as it is printed.
-fn push_named(text: &mut String, words: &str, name: &str) -> Result<(), AllocError>
-    ensures { OnOk result (string_bytes text.new ≡ string_bytes text.old ++ words.now ++ printed name.now) }
-{
-    text.push_str(words)?;
-    push_printed(text, name.as_bytes())
+    Ok(text)
 }
