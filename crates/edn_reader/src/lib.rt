@@ -25,7 +25,7 @@
 //! let last = splitter.end()?;                   // an element from 17 to 18
 //! ```
 //!
-//! The first row of `elements.rt` in the crate `form_tests` is the first text; its other rows have each form and each
+//! The first row of `tests/form_tests/elements.rattle` is the first text; its other rows have each form and each
 //! fault. Begin with `Reader::next`: its clauses name the grammar (specs/Grammar.antt), the texts (Text.antt) and the
 //! first fault (Fault.antt); those of `Splitter` are in Splitting.antt. `laws` has what follows: an input is a text,
 //! with one division into elements, or has one first fault.

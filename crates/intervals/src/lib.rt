@@ -15,7 +15,7 @@
 //! ```
 //!
 //! `laws::worked_replies` computes these replies and others from the definitions, and `laws::worked_edits` what
-//! stands after edits. The tests of `judge_tests` make these calls.
+//! stands after edits. The tests in `tests/judge_tests` make these calls.
 //!
 //! An edit takes the time of a few look-ups, however many operations stand: `OpTable` finds them by their ids and
 //! by their moments, each in a `RisingMap` (`rising.rt`), and can make room for an operation before it is admitted.

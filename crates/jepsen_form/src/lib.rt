@@ -11,7 +11,7 @@
 //!                                      // an Event: process 0 invokes a write of 5 on register 0 at 2
 //! ```
 //!
-//! The first row of `items.rt` in the crate `form_tests` is this element; its other rows have each form and each
+//! The first row of `tests/form_tests/items.rattle` is this element; its other rows have each form and each
 //! fault. Begin with `read_item`: its clauses name the item of an element (`specs/Item.antt`, over the fields of
 //! `Fields.antt`) and what each item has (`Whole.antt`). `Form.antt` serves private clauses alone. `laws` says that
 //! each element has one item.

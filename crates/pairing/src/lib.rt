@@ -12,7 +12,7 @@
 //! let fault = pairing.take(answered, 2);       // P2: no invocation waits for this answer
 //! ```
 //!
-//! The first trace of `steps.rt` in the crate `form_tests` makes these calls; its other traces have each step and each
+//! The first trace of `tests/form_tests/steps.rattle` makes these calls; its other traces have each step and each
 //! fault. Begin with `Pairing::take`: its clauses name the accepted items (`specs/Accepted.antt`), the step of an item
 //! (`Step.antt`) and what a pairing knows (`Known.antt`, and `Waiting.antt` for what waits for an answer).
 //! `Registers.antt` serves private clauses alone. `laws` says which answer belongs to which invocation.

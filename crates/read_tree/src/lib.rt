@@ -17,7 +17,7 @@
 //! ```
 //!
 //! Read `specs/Items.antt` first, then the calls in `reads.rt`: their clauses are the whole promise, and
-//! `laws.rt` has what the definitions come to. The rows of `reads_in_rows.rt` in the crate `judge_tests` run these
+//! `laws.rt` has what the definitions come to. The rows of `tests/judge_tests/reads_in_rows.rattle` run these
 //! calls.
 //!
 //! Inside, the items are kept in a `summary_tree` by their spots (`item.rt`): what a node keeps of the items

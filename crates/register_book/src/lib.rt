@@ -10,7 +10,7 @@
 //!     book.fault()                        // Some(Fault::Wrong(..)): the read, by its id
 //!     book.witness()                      // the read itself, lent as long as the trace
 //!
-//! The second row of `books.rt` in the crate `judge_tests` is this history, and the rows below it show each
+//! The second row of `tests/judge_tests/books.rattle` is this history, and the rows below it show each
 //! refusal. An atomic register that holds gives an order of its operations too. One that fails names an unwritten
 //! read, an early one, or four operations that no order has room for: the rows that begin with `atomic`. A claim of
 //! another kind is an edit like the others: the operations are judged by it from then on.

@@ -12,7 +12,7 @@
 //! ```
 //!
 //! `intervals::laws::worked_faults` and `worked_writes` are such histories, computed from the
-//! definitions; the rows of `one_writer.rt` in the crate `judge_tests` run these calls.
+//! definitions; the rows of `tests/judge_tests/one_writer.rattle` run these calls.
 //!
 //! Begin with `judge.rt`: its clauses are the whole promise, in the words of `intervals`. Which writes
 //! are allowed is in `writes.rt`, the verdicts on the reads in `reads.rt`. A read is judged once, when it

@@ -24,7 +24,7 @@
 //! let read = Tower::read_located(alloc, text);  // Err: V2 of the Kind, with the span of :reguler, (48, 56)
 //! ```
 //!
-//! The first row of `FILES` in `towers.rt`, of the crate `form_tests`, is this tower; the other rows of that module
+//! The first row of `FILES` in `tests/form_tests/towers.rattle` is this tower; the other rows of that module
 //! have each fault, its place, and each field. Begin with `Tower::read_located`: its clauses name the file as it is
 //! written (specs/Form.antt), what it says (specs/Reading.antt), what a text says (specs/Tower.antt) and where its
 //! fault is (specs/Located.antt). `laws` has what follows: a text has either one tower or one fault, in one place;

@@ -1,4 +1,5 @@
 -- words of the public clauses
 pub mod Completion
-pub mod Entries
 pub mod Words
+-- words of private clauses
+pub mod Entries

@@ -1,6 +1,6 @@
 //! What words ask for, in cases that are written out. Each law is proved, and does nothing when it is called.
 
-ghost use Rattle.std.specs.Prelude.{◌≡◌, ◌++◌, ℕ, true, false, List, [], ◌∷◌, Some, None, codes};
+ghost use Rattle.std.specs.Prelude.{◌≡◌, ◌++◌, true, false, [], ◌∷◌, Some, None, codes};
 ghost use Rattle.clap.specs.Words.{Text, takes};
 ghost use Rattle.words.specs.declared.check.MomentKey.TheVariants.{Index, Time};
 ghost use Rattle.words.specs.declared.check.ReportForm.TheVariants.{Report, Summary, Json, Edn};

@@ -13,7 +13,7 @@
 //!     tree.clean()                    // true
 //!     tree.remove(Edge::At(Moment(1)));
 //!
-//! The rows of `zones_in_order.rt` in the crate `judge_tests` run these calls: the zones above are those of the row
+//! The rows of `tests/judge_tests/zones_in_order.rattle` run these calls: the zones above are those of the row
 //! `4<5 -<- 1>6 =1>5`.
 //!
 //! Read `specs/Zone.antt` and `specs/Conflict.antt` first: what a zone is and what a conflict;

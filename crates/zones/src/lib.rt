@@ -19,7 +19,7 @@
 //! clusters.holds()                     // true
 //! ```
 //!
-//! The rows of `many_writers.rt` in the crate `judge_tests` run these calls, and `many_writers/short.rt` there goes
+//! The rows of `tests/judge_tests/many_writers.rattle` run these calls, and `many_writers/short.rattle` there goes
 //! over all histories of few operations; `laws::worked_faults` is this history, computed from the definitions.
 //!
 //! Where nobody knows what a register held at first, it holds if its operations can be arranged from some

@@ -1,7 +1,7 @@
 use Rattle.std.proofs.Common.{◌≡◌, false, drop}
 use Rattle.clap.specs.Words.{app_of}
 use Rattle.words.specs.declared.cli.Vocabulary.TheVariants.{Open}
-use Rattle.words.specs.Entries.{IsLine, fields_of, with_arguments}
+use Rattle.words.specs.Entries.{fields_of, with_arguments}
 use Rattle.words.proofs.cli.with_arguments.Given as goal
 
 -- this command with the arguments that are left is the one asked for with all
