@@ -13,5 +13,7 @@ mod Alone
 mod Whole
 -- what `lint` found
 mod Looking
+-- the lines of a log are of elements of the text
+mod NamedElements
 -- the texts that are kept of traces
 pub mod KeptTexts

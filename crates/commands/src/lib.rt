@@ -19,6 +19,7 @@ mod files;
 mod judging;
 mod kept;
 pub mod laws;
+mod linting;
 mod look;
 mod picture;
 mod print;

@@ -14,9 +14,10 @@ use crate::check::{TRACE_LIMIT, field_of};
 use crate::deny::denied_codes;
 use crate::fault::CommandFault;
 use crate::files::{Files, read_file, read_files};
+use crate::linting::lint;
 use crate::safe::the_tower;
 use crate::write::write_text;
-use lint::{Findings, Format, SourceText, lint, lint_fault, lint_tower, push_findings};
+use lint::{Findings, Format, SourceText, lint_fault, lint_tower, push_findings};
 use std::alloc::{AllocError, Global};
 use std::io::Write;
 use std::sync::Wait;
@@ -145,9 +146,8 @@ fn tell_tower<'a, A: AllocGlobal + Wait>(
 {
     let alloc = rt.alloc();
     let mut found = findings(rt, asked, tower, slices)?;
-    let in_file = match lint_tower(alloc, file, &found) {
-        Ok(in_file) => in_file,
-        Err(fault) => return Err(CommandFault::of_run(fault)),
+    let Ok(in_file) = lint_tower(alloc, file, &found) else {
+        return Err(CommandFault::Memory);
     };
     let Ok(()) = found.append(in_file) else {
         return Err(CommandFault::Memory);
@@ -174,9 +174,8 @@ fn tell_fault<'a>(
     if located.fault == TowerFault::Memory {
         return Err(CommandFault::Memory);
     }
-    let found = match lint_fault(alloc, file, located.fault, located.span) {
-        Ok(found) => found,
-        Err(fault) => return Err(CommandFault::of_run(fault)),
+    let Ok(found) = lint_fault(alloc, file, located.fault, located.span) else {
+        return Err(CommandFault::Memory);
     };
     let Ok(sources) = sources_of(alloc, &[name], &[file]) else {
         return Err(CommandFault::Memory);

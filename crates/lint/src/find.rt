@@ -1,47 +1,34 @@
 //! The findings of traces, by the logs of a run over them.
 
-ghost use Rattle.std.specs.Prelude.{◌≡◌, ◌≤◌, ◌<◌, ◌++◌, ℕ, List, Some, All, IfErr, IfOk, OnOk, length, map};
+ghost use Rattle.std.specs.Prelude.{◌≡◌, ◌<◌, ◌++◌, All, IfOk, OnOk, length, map};
 ghost use Rattle.std.specs.List.{AllZip, flat_map};
 ghost use Rattle.std.specs.Option.{option_to_list};
-ghost use Rattle.shards.specs.Closing.{ClosedShard};
-ghost use Rattle.logs.specs.declared.log.Log.{Log as ALog};
-ghost use Rattle.feeders.specs.Ending.{MayEnd};
-ghost use Rattle.feeders.specs.Readers.{AreReadOf};
-ghost use Rattle.logs.specs.Run.{IsRun};
 ghost use Rattle.lint.specs.Found.{AreFoundIn, IsFoundIn, NamesElements, found_of_break, found_of_line};
 
 use crate::finding::{Amiss, Finding, Findings, TraceFindings};
 use crate::notes::{Look, Noted, notes_of};
 use crate::suspect::Suspects;
-use edn_reader::laws::elements_of_a_prefix;
-use feeders::{Pages, RunFault, run_in_turn};
 use intervals::RegId;
 use jepsen_form::MomentField;
-use logs::{Broken, Line, Log, What};
+use logs::{Broken, Line, Log, Run, What};
 use places::{Location, elements_of, spot_of_one};
-use shards::{Closed, NoGate};
+use shards::Closed;
 use std::alloc::{AllocError, Global};
-use std::sync::Wait;
 use tower_file::Tower;
 
-/// Finds what is amiss in traces, by a run in which they are fed in turn to the registers of a tower. The field says
-/// whether a moment is under `:index` or under `:time`.
-pub fn lint<R: Wait>(
-    rt: &R,
+/// Finds what is amiss in traces, by what a run over them left. The field says whether a moment is under `:index` or
+/// under `:time`.
+pub fn lint_traces(
     alloc: Global,
     tower: &Tower,
     texts: &[&[u8]],
     field: MomentField,
-) -> Result<Findings, RunFault>
-    requires traces { (1 ≤ length texts.now) × (length texts.now ≤ 256) }
-    ensures found { IfOk result (λ found. (closed : List ClosedShard) × (logs : List ALog) × (traces : List (List ℕ)) × AreReadOf (map (λ text. Some text.now) texts.entry.now) logs traces
-        × IsRun tower.now field 1 traces closed logs × AreFoundIn (map (λ text. text.now) texts.entry.now) logs found.traces.items) }
-    ensures fault { IfErr result MayEnd }
+    run: &Run,
+) -> Result<Findings, AllocError>
+    requires each { length run.now.logs.items ≡ length texts.now }
+    requires named { AllZip NamesElements (map (λ text. text.now) texts.now) run.now.logs.items }
+    ensures found { IfOk result (λ found. AreFoundIn (map (λ text. text.now) texts.entry.now) run.now.logs.items found.traces.items) }
 {
-    elements_of_a_prefix();
-    let pages = Pages::new(alloc)?;
-    let readers = Vec::from_slice(alloc, texts)?;
-    let run = run_in_turn(rt, alloc, tower, readers, &pages, field, 1, &NoGate)?;
     let suspects = Suspects::of(alloc, tower, &run.closed)?;
     let look = Look {
         alloc,
@@ -71,11 +58,10 @@ fn is_unused(closed: &Closed, id: RegId) -> bool {
 }
 
 /// The findings of each trace, by its log.
-fn find_all(look: &Look, texts: &[&[u8]], logs: &[Log]) -> Result<Vec<TraceFindings>, RunFault>
+fn find_all(look: &Look, texts: &[&[u8]], logs: &[Log]) -> Result<Vec<TraceFindings>, AllocError>
     requires each { length logs.now ≡ length texts.now }
     requires named { AllZip NamesElements (map (λ text. text.now) texts.now) logs.now }
     ensures found { IfOk result (λ traces. AreFoundIn (map (λ text. text.now) texts.entry.now) logs.now traces.items) }
-    ensures memory { IfErr result (λ fault. fault ≡ RunFault.Memory) }
 {
     let mut traces = Vec::new(look.alloc);
     for number in 0..texts.len() {
@@ -85,10 +71,9 @@ fn find_all(look: &Look, texts: &[&[u8]], logs: &[Log]) -> Result<Vec<TraceFindi
 }
 
 /// The findings of one trace: its refusals in the order of its elements, and where it broke.
-fn find_in(look: &Look, feeder: usize, text: &[u8], log: &Log) -> Result<TraceFindings, RunFault>
+fn find_in(look: &Look, feeder: usize, text: &[u8], log: &Log) -> Result<TraceFindings, AllocError>
     requires named { NamesElements text.now log.now }
     ensures found { IfOk result (IsFoundIn text.now log.now) }
-    ensures memory { IfErr result (λ fault. fault ≡ RunFault.Memory) }
 {
     let found = elements_of(look.alloc, text)?;
     let mut findings = Vec::new(look.alloc);

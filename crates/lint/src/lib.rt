@@ -1,24 +1,23 @@
 //! What is amiss in the traces that `check` would read, with its place: for `regaudit lint`.
 //!
-//!     let found = lint(rt, alloc, &tower, &[text], MomentField::Index)?;
+//!     let found = lint_traces(alloc, &tower, &[text], MomentField::Index, &run)?;
 //!     found.traces[0].findings               // its refusals in the order of its elements, and where it breaks
 //!     let in_file = lint_tower(alloc, tower_text, &found)?;
 //!     found.append(in_file)?;
 //!     found.status(&[])                      // 2 with an error, else 3 with a warning or a denied note, else 0
 //!     push_findings(&mut text, alloc, &sources, &found, Format::Human, 3)?;
 //!
-//! The traces are fed in turn on one thread, so no two runs differ. A log says which elements are refused and why,
-//! by their numbers; one pass of the reader gives the bytes of each element, and one cursor their lines and columns.
-//! So a finding costs a look-up, however long the text is.
+//! The log of a trace says which elements are refused and why, by their numbers; one pass of the reader gives the bytes
+//! of each element, and one cursor their lines and columns. So a finding costs a look-up, however long the text is.
 //!
 //! What is taken as it is and may not be meant is noted (L1 to L8); a note changes the status only where it is
 //! denied. `notes.rt` looks at the elements, `suspect.rt` at the operations that show that registers fail, and
 //! `tower.rt` at the tower file, whose fault it makes a finding.
 //!
-//! Begin with `find::lint`: its clause names the run (`specs/Run.antt` of `logs`) and what is found by its logs
-//! (`specs/Found.antt`): one finding for each refusal and for each break, and no others. `specs/Grade.antt` has the
-//! status, and `specs/Short.antt` the form with a line for each finding; `places` has lines, columns and the spot of an
-//! element. The other forms are tested by `rows`.
+//! Begin with `find::lint_traces`: its clause names what is found by the logs of a run (`specs/Found.antt`): one
+//! finding for each refusal and for each break, and no others. `specs/Grade.antt` has the status, and
+//! `specs/Short.antt` the form with a line for each finding; `places` has lines, columns and the spot of an element.
+//! The other forms are tested by `rows`.
 #![tactic(auto)]
 
 mod bracket;
@@ -43,7 +42,7 @@ mod suspect;
 mod tally;
 mod tower;
 
-pub use find::lint;
+pub use find::lint_traces;
 pub use finding::{Amiss, Finding, Findings, Grade, Note, TraceFindings};
 pub use print::{Format, push_findings};
 pub use source::SourceText;

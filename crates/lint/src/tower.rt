@@ -1,13 +1,12 @@
 //! What is amiss in a tower file, and what of it may not be meant.
 
-ghost use Rattle.std.specs.Prelude.{◌≡◌, IfOk, IfErr};
+ghost use Rattle.std.specs.Prelude.{◌≡◌, IfOk};
 ghost use Rattle.lint.specs.Tower.{HasNotesAlone, IsOneFault, IsOneFile, spot_of_span};
 
 use crate::finding::{Amiss, Finding, Findings, Note, TraceFindings};
 use crate::message::tower_word;
 use crate::nearest::is_near;
 use edn_reader::{Element, Field, MapView, Reader, VectorView};
-use feeders::RunFault;
 use places::{Cursor, Location, spot_of_one};
 use std::alloc::{AllocError, Global};
 use std::collections::BTreeSet;
@@ -65,9 +64,8 @@ pub fn lint_fault(
     text: &[u8],
     fault: TowerFault,
     span: Option<(usize, usize)>,
-) -> Result<Findings, RunFault>
+) -> Result<Findings, AllocError>
     ensures found { IfOk result (λ found. IsOneFault text.now fault span found.traces.items) }
-    ensures memory { IfErr result (λ fault. fault ≡ RunFault.Memory) }
 {
     let mut findings = Vec::new(alloc);
     findings.push(Finding {
@@ -79,9 +77,8 @@ pub fn lint_fault(
 
 /// The notes of a tower file, as those of one file: the fields that are not read; and, by what was found in the traces,
 /// the registers that have no operation and the writers that have no event.
-pub fn lint_tower(alloc: Global, text: &[u8], found: &Findings) -> Result<Findings, RunFault>
+pub fn lint_tower(alloc: Global, text: &[u8], found: &Findings) -> Result<Findings, AllocError>
     ensures notes { IfOk result (λ found. HasNotesAlone found.traces.items) }
-    ensures memory { IfErr result (λ fault. fault ≡ RunFault.Memory) }
 {
     let mut reader = Reader::new(alloc, text);
     let mut walk = Walk {
@@ -102,9 +99,8 @@ fn one_file(
     alloc: Global,
     findings: Vec<Finding>,
     notes: Vec<Finding>,
-) -> Result<Findings, RunFault>
+) -> Result<Findings, AllocError>
     ensures found { IfOk result (λ found. IsOneFile findings notes found.traces.items) }
-    ensures memory { IfErr result (λ fault. fault ≡ RunFault.Memory) }
 {
     let mut traces = Vec::new(alloc);
     traces.push(TraceFindings {

@@ -31,6 +31,9 @@ find_in-requires c =
           (zip_at NamesElements (λ text. text.now) texts c.args.logs.now c.loop-number.number none c.index-logs-number.result c.requires.named c.loop-number-test.true);
     }
 
-pub returns-clause-found : goal.returns-clause-found
-returns-clause-found c =
-    went (λ text. text.now) c.args.texts.now c.args.logs.now c.loop-number.number c.loop-number.traces.items c.loop-number-test.false (omega (arith, c.requires.each, c.loop-number-test.false)) c.loop-number.invariant
+pub returns : goal.returns
+returns c =
+    record {
+      found =
+          went (λ text. text.now) c.args.texts.now c.args.logs.now c.loop-number.number c.loop-number.traces.items c.loop-number-test.false (omega (arith, c.requires.each, c.loop-number-test.false)) c.loop-number.invariant;
+    }

@@ -1,4 +1,4 @@
-use Rattle.std.proofs.Common.{List, ℕ, Some, map, sym, subst, ◌∙◌}
+use Rattle.std.proofs.Common.{List, ℕ, Some, length, map, sym, subst, ◌∙◌}
 use Rattle.std.specs.List.{AllZip}
 use Rattle.std.specs.Borrow.{Bor}
 use Rattle.std.proofs.lemmas.List.{length-map}
@@ -6,12 +6,12 @@ use Rattle.std.proofs.lemmas.Slice.Zip.{AllZip-long}
 use Rattle.logs.specs.declared.log.Log.{Log}
 use Rattle.feeders.specs.Readers.{AreReadOf}
 use Rattle.logs.specs.Run.{plan_of_run}
-use Rattle.lint.specs.Found.{AreFoundIn, NamesElements}
-use Rattle.lint.proofs.Named.{each_names}
-use Rattle.lint.proofs.find.lint.Goals as goal
+use Rattle.lint.specs.Found.{NamesElements}
+use Rattle.commands.proofs.NamedElements.{each_names}
+use Rattle.commands.proofs.linting.lint.Goals as goal
 
-pub find_all-requires : goal.find_all-requires
-find_all-requires g c =
+pub lint_traces-requires : goal.lint_traces-requires
+lint_traces-requires g c =
     let texts = c.args.texts.now in
     let logs = c.in_ok-run.run'.logs.items in
     let read = c.in_ok-run.ensures.run.0 in
@@ -20,12 +20,10 @@ find_all-requires g c =
     let named : AllZip NamesElements (map (λ text. text.now) texts) logs =
     each_names c.elements_of_a_prefix.ensures.text c.elements_of_a_prefix.ensures.so_far (plan_of_run c.args.tower.now 1 read) c.args.tower.now c.args.field c.in_ok-run.run'.closed
     (λ (text : Bor (List ℕ)). text.now) 0 texts read logs run.traced are_read in
-    let lent : AllZip NamesElements (map (λ text. text.now) texts) c.as_slice.result.now = subst (λ (ls : List Log). AllZip NamesElements (map (λ text. text.now) texts) ls) (sym c.as_slice.ensures.value) named in
-    record { each = AllZip-long NamesElements (map (λ text. text.now) texts) c.as_slice.result.now lent ∙ length-map texts (λ text. text.now); named = lent }
+    record { each = AllZip-long NamesElements (map (λ text. text.now) texts) logs named ∙ length-map texts (λ text. text.now); named = named }
 
 pub returns-clause-found : goal.returns-clause-found
 returns-clause-found g c =
-    let texts = c.args.texts.now in
     let logs = c.in_ok-run.run'.logs.items in
     let read = c.in_ok-run.ensures.run.0 in (
       c.in_ok-run.run'.closed,
@@ -33,5 +31,5 @@ returns-clause-found g c =
       read,
       subst (λ (all : List (Bor (List ℕ))). AreReadOf (map (λ text. Some text.now) all) logs read) c.in_ok-readers.ensures.items c.in_ok-run.ensures.run.1,
       c.in_ok-run.ensures.run.2,
-      subst (λ (ls : List Log). AreFoundIn (map (λ text. text.now) texts) ls c.in_ok-traces.traces.items) c.as_slice.ensures.value c.in_ok-traces.ensures.found,
+      c.in_ok-found.ensures.found,
     )
