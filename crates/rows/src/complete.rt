@@ -1,8 +1,7 @@
 //! Whether a text names each command and each option that the manual has.
 
 use crate::outcome::carried_out;
-use crate::pieces::Cut;
-use crate::row::row_of;
+use row_data::{Cut, row_of};
 use std::alloc::{AllocError, Global};
 use std::io;
 use std::rt::Files;

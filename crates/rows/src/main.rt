@@ -40,17 +40,14 @@
 
 mod complete;
 mod outcome;
-mod pieces;
-mod row;
 mod row_files;
 mod spoilt;
 
 use crate::complete::missing;
 use crate::outcome::carried_out;
-use crate::pieces::Cut;
-use crate::row::{Row, row_of};
 use crate::spoilt::picture;
 use commands::words_of;
+use row_data::{Cut, Row, row_of};
 use std::io::Write;
 use std::process::ExitCode;
 use std::rt::{Env, Files};

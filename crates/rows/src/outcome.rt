@@ -1,9 +1,8 @@
 //! One run of a row.
 
-use crate::pieces::{Cut, Pieces};
-use crate::row::Row;
 use crate::row_files::RowFiles;
 use commands::run;
+use row_data::{Cut, Pieces, Row};
 use std::io;
 use std::rt::Files;
 use std::sync::Wait;

@@ -1,8 +1,7 @@
 //! The files of a row, and those of the folder in which the program runs.
 
-use crate::pieces::{Cut, Pieces};
-use crate::row::Row;
 use commands::{Files, HostFiles, Missing};
+use row_data::{Cut, Pieces, Row};
 use std::io::Read;
 use std::{io, rt};
 

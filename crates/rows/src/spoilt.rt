@@ -1,8 +1,7 @@
 //! A picture of what the program says of a file that is cut off or spoilt at each of its places.
 
 use crate::outcome::carried_out;
-use crate::pieces::Cut;
-use crate::row::{Named, Row, Spoil};
+use row_data::{Cut, Named, Row, Spoil};
 use std::alloc::{AllocError, Global};
 use std::io;
 use std::io::{Error, ErrorKind};
