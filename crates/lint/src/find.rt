@@ -18,6 +18,9 @@ use tower_file::Tower;
 
 /// Finds what is amiss in traces, by what a run over them left. The field says whether a moment is under `:index` or
 /// under `:time`.
+///
+/// The run is over these texts: it has a log for each of them, in their order, and each line of a log is of an element
+/// of its text.
 pub fn lint_traces(
     alloc: Global,
     tower: &Tower,
