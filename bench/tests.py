@@ -3,10 +3,13 @@ import shutil
 
 from build import ROOT, below, compile, crates, link, lower
 
-# Each crate of tests, a folder of tests/, with the libraries that it uses.
+# Each crate of tests, a folder of tests/, with the libraries that it uses, lowest first.
 TESTS = {
     "form_tests": ["edn_reader", "intervals", "jepsen_form", "pairing", "tower_file"],
     "judge_tests": ["intervals", "read_tree", "register_book", "safe_regular", "zone_tree", "zones"],
+    "shard_tests": ["intervals", "register_book", "shards", "tower_file"],
+    "feeder_tests": ["feeders", "intervals", "jepsen_form", "logs", "shards", "tower_file"],
+    "command_tests": ["commands", "feeders", "intervals", "jepsen_form", "report", "shards", "tower_file"],
 }
 
 

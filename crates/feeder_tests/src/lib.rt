@@ -1,5 +1,0 @@
-//! The tests of `feeders`, in a crate of their own, so that the gate proves that library only once.
-#![tactic(auto)]
-
-#[cfg(test)]
-mod tests;
