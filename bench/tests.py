@@ -9,7 +9,7 @@ TESTS = {
     "judge_tests": ["intervals", "read_tree", "register_book", "safe_regular", "zone_tree", "zones"],
     "shard_tests": ["intervals", "register_book", "shards", "tower_file"],
     "feeder_tests": ["feeders", "intervals", "jepsen_form", "logs", "shards", "tower_file"],
-    "command_tests": ["commands", "feeders", "intervals", "jepsen_form", "report", "shards", "tower_file"],
+    "command_tests": ["command_parts", "commands", "feeders", "intervals", "jepsen_form", "report", "shards", "tower_file"],
 }
 
 

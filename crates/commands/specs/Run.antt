@@ -8,12 +8,13 @@ use Rattle.report.specs.Listing.{tower_lines}
 use Rattle.texts.specs.declared.version.TheConstants.{VERSION}
 use Rattle.words.specs.Completion.{script_for}
 use Rattle.words.specs.Words.{Asked, Safe, Check, Watch, Show, Lint, Tower, Explain, Version, Manual, Completion, IsWellFormed, asked}
+use Rattle.command_parts.specs.Files.{AreHeld}
 use Rattle.commands.specs.Printed.{IsExplained, IsManual, IsPrintedText}
-use Rattle.commands.specs.Verdict.{IsAudited}
-use Rattle.commands.specs.Checked.{IsChecked}
-use Rattle.commands.specs.Looked.{IsLooked}
-use Rattle.commands.specs.Shown.{IsShown}
-use Rattle.commands.specs.Watching.{HasWholeNotices, IsFollowed}
+use Rattle.check_command.specs.Verdict.{IsAudited}
+use Rattle.check_command.specs.Checked.{IsChecked}
+use Rattle.lint_command.specs.Looked.{IsLooked}
+use Rattle.show_command.specs.Shown.{IsShown}
+use Rattle.watch_command.specs.Watching.{HasWholeNotices, IsFollowed}
 
 -- what `tower` did: the lines of the tower that the file says were written
 pub record IsListed (file : List ℕ) (status : ℕ) (old new : Option (List ℕ)) : Type 0 where
@@ -21,10 +22,6 @@ pub record IsListed (file : List ℕ) (status : ℕ) (old new : Option (List ℕ
   pub says : IsTowerOf file tower
   pub written : Appends old new (tower_lines tower)
   pub status_is : status ≡ 0
-
--- these are the bytes that the files of these names hold
-abbrev pub AreHeld : (Text → Option (List ℕ)) → List Text → List (List ℕ) → Type 0
-AreHeld files names texts = map files names ≡ map (λ text. Some text) texts
 
 -- the command was carried out, over files and a standard input whose bytes are known
 abbrev pub IsCarriedOut : Asked → (Text → Option (List ℕ)) → Option (List ℕ) → ℕ → Option (List ℕ) → Option (List ℕ) → Type 0

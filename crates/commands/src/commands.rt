@@ -4,19 +4,15 @@ ghost use Rattle.std.specs.Prelude.{◌≡◌, ◌≢◌, IsErr, IfOk, IfErr, If
 ghost use Rattle.std.specs.Result.{IsOkAnd};
 ghost use Rattle.std.specs.Io.KnownBytes.{Appends, Keeps};
 ghost use Rattle.words.specs.Words.{HasShards, HasTraces, Safe, asked, asked_of};
-ghost use Rattle.commands.specs.Verdict.{IsAudited};
+ghost use Rattle.check_command.specs.Verdict.{IsAudited};
 ghost use Rattle.commands.specs.Run.{IsListed, IsCarriedOut, IsDone, IsWatch, WantInput, WritesWhole};
 
-use crate::check::{check, read_tower};
-use crate::draw::draw;
-use crate::fault::{CommandFault, say};
-use crate::files::{Files, open_file};
-use crate::look::look;
 use crate::print::{explain, print, print_manual};
-use crate::safe::judge;
-use crate::status::BROKEN;
-use crate::watching::follow;
+use check_command::{check, safe};
+use command_parts::{BROKEN, CommandFault, Files, open_file, read_tower, say};
+use lint_command::look;
 use report::tower_text;
+use show_command::draw;
 use std::convert::AsStr;
 use std::io::{Read, Write};
 use std::rt::Env;
@@ -24,6 +20,7 @@ use std::sync::Wait;
 use std::thread::Threads;
 use std::{env, io};
 use texts::VERSION;
+use watch_command::follow;
 use words::{Command, read_words};
 
 /// Carries out the command that the words ask for. The words are as the system hands them over; the first is the
@@ -65,7 +62,7 @@ pub fn run_safe<A: AllocGlobal + Threads + Wait + Sync, R: Read + Send, W: Write
     ensures line { result ≢ BROKEN → IfSome (R.remaining input.old) (λ bytes. IsAudited bytes result (W.contents out.old) (W.contents out.new)) }
     ensures silent { result ≢ BROKEN → Keeps (E.contents err.old) (E.contents err.new) }
 {
-    let outcome = judge(rt, input, out);
+    let outcome = safe(rt, input, out);
     conclude(rt, outcome, err)
 }
 
@@ -122,8 +119,8 @@ fn carry_out<'a, A: AllocGlobal + Threads + Wait + Sync, F: Files, R: Read + Sen
     ensures whole { IfErr result (λ fault. fault ≢ CommandFault.Unwritable → WritesWhole (asked_of command.entry) (F.held files.old) (W.contents out.old) (W.contents out.new)) }
 {
     match &command {
-        Command::Safe(None) => judge(rt, input, out),
-        Command::Safe(Some(name)) => judge(rt, open_file(files, name)?, out),
+        Command::Safe(None) => safe(rt, input, out),
+        Command::Safe(Some(name)) => safe(rt, open_file(files, name)?, out),
         Command::Check(asked) => check(rt, asked, files, out),
         Command::Watch(asked) => follow(rt, asked, files, out),
         Command::Show(asked) => draw(rt, asked, files, out),

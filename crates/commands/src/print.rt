@@ -3,8 +3,7 @@
 ghost use Rattle.std.specs.Prelude.{◌≡◌, ◌≢◌, IfOk, IfErr, None, Some, option_map, string_bytes};
 ghost use Rattle.commands.specs.Printed.{IsExplained, IsManual, IsManualText, IsPrintedText};
 
-use crate::fault::CommandFault;
-use crate::write::write_text;
+use command_parts::{CommandFault, write_text};
 use std::alloc::{AllocError, Global};
 use std::io::Write;
 use texts::{Topic, push_entry, push_list};

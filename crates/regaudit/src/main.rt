@@ -1,7 +1,8 @@
 //! The program `regaudit`: the command that its words ask for, over the machine's files, input and outputs.
 #![tactic(auto)]
 
-use commands::{HostFiles, run, words_of};
+use command_parts::HostFiles;
+use commands::{run, words_of};
 use std::process::ExitCode;
 
 fn main(rt: HostRuntime) -> ExitCode {

@@ -1,6 +1,6 @@
 //! The files of a row, and those of the folder in which the program runs.
 
-use commands::{Files, HostFiles, Missing};
+use command_parts::{Files, HostFiles, Missing};
 use row_data::{Cut, Pieces, Row};
 use std::io::Read;
 use std::{io, rt};

@@ -1,0 +1,30 @@
+use Rattle.std.proofs.Common.{◌≡◌, ℕ, Bool, List, Vec, map, subst}
+use Rattle.std.proofs.lemmas.Result.{on_ok_weaker}
+use Rattle.std.specs.Io.KnownBytes.{Appends}
+use Rattle.std.specs.declared.alloc.Global.{Global}
+use Rattle.records.specs.declared.line.Notation.{Notation}
+use Rattle.records.specs.Run.{IsTextOfRecords, RunNames}
+use Rattle.words.specs.Words.{asked_check}
+use Rattle.check_command.specs.Checked.{ArePrinted}
+use Rattle.check_command.proofs.checking.print_records.Goals as goal
+
+-- a text that is so in one notation, by some names and by a flag, is so in equal ones
+retold : (Is : Notation → RunNames → Bool → Type 0) (notation notation' : Notation) (names names' : RunNames) (only only' : Bool) → notation ≡ notation' → names ≡ names' → only ≡ only' → Is notation names only → Is notation' names' only'
+retold Is notation notation' names names' only only' p q r is =
+    subst (λ (x : Notation). Is x names' only') p (subst (λ (x : RunNames). Is notation x only') q (subst (λ (x : Bool). Is notation names x) r is))
+
+pub returns-clause-printed : goal.returns-clause-printed
+returns-clause-printed g c =
+    let old = g.W.Write.contents c.args.out.now in
+    let new = g.W.Write.contents c.write_records.new.out in
+    let run = c.args.judged.now.run in
+    let kept = map (λ (text : Vec ℕ Global). text.items) c.deref.result.now in
+    let Is : Notation → RunNames → Bool → Type 0 = λ notation names only.
+    (text : List ℕ) × IsTextOfRecords notation names only c.args.status c.args.tower.now run.closed run.logs.items c.args.order kept text × Appends old new text in
+    on_ok_weaker c.write_records.result
+    (λ is. (let told = retold Is _ _ _ _ _ _ c.form_of-form.ensures.notation c.form_of-form.ensures.names c.form_of-form.ensures.only is in (
+      told.0,
+      subst (λ (texts : List (Vec ℕ Global)). ArePrinted c.args.notation (asked_check c.args.asked.now) c.args.status c.args.tower.now run.closed run.logs.items c.args.order (map (λ (text : Vec ℕ Global). text.items) texts) told.0) c.deref.ensures.value told.1,
+      told.2,
+    )))
+    c.write_records.ensures.records

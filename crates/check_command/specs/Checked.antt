@@ -1,0 +1,79 @@
+-- What the command `check` prints of traces, and its status.
+use Rattle.std.specs.Prelude.{ℕ, List, map, Option, Some, codes}
+use Rattle.std.specs.Io.KnownBytes.{Appends}
+use Rattle.intervals.specs.declared.operation.RegId.{RegId}
+use Rattle.tower_file.specs.Contents.{TowerModel}
+use Rattle.tower_file.specs.Tower.{IsTowerOf}
+use Rattle.shards.specs.Closing.{ClosedShard}
+use Rattle.logs.specs.declared.log.Log.{Log}
+use Rattle.feeders.specs.Readers.{AreReadOf}
+use Rattle.logs.specs.Run.{IsRun}
+use Rattle.report.specs.Report.{IsReport}
+use Rattle.report.specs.Summary.{IsSummary}
+use Rattle.report.specs.declared.fault.ReportFault.{ReportFault}
+use Rattle.report.specs.declared.fault.ReportFault.TheVariants as reports
+use Rattle.records.specs.declared.line.Notation.{Notation}
+use Rattle.records.specs.declared.line.Notation.TheVariants as notations
+use Rattle.records.specs.Run.{IsTextOfRecords, RunNames}
+use Rattle.words.specs.declared.check.ReportForm.{ReportForm}
+use Rattle.words.specs.declared.check.ReportForm.TheVariants.{Report, Summary, Json, Edn}
+use Rattle.words.specs.declared.check.MomentKey.{MomentKey}
+use Rattle.words.specs.declared.check.MomentKey.TheVariants.{Index, Time}
+use Rattle.words.specs.Words.{AskedCheck}
+use Rattle.check_command.specs.Kept.{AreKeptIn}
+use Rattle.command_parts.specs.declared.fault.CommandFault.{CommandFault}
+use Rattle.command_parts.specs.declared.fault.CommandFault.TheVariants.{Memory, Unwritable}
+use Rattle.command_parts.specs.Job.{chosen_field}
+use Rattle.command_parts.specs.Status.{IsStatus}
+use Rattle.command_parts.specs.Tower.{IsNamed}
+
+-- the word of the field that has the moments
+abbrev pub moment_word : MomentKey → List ℕ
+moment_word Index = codes "index"
+moment_word Time = codes "time"
+
+-- what the first record of a run names
+abbrev pub record_names : AskedCheck → RunNames
+record_names asked = record { tower = asked.tower; traces = asked.traces; moments = moment_word asked.moments }
+
+-- the text has the records of a run in this notation, with the lines and the bytes of elements in the texts that were
+-- kept of the traces
+abbrev pub ArePrinted : Notation → AskedCheck → ℕ → TowerModel → List ClosedShard → List Log → Option RegId → List (List ℕ) → List ℕ → Type 0
+ArePrinted notation asked status tower closed logs order kept text =
+    IsTextOfRecords notation (record_names asked) asked.only_failing status tower closed logs order kept text
+
+-- the text is what is printed of a run in this form: the report, with the order that is asked for, the summary, or the
+-- records
+abbrev pub IsPrintedIn : ReportForm → AskedCheck → ℕ → TowerModel → List ClosedShard → List Log → Option RegId → List (List ℕ) → List ℕ → Type 0
+IsPrintedIn Report asked status tower closed logs order kept text = IsReport tower closed logs order text
+IsPrintedIn Summary asked status tower closed logs order kept text = IsSummary tower closed logs text
+IsPrintedIn Json asked status tower closed logs order kept text = ArePrinted notations.Json asked status tower closed logs order kept text
+IsPrintedIn Edn asked status tower closed logs order kept text = ArePrinted notations.Edn asked status tower closed logs order kept text
+
+-- the text is what `check` prints of a run with this status
+abbrev pub IsPrinted : AskedCheck → ℕ → TowerModel → List ClosedShard → List Log → Option RegId → List (List ℕ) → List ℕ → Type 0
+IsPrinted asked status tower closed logs order kept text = IsPrintedIn asked.form asked status tower closed logs order kept text
+
+-- the fault of a command whose report was not written: out of memory, or the output failed
+abbrev pub unreported : ReportFault → CommandFault
+unreported reports.Memory = Memory
+unreported reports.Write = Unwritable
+
+-- what `check` did: a feeder for each trace fed it to the registers of the file's tower, as far as it was read (all,
+-- or a prefix where the reading broke off), and what is printed of that run was written
+pub record IsChecked (asked : AskedCheck) (file : List ℕ) (traces : List (List ℕ)) (status : ℕ) (old new : Option (List ℕ)) : Type 0 where
+  pub tower : TowerModel
+  pub says : IsTowerOf file tower
+  pub order : Option RegId
+  pub named : IsNamed tower asked.order order
+  pub closed : List ClosedShard
+  pub logs : List Log
+  pub read : List (List ℕ)
+  pub are_read : AreReadOf (map (λ trace. Some trace) traces) logs read
+  pub run : IsRun tower (chosen_field asked.moments) asked.shards read closed logs
+  pub kept : List (List ℕ)
+  pub are_kept : AreKeptIn asked.form (map (λ trace. Some trace) traces) logs kept
+  pub text : List ℕ
+  pub printed : IsPrinted asked status tower closed logs order kept text
+  pub written : Appends old new text
+  pub status_is : IsStatus tower closed logs asked.least asked.least_each status

@@ -1,0 +1,188 @@
+//! The command `check`.
+
+ghost use Rattle.std.specs.Prelude.{◌≡◌, ◌≢◌, ◌≤◌, ◌<◌, ℕ, List, Err, IfOk, IfErr, IfSome, OnOk, length, map};
+ghost use Rattle.std.specs.Io.KnownBytes.{Appends};
+ghost use Rattle.report.specs.Finding.{IsOfTower};
+ghost use Rattle.words.specs.Words.{asked_check};
+ghost use Rattle.records.specs.Run.{names_of};
+ghost use Rattle.check_command.specs.Checked.{ArePrinted, IsChecked, IsPrintedIn, moment_word, record_names, unreported};
+ghost use Rattle.command_parts.specs.Files.{AreHeld};
+
+use crate::judging::{Judged, judge};
+use command_parts::{
+    CommandFault, Files, Job, TRACE_LIMIT, named, open_files, read_tower, status_after,
+};
+use feeders::Pages;
+use intervals::RegId;
+use records::{Form, Notation, write_records};
+use report::laws::a_run_is_of_its_tower;
+use report::{ReportFault, report, summary};
+use std::alloc::Global;
+use std::io::Write;
+use std::mem::forget;
+use std::sync::Wait;
+use std::thread::Threads;
+use tower_file::Tower;
+use words::{Check, MomentKey, ReportForm};
+
+/// Judges the registers of a tower by traces while these are read, and writes the report, also where a trace or its
+/// reading breaks off. The faults come in this order: too many traces, the tower file, the register whose order is
+/// asked for, a trace that cannot be opened, the run, the writing. All traces are opened before any is read.
+pub fn check<'a, A: AllocGlobal + Threads + Wait + Sync, F: Files, W: Write>(
+    rt: &A,
+    asked: &Check<'a>,
+    files: &mut F,
+    out: &mut W,
+) -> Result<u8, CommandFault<'a>>
+    requires shards { (1 ≤ asked.now.shards) × (asked.now.shards ≤ 64) }
+    requires traces { 0 < length asked.now.traces.items }
+    ensures checked { IfOk result (λ status. IfSome (F.held files.old asked.entry.now.tower.now) (λ file. (traces : List (List ℕ))
+        → AreHeld (F.held files.old) (map (λ name. name.now) asked.entry.now.traces.items) traces
+        → IsChecked (asked_check asked.entry.now) file traces status (W.contents out.old) (W.contents out.new))) }
+    ensures quiet { IfErr result (λ fault. fault ≢ CommandFault.Unwritable → out.new ≡ out.old) }
+{
+    if asked.traces.len() > TRACE_LIMIT {
+        return Err(CommandFault::TooManyTraces);
+    }
+    let alloc = rt.alloc();
+    let tower = read_tower(alloc, files, asked.tower)?;
+    let order = named(&tower, asked.order)?;
+    let readers = open_files(alloc, files, &asked.traces)?;
+    let Ok(pages) = Pages::new(alloc) else {
+        return Err(CommandFault::Memory);
+    };
+    a_run_is_of_its_tower();
+    let job = Job {
+        rt,
+        tower: &tower,
+        pages: &pages,
+        moments: asked.moments,
+        shards: asked.shards,
+    };
+    let judged = match judge(&job, asked.form, readers) {
+        Ok(judged) => judged,
+        Err(fault) => return Err(CommandFault::of_run(fault)),
+    };
+    let Ok(status) = status_after(alloc, asked.least, asked.least_each, &tower, &judged.run) else {
+        return Err(CommandFault::Memory);
+    };
+    match print(rt, asked.form, asked, status, &tower, &judged, order, out) {
+        Ok(()) => {
+            // The command is over: to free the run, node by node, would cost a tenth of its time.
+            forget(judged);
+            forget(pages);
+            Ok(status)
+        }
+        Err(fault) => Err(unreported(fault)),
+    }
+}
+
+/// The fault of a command whose report was not written.
+fn unreported<'a>(fault: ReportFault) -> CommandFault<'a>
+    ensures own { result ≡ unreported fault }
+    ensures quiet { result ≢ CommandFault.Unwritable → fault ≡ ReportFault.Memory }
+{
+    match fault {
+        ReportFault::Memory => CommandFault::Memory,
+        ReportFault::Write => CommandFault::Unwritable,
+    }
+}
+
+/// Writes what is asked for of a run with this status: the report, the summary or the records.
+fn print<'x, A: AllocGlobal + Threads + Wait + Sync, W: Write>(
+    rt: &A,
+    form: ReportForm,
+    asked: &Check<'_>,
+    status: u8,
+    tower: &'x Tower,
+    judged: &Judged<'x>,
+    order: Option<RegId>,
+    out: &mut W,
+) -> Result<(), ReportFault>
+    requires of_tower { IsOfTower tower.now judged.now.run.closed }
+    requires order { IfSome order (λ id. id.0 < length tower.now.registers) }
+    ensures printed { OnOk result ((text : List ℕ) × IsPrintedIn form (asked_check asked.now) status tower.now judged.now.run.closed judged.now.run.logs.items order (map (λ text. text.items) judged.now.texts.items) text × Appends (W.contents out.old) (W.contents out.new) text) }
+    ensures memory { result ≡ Err ReportFault.Memory → out.new ≡ out.old }
+{
+    let alloc = rt.alloc();
+    match form {
+        ReportForm::Report => report(rt, alloc, tower, &judged.run, order, out),
+        ReportForm::Summary => summary(alloc, tower, &judged.run, out),
+        ReportForm::Json => {
+            print_records(
+                alloc,
+                Notation::Json,
+                asked,
+                status,
+                tower,
+                judged,
+                order,
+                out,
+            )
+        }
+        ReportForm::Edn => {
+            print_records(
+                alloc,
+                Notation::Edn,
+                asked,
+                status,
+                tower,
+                judged,
+                order,
+                out,
+            )
+        }
+    }
+}
+
+/// Writes the records of a run with this status.
+fn print_records<'x, W: Write>(
+    alloc: Global,
+    notation: Notation,
+    asked: &Check<'_>,
+    status: u8,
+    tower: &'x Tower,
+    judged: &Judged<'x>,
+    order: Option<RegId>,
+    out: &mut W,
+) -> Result<(), ReportFault>
+    requires of_tower { IsOfTower tower.now judged.now.run.closed }
+    requires order { IfSome order (λ id. id.0 < length tower.now.registers) }
+    ensures printed { OnOk result ((text : List ℕ) × ArePrinted notation (asked_check asked.now) status tower.now judged.now.run.closed judged.now.run.logs.items order (map (λ text. text.items) judged.now.texts.items) text × Appends (W.contents out.old) (W.contents out.new) text) }
+    ensures memory { result ≡ Err ReportFault.Memory → out.new ≡ out.old }
+{
+    let form = form_of(asked, notation);
+    write_records(
+        alloc,
+        &form,
+        status,
+        tower,
+        &judged.run,
+        &judged.texts,
+        order,
+        out,
+    )
+}
+
+fn form_of<'b>(asked: &'b Check<'_>, notation: Notation) -> Form<'b>
+    ensures names { names_of result ≡ record_names (asked_check asked.now) }
+    ensures notation { result.notation ≡ notation }
+    ensures only { result.only_failing ≡ (asked_check asked.now).only_failing }
+{
+    Form {
+        notation,
+        only_failing: asked.only_failing,
+        tower: asked.tower,
+        traces: &asked.traces,
+        moments: moment_word(asked.moments),
+    }
+}
+
+fn moment_word(moments: MomentKey) -> &'static str
+    ensures { result.now ≡ moment_word moments }
+{
+    match moments {
+        MomentKey::Index => "index",
+        MomentKey::Time => "time",
+    }
+}

@@ -1,0 +1,36 @@
+-- What is printed on standard error of a run that broke off.
+use Rattle.std.specs.Prelude.{List, ℕ, [], ◌∷◌, ◌++◌, Option, Some, None, codes}
+use Rattle.std.specs.Borrow.{Bor}
+use Rattle.shards.specs.Code.{shard_fault_code}
+use Rattle.feeders.specs.declared.fault.RunFault.{RunFault}
+use Rattle.feeders.specs.declared.fault.RunFault.TheVariants as runs
+use Rattle.command_parts.specs.declared.fault.CommandFault.{CommandFault}
+use Rattle.command_parts.specs.declared.fault.CommandFault.TheVariants.{Usage, TooManyTraces, Unreadable, Tower, NoRegister, NoCode, Shard, Memory, Unwritable, Untold}
+use Rattle.feeders.specs.declared.whole.InputFault.{InputFault}
+use Rattle.feeders.specs.declared.whole.InputFault.TheVariants as inputs
+use Rattle.phrases.specs.Names.{printed}
+
+-- the line that says why a run broke off; none for a usage fault, whose text is clap's
+abbrev pub complaint_of : CommandFault → Option (List ℕ)
+complaint_of (Usage error) = None
+complaint_of TooManyTraces = Some (codes "regaudit: too many traces" ++ 10 ∷ [])
+complaint_of (Unreadable name) = Some (codes "regaudit: cannot read " ++ printed name.now ++ 10 ∷ [])
+complaint_of (Tower code) = Some (codes "regaudit: tower " ++ code.now ++ 10 ∷ [])
+complaint_of (NoRegister name) = Some (codes "regaudit: no register " ++ printed name.now ++ 10 ∷ [])
+complaint_of (NoCode name) = Some (codes "regaudit: no code " ++ printed name.now ++ codes "; regaudit explain lists them" ++ 10 ∷ [])
+complaint_of (Shard fault) = Some (codes "regaudit: " ++ shard_fault_code fault ++ 10 ∷ [])
+complaint_of Memory = Some (codes "regaudit: out of memory" ++ 10 ∷ [])
+complaint_of Unwritable = Some (codes "regaudit: cannot write" ++ 10 ∷ [])
+complaint_of Untold = Some (codes "regaudit: what was written is not what the registers did" ++ 10 ∷ [])
+
+-- the fault of a command that could not read the input of this name whole, or had no memory for it
+abbrev pub unread : Bor (List ℕ) → InputFault → CommandFault
+unread name inputs.Memory = Memory
+unread name inputs.Failed = Unreadable name
+unread name inputs.TooLong = Unreadable name
+unread name inputs.TooManyCalls = Unreadable name
+
+-- the fault of a command whose run broke off: out of memory, or what a shard refused
+abbrev pub broken_off : RunFault → CommandFault
+broken_off runs.Memory = Memory
+broken_off (runs.Shard fault) = Shard fault

@@ -1,0 +1,6 @@
+-- words of the public clauses
+pub mod Complaint
+pub mod Files
+pub mod Job
+pub mod Status
+pub mod Tower

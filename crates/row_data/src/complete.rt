@@ -1,0 +1,50 @@
+//! Whether a text names each command and each option that the manual has.
+
+use crate::pieces::Cut;
+use crate::program::Program;
+use crate::row::row_of;
+use std::alloc::{AllocError, Global};
+use std::io;
+
+/// What the manual names and a text does not, a line each: commands, and options, which the text has with a prefix in
+/// place of their two hyphens.
+pub fn missing<P: Program>(
+    alloc: Global,
+    program: &P,
+    text: &[u8],
+    prefix: &str,
+) -> io::Result<Vec<u8>> {
+    let manual = row_of(alloc, "the manual\n= word manual")?;
+    let printed = program.carry_out(&manual, &[], Cut::WHOLE, manual.room)?;
+    let manual = String::from_utf8_lossy(alloc, &printed.out)?;
+    let text = String::from_utf8_lossy(alloc, text)?;
+    let mut missing = Vec::new(alloc);
+    for line in manual.lines() {
+        if let Some(name) = named_in(alloc, line, prefix)? {
+            if !text.contains(name.as_str()) {
+                missing.extend_from_slice(name.as_bytes())?;
+                missing.push(b'\n')?;
+            }
+        }
+    }
+    Ok(missing)
+}
+
+/// The command or the option that a line of the manual is about, as the text has to name it.
+fn named_in(alloc: Global, line: &str, prefix: &str) -> Result<Option<String>, AllocError> {
+    let (before, after) = match line.strip_prefix("Usage: regaudit ") {
+        Some(usage) => ("", usage),
+        None => match line.split_once("--") {
+            Some((_, option)) => (prefix, option),
+            None => return Ok(None),
+        },
+    };
+    match after.split_whitespace().next() {
+        Some(word) if !word.starts_with("<") => {
+            let mut name = String::from_str(alloc, before)?;
+            name.push_str(word)?;
+            Ok(Some(name))
+        }
+        _ => Ok(None),
+    }
+}

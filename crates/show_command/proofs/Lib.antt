@@ -1,0 +1,2 @@
+-- what a command that was not broken off has written
+mod Endings

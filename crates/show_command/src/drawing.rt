@@ -1,0 +1,71 @@
+//! The command `show`.
+
+ghost use Rattle.std.specs.Prelude.{◌≡◌, ◌≢◌, ◌<◌, ℕ, List, IfOk, IfErr, IfSome, length, map};
+ghost use Rattle.words.specs.Words.{asked_show};
+ghost use Rattle.command_parts.specs.Files.{AreHeld};
+ghost use Rattle.show_command.specs.Shown.{IsShown};
+
+use crate::picture::picture;
+use command_parts::{
+    CommandFault, Files, Job, TRACE_LIMIT, named, open_files, read_tower, status_after, write_text,
+};
+use feeders::Pages;
+use report::laws::a_run_is_of_its_tower;
+use std::io::Write;
+use std::mem::forget;
+use std::sync::Wait;
+use std::thread::Threads;
+use words::Show;
+
+/// Judges the registers of a tower as `check` does, and writes a picture of one of them, or a page of those that fail.
+/// The faults come in the order of those of `check`.
+pub fn draw<'a, A: AllocGlobal + Threads + Wait + Sync, F: Files, W: Write>(
+    rt: &A,
+    asked: &Show<'a>,
+    files: &mut F,
+    out: &mut W,
+) -> Result<u8, CommandFault<'a>>
+    requires traces { 0 < length asked.now.traces.items }
+    ensures shown { IfOk result (λ status. IfSome (F.held files.old asked.entry.now.tower.now) (λ file. (traces : List (List ℕ))
+        → AreHeld (F.held files.old) (map (λ name. name.now) asked.entry.now.traces.items) traces
+        → IsShown (asked_show asked.entry.now) file traces status (W.contents out.old) (W.contents out.new))) }
+    ensures quiet { IfErr result (λ fault. fault ≢ CommandFault.Unwritable → out.new ≡ out.old) }
+{
+    if asked.traces.len() > TRACE_LIMIT {
+        return Err(CommandFault::TooManyTraces);
+    }
+    let alloc = rt.alloc();
+    let tower = read_tower(alloc, files, asked.tower)?;
+    let register = named(&tower, asked.register)?;
+    let readers = open_files(alloc, files, &asked.traces)?;
+    let Ok(pages) = Pages::new(alloc) else {
+        return Err(CommandFault::Memory);
+    };
+    a_run_is_of_its_tower();
+    let job = Job {
+        rt,
+        tower: &tower,
+        pages: &pages,
+        moments: asked.moments,
+        shards: 1,
+    };
+    let run = match job.run(readers) {
+        Ok(run) => run,
+        Err(fault) => return Err(CommandFault::of_run(fault)),
+    };
+    let Ok(status) = status_after(alloc, 0, 0, &tower, &run) else {
+        return Err(CommandFault::Memory);
+    };
+    let Ok(text) = picture(alloc, asked, &tower, &run.closed, register) else {
+        return Err(CommandFault::Memory);
+    };
+    match write_text(out, text.as_str()) {
+        Ok(()) => {
+            // As in `check`, the run is not freed.
+            forget(run);
+            forget(pages);
+            Ok(status)
+        }
+        Err(_) => Err(CommandFault::Unwritable),
+    }
+}

@@ -1,0 +1,278 @@
+//! The text of a picture that `show` draws.
+
+ghost use Rattle.std.specs.Prelude.{◌↔◌, ◌<◌, IfSome, IsTrue, length};
+ghost use Rattle.report.specs.Finding.{IsOfTower};
+ghost use Rattle.show_command.specs.Shown.{IsDrawn, IsFirstUsed, IsUsed};
+
+use intervals::{Initial, Memory, OpId, RegId};
+use register_book::RegisterBook;
+use report::{Finding, culprits, push_section};
+use shards::Closed;
+use show::{
+    Look, Sheet, Subject, Theme, push_page_end, push_page_head, push_page_part, push_picture,
+    push_timeline,
+};
+use std::alloc::Global;
+use timeline::Extent;
+use tower_file::Tower;
+use words::{Picture, Show};
+
+/// How many characters a line has where no width is given.
+const CELLS: u32 = 100;
+
+/// How many units a row of a drawing has where no width is given.
+const UNITS: u32 = 1000;
+
+/// The text of a picture of one register, or of a page of all registers that fail.
+pub fn picture(
+    alloc: Global,
+    asked: &Show,
+    tower: &Tower,
+    closed: &Closed,
+    named: Option<RegId>,
+) -> Result<String, Memory>
+    requires of_tower { IsOfTower tower.now closed.now }
+    requires named { IfSome named (λ id. id.0 < length tower.now.registers) }
+{
+    let to_blame = culprits(alloc, tower, closed)?;
+    let mut text = String::new(alloc);
+    match (asked.picture, named) {
+        (Picture::Html, None) => push_page(&mut text, alloc, asked, tower, closed, &to_blame)?,
+        _ => match drawn(tower, closed, named, &to_blame) {
+            Some(id) => {
+                if let Some(book) = closed.book(id) {
+                    push_one(&mut text, alloc, asked, tower, book, id)?;
+                }
+            }
+            None => text.push_str(without_register(asked.picture))?,
+        },
+    }
+    Ok(text)
+}
+
+/// What is drawn of a tower that has no register.
+fn without_register(picture: Picture) -> &'static str {
+    match picture {
+        Picture::Svg => {
+            "<svg xmlns=\"http://www.w3.org/2000/svg\" role=\"img\" width=\"1\" height=\"1\"><title>No register</title></svg>\n"
+        }
+        _ => "No register\n",
+    }
+}
+
+/// The register that is drawn: the one that is named, else the first culprit, else, where none fails, the first with an
+/// operation, else the first; none where the tower has none.
+fn drawn(tower: &Tower, closed: &Closed, named: Option<RegId>, to_blame: &[RegId]) -> Option<RegId>
+    ensures { IsDrawn tower.now closed.now named to_blame.now result }
+{
+    match (named, to_blame) {
+        (Some(id), _) => Some(id),
+        (None, [first, ..]) => Some(*first),
+        (None, []) => first_used(tower, closed),
+    }
+}
+
+/// The first register with an operation, else the first.
+fn first_used(tower: &Tower, closed: &Closed) -> Option<RegId>
+    ensures { IsFirstUsed tower.now closed.now result }
+{
+    for number in 0..tower.len() {
+        let id = RegId(number as u32);
+        if is_used(closed, id) {
+            return Some(id);
+        }
+    }
+    if tower.len() > 0 {
+        Some(RegId(0))
+    } else {
+        None
+    }
+}
+
+fn is_used(closed: &Closed, id: RegId) -> bool
+    ensures { IsTrue result ↔ IsUsed closed.now id.0 }
+{
+    match closed.book(id) {
+        Some(book) => book.len() > 0,
+        None => false,
+    }
+}
+
+/// The picture of one register.
+fn push_one(
+    text: &mut String,
+    alloc: Global,
+    asked: &Show,
+    tower: &Tower,
+    book: &RegisterBook,
+    id: RegId,
+) -> Result<(), Memory> {
+    if asked.picture == Picture::Html {
+        push_page_head(text, theme_of(asked), "A register and its operations")?;
+        push_part(text, alloc, asked, tower, book, id, true)?;
+        push_page_end(text)?;
+        return Ok(());
+    }
+    let order = order_of(alloc, book)?;
+    let subject = subject_of(tower, book, id, &order);
+    push_subject(text, alloc, asked, &subject, id)
+}
+
+/// A register in lines of a terminal, or as SVG.
+fn push_subject(
+    text: &mut String,
+    alloc: Global,
+    asked: &Show,
+    subject: &Subject,
+    id: RegId,
+) -> Result<(), Memory> {
+    match asked.picture {
+        Picture::Text => push_timeline(text, alloc, subject, &look_of(asked, false))?,
+        Picture::Ascii => push_timeline(text, alloc, subject, &look_of(asked, true))?,
+        Picture::Svg | Picture::Html => {
+            push_picture(text, alloc, subject, &sheet_of(asked, id, true))?
+        }
+    }
+    Ok(())
+}
+
+/// A page of all registers that fail, with the culprits unfolded; where none fails, of one that holds.
+fn push_page(
+    text: &mut String,
+    alloc: Global,
+    asked: &Show,
+    tower: &Tower,
+    closed: &Closed,
+    to_blame: &[RegId],
+) -> Result<(), Memory> {
+    let mut failing = Vec::new(alloc);
+    for number in 0..tower.len() {
+        let id = RegId(number as u32);
+        if closed.book(id).is_some_and(|book| !book.holds()) {
+            failing.push(id)?;
+        }
+    }
+    let all = tower.len();
+    let line = match failing.len() {
+        0 => format!(in alloc; "None of {all} registers fails")?,
+        many => format!(in alloc;
+            "{many} of {all} registers fail, {} to blame",
+            to_blame.len()
+        )?,
+    };
+    push_page_head(text, theme_of(asked), &line)?;
+    if failing.is_empty() {
+        if let Some(id) = drawn(tower, closed, None, to_blame) {
+            failing.push(id)?;
+        }
+    }
+    for id in &failing {
+        if let Some(book) = closed.book(*id) {
+            let is_unfolded = book.holds() || to_blame.contains(id);
+            push_part(text, alloc, asked, tower, book, *id, is_unfolded)?;
+        }
+    }
+    push_page_end(text)?;
+    Ok(())
+}
+
+/// A register of a page, with what the report says of it.
+fn push_part(
+    text: &mut String,
+    alloc: Global,
+    asked: &Show,
+    tower: &Tower,
+    book: &RegisterBook,
+    id: RegId,
+    is_unfolded: bool,
+) -> Result<(), Memory> {
+    let order = order_of(alloc, book)?;
+    let subject = subject_of(tower, book, id, &order);
+    let finding = Finding {
+        kind: book.kind(),
+        operations: book.len() as u64,
+        witness: book.witness(),
+    };
+    let mut section = String::new(alloc);
+    push_section(&mut section, tower, id, &finding)?;
+    let sheet = sheet_of(asked, id, false);
+    push_page_part(text, alloc, &subject, &sheet, is_unfolded, &section)?;
+    Ok(())
+}
+
+/// An order that explains the operations of a register that is atomic and holds; of any other register an empty list.
+fn order_of(alloc: Global, book: &RegisterBook) -> Result<Vec<OpId>, Memory> {
+    match book.order(alloc)? {
+        Some(order) => Ok(order),
+        None => Ok(Vec::new(alloc)),
+    }
+}
+
+fn subject_of<'a, 't>(
+    tower: &'a Tower,
+    book: &'a RegisterBook<'t>,
+    id: RegId,
+    order: &'a [OpId],
+) -> Subject<'a, 't> {
+    Subject {
+        name: match tower.name(id) {
+            Some(name) => name,
+            None => b"",
+        },
+        kind: book.kind(),
+        initial: match tower.claim(id) {
+            Some(claim) => claim.initial,
+            None => Initial::Unknown,
+        },
+        slots: book.slots(),
+        witness: book.witness(),
+        order,
+    }
+}
+
+fn look_of(asked: &Show, is_ascii: bool) -> Look {
+    Look {
+        extent: extent_of(asked),
+        width: width_of(asked, CELLS),
+        is_ascii,
+    }
+}
+
+fn sheet_of(asked: &Show, id: RegId, has_style: bool) -> Sheet {
+    Sheet {
+        extent: extent_of(asked),
+        width: width_of(asked, UNITS),
+        theme: theme_of(asked),
+        has_style,
+        number: id.0,
+    }
+}
+
+fn extent_of(asked: &Show) -> Extent {
+    if asked.all {
+        return Extent::All;
+    }
+    match usize::try_from(asked.around) {
+        Ok(around) => Extent::Around(around),
+        Err(_) => Extent::All,
+    }
+}
+
+/// The width that is asked for, or the usual one.
+fn width_of(asked: &Show, usual: u32) -> u32 {
+    match asked.width {
+        Some(width) => match u32::try_from(width) {
+            Ok(width) => width,
+            Err(_) => u32::MAX,
+        },
+        None => usual,
+    }
+}
+
+fn theme_of(asked: &Show) -> Theme {
+    match asked.theme {
+        words::Theme::Auto => Theme::Auto,
+        words::Theme::Light => Theme::Light,
+        words::Theme::Dark => Theme::Dark,
+    }
+}
