@@ -25,8 +25,10 @@ pub enum CommandFault<'a> {
     Tower(&'static str),
     /// The tower has no register of the name that `--order` or `--register` gives.
     NoRegister(&'a str),
-    /// The name is that of no code and no word of a report; with `--deny`, that of no note.
+    /// The name is that of no code and no word of a report.
     NoCode(&'a str),
+    /// A word of `--deny`, maybe an empty one, that is the code of no note.
+    NoNote(&'a str),
     /// A shard refused an edit, a question or the end.
     Shard(ShardFault),
     Memory,
@@ -122,6 +124,12 @@ fn complaint(alloc: Global, fault: &CommandFault<'_>) -> Result<String, AllocErr
             text.push_str("regaudit: no code ")?;
             push_printed(&mut text, name.as_bytes())?;
             text.push_str("; regaudit explain lists them")?;
+            text.push_str("\n")?;
+        }
+        CommandFault::NoNote(name) => {
+            text.push_str("regaudit: '")?;
+            push_printed(&mut text, name.as_bytes())?;
+            text.push_str("' is no note; --deny takes L1 to L8")?;
             text.push_str("\n")?;
         }
         CommandFault::Shard(fault) => {

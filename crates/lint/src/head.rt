@@ -6,6 +6,7 @@ ghost use Rattle.lint.specs.Head.{finding_head_text, position_text};
 use crate::finding::Amiss;
 use crate::message::push_message;
 use crate::source::SourceText;
+use phrases::push_printed;
 use places::Location;
 use std::alloc::AllocError;
 
@@ -13,7 +14,7 @@ use std::alloc::AllocError;
 pub fn push_place(text: &mut String, source: &SourceText, spot: &Location) -> Result<(), AllocError>
     ensures { OnOk result (string_bytes text.new ≡ string_bytes text.old ++ position_text source.now.name.now spot.now) }
 {
-    text.push_str(source.name)?;
+    push_printed(text, source.name.as_bytes())?;
     write!(text, ":{}:{}", spot.place.line, spot.place.column)
 }
 

@@ -6,7 +6,7 @@ use crate::suspect::Suspects;
 use edn_reader::{Element, Field, MapView};
 use intervals::OpId;
 use jepsen_form::{Action, Event, FormField, Item, MomentField, Stage, read_item};
-use logs::{Line, What};
+use logs::{Code, Line, What};
 use places::{Cursor, Elements, Location, spot_in, spot_of_one};
 use std::alloc::{AllocError, Global};
 use std::collections::{BTreeMap, BTreeSet};
@@ -54,13 +54,13 @@ struct Timed {
     number: u64,
 }
 
-/// An element of a trace, by its number, and whether it is refused.
+/// An element of a trace, by its number, and the code by which it is refused, if it is.
 #[derive(Clone, Copy)]
 struct Seen<'a> {
     feeder: usize,
     number: u64,
     element: &'a Element<'a>,
-    refused: bool,
+    refused: Option<Code>,
 }
 
 /// The fields of an event for which a field that is not read may have been meant.
@@ -84,7 +84,7 @@ pub fn notes_of(
             feeder,
             number,
             element: &found.elements[at],
-            refused: is_refused(ahead, number),
+            refused: refused_by(ahead, number),
         };
         watch.look_at(look, &mut cursor, &seen)?;
     }
@@ -99,11 +99,12 @@ fn lines_from<'a, 't>(lines: &'a [Line<'t>], number: u64) -> &'a [Line<'t>] {
     }
 }
 
-/// Whether the first of the lines says that the element of this number is refused.
-fn is_refused(lines: &[Line], number: u64) -> bool {
-    match lines.first() {
-        Some(line) => line.event == number && matches!(line.what, What::Refused(_)),
-        None => false,
+/// The code by which the first of the lines says that the element of this number is refused, if it does.
+fn refused_by(lines: &[Line], number: u64) -> Option<Code> {
+    let line = lines.first()?;
+    match line.what {
+        What::Refused(code) if line.event == number => Some(code),
+        _ => None,
     }
 }
 
@@ -166,10 +167,12 @@ impl<'a> Watch<'a> {
         item: &Item,
         seen: &Seen,
     ) -> Result<(), AllocError> {
-        if let (true, Some(operation)) = (seen.refused, edited_by(suspects, item, seen.feeder)) {
-            return self.note(seen.number, Note::RestsOnEdit(operation));
+        match edited_by(suspects, item, seen.feeder) {
+            Some(operation) if seen.refused.is_some() => {
+                self.note(seen.number, Note::RestsOnEdit(operation))
+            }
+            _ => Ok(()),
         }
-        Ok(())
     }
 
     /// Notes each field that is not read and is near an absent one of these.
@@ -209,13 +212,17 @@ impl<'a> Watch<'a> {
             self.look_at_moment(moment.0, seen.number)?;
             self.look_at_last(moment.0, seen.number)?;
         }
-        if let (true, Some(read)) = (seen.refused, suspect_of(look.suspects, event)) {
-            self.note(seen.number, Note::Rests(read))?;
+        match suspect_of(look.suspects, event) {
+            Some(read) if seen.refused.is_some() => self.note(seen.number, Note::Rests(read))?,
+            _ => {}
         }
-        self.look_at_stage(event, seen.number)
+        match seen.refused {
+            Some(Code::Pair(_)) => Ok(()),
+            _ => self.look_at_stage(event, seen.number),
+        }
     }
 
-    /// Pairs invocations with answers, without looking at refusals.
+    /// Pairs invocations with answers, of elements that the pairing took.
     fn look_at_stage(&mut self, event: &Event, number: u64) -> Result<(), AllocError> {
         match event.answer {
             Stage::Invoke => {

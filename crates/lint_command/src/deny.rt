@@ -35,7 +35,7 @@ fn push_code<'a>(denied: &mut Vec<&'static str>, word: &'a str) -> Result<(), Co
     ensures quiet { IfErr result (λ fault. fault ≢ CommandFault.Unwritable) }
 {
     let Some(Topic::Note(note)) = Topic::named(word) else {
-        return Err(CommandFault::NoCode(word));
+        return Err(CommandFault::NoNote(word));
     };
     match denied.push(Topic::Note(note).code()) {
         Ok(()) => Ok(()),

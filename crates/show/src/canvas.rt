@@ -20,6 +20,10 @@ pub struct Canvas<'s, 't> {
     pub lanes: Vec<usize>,
     /// The zones of all values, of an atomic register all of whose operations are shown.
     pub zones: Vec<Zone>,
+    /// How many rows the forward ones have.
+    pub forward_rows: u128,
+    /// How many rows the backward ones have.
+    pub backward_rows: u128,
     /// The zones of the two values of a conflict, where there are no others.
     pub conflict: Vec<Zone>,
     /// The width left of the strip, for the names of lanes.
@@ -97,7 +101,9 @@ pub fn canvas_of<'s, 't>(
     } else {
         Vec::new(alloc)
     };
-    let top = zones_height(&zones, &conflict);
+    let forward_rows = rows_of(&zones, true);
+    let backward_rows = rows_of(&zones, false);
+    let top = zones_height(forward_rows.saturating_add(backward_rows), &conflict);
     let bottom = (layout.lane_ends.len() as u128)
         .saturating_mul(LANE)
         .saturating_add(top);
@@ -105,6 +111,8 @@ pub fn canvas_of<'s, 't>(
         layout,
         lanes,
         zones,
+        forward_rows,
+        backward_rows,
         conflict,
         margin,
         top,
@@ -121,21 +129,18 @@ fn room_beside(width: u32, margin: u128) -> u32 {
     beside.max(100)
 }
 
-fn zones_height(zones: &[Zone], conflict: &[Zone]) -> u128 {
+fn zones_height(rows: u128, conflict: &[Zone]) -> u128 {
     if !conflict.is_empty() {
         return 2 * ZONE + 6;
     }
-    if zones.is_empty() {
+    if rows == 0 {
         return 0;
     }
-    rows_of(zones, true)
-        .saturating_add(rows_of(zones, false))
-        .saturating_mul(ZONE_ROW)
-        .saturating_add(10)
+    rows.saturating_mul(ZONE_ROW).saturating_add(10)
 }
 
 /// How many rows the forward or the backward zones have.
-pub fn rows_of(zones: &[Zone], is_forward: bool) -> u128 {
+fn rows_of(zones: &[Zone], is_forward: bool) -> u128 {
     let mut rows: u128 = 0;
     for zone in zones {
         if zone.is_forward == is_forward {

@@ -2,7 +2,7 @@
 
 use crate::axis::push_axis;
 use crate::bar::{push_bars, push_words};
-use crate::canvas::{BAR, Canvas, ZONE, ZONE_ROW, box_width, middle_of, rows_of};
+use crate::canvas::{BAR, Canvas, ZONE, ZONE_ROW, box_width, middle_of};
 use crate::filled::{Filling, push_filled, push_numbers};
 use crate::role::{Role, role_of_value};
 use crate::zone::Zone;
@@ -126,9 +126,12 @@ fn role_at_first(story: &Story) -> Role {
 
 /// The zones of all values, or of the two of a conflict.
 fn push_zones(text: &mut String, canvas: &Canvas) -> Result<(), AllocError> {
-    let forward = rows_of(&canvas.zones, true);
     for zone in &canvas.zones {
-        let before = if zone.is_forward { 0 } else { forward };
+        let before = if zone.is_forward {
+            0
+        } else {
+            canvas.forward_rows
+        };
         let rows = before.saturating_add(zone.row as u128);
         push_zone(text, canvas, zone, rows.saturating_mul(ZONE_ROW))?;
     }

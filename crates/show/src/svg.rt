@@ -4,8 +4,8 @@ ghost use Rattle.std.specs.Prelude.{◌≡◌, ◌++◌, OnOk, string_bytes};
 ghost use Rattle.show.specs.Svg.{heading_text, spoken_text};
 
 use crate::canvas::{
-    Canvas, LANE, LINE, Window, ZONE, ZONE_ROW, canvas_of, lane_top, row_top, rows_of,
-    strip_height, wide, window_of,
+    Canvas, LANE, LINE, Window, ZONE, ZONE_ROW, canvas_of, lane_top, row_top, strip_height, wide,
+    window_of,
 };
 use crate::caption::push_caption;
 use crate::escape::push_element;
@@ -309,21 +309,25 @@ fn push_zone_names(
         push_zone_name(text, window, zone, y)?;
         y = y.saturating_add(ZONE);
     }
-    let forward = rows_of(&canvas.zones, true);
-    if forward > 0 {
+    if canvas.forward_rows > 0 {
         push_numbers(
             text,
             "<text class=\"quiet\" x=\"16\" y=\"@\">forward</text>\n",
             &[y],
         )?;
     }
-    if rows_of(&canvas.zones, false) == 0 {
+    if canvas.backward_rows == 0 {
         return Ok(());
     }
     push_numbers(
         text,
         "<text class=\"quiet\" x=\"16\" y=\"@\">backward</text>\n",
-        &[forward.saturating_mul(ZONE_ROW).saturating_add(y)],
+        &[
+            canvas
+                .forward_rows
+                .saturating_mul(ZONE_ROW)
+                .saturating_add(y),
+        ],
     )
 }
 

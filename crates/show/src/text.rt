@@ -63,7 +63,7 @@ pub fn push_timeline(
     look: &Look,
 ) -> Result<(), AllocError> {
     let scene = scene_of(alloc, subject, look.extent)?;
-    push_title(text, subject, &scene)?;
+    push_title(text, alloc, subject, &scene, look.is_ascii)?;
     if !scene.ops.is_empty() {
         push_drawing(text, alloc, subject, &scene, look)?;
     }

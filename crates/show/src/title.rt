@@ -7,9 +7,19 @@ use std::alloc::{AllocError, Global};
 use story::Story;
 
 /// Adds the register, its kind, why it fails or that it holds, and how many of its operations are shown.
-pub fn push_title(text: &mut String, subject: &Subject, scene: &Scene) -> Result<(), AllocError> {
+pub fn push_title(
+    text: &mut String,
+    alloc: Global,
+    subject: &Subject,
+    scene: &Scene,
+    is_ascii: bool,
+) -> Result<(), AllocError> {
     text.push_str("register ")?;
-    push_printed(text, subject.name)?;
+    if is_ascii {
+        push_ascii(text, alloc, subject.name)?;
+    } else {
+        push_printed(text, subject.name)?;
+    }
     write!(text, "  {}  ", kind_word(subject.kind))?;
     push_verdict(text, subject)?;
     write!(
@@ -18,6 +28,16 @@ pub fn push_title(text: &mut String, subject: &Subject, scene: &Scene) -> Result
         scene.ops.len(),
         scene.all
     )
+}
+
+/// Adds a name as it is printed, with `?` for each character past U+007E.
+fn push_ascii(text: &mut String, alloc: Global, name: &[u8]) -> Result<(), AllocError> {
+    let mut printed = String::new(alloc);
+    push_printed(&mut printed, name)?;
+    for character in printed.chars() {
+        text.push(if character > '~' { '?' } else { character })?;
+    }
+    Ok(())
 }
 
 /// Adds that the register holds, or its fault.

@@ -56,7 +56,7 @@ pub fn draw<'a, A: AllocGlobal + Threads + Wait + Sync, F: Files, W: Write>(
     let Ok(status) = status_after(alloc, 0, 0, &tower, &run) else {
         return Err(CommandFault::Memory);
     };
-    let Ok(text) = picture(alloc, asked, &tower, &run.closed, register) else {
+    let Ok(text) = picture(alloc, asked, &tower, &run, register) else {
         return Err(CommandFault::Memory);
     };
     match write_text(out, text.as_str()) {

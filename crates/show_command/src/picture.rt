@@ -5,14 +5,17 @@ ghost use Rattle.report.specs.Finding.{IsOfTower};
 ghost use Rattle.show_command.specs.Shown.{IsDrawn, IsFirstUsed, IsUsed};
 
 use intervals::{Initial, Memory, OpId, RegId};
+use logs::{Log, Run};
 use register_book::RegisterBook;
-use report::{Finding, culprits, push_section};
+use report::{
+    Finding, count_broken, count_refused, culprits, push_broken, push_refused, push_section,
+};
 use shards::Closed;
 use show::{
     Look, Sheet, Subject, Theme, push_page_end, push_page_head, push_page_part, push_picture,
     push_timeline,
 };
-use std::alloc::Global;
+use std::alloc::{AllocError, Global};
 use timeline::Extent;
 use tower_file::Tower;
 use words::{Picture, Show};
@@ -28,22 +31,18 @@ pub fn picture(
     alloc: Global,
     asked: &Show,
     tower: &Tower,
-    closed: &Closed,
+    run: &Run,
     named: Option<RegId>,
 ) -> Result<String, Memory>
-    requires of_tower { IsOfTower tower.now closed.now }
+    requires of_tower { IsOfTower tower.now run.now.closed }
     requires named { IfSome named (λ id. id.0 < length tower.now.registers) }
 {
-    let to_blame = culprits(alloc, tower, closed)?;
+    let to_blame = culprits(alloc, tower, &run.closed)?;
     let mut text = String::new(alloc);
     match (asked.picture, named) {
-        (Picture::Html, None) => push_page(&mut text, alloc, asked, tower, closed, &to_blame)?,
-        _ => match drawn(tower, closed, named, &to_blame) {
-            Some(id) => {
-                if let Some(book) = closed.book(id) {
-                    push_one(&mut text, alloc, asked, tower, book, id)?;
-                }
-            }
+        (Picture::Html, None) => push_page(&mut text, alloc, asked, tower, run, &to_blame)?,
+        _ => match drawn(tower, &run.closed, named, &to_blame) {
+            Some(id) => push_one(&mut text, alloc, asked, tower, run, id)?,
             None => text.push_str(without_register(asked.picture))?,
         },
     }
@@ -104,18 +103,45 @@ fn push_one(
     alloc: Global,
     asked: &Show,
     tower: &Tower,
-    book: &RegisterBook,
+    run: &Run,
     id: RegId,
 ) -> Result<(), Memory> {
+    let Some(book) = run.closed.book(id) else {
+        return Ok(());
+    };
     if asked.picture == Picture::Html {
         push_page_head(text, theme_of(asked), "A register and its operations")?;
         push_part(text, alloc, asked, tower, book, id, true)?;
+        push_left_out(text, "<pre>", &run.logs, "</pre>\n")?;
         push_page_end(text)?;
         return Ok(());
     }
     let order = order_of(alloc, book)?;
     let subject = subject_of(tower, book, id, &order);
-    push_subject(text, alloc, asked, &subject, id)
+    push_subject(text, alloc, asked, &subject, id)?;
+    if asked.picture != Picture::Svg {
+        push_left_out(text, "\n", &run.logs, "")?;
+    }
+    Ok(())
+}
+
+/// What was not judged, as a summary has it: the elements that were refused, and where traces broke. Where all was
+/// judged nothing is added.
+fn push_left_out(
+    text: &mut String,
+    before: &str,
+    logs: &[Log],
+    after: &str,
+) -> Result<(), AllocError> {
+    if count_refused(logs) == 0 && count_broken(logs) == 0 {
+        return Ok(());
+    }
+    text.push_str(before)?;
+    push_refused(text, logs)?;
+    for feeder in 0..logs.len() {
+        push_broken(text, feeder, logs[feeder].broken)?;
+    }
+    text.push_str(after)
 }
 
 /// A register in lines of a terminal, or as SVG.
@@ -142,9 +168,10 @@ fn push_page(
     alloc: Global,
     asked: &Show,
     tower: &Tower,
-    closed: &Closed,
+    run: &Run,
     to_blame: &[RegId],
 ) -> Result<(), Memory> {
+    let closed = &run.closed;
     let mut failing = Vec::new(alloc);
     for number in 0..tower.len() {
         let id = RegId(number as u32);
@@ -172,6 +199,7 @@ fn push_page(
             push_part(text, alloc, asked, tower, book, *id, is_unfolded)?;
         }
     }
+    push_left_out(text, "<pre>", &run.logs, "</pre>\n")?;
     push_page_end(text)?;
     Ok(())
 }

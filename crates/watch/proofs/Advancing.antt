@@ -1,12 +1,15 @@
 -- How far feeders come, and what is held back until then.
-use Rattle.std.proofs.Common.{◌≡◌, ◌⊎◌, inl, inr, ℕ, zero, suc, ◌+◌, ◌<◌, ◌≤◌, Bool, true, false, not, cond, List, [], ◌∷◌, ◌++◌, length, map, refl, sym, ap, subst, ◌∙◌, arith}
-use Rattle.std.specs.Prelude.{Contains, filter, nat_eq, slice_index_or, slice_set}
+use Rattle.std.proofs.Common.{◌≡◌, ◌≢◌, ◌⊎◌, ◌==◌, ◌||◌, inl, inr, ℕ, zero, suc, ◌+◌, ◌<◌, ◌≤◌, Bool, true, false, not, cond, List, [], ◌∷◌, ◌++◌, length, map, refl, sym, ap, subst, ◌∙◌, arith}
+use Rattle.std.specs.Prelude.{All, Contains, filter, nat_eq, slice_index_or, slice_set}
 use Rattle.std.specs.List.{remove}
+use Rattle.std.proofs.lemmas.Bool.{eqb-true}
 use Rattle.std.proofs.lemmas.Bool.Decides.{nat_tests}
 use Rattle.std.proofs.lemmas.List.{append-nil, append_assoc}
 use Rattle.std.proofs.lemmas.List.Elements.{All-append, All-contains_itself, All-cons, All-nil, Contains-append_cases, Contains-append_left, Contains-append_right, filter-append}
 use Rattle.logs.specs.declared.notice.Notice.{Notice}
-use Rattle.logs.specs.declared.notice.Notice.TheVariants.{Changed}
+use Rattle.logs.specs.declared.notice.Notice.TheVariants.{Changed, Refused, Broke, Ended}
+use Rattle.logs.specs.declared.log.Code.{Code}
+use Rattle.logs.specs.declared.log.Broken.{Broken}
 use Rattle.shards.specs.declared.entry.VerdictChange.{VerdictChange}
 use Rattle.watch.specs.declared.settling.Advance.{Advance}
 use Rattle.watch.specs.declared.settling.Advance.TheVariants.{Took}
@@ -14,9 +17,9 @@ use Rattle.watch.specs.declared.settling.Held.{Held}
 use Rattle.watch.specs.declared.settling.Progress.{Progress}
 use Rattle.records.specs.Run.{at_most_u64}
 use Rattle.watch.specs.declared.run.Terms.{Terms}
-use Rattle.watch.specs.Teller.{held_notice}
+use Rattle.watch.specs.Due.{AreDueFirst, AreHeldFrom, advanced, advanced_at, has_due, held_notice, is_due, is_of_another, until_of}
+use Rattle.watch.specs.Settling.{says_fails}
 use Rattle.watch.proofs.Members.{there}
-use Rattle.watch.specs.Due.{AreDueFirst, AreHeldFrom, advanced, advanced_at, has_due, is_due, is_of_another, until_of}
 
 pub set_advanced : (progress : List Progress) (at : ℕ) (by : Advance) (d one : Progress) → at < length progress → one ≡ advanced (slice_index_or progress at d) by → slice_set progress at one ≡ advanced_at progress at by
 set_advanced [] at by d one within is = absurd (omega arith)
@@ -58,43 +61,62 @@ same_number n = grind (arith, nat_tests)
 not_another : (feeder place : ℕ) (change : VerdictChange) (one : Held) → one.change.register ≡ change.register → is_of_another (Changed feeder place change) one ≡ false
 not_another feeder place change one same = let e : nat_eq one.change.register.0 change.register.0 ≡ true = rw same (same_number change.register.0) in ap not e
 
--- what is left of what is held back where one of this register is taken out
-pub takes_out : (progress : List Progress) (settle feeder place : ℕ) (change : VerdictChange) (before now front back : List Held) (one : Held) → before ≡ front ++ one ∷ back → now ≡ front ++ back
-    → one.change.register ≡ change.register → AreHeldFrom progress settle (Changed feeder place change) before now
-takes_out progress settle feeder place change before now front back one before_is now_is same = rw (before_is, now_is) (record {
-  left = front ++ back;
-  new = [];
-  parts = sym (append-nil (front ++ back));
-  all_left = λ k d within. still front back one (slice_index_or (front ++ back) k d) (All-contains_itself (front ++ back) k d within);
-  others_left = taken_out_of (is_of_another (Changed feeder place change)) front back one (not_another feeder place change one same);
-  waits = All-nil _;
-})
+-- what is left of what was held back when a notice came: all that is of another register, and nothing new
+abbrev AreLeft : Notice → List Held → List Held → Type 0
+AreLeft notice before left = All (Contains before) left × (filter (is_of_another notice) before ≡ filter (is_of_another notice) left)
 
-pub all_stay : (progress : List Progress) (settle : ℕ) (notice : Notice) (before now : List Held) → now ≡ before → AreHeldFrom progress settle notice before now
-all_stay progress settle notice before now same = rw same (record {
-  left = before;
-  new = [];
-  parts = sym (append-nil before);
-  all_left = All-contains_itself before;
-  others_left = refl;
-  waits = All-nil _;
-})
+-- where one of this register is taken out
+pub left_without : (feeder place : ℕ) (change : VerdictChange) (before now front back : List Held) (one : Held) → before ≡ front ++ one ∷ back → now ≡ front ++ back
+    → one.change.register ≡ change.register → AreLeft (Changed feeder place change) before now
+left_without feeder place change before now front back one before_is now_is same = rw (before_is, now_is) (
+  λ k d within. still front back one (slice_index_or (front ++ back) k d) (All-contains_itself (front ++ back) k d within),
+  taken_out_of (is_of_another (Changed feeder place change)) front back one (not_another feeder place change one same),
+)
 
-abbrev Waits : List Progress → ℕ → Notice → Held → Type 0
-Waits progress settle notice held = (is_of_another notice held ≡ false) × (held.until.items ≡ until_of progress settle held.feeder)
+pub left_all : (notice : Notice) (before now : List Held) → now ≡ before → AreLeft notice before now
+left_all notice before now same = rw same (All-contains_itself before, refl)
+
+-- nothing more is held back, where the notice is no failure or none is to be held back
+pub none_new : (progress : List Progress) (settle : ℕ) (notice : Notice) (before now : List Held) → AreLeft notice before now → (settle ≢ 0 → says_fails notice ≡ true → ⊥) → AreHeldFrom progress settle notice before now
+none_new progress settle notice before now left none = record {
+  left = now;
+  new = [];
+  parts = sym (append-nil now);
+  all_left = left.0;
+  others_left = left.1;
+  waits = All-nil _;
+  failure = λ some fails. absurd (none some fails);
+}
 
 -- one more of this register is held back
-pub adds : (progress : List Progress) (settle feeder place : ℕ) (change : VerdictChange) (before mid now : List Held) (one : Held) → AreHeldFrom progress settle (Changed feeder place change) before mid → now ≡ mid ++ one ∷ []
+pub one_new : (progress : List Progress) (settle feeder place : ℕ) (change : VerdictChange) (before left now : List Held) (one : Held) → AreLeft (Changed feeder place change) before left → now ≡ left ++ one ∷ []
     → held_notice one ≡ Changed feeder place change → one.until.items ≡ until_of progress settle one.feeder → AreHeldFrom progress settle (Changed feeder place change) before now
-adds progress settle feeder place change before mid now one is now_is notice until = record {
-  left = is.left;
-  new = is.new ++ one ∷ [];
-  parts = now_is ∙ ap (λ (l : List Held). l ++ one ∷ []) is.parts ∙ append_assoc is.left is.new (one ∷ []);
-  all_left = is.all_left;
-  others_left = is.others_left;
-  waits = All-append (Waits progress settle (Changed feeder place change)) is.new (one ∷ []) is.waits
-      (All-cons (Waits progress settle (Changed feeder place change)) one [] (subst (λ (n : Notice). is_of_another n one ≡ false) notice (ap not (same_number one.change.register.0)), until) (All-nil _));
+one_new progress settle feeder place change before left now one is now_is notice until = record {
+  left = left;
+  new = one ∷ [];
+  parts = now_is;
+  all_left = is.0;
+  others_left = is.1;
+  waits = All-cons (λ held. (is_of_another (Changed feeder place change) held ≡ false) × (held.until.items ≡ until_of progress settle held.feeder)) one []
+      (subst (λ (n : Notice). is_of_another n one ≡ false) notice (ap not (same_number one.change.register.0)), until) (All-nil _);
+  failure = λ some fails. ap (λ (n : Notice). n ∷ []) notice;
 }
+
+pub holds_and_fails : (holds : Bool) → holds ≡ true → not holds ≡ true → ⊥
+holds_and_fails true holding failing = absurd cc
+holds_and_fails false holding failing = absurd cc
+
+pub none_to_hold : (holds : Bool) (settle : ℕ) → (holds || (settle == 0)) ≡ true → settle ≢ 0 → not holds ≡ true → ⊥
+none_to_hold true settle is some fails = absurd cc
+none_to_hold false settle is some fails = absurd (some (eqb-true settle 0 is))
+
+-- a refusal, a break and an end are no failure
+pub no_failure : (notice : Notice)
+    → ((feeder : ℕ) × (place : ℕ) × (code : Code) × (notice ≡ Refused feeder place code)) ⊎ (((feeder : ℕ) × (broken : Broken) × (notice ≡ Broke feeder broken)) ⊎ ((feeder : ℕ) × (elements : ℕ) × (notice ≡ Ended feeder elements)))
+    → says_fails notice ≡ true → ⊥
+no_failure notice (inl is) fails = let no : says_fails (Refused is.0 is.1 is.2) ≡ true = subst (λ (n : Notice). says_fails n ≡ true) is.3 fails in absurd cc
+no_failure notice (inr (inl is)) fails = let no : says_fails (Broke is.0 is.1) ≡ true = subst (λ (n : Notice). says_fails n ≡ true) is.2 fails in absurd cc
+no_failure notice (inr (inr is)) fails = let no : says_fails (Ended is.0 is.1) ≡ true = subst (λ (n : Notice). says_fails n ≡ true) is.2 fails in absurd cc
 
 -- what was held back first was due
 module _ (progress : List Progress) where

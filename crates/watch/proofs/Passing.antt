@@ -12,7 +12,8 @@ use Rattle.logs.specs.declared.notice.Notice.{Notice}
 use Rattle.logs.specs.declared.notice.Notice.TheVariants.{Changed}
 use Rattle.watch.specs.declared.settling.Held.{Held}
 use Rattle.watch.specs.Settling.{IsHeldBack, IsSettledUpTo, LessPairs, nothing, kept, healed, is_change_of, is_no_change, notices_of, says_fails}
-use Rattle.watch.specs.Teller.{IsPassedOn, ArePassedOn, IsWrittenOrHeld, held_notice, held_notices}
+use Rattle.watch.specs.Teller.{IsPassedOn, ArePassedOn, IsWrittenOrHeld}
+use Rattle.watch.specs.Due.{held_notice, held_notices}
 
 less_same : {A : Type 0} (fails : A → Bool) (all : List A) → LessPairs fails all all
 less_same fails [] = nothing

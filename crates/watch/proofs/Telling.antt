@@ -15,7 +15,8 @@ use Rattle.watch.specs.declared.teller.TellerState.TheVariants.{Going, Stopped, 
 use Rattle.watch.specs.declared.teller.Unwritten.{Unwritten}
 use Rattle.watch.specs.declared.teller.Unwritten.TheVariants as unwritten
 use Rattle.watch.specs.Settling.{LessPairs, nothing, notices_of, says_fails}
-use Rattle.watch.specs.Teller.{AreWrittenIn, HasTold, ArePassedOn, IsStateAfter, IsTold, IsToldAll, IsWritten, IsWrittenOrHeld, held_notice, held_notices, state_after}
+use Rattle.watch.specs.Teller.{AreWrittenIn, HasTold, ArePassedOn, IsStateAfter, IsTold, IsToldAll, IsWritten, IsWrittenOrHeld, state_after}
+use Rattle.watch.specs.Due.{held_notice, held_notices}
 use Rattle.watch.specs.Text.{text_of_notice, text_of_notices}
 use Rattle.watch.specs.Watched.{ends_at}
 use Rattle.watch.proofs.Passing.{written_or_held_on, passes_due}

@@ -1,5 +1,5 @@
 -- When a failure that is held back is written: how far each feeder has come, and how far it is waited for.
-use Rattle.std.specs.Prelude.{◌≡◌, ◌==◌, ◌||◌, ◌+◌, ℕ, zero, suc, Bool, true, false, nat_le, List, [], ◌∷◌, ◌++◌, All, Contains, filter, map, not, replicate, if◌then◌else◌}
+use Rattle.std.specs.Prelude.{◌≡◌, ◌≢◌, ◌==◌, ◌||◌, ◌+◌, ℕ, zero, suc, Bool, true, false, nat_le, List, [], ◌∷◌, ◌++◌, All, Contains, filter, map, not, replicate, if◌then◌else◌}
 use Rattle.std.specs.List.{list_all, zip}
 use Rattle.logs.specs.declared.notice.Notice.{Notice}
 use Rattle.logs.specs.declared.notice.Notice.TheVariants.{Changed, Refused, Broke, Ended}
@@ -8,6 +8,7 @@ use Rattle.watch.specs.declared.settling.Advance.{Advance}
 use Rattle.watch.specs.declared.settling.Advance.TheVariants.{Took, Over}
 use Rattle.watch.specs.declared.settling.Held.{Held}
 use Rattle.watch.specs.declared.settling.Progress.{Progress}
+use Rattle.watch.specs.Settling.{says_fails}
 
 -- how far a feeder has come when it took one more element, or is over
 abbrev pub advanced : Progress → Advance → Progress
@@ -49,8 +50,17 @@ is_of_another (Refused feeder place code) held = true
 is_of_another (Broke feeder broken) held = true
 is_of_another (Ended feeder elements) held = true
 
+-- the notice of a change that is held back
+abbrev pub held_notice : Held → Notice
+held_notice held = Changed held.feeder held.place held.change
+
+-- the notices of changes that are held back, in order
+abbrev pub held_notices : List Held → List Notice
+held_notices held = map held_notice held
+
 -- what is held back when this notice came: what is left of what was held back before, with all that is of another
--- register; and after it what is of this register, and waits from now on
+-- register; and after it what is of this register, and waits from now on: where a failure is to be held back and the
+-- notice is one, that notice
 pub record AreHeldFrom (progress : List Progress) (settle : ℕ) (notice : Notice) (before now : List Held) : Type 0 where
   pub left : List Held
   pub new : List Held
@@ -58,6 +68,7 @@ pub record AreHeldFrom (progress : List Progress) (settle : ℕ) (notice : Notic
   pub all_left : All (Contains before) left
   pub others_left : filter (is_of_another notice) before ≡ filter (is_of_another notice) left
   pub waits : All (λ held. (is_of_another notice held ≡ false) × (held.until.items ≡ until_of progress settle held.feeder)) new
+  pub failure : settle ≢ 0 → says_fails notice ≡ true → held_notices new ≡ notice ∷ []
 
 -- those that were held back first, each of them due, are not held back any longer
 abbrev pub AreDueFirst : List Progress → List Held → List Held → Type 0

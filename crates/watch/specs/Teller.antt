@@ -1,9 +1,8 @@
 -- What a teller is seen as.
-use Rattle.std.specs.Prelude.{◌≡◌, ◌⊎◌, ℕ, Bool, List, [], ◌∷◌, ◌++◌, Option, Result, Ok, Err, filter, map, if◌then◌else◌, true, false}
+use Rattle.std.specs.Prelude.{◌≡◌, ◌⊎◌, ℕ, Bool, List, [], ◌∷◌, ◌++◌, Option, Result, Ok, Err, filter, if◌then◌else◌, true, false}
 use Rattle.std.specs.Io.KnownBytes.{Appends}
 use Rattle.tower_file.specs.Contents.{Register}
 use Rattle.logs.specs.declared.notice.Notice.{Notice}
-use Rattle.logs.specs.declared.notice.Notice.TheVariants.{Changed}
 use Rattle.watch.specs.declared.run.Terms.{Terms}
 use Rattle.watch.specs.declared.settling.Held.{Held}
 use Rattle.watch.specs.declared.settling.Progress.{Progress}
@@ -54,14 +53,6 @@ abbrev pub state_after : Result Unit Unwritten → Bool → Notice → TellerSta
 state_after (Ok done) until_fail notice = if ends_at until_fail notice then Stopped else Going
 state_after (Err unwritten.Memory) until_fail notice = OutOfMemory
 state_after (Err unwritten.Write) until_fail notice = Unwritable
-
--- the notice of a change that is held back
-abbrev pub held_notice : Held → Notice
-held_notice held = Changed held.feeder held.place held.change
-
--- the notices of changes that are held back, in order
-abbrev pub held_notices : List Held → List Notice
-held_notices held = map held_notice held
 
 -- these notices were written, one after the other, and a teller that did so is in this state
 pub record IsWritten (terms : Terms) (registers : List Register) (written : List Notice) (state : TellerState) (old new : Option (List ℕ)) : Type 0 where

@@ -5,8 +5,8 @@ ghost use Rattle.std.specs.Option.{option_to_list};
 ghost use Rattle.logs.specs.declared.notice.Notice.TheVariants.{Changed};
 ghost use Rattle.watch.specs.Settling.{notices_of};
 ghost use Rattle.watch.specs.declared.settling.Held.{Held as AHeld};
-ghost use Rattle.watch.specs.Due.{AreHeldFrom, advanced, advanced_at, has_come, is_due, until_of};
-ghost use Rattle.watch.specs.Teller.{ArePassedOn, held_notice, held_notices};
+ghost use Rattle.watch.specs.Due.{AreHeldFrom, advanced, advanced_at, has_come, is_due, until_of, held_notice, held_notices};
+ghost use Rattle.watch.specs.Teller.{ArePassedOn};
 
 use intervals::RegId;
 use logs::Notice;

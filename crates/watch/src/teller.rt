@@ -5,8 +5,8 @@ ghost use Rattle.std.specs.Option.{option_to_list};
 ghost use Rattle.std.specs.Io.KnownBytes.{Appends};
 ghost use Rattle.logs.specs.declared.notice.Notice.{Notice as ANotice};
 ghost use Rattle.watch.specs.declared.settling.Held.{Held as AHeld};
-ghost use Rattle.watch.specs.Due.{AreDueFirst, AreHeldFrom, advanced_at, has_due};
-ghost use Rattle.watch.specs.Teller.{HasTold, HasWrittenDue, ArePassedOn, IsToldAll, IsWritten, TellerModel, held_notices, state_after};
+ghost use Rattle.watch.specs.Due.{AreDueFirst, AreHeldFrom, advanced_at, has_due, held_notices};
+ghost use Rattle.watch.specs.Teller.{HasTold, HasWrittenDue, ArePassedOn, IsToldAll, IsWritten, TellerModel, state_after};
 ghost use Rattle.watch.specs.Text.{text_of_notice};
 ghost use Rattle.watch.specs.Watched.{ends_at};
 ghost use Rattle.watch.specs.declared.teller.Unwritten.TheVariants.{Memory as OutOfMemory, Write as Refused};
@@ -86,7 +86,8 @@ pub struct Teller<'a, 't, W: Write, B: Beginning> {
 
 impl<'a, 't, W: Write, B: Beginning> Model for Teller<'a, 't, W, B> {
     ghost use Rattle.std.specs.Prelude.{◌≡◌};
-    ghost use Rattle.watch.specs.Teller.{HasWrittenDue, IsTold, TellerModel, held_notices};
+    ghost use Rattle.watch.specs.Teller.{HasWrittenDue, IsTold, TellerModel};
+    ghost use Rattle.watch.specs.Due.{held_notices};
 
     ghost Value = { TellerModel };
 

@@ -218,6 +218,18 @@ pub(crate) fn command_line<'a>(
     with_commands(alloc, line, commands(), vocabulary)
 }
 
+/// The command of this name, as the fault of its words is reported; where there is none, the whole line.
+pub(crate) fn command_named<'a>(alloc: Global, name: &str) -> Result<Command<'a>, AllocError> {
+    for entry in commands() {
+        if entry.name == name {
+            let mut words = String::from_str(alloc, "regaudit ")?;
+            words.push_str(name)?;
+            return line_of(alloc, entry, Vocabulary::Closed)?.bin_name(&words);
+        }
+    }
+    command_line(alloc, Vocabulary::Closed)
+}
+
 /// The table of commands.
 fn commands() -> &'static [CommandEntry]
     ensures { with_commands program_line result.now ≡ command_line }

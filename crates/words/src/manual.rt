@@ -1,6 +1,7 @@
 //! The help of the program and of each of its commands.
 
 use crate::cli::{Vocabulary, command_line};
+use clap::error::ErrorKind;
 use std::alloc::{AllocError, Global};
 
 static COMMANDS: [&str; 10] = [
@@ -29,8 +30,9 @@ pub fn help_of_all(alloc: Global) -> Result<String, AllocError> {
 
 fn push_help(alloc: Global, text: &mut String, words: &[&str]) -> Result<(), AllocError> {
     let mut line = command_line(alloc, Vocabulary::Open)?;
-    if let Err(help) = line.try_get_matches_from_mut(words) {
-        write!(text, "{help}")?;
+    match line.try_get_matches_from_mut(words) {
+        Err(help) if help.kind() != ErrorKind::OutOfMemory => write!(text, "{help}"),
+        Err(_) => Err(AllocError),
+        Ok(_) => Ok(()),
     }
-    Ok(())
 }

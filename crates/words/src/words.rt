@@ -11,7 +11,7 @@ ghost use Rattle.words.specs.Completion.{shell_named};
 ghost use Rattle.words.specs.Words.{HasShards, HasTraces, IsWellFormed, ask_version, asked, asked_of, asked_by, command_by, command_line, is_version_word, said_in};
 
 use crate::check::{Check, check_of};
-use crate::cli::{Vocabulary, command_line};
+use crate::cli::{Vocabulary, command_line, command_named};
 use crate::completion::Shell;
 use crate::lint::{Lint, lint_of};
 use crate::show::{Show, show_of};
@@ -114,8 +114,9 @@ fn refused<'a, S: AsStr>(alloc: Global, words: &'a [S]) -> Result<Error, AllocEr
     match line.try_get_matches_from_mut(words) {
         Err(error) => Ok(error),
         Ok(matches) => {
-            let (kind, message) = complaint(matches.subcommand_name());
-            line.error(kind, message)
+            let name = matches.subcommand_name();
+            let (kind, message) = complaint(name);
+            command_named(alloc, name.unwrap_or(""))?.error(kind, message)
         }
     }
 }

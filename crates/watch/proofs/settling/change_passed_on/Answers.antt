@@ -2,8 +2,8 @@ use Rattle.std.proofs.Common.{ap, refl, ◌∙◌, ◌++◌, ◌∷◌, [], List
 use Rattle.std.proofs.lemmas.List.{map-append}
 use Rattle.logs.specs.declared.notice.Notice.{Notice}
 use Rattle.logs.specs.declared.notice.Notice.TheVariants.{Changed}
-use Rattle.watch.specs.Teller.{held_notice, held_notices}
-use Rattle.watch.proofs.Advancing.{adds, all_stay, takes_out}
+use Rattle.watch.specs.Due.{held_notice, held_notices}
+use Rattle.watch.proofs.Advancing.{holds_and_fails, left_all, left_without, none_new, none_to_hold, one_new}
 use Rattle.watch.proofs.Passing.{passes_healed, passes_swapped}
 use Rattle.watch.proofs.settling.change_passed_on.Goals as goal
 
@@ -16,7 +16,9 @@ returns-then-change-clause-passed_on c =
 pub returns-then-change-clause-held : goal.returns-then-change-clause-held
 returns-then-change-clause-held c =
     let parts = c.in-Some.ensures.some in
-    takes_out c.args.progress.now c.args.settle c.args.feeder c.args.place c.args.change c.args.held.now.items c.taken_out.new.held.items parts.0 parts.1 c.in-Some.before parts.2 parts.3 parts.4
+    none_new c.args.progress.now c.args.settle (Changed c.args.feeder c.args.place c.args.change) c.args.held.now.items c.taken_out.new.held.items
+    (left_without c.args.feeder c.args.place c.args.change c.args.held.now.items c.taken_out.new.held.items parts.0 parts.1 c.in-Some.before parts.2 parts.3 parts.4)
+    (λ some fails. holds_and_fails c.args.change.holds c.if-change.true fails)
 
 pub returns-in_ok-hold-in-Some-clause-passed_on : goal.returns-in_ok-hold-in-Some-clause-passed_on
 returns-in_ok-hold-in-Some-clause-passed_on c =
@@ -30,18 +32,20 @@ pub returns-in_ok-hold-in-Some-clause-held : goal.returns-in_ok-hold-in-Some-cla
 returns-in_ok-hold-in-Some-clause-held c =
     let parts = c.in-Some.ensures.some in
     let more = c.in_ok-hold-in-Some.ensures.until in
-    adds c.args.progress.now c.args.settle c.args.feeder c.args.place c.args.change c.args.held.now.items c.taken_out.new.held.items c.hold.new.held.items more.0
-    (takes_out c.args.progress.now c.args.settle c.args.feeder c.args.place c.args.change c.args.held.now.items c.taken_out.new.held.items parts.0 parts.1 c.in-Some.before parts.2 parts.3 parts.4)
+    one_new c.args.progress.now c.args.settle c.args.feeder c.args.place c.args.change c.args.held.now.items c.taken_out.new.held.items c.hold.new.held.items more.0
+    (left_without c.args.feeder c.args.place c.args.change c.args.held.now.items c.taken_out.new.held.items parts.0 parts.1 c.in-Some.before parts.2 parts.3 parts.4)
     more.1 more.2 more.3
 
 pub returns-in_ok-hold-in-None-clause-held : goal.returns-in_ok-hold-in-None-clause-held
 returns-in_ok-hold-in-None-clause-held c =
     let none = c.in-None.ensures.none in
     let more = c.in_ok-hold-in-None.ensures.until in
-    adds c.args.progress.now c.args.settle c.args.feeder c.args.place c.args.change c.args.held.now.items c.taken_out.new.held.items c.hold-in-None.new.held.items more.0
-    (all_stay c.args.progress.now c.args.settle (Changed c.args.feeder c.args.place c.args.change) c.args.held.now.items c.taken_out.new.held.items (none refl).0)
+    one_new c.args.progress.now c.args.settle c.args.feeder c.args.place c.args.change c.args.held.now.items c.taken_out.new.held.items c.hold-in-None.new.held.items more.0
+    (left_all (Changed c.args.feeder c.args.place c.args.change) c.args.held.now.items c.taken_out.new.held.items (none refl).0)
     more.1 more.2 more.3
 
 pub returns-then-change-2-clause-held : goal.returns-then-change-2-clause-held
 returns-then-change-2-clause-held c =
-    all_stay c.args.progress.now c.args.settle (Changed c.args.feeder c.args.place c.args.change) c.args.held.now.items c.taken_out.new.held.items (c.in-None.ensures.none refl).0
+    none_new c.args.progress.now c.args.settle (Changed c.args.feeder c.args.place c.args.change) c.args.held.now.items c.taken_out.new.held.items
+    (left_all (Changed c.args.feeder c.args.place c.args.change) c.args.held.now.items c.taken_out.new.held.items (c.in-None.ensures.none refl).0)
+    (λ some fails. none_to_hold c.args.change.holds c.args.settle c.if-change-2.true some fails)

@@ -1,7 +1,7 @@
 -- none so far is of the register
 use Rattle.std.proofs.Common.{◌≡◌, [], take}
 use Rattle.watch.specs.Settling.{notices_of}
-use Rattle.watch.specs.Teller.{held_notices}
+use Rattle.watch.specs.Due.{held_notices}
 use Rattle.watch.proofs.settling.taken_out.Given as goal
 
 abbrev pub invariant-loop-at : goal.invariant-loop-at

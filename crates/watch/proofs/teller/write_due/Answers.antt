@@ -1,8 +1,8 @@
 use Rattle.std.proofs.Common.{◌≡◌, ◌+◌, length, vec_len, sym, subst, true, List, arith, rules}
 use Rattle.watch.specs.declared.settling.Held.{Held}
 use Rattle.watch.specs.declared.teller.TellerState.TheVariants.{Going}
-use Rattle.watch.specs.Due.{has_due}
-use Rattle.watch.specs.Teller.{HasTold, IsWritten, held_notices}
+use Rattle.watch.specs.Due.{has_due, held_notices}
+use Rattle.watch.specs.Teller.{HasTold, IsWritten}
 use Rattle.watch.proofs.Advancing.{due_more, due_one}
 use Rattle.watch.proofs.Telling.{one_less, written_next, written_on}
 use Rattle.watch.proofs.teller.write_due.Goals as goal

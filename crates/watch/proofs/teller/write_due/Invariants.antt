@@ -2,8 +2,8 @@
 use Rattle.std.proofs.Common.{◌≡◌, ◌+◌, ◌++◌, List, vec_len}
 use Rattle.watch.specs.declared.settling.Held.{Held}
 use Rattle.watch.specs.declared.teller.TellerState.TheVariants.{Going}
-use Rattle.watch.specs.Due.{AreDueFirst}
-use Rattle.watch.specs.Teller.{IsWritten, held_notices}
+use Rattle.watch.specs.Due.{AreDueFirst, held_notices}
+use Rattle.watch.specs.Teller.{IsWritten}
 use Rattle.watch.proofs.teller.write_due.Given as goal
 
 abbrev pub invariant-loop : goal.invariant-loop

@@ -1,6 +1,7 @@
 use Rattle.std.proofs.Common.{◌≡◌, ◌+◌, length, vec_len, sym, subst, arith, rules}
 use Rattle.watch.specs.declared.teller.TellerState.TheVariants.{Going}
-use Rattle.watch.specs.Teller.{HasTold, IsWritten, held_notices}
+use Rattle.watch.specs.Teller.{HasTold, IsWritten}
+use Rattle.watch.specs.Due.{held_notices}
 use Rattle.watch.proofs.Telling.{one_less, written_next, written_on}
 use Rattle.watch.proofs.teller.write_left.Goals as goal
 

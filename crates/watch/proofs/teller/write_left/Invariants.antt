@@ -2,7 +2,8 @@
 use Rattle.std.proofs.Common.{◌≡◌, ◌+◌, ◌++◌, List, vec_len}
 use Rattle.watch.specs.declared.settling.Held.{Held}
 use Rattle.watch.specs.declared.teller.TellerState.TheVariants.{Going}
-use Rattle.watch.specs.Teller.{IsWritten, held_notices}
+use Rattle.watch.specs.Teller.{IsWritten}
+use Rattle.watch.specs.Due.{held_notices}
 use Rattle.watch.proofs.teller.write_left.Given as goal
 
 abbrev pub invariant-loop : goal.invariant-loop

@@ -1,5 +1,5 @@
 use Rattle.std.proofs.Common.{ap}
-use Rattle.watch.specs.Teller.{held_notices}
+use Rattle.watch.specs.Due.{held_notices}
 use Rattle.watch.proofs.Telling.{not_going, told_all_of, told_due_by}
 use Rattle.watch.proofs.teller.Teller.end.Goals as goal
 use Rattle.watch.proofs.teller.Teller.end.Goals.{in-Going, in-Stopped}

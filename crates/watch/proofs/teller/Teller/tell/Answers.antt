@@ -1,8 +1,8 @@
 use Rattle.std.proofs.Common.{◌≡◌, List, false, ap, refl, subst, ◌∙◌}
 use Rattle.watch.specs.declared.settling.Progress.{Progress}
 use Rattle.watch.specs.declared.teller.TellerState.TheVariants.{Going}
-use Rattle.watch.specs.Due.{has_due}
-use Rattle.watch.specs.Teller.{HasTold, held_notices}
+use Rattle.watch.specs.Due.{has_due, held_notices}
+use Rattle.watch.specs.Teller.{HasTold}
 use Rattle.watch.proofs.Advancing.{due_by, due_none, held_by}
 use Rattle.watch.proofs.Telling.{told_due_by, told_more}
 use Rattle.watch.proofs.teller.Teller.tell.Goals as goal
