@@ -1,6 +1,7 @@
 //! The help of the program and of each of its commands.
 
 use crate::cli::{Vocabulary, command_line};
+use clap::Error;
 use clap::error::ErrorKind;
 use std::alloc::{AllocError, Global};
 
@@ -30,9 +31,16 @@ pub fn help_of_all(alloc: Global) -> Result<String, AllocError> {
 
 fn push_help(alloc: Global, text: &mut String, words: &[&str]) -> Result<(), AllocError> {
     let mut line = command_line(alloc, Vocabulary::Open)?;
-    match line.try_get_matches_from_mut(words) {
-        Err(help) if help.kind() != ErrorKind::OutOfMemory => write!(text, "{help}"),
-        Err(_) => Err(AllocError),
-        Ok(_) => Ok(()),
+    if let Err(help) = line.try_get_matches_from_mut(words) {
+        push_text(text, &help)?;
     }
+    Ok(())
+}
+
+/// Adds what `clap` says, unless it says that memory was refused.
+fn push_text(text: &mut String, help: &Error) -> Result<(), AllocError> {
+    if help.kind() == ErrorKind::OutOfMemory {
+        return Err(AllocError);
+    }
+    write!(text, "{help}")
 }
