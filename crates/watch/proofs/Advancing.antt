@@ -1,8 +1,7 @@
 -- How far feeders come, and what is held back until then.
-use Rattle.std.proofs.Common.{◌≡◌, ◌≢◌, ◌⊎◌, ◌==◌, ◌||◌, inl, inr, ℕ, zero, suc, ◌+◌, ◌<◌, ◌≤◌, Bool, true, false, not, cond, List, [], ◌∷◌, ◌++◌, length, map, refl, sym, ap, subst, ◌∙◌, arith}
+use Rattle.std.proofs.Common.{◌≡◌, ◌≢◌, ◌⊎◌, inl, inr, ℕ, zero, suc, ◌+◌, ◌<◌, ◌≤◌, Bool, true, false, not, cond, List, [], ◌∷◌, ◌++◌, length, map, refl, sym, ap, subst, ◌∙◌, arith}
 use Rattle.std.specs.Prelude.{All, Contains, filter, nat_eq, slice_index_or, slice_set}
 use Rattle.std.specs.List.{remove}
-use Rattle.std.proofs.lemmas.Bool.{eqb-true}
 use Rattle.std.proofs.lemmas.Bool.Decides.{nat_tests}
 use Rattle.std.proofs.lemmas.List.{append-nil, append_assoc}
 use Rattle.std.proofs.lemmas.List.Elements.{All-append, All-contains_itself, All-cons, All-nil, Contains-append_cases, Contains-append_left, Contains-append_right, filter-append}
@@ -105,10 +104,6 @@ one_new progress settle feeder place change before left now one is now_is notice
 pub holds_and_fails : (holds : Bool) → holds ≡ true → not holds ≡ true → ⊥
 holds_and_fails true holding failing = absurd cc
 holds_and_fails false holding failing = absurd cc
-
-pub none_to_hold : (holds : Bool) (settle : ℕ) → (holds || (settle == 0)) ≡ true → settle ≢ 0 → not holds ≡ true → ⊥
-none_to_hold true settle is some fails = absurd cc
-none_to_hold false settle is some fails = absurd (some (eqb-true settle 0 is))
 
 -- a refusal, a break and an end are no failure
 pub no_failure : (notice : Notice)

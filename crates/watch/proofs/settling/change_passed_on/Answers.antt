@@ -3,9 +3,10 @@ use Rattle.std.proofs.lemmas.List.{map-append}
 use Rattle.logs.specs.declared.notice.Notice.{Notice}
 use Rattle.logs.specs.declared.notice.Notice.TheVariants.{Changed}
 use Rattle.watch.specs.Due.{held_notice, held_notices}
-use Rattle.watch.proofs.Advancing.{holds_and_fails, left_all, left_without, none_new, none_to_hold, one_new}
+use Rattle.watch.proofs.Advancing.{holds_and_fails, left_all, left_without, none_new, one_new}
 use Rattle.watch.proofs.Passing.{passes_healed, passes_swapped}
 use Rattle.watch.proofs.settling.change_passed_on.Goals as goal
+use Rattle.watch.proofs.settling.change_passed_on.Goals.{then-change-2-via-then-change-2, then-change-2-via-else-change-2+then-settle-eq0}
 
 pub returns-then-change-clause-passed_on : goal.returns-then-change-clause-passed_on
 returns-then-change-clause-passed_on c =
@@ -48,4 +49,7 @@ pub returns-then-change-2-clause-held : goal.returns-then-change-2-clause-held
 returns-then-change-2-clause-held c =
     none_new c.args.progress.now c.args.settle (Changed c.args.feeder c.args.place c.args.change) c.args.held.now.items c.taken_out.new.held.items
     (left_all (Changed c.args.feeder c.args.place c.args.change) c.args.held.now.items c.taken_out.new.held.items (c.in-None.ensures.none refl).0)
-    (λ some fails. none_to_hold c.args.change.holds c.args.settle c.if-change-2.true some fails)
+    (elim c.then-change-2.branch [
+      | then-change-2-via-then-change-2 w ↦ λ some fails. holds_and_fails c.args.change.holds w.if-change-2.true fails
+      | then-change-2-via-else-change-2+then-settle-eq0 w ↦ λ some fails. some w.if-settle-eq0.true
+    ])
