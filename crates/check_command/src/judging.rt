@@ -1,6 +1,6 @@
 //! Judges the registers of a tower by what readers give, and keeps that where records are asked for.
 
-ghost use Rattle.std.specs.Prelude.{◌≤◌, IfOk, map, vec_len};
+ghost use Rattle.std.specs.Prelude.{◌≡◌, ◌≤◌, IfOk, map, vec_len};
 ghost use Rattle.command_parts.specs.Job.{IsRunOver};
 ghost use Rattle.check_command.specs.Kept.{AreTracesKept, AreKeptIn};
 
