@@ -2,41 +2,47 @@
 
 use crate::row_files::RowFiles;
 use commands::run;
-use row_data::{Cut, Pieces, Program, Row, Written};
+use row_data::{Cut, Pieces, Row};
 use std::io;
 use std::rt::Files;
 use std::sync::Wait;
 use std::thread::Threads;
 
-/// The commands of the program, over the files of a row and those of the folder.
+/// What a run writes to its outputs, and the digits of its status.
 #[derive(Drop)]
-pub struct Commands<'r, R> {
-    pub rt: &'r R,
+pub struct Written {
+    pub out: Vec<u8>,
+    pub err: Vec<u8>,
+    pub status: Vec<u8>,
 }
 
-impl<R: Files + AllocGlobal + Threads + Wait + Sync> Program for Commands<'_, R>
+/// Runs a row on an input, with texts that come cut by `cut` and an output that takes `room` bytes.
+pub fn carried_out<R: Files + AllocGlobal + Threads + Wait + Sync>(
+    rt: &R,
+    row: &Row,
+    input: &[u8],
+    cut: Cut,
+    room: usize,
+) -> io::Result<Written>
 where
     R::File: Send,
 {
-    fn carry_out(&self, row: &Row, input: &[u8], cut: Cut, room: usize) -> io::Result<Written> {
-        let alloc = self.rt.alloc();
-        let mut taken = vec![in alloc; 0u8; room]?;
-        let mut out = taken.as_mut_slice();
-        let mut err = Vec::new(alloc);
-        let status = run(
-            self.rt,
-            row.handed_over(alloc),
-            &mut RowFiles::new(self.rt, row, cut),
-            &mut Pieces::new(input, cut),
-            &mut out,
-            &mut err,
-        );
-        let written = room.saturating_sub(out.len());
-        taken.truncate(written);
-        Ok(Written {
-            out: taken,
-            err,
-            status: format!(in alloc; "{status}")?.into_bytes(),
-        })
-    }
+    let mut taken = vec![in rt.alloc(); 0u8; room]?;
+    let mut out = taken.as_mut_slice();
+    let mut err = Vec::new(rt.alloc());
+    let status = run(
+        rt,
+        row.handed_over(rt.alloc()),
+        &mut RowFiles::new(rt, row, cut),
+        &mut Pieces::new(input, cut),
+        &mut out,
+        &mut err,
+    );
+    let written = room.saturating_sub(out.len());
+    taken.truncate(written);
+    Ok(Written {
+        out: taken,
+        err,
+        status: format!(in rt.alloc(); "{status}")?.into_bytes(),
+    })
 }

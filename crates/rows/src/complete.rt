@@ -1,26 +1,30 @@
 //! Whether a text names each command and each option that the manual has.
 
-use crate::pieces::Cut;
-use crate::program::Program;
-use crate::row::row_of;
+use crate::outcome::carried_out;
+use row_data::{Cut, row_of};
 use std::alloc::{AllocError, Global};
 use std::io;
+use std::rt::Files;
+use std::sync::Wait;
+use std::thread::Threads;
 
 /// What the manual names and a text does not, a line each: commands, and options, which the text has with a prefix in
 /// place of their two hyphens.
-pub fn missing<P: Program>(
-    alloc: Global,
-    program: &P,
+pub fn missing<R: Files + AllocGlobal + Threads + Wait + Sync>(
+    rt: &R,
     text: &[u8],
     prefix: &str,
-) -> io::Result<Vec<u8>> {
-    let manual = row_of(alloc, "the manual\n= word manual")?;
-    let printed = program.carry_out(&manual, &[], Cut::WHOLE, manual.room)?;
-    let manual = String::from_utf8_lossy(alloc, &printed.out)?;
-    let text = String::from_utf8_lossy(alloc, text)?;
-    let mut missing = Vec::new(alloc);
+) -> io::Result<Vec<u8>>
+where
+    R::File: Send,
+{
+    let manual = row_of(rt.alloc(), "the manual\n= word manual")?;
+    let printed = carried_out(rt, &manual, &[], Cut::WHOLE, manual.room)?;
+    let manual = String::from_utf8_lossy(rt.alloc(), &printed.out)?;
+    let text = String::from_utf8_lossy(rt.alloc(), text)?;
+    let mut missing = Vec::new(rt.alloc());
     for line in manual.lines() {
-        if let Some(name) = named_in(alloc, line, prefix)? {
+        if let Some(name) = named_in(rt.alloc(), line, prefix)? {
             if !text.contains(name.as_str()) {
                 missing.extend_from_slice(name.as_bytes())?;
                 missing.push(b'\n')?;

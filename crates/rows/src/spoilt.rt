@@ -1,24 +1,32 @@
 //! A picture of what the program says of a file that is cut off or spoilt at each of its places.
 
-use crate::pieces::Cut;
-use crate::program::Program;
-use crate::row::{Named, Row, Spoil};
+use crate::outcome::carried_out;
+use row_data::{Cut, Named, Row, Spoil};
 use std::alloc::{AllocError, Global};
 use std::io;
 use std::io::{Error, ErrorKind};
+use std::rt::Files;
+use std::sync::Wait;
+use std::thread::Threads;
 
 /// For each way to spoil the last file, a line that names it, and a letter for each place of the file, with the line
 /// ends of the file.
-pub fn picture<P: Program>(alloc: Global, program: &P, row: &mut Row) -> io::Result<Vec<u8>> {
-    let mut picture = Vec::new(alloc);
+pub fn picture<R: Files + AllocGlobal + Threads + Wait + Sync>(
+    rt: &R,
+    row: &mut Row,
+) -> io::Result<Vec<u8>>
+where
+    R::File: Send,
+{
+    let mut picture = Vec::new(rt.alloc());
     let Some(text) = row.files.pop() else {
         return Err(Error::from(ErrorKind::InvalidData));
     };
-    let whole = told_of(alloc, program, row, &text.name, text.bytes.clone()?)?;
+    let whole = told_of(rt, row, &text.name, text.bytes.clone()?)?;
     for number in 0..row.spoils.len() {
         if let Some(spoil) = row.spoils.get(number).copied() {
             head(spoil, &mut picture)?;
-            draw(alloc, program, row, &text, &whole, spoil, &mut picture)?;
+            draw(rt, row, &text, &whole, spoil, &mut picture)?;
         }
     }
     Ok(picture)
@@ -33,18 +41,20 @@ fn head(spoil: Spoil, picture: &mut Vec<u8>) -> Result<(), AllocError> {
     Ok(())
 }
 
-fn draw<P: Program>(
-    alloc: Global,
-    program: &P,
+fn draw<R: Files + AllocGlobal + Threads + Wait + Sync>(
+    rt: &R,
     row: &mut Row,
     text: &Named,
     whole: &str,
     spoil: Spoil,
     picture: &mut Vec<u8>,
-) -> io::Result<()> {
+) -> io::Result<()>
+where
+    R::File: Send,
+{
     for (place, byte) in text.bytes.iter().enumerate() {
-        let bytes = spoilt(alloc, &text.bytes, place, spoil)?;
-        let found = told_of(alloc, program, row, &text.name, bytes)?;
+        let bytes = spoilt(rt.alloc(), &text.bytes, place, spoil)?;
+        let found = told_of(rt, row, &text.name, bytes)?;
         picture.extend_from_slice(letter(whole, &found, place).as_bytes())?;
         if *byte == b'\n' {
             picture.push(b'\n')?;
@@ -67,16 +77,18 @@ fn spoilt(alloc: Global, text: &[u8], place: usize, spoil: Spoil) -> Result<Vec<
 }
 
 /// The two outputs and the status of a run with one more file.
-fn told_of<P: Program>(
-    alloc: Global,
-    program: &P,
+fn told_of<R: Files + AllocGlobal + Threads + Wait + Sync>(
+    rt: &R,
     row: &mut Row,
     name: &[u8],
     bytes: Vec<u8>,
-) -> io::Result<String> {
-    let name = name.to_vec(alloc)?;
+) -> io::Result<String>
+where
+    R::File: Send,
+{
+    let name = name.to_vec(rt.alloc())?;
     row.files.push(Named { name, bytes })?;
-    let mut written = program.carry_out(row, &[], Cut::WHOLE, row.room)?;
+    let mut written = carried_out(rt, row, &[], Cut::WHOLE, row.room)?;
     let _ = row.files.pop();
     written.out.extend_from_slice(&written.err)?;
     written.out.extend_from_slice(&written.status)?;
