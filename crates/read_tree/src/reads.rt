@@ -1,6 +1,6 @@
 //! The calls: a tree of reads and covers, and its reserved places.
 
-ghost use Rattle.std.specs.Prelude.{◌≡◌, ◌+◌, ◌<◌, ◌≤◌, [], length, is_some, if◌then◌else◌, None, OnOk, OnErr};
+ghost use Rattle.std.specs.Prelude.{◌≡◌, ◌+◌, ◌<◌, [], is_some, if◌then◌else◌, None, OnOk, OnErr, max};
 ghost use Rattle.read_tree.specs.Items.{AreItemsInOrder, spot_of_item, with_read_item, item_at_spot, without_read_item, renewed, is_some_uncovered, first_uncovered};
 
 use crate::RowItem;
@@ -47,8 +47,7 @@ impl ReadTree {
     /// counted.
     pub fn reserve(&mut self, places: usize) -> Result<(), Memory>
         ensures items { self.new.items ≡ self.old.items }
-        ensures ok { OnOk result (places ≤ self.new.free) }
-        ensures kept { self.old.free ≤ self.new.free }
+        ensures free { OnOk result (self.new.free ≡ max self.old.free places) }
         ensures err { OnErr result (self.new ≡ self.old) }
         ensures memory { OnErr result (self.old.free < places) }
     {

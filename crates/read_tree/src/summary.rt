@@ -1,7 +1,6 @@
 //! What a node keeps of the items below it: enough to say after any cover whether some read of them is uncovered.
 
-ghost use Rattle.std.specs.Prelude.{◌≡◌, ◌≤◌, ◌↔◌, ◌||◌, IsTrue, if◌then◌else◌};
-ghost use Rattle.std.specs.Option.{option_or};
+ghost use Rattle.std.specs.Prelude.{◌≡◌, ◌↔◌, ◌||◌, IsTrue, if◌then◌else◌};
 ghost use Rattle.read_tree.specs.Summary.{is_prefix_uncovered, with_others, merged, prefix_of, meets_uncovered, no_prefix, no_summary, summary_of_item, join_reads, IsSummaryOf};
 
 use crate::{Cover, RowItem};

@@ -1,6 +1,5 @@
 //! A stretch: a value that is at fault, by the end of its first read.
 
-ghost use Rattle.std.specs.Prelude.{◌≡◌, nat_lt};
 ghost use Rattle.intervals.specs.Moments.{same_moment};
 ghost use Rattle.stretch_tree.specs.Order.{moment_before};
 

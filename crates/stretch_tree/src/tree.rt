@@ -1,6 +1,6 @@
 //! The tree of stretches: room is made in it before stretches are inserted, and it finds the first of each kind.
 
-ghost use Rattle.std.specs.Prelude.{◌≡◌, ◌+◌, ◌<◌, ◌≤◌, ◌&&◌, not, [], find, is_some, if◌then◌else◌, OnOk, OnErr};
+ghost use Rattle.std.specs.Prelude.{◌≡◌, ◌+◌, ◌<◌, ◌&&◌, not, [], find, is_some, if◌then◌else◌, OnOk, OnErr, max};
 ghost use Rattle.intervals.specs.Operation.{same_value};
 ghost use Rattle.stretch_tree.specs.Order.{AreByEnd, HasNoStretchAt, with_stretch, without_stretch_at, stretch_at};
 
@@ -48,8 +48,7 @@ impl StretchTree {
     /// Makes sure that there are places for at least this many more stretches.
     pub fn reserve(&mut self, places: usize) -> Result<(), Memory>
         ensures stretches { self.new.stretches ≡ self.old.stretches }
-        ensures ok { OnOk result (places ≤ self.new.free) }
-        ensures kept { self.old.free ≤ self.new.free }
+        ensures free { OnOk result (self.new.free ≡ max self.old.free places) }
         ensures err { OnErr result (self.new ≡ self.old) }
         ensures memory { OnErr result (self.old.free < places) }
     {

@@ -1,7 +1,7 @@
 //! Insertions, removals and replacements: each goes one way down and settles the nodes on the way back up. Nodes
 //! are edited in place, and each step down is one of `go_left` or `go_right`, which count it.
 
-ghost use Rattle.std.specs.Prelude.{◌≡◌, ◌+◌, ◌-◌, ◌^◌, ◌<◌, ◌≤◌, ◌++◌, None, min, max, IsTrue, MatchOption};
+ghost use Rattle.std.specs.Prelude.{◌≡◌, ◌+◌, ◌-◌, ◌^◌, ◌<◌, ◌≤◌, ◌++◌, None, min, max, IsTrue, MatchOption, length};
 ghost use Rattle.std.specs.Borrow.{Lends, sem};
 ghost use Rattle.summary_tree.specs.contracts.node.Node.{the_row};
 ghost use Rattle.summary_tree.specs.contracts.node.Tree.{the_row as the_tree};
@@ -62,6 +62,7 @@ impl<T: Keyed, S: Summarizes<T>> Tree<T, S> {
         ensures stays { IsTrue result → KeepsLayers self.old self.new }
         ensures steps { steps.new ≤ steps.old + self.old.height }
         ensures rises { steps.old ≤ steps.new }
+        ensures counts { 0 < length self.old.items → min (steps.old + 1) (2 ^ 64 - 1) ≤ steps.new }
     {
         T::keys_are_in_one_order();
         let Some(top) = &mut self.top else {

@@ -1,6 +1,6 @@
 //! The node pool: spare nodes, one for each reserved place, and room to take back those that are in the tree.
 
-ghost use Rattle.std.specs.Prelude.{◌≡◌, ◌+◌, ◌<◌, ◌≤◌, All, OnOk, OnErr, vec_len, vec_capacity};
+ghost use Rattle.std.specs.Prelude.{◌≡◌, ◌+◌, ◌<◌, ◌≤◌, max, All, OnOk, OnErr, vec_len, vec_capacity};
 ghost use Rattle.summary_tree.specs.Node.{IsAlone};
 
 use crate::node::{Node, Tree};
@@ -58,8 +58,7 @@ impl<T: Keyed, S: Summarizes<T>> NodePool<T, S> {
     /// Makes spare nodes until there are that many.
     pub fn reserve(&mut self, places: usize) -> Result<(), Memory>
         ensures taken { self.new.taken ≡ self.old.taken }
-        ensures ok { OnOk result (places ≤ self.new.free) }
-        ensures kept { self.old.free ≤ self.new.free }
+        ensures free { OnOk result (self.new.free ≡ max self.old.free places) }
         ensures err { OnErr result (self.new.free ≡ self.old.free) }
         ensures memory { OnErr result (self.old.free < places) }
     {

@@ -1,6 +1,6 @@
 //! The calls: a tree, its reserved places and its count of steps.
 
-ghost use Rattle.std.specs.Prelude.{◌≡◌, ◌+◌, ◌*◌, ◌^◌, ◌<◌, ◌≤◌, ℕ, [], length, is_some, if◌then◌else◌, OnOk, OnErr};
+ghost use Rattle.std.specs.Prelude.{◌≡◌, ◌+◌, ◌*◌, ◌^◌, ◌<◌, ◌≤◌, ℕ, [], length, is_some, if◌then◌else◌, OnOk, OnErr, max, ◌-◌, min};
 ghost use Rattle.summary_tree.specs.Order.{AreInOrder, HasNoneAt, with_item, without_item, item_at, with_replaced};
 
 use crate::node::Tree;
@@ -84,8 +84,7 @@ impl<T: Keyed, S: Summarizes<T>> SummaryTree<T, S> {
     pub fn reserve(&mut self, places: usize) -> Result<(), Memory>
         ensures items { self.new.items ≡ self.old.items }
         ensures steps { self.new.steps ≡ self.old.steps }
-        ensures ok { OnOk result (places ≤ self.new.free) }
-        ensures kept { self.old.free ≤ self.new.free }
+        ensures free { OnOk result (self.new.free ≡ max self.old.free places) }
         ensures err { OnErr result (self.new ≡ self.old) }
         ensures memory { OnErr result (self.old.free < places) }
     {
@@ -101,6 +100,7 @@ impl<T: Keyed, S: Summarizes<T>> SummaryTree<T, S> {
         ensures free { self.new.free + 1 ≡ self.old.free }
         ensures steps { (d : ℕ) → length self.old.items < 2 ^ d → self.new.steps ≤ self.old.steps + 2 * d }
         ensures rises { self.old.steps ≤ self.new.steps }
+        ensures counts { 0 < length self.old.items → min (self.old.steps + 1) (2 ^ 64 - 1) ≤ self.new.steps }
     {
         T::keys_are_in_one_order();
         // The number of places bounds the items, and so the height.

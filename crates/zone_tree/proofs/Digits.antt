@@ -1,4 +1,5 @@
--- A number is less than 2^d, d the number of its binary digits, and at least 2^(d - 1) where it is not zero.
+-- A number is less than 2^d, d the number of its binary digits, and at least 2^(d - 1) where it is not zero. So the
+-- digits of greater numbers are no fewer.
 use Rattle.std.proofs.Common.{◌⊎◌, inl, inr, ℕ, ◌-◌, ◌^◌, ◌<◌, ◌≤◌, length, subst, arith}
 use Rattle.std.specs.Int.Digits.{digits_of}
 use Rattle.std.proofs.Math.Pow.{pow_mono}
@@ -21,3 +22,13 @@ digits_least_by n some (inl h) =
 
 pub digits_least : (n : ℕ) → 1 ≤ n → 2 ^ (binary_digits n - 1) ≤ n
 digits_least n some = digits_least_by n some (cases_lt n (2 ^ (binary_digits n - 1)))
+
+digits_rise_by : (m n : ℕ) → 1 ≤ m → m ≤ n → (binary_digits m - 1 < binary_digits n) ⊎ (binary_digits n ≤ binary_digits m - 1) → binary_digits m ≤ binary_digits n
+digits_rise_by m n some le (inl less) = omega (arith, less)
+digits_rise_by m n some le (inr more) =
+    let high : 2 ^ binary_digits n ≤ 2 ^ (binary_digits m - 1) = pow_mono more in
+    absurd (omega (arith, high, digits_least m some, le, digits_above n))
+
+-- a greater number has no fewer digits
+pub digits_rise : (m n : ℕ) → 1 ≤ m → m ≤ n → binary_digits m ≤ binary_digits n
+digits_rise m n some le = digits_rise_by m n some le (cases_lt (binary_digits m - 1) (binary_digits n))

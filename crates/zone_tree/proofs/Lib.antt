@@ -21,6 +21,6 @@ mod Seams
 mod FirstConflicts
 mod InFront
 -- the binary digits that bound the steps of an edit
-mod Digits
+pub mod Digits
 -- a tree of zones may cross threads
 pub mod Crosses

@@ -1,5 +1,5 @@
 -- What a look at the sides of a node finds.
-use Rattle.std.proofs.Common.{◌≡◌, ◌∙◌, ◌⊎◌, inl, inr, Bool, true, false, not, cond, List, [], ◌∷◌, ◌++◌, Option, Some, None, refl, sym, ap, subst}
+use Rattle.std.proofs.Common.{◌≡◌, ◌∙◌, ◌⊎◌, inl, inr, Bool, true, false, not, cond, List, [], ◌∷◌, ◌++◌, Option, Some, None, refl, sym, ap}
 use Rattle.std.specs.Prelude.{All, ◌||◌, ◌&&◌, if◌then◌else◌}
 use Rattle.std.specs.List.{find}
 use Rattle.std.specs.Option.{option_or}
@@ -15,7 +15,7 @@ use Rattle.zone_tree.specs.Zone.{HasOrderedEdges}
 use Rattle.zone_tree.specs.Order.{IsByLeft, StandInOrder}
 use Rattle.zone_tree.specs.Summary.{one_zone, join_zones, summary_of_zones}
 use Rattle.zone_tree.specs.Look.{is_behind, begins_before, last_that, has_forward}
-use Rattle.zone_tree.proofs.EdgeOrder.{before_transitive, before-false, not_after_before}
+use Rattle.zone_tree.proofs.EdgeOrder.{before_transitive, before-false}
 use Rattle.summary_tree.proofs.Lists.{find_none}
 use Rattle.zone_tree.proofs.Sides.{earlier_edges, later_edges}
 use Rattle.zone_tree.proofs.Summaries.{or_clear, one_forward, earliest_before}

@@ -1,6 +1,6 @@
 //! The calls: a tree of zones, and its reserved places.
 
-ghost use Rattle.std.specs.Prelude.{◌≡◌, ◌+◌, ◌*◌, ◌<◌, ◌≤◌, ◌↔◌, All, [], ◌∷◌, length, is_some, if◌then◌else◌, OnOk, OnErr, IsNone, IsSome, IsTrue, IfSome};
+ghost use Rattle.std.specs.Prelude.{◌≡◌, ◌+◌, ◌*◌, ◌<◌, ◌≤◌, ◌↔◌, All, [], ◌∷◌, length, is_some, if◌then◌else◌, OnOk, OnErr, IsNone, IsSome, IsTrue, IfSome, max, ◌-◌, ◌^◌, min};
 ghost use Rattle.zone_tree.specs.Edge.{ComesBefore};
 ghost use Rattle.zone_tree.specs.Zone.{HasOrderedEdges};
 ghost use Rattle.zone_tree.specs.Conflict.{IsClean, IsFirstConflict};
@@ -70,8 +70,7 @@ impl ZoneTree {
     pub fn reserve(&mut self, places: usize) -> Result<(), Memory>
         ensures zones { self.new.zones ≡ self.old.zones }
         ensures steps { self.new.steps ≡ self.old.steps }
-        ensures ok { OnOk result (places ≤ self.new.free) }
-        ensures kept { self.old.free ≤ self.new.free }
+        ensures free { OnOk result (self.new.free ≡ max self.old.free places) }
         ensures err { OnErr result (self.new ≡ self.old) }
         ensures memory { OnErr result (self.old.free < places) }
     {
@@ -104,6 +103,7 @@ impl ZoneTree {
         ensures free { self.new.free + 1 ≡ self.old.free }
         ensures steps { self.new.steps ≤ self.old.steps + (2 * binary_digits (length self.old.zones) + 1) }
         ensures rises { self.old.steps ≤ self.new.steps }
+        ensures counts { 0 < length self.old.zones → min (self.old.steps + 1) (2 ^ 64 - 1) ≤ self.new.steps }
     {
         self.tree.insert(zone);
     }
