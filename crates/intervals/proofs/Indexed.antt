@@ -1,5 +1,6 @@
 -- What the look-ups by id and by moment find, and that they still do after an edit.
 use Rattle.std.proofs.Common.{◌≡◌, ◌≢◌, ◌==◌, ℕ, zero, suc, inl, inr, ◌⊎◌, Bool, true, false, not, ◌&&◌, List, [], ◌∷◌, ◌++◌, length, set, map, Option, Some, None, refl, sym, ap, subst, ◌∙◌, cond}
+use Rattle.std.specs.Borrow.{Bor}
 use Rattle.std.specs.Prelude.{IfSome, IsSome, option_map}
 use Rattle.std.proofs.lemmas.Bool.Decides.{Decides-eqb, Decides-or}
 use Rattle.std.proofs.lemmas.List.Elements.{All-contains}
@@ -243,6 +244,12 @@ module _ (slots : List (Option Op)) (place : OpId → Option ℕ) (holder : Mome
           let k = stands_in_slot slots a h.0 in
           let e = none k.0 (ap place (sym ((Decides-same_id_is a.id id).0 h.1)) ∙ indexed.placed k.0 a k.1) in
           absurd (cc)
+
+  -- what is found of an id, or that nothing is
+  pub found_or_none : (id : OpId) (found : Option (ℕ × Bor Op)) → IfSome found (λ one. place id ≡ Some one.0) → IfSome found (λ one. slot_at slots one.0 ≡ Some one.1.now)
+      → (found ≡ None → (i : ℕ) → place id ≡ Some i → slot_at slots i ≡ None) → option_map (λ one. one.1.now) found ≡ op_of (ops_in_slots slots) id
+  found_or_none id None placed at none = sym (none_in_slot id (none refl))
+  found_or_none id (Some one) placed at none = sym (found_in_slot id one.0 one.1.now placed at)
 
   -- the holder of a moment, unless it is the operation itself, is the other one that has it
   pub other_found : (id : OpId) (m : Moment) → other_of (holder m) id ≡ option_map (λ op. op.id) (find_other_with (ops_in_slots slots) id m)

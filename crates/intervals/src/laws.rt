@@ -1,6 +1,6 @@
 //! Laws of the definitions. Each is the contract of a function that does nothing.
 
-ghost use Rattle.std.specs.Prelude.{◌≡◌, ◌≢◌, ◌↔◌, ◌⊎◌, All, Contains, IsTrue, List, [], ◌∷◌, ◌++◌, true, false, map, length, take, drop, None, Some};
+ghost use Rattle.std.specs.Prelude.{◌≡◌, ◌↔◌, ◌⊎◌, All, Contains, IsTrue, List, [], ◌∷◌, ◌++◌, true, false, map, length, take, drop, None, Some};
 ghost use Rattle.intervals.specs.declared.operation.Op.{Op};
 ghost use Rattle.intervals.specs.declared.operation.OpId.{OpId};
 ghost use Rattle.intervals.specs.declared.operation.Moment.{Moment};
@@ -9,7 +9,6 @@ ghost use Rattle.intervals.specs.declared.claim.Holder.{Holder};
 ghost use Rattle.intervals.specs.declared.claim.Holder.TheVariants as holders;
 ghost use Rattle.intervals.specs.declared.edit.Edit.{Edit};
 ghost use Rattle.intervals.specs.declared.edit.Edit.TheVariants.{Append, Withdraw, Claim as ToKind};
-ghost use Rattle.intervals.specs.declared.operation.Value.{Value};
 ghost use Rattle.intervals.specs.Terms.{ClaimModel, RegisterState, IsKnownUnlessAtomic, unedited};
 ghost use Rattle.intervals.specs.declared.claim.Kind.TheVariants.{Safe, Regular, Atomic};
 ghost use Rattle.intervals.specs.declared.operation.Act.TheVariants.{Read, Write};

@@ -1,11 +1,11 @@
 //! The first write that repeats a value: what is in the way of a claim to be atomic.
 
-ghost use Rattle.std.specs.Prelude.{◌≡◌, ◌++◌, ◌∷◌, [], List, None, Ok, Err, IfOk, OnErr, option_map};
+ghost use Rattle.std.specs.Prelude.{◌≡◌, ◌++◌, ◌∷◌, [], List, None, Ok, Err, IfOk, OnErr};
 ghost use Rattle.intervals.specs.declared.operation.Op.{Op};
 ghost use Rattle.intervals.specs.Edit.{op_of};
 ghost use Rattle.intervals.specs.Refusal.{holder_of, is_holder};
 ghost use Rattle.intervals.specs.FirstWrites.{AreFirst};
-ghost use Rattle.intervals.specs.Refusal.{first_repeat, id_with, repeat_of};
+ghost use Rattle.intervals.specs.Refusal.{first_repeat, repeat_of};
 ghost use Rattle.intervals.specs.Standing.{HasDistinctIds};
 ghost use Rattle.intervals.specs.Table.{ops_in_slots};
 ghost use Rattle.intervals.specs.Terms.{terms_of};

@@ -1,14 +1,14 @@
 //! The operations that stand, by their ids and by their moments, and room for one more.
 
-ghost use Rattle.std.specs.Prelude.{◌≡◌, ◌↔◌, ◌<◌, ◌≤◌, ℕ, [], List, length, None, Some, OnOk, OnErr, IfSome, IsSome, IsTrue, option_copied, option_map, vec_len, vec_capacity};
+ghost use Rattle.std.specs.Prelude.{◌≡◌, ◌↔◌, ◌<◌, ◌≤◌, ℕ, [], length, None, Some, OnOk, OnErr, IfSome, IsSome, IsTrue, option_copied, option_map, vec_len, vec_capacity, ◌-◌, ◌≢◌, Option, slice_get};
 ghost use Rattle.intervals.specs.declared.edit.Change.{Change as AChange};
 ghost use Rattle.intervals.specs.declared.operation.Op.{Op as AnOp};
+ghost use Rattle.intervals.specs.declared.operation.Moment.{Moment as AMoment};
 ghost use Rattle.intervals.specs.declared.operation.OpId.{OpId as AnId};
 ghost use Rattle.intervals.specs.Edit.{op_of, found_by, edited, new_op};
-ghost use Rattle.intervals.specs.Operation.{same_id};
 ghost use Rattle.intervals.specs.Refusal.{first_refusal, moments_refusal, ok_unless, find_other_with};
 ghost use Rattle.intervals.specs.Target.{IsTargetOf};
-ghost use Rattle.intervals.specs.Table.{AreSlots, admitted, slot_of_id, prepared_after, ops_in_slots, slot_at};
+ghost use Rattle.intervals.specs.Table.{AreSlots, IsIndexed, admitted, slot_of_id, prepared_after, ops_in_slots, slot_at};
 
 use crate::moments::{ends_too_early, is_too_large, move_moments, put_moments, take_moments};
 use crate::rising::RisingMap;
@@ -96,25 +96,7 @@ impl<'t> OpTable<'t> {
     pub fn target(&self, edit: &Edit<'t>) -> Target<'t>
         ensures { IsTargetOf self.now.ops edit.now result }
     {
-        let (place, old) = self.look_up(edit.id());
-        Target {
-            place,
-            old: old.copied(),
-            new: new_op(edit, old),
-        }
-    }
-
-    /// The slot of the optional id and the operation in it; slot 0 where there is no operation.
-    fn look_up(&self, id: Option<OpId>) -> (usize, Option<&Op<'t>>)
-        ensures { option_copied result.1 ≡ found_by self.now.ops id }
-    {
-        let Some(id) = id else {
-            return (0, None);
-        };
-        match find_slot(self.slots.as_slice(), &self.places, id) {
-            Some((place, op)) => (place, Some(op)),
-            None => (0, None),
-        }
+        target_in(self.slots.as_slice(), &self.places, edit)
     }
 
     /// The first refusal, from `UnknownOp` to `MomentTooLarge`, that the edit meets. The others depend on the
@@ -261,6 +243,43 @@ impl<'t> OpTable<'t> {
     }
 }
 
+/// The target of the edit among the operations in the slots. Its place is the slot of the operation that stands.
+fn target_in<'t>(
+    slots: &[Option<Op<'t>>],
+    places: &RisingMap<OpId, usize>,
+    edit: &Edit<'t>,
+) -> Target<'t>
+    requires { AreSlots places.now }
+    ensures target { (holder : AMoment → Option AnId) → IsIndexed (slot_at slots.now) (slot_of_id places.now) holder → IsTargetOf (ops_in_slots slots.now) edit.now result }
+    ensures place { IfSome result.old (λ op. slot_at slots.now result.place ≡ Some op) }
+{
+    match look_up(slots, places, edit.id()) {
+        Some((place, op)) => Target {
+            place,
+            old: Some(*op),
+            new: new_op(edit, Some(op)),
+        },
+        None => Target {
+            place: 0,
+            old: None,
+            new: new_op(edit, None),
+        },
+    }
+}
+
+/// The slot of the optional id, and the operation in it.
+fn look_up<'b, 't>(
+    slots: &'b [Option<Op<'t>>],
+    places: &RisingMap<OpId, usize>,
+    id: Option<OpId>,
+) -> Option<(usize, &'b Op<'t>)>
+    requires { AreSlots places.now }
+    ensures slot { IfSome result (λ found. slot_at slots.now found.0 ≡ Some found.1.now) }
+    ensures found { (holder : AMoment → Option AnId) → IsIndexed (slot_at slots.now) (slot_of_id places.now) holder → option_map (λ found. found.1.now) result ≡ found_by (ops_in_slots slots.now) id }
+{
+    find_slot(slots, places, id?)
+}
+
 /// The slot of that id, and the operation in it.
 fn find_slot<'b, 't>(
     slots: &'b [Option<Op<'t>>],
@@ -305,6 +324,7 @@ fn drop_empty_end(slots: &mut Vec<Option<Op>>)
     ensures standing { ops_in_slots slots.new.items ≡ ops_in_slots slots.old.items }
     ensures slots { (i : ℕ) → slot_at slots.new.items i ≡ slot_at slots.old.items i }
     ensures len { vec_len slots.new ≤ vec_len slots.old }
+    ensures end { slice_get slots.new.items (vec_len slots.new - 1) ≢ Some None }
     ensures capacity { vec_capacity slots.new ≡ vec_capacity slots.old }
 {
     while let Some(None) = slots.last() {

@@ -1,7 +1,6 @@
 //! From the fields of a map to an edit.
 
 ghost use Rattle.std.specs.Prelude.{◌≡◌, IfOk};
-ghost use Rattle.edn_reader.specs.Given.{seen};
 ghost use Rattle.edn_reader.specs.Lent.{piece_of};
 ghost use Rattle.jepsen_form.specs.Item.{edit_by, edited_place, change_of};
 ghost use Rattle.jepsen_form.specs.Form.{seen_all};

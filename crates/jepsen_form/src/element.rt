@@ -1,7 +1,6 @@
 //! What single fields and elements say.
 
 ghost use Rattle.std.specs.Prelude.{◌≡◌};
-ghost use Rattle.edn_reader.specs.Grammar.{ElementModel};
 ghost use Rattle.edn_reader.specs.Lent.{piece_of};
 ghost use Rattle.edn_reader.specs.Given.{seen};
 ghost use Rattle.jepsen_form.specs.Item.{the_one, at_most_one, is_there, stage_of, action_of, value_stated, moment_of, end_of, place_of, kind_stated};

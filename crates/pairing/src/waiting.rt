@@ -3,7 +3,7 @@
 //! Processes 0 to 1,023 have a slot each, by their number, all others an entry in a map. The number of slots is
 //! the least power of two that has room for the greatest of these processes so far: 1,024 slots take 40 KB.
 
-ghost use Rattle.std.specs.Prelude.{◌≡◌, ◌<◌, ◌==◌, ℕ, ℤ, length, Some, None, OnOk, OnErr, if◌then◌else◌};
+ghost use Rattle.std.specs.Prelude.{◌≡◌, ◌<◌, ◌==◌, ℕ, ℤ, length, Some, None, OnOk, OnErr, if◌then◌else◌, ◌+◌, ◌*◌, ◌≤◌, max};
 ghost use Rattle.std.specs.Ordering.{int_cmp, int_eq};
 ghost use Rattle.std.specs.BTreeMap.{get};
 ghost use Rattle.pairing.specs.Waiting.{slot_of, in_slot, waits_at};
@@ -106,6 +106,7 @@ fn fill(
 fn reach(slots: &mut Vec<Option<Invocation>>, slot: usize) -> Result<(), AllocError>
     requires { slot < 1024 }
     ensures ok { OnOk result (slot < length slots.new.items) }
+    ensures few { length slots.new.items ≤ max (length slots.old.items) (2 * (slot + 1)) }
     ensures kept { (other : ℕ) → in_slot slots.new.items other ≡ in_slot slots.old.items other }
     ensures err { OnErr result (slots.new.items ≡ slots.old.items) }
 {

@@ -1,6 +1,6 @@
 //! Rows of reads that are judged one by one, in the order of their ends.
 
-ghost use Rattle.std.specs.Prelude.{◌≡◌, ◌⊎◌, ◌↔◌, ◌<◌, ◌≤◌, ℕ, [], List, length, IfSome, IsSome, IsTrue, None, Some, true, false, OnOk, vec_len, vec_capacity, slice_index_or};
+ghost use Rattle.std.specs.Prelude.{◌≡◌, ◌⊎◌, ◌↔◌, ◌<◌, ◌≤◌, ℕ, [], List, length, IfSome, IsSome, IsTrue, None, Some, true, false, OnOk, vec_len, vec_capacity, slice_index_or, ◌+◌};
 ghost use Rattle.intervals.specs.declared.operation.Op.{Op as AnOp};
 ghost use Rattle.intervals.specs.Judging.{end_number, first_wrong};
 ghost use Rattle.intervals.specs.Operation.{IsJudgedRead, IsWrite, Precedes, value_of};
@@ -11,6 +11,7 @@ ghost use Rattle.safe_regular.specs.Rows.{AreJudged, AreJudgedAgain, AreKept, Ar
 ghost use Rattle.safe_regular.specs.Seen.{AreOneTo, BeginsAfterRead, LeavesAlone};
 ghost use Rattle.safe_regular.specs.Writes.{AreWrites};
 ghost use Rattle.safe_regular.specs.declared.judged.JudgedRead.{JudgedRead as ARow};
+ghost use Rattle.safe_regular.specs.declared.sentence.TheConstants.{LOOKS};
 
 use crate::sentence::{LOOKS, is_wrong};
 use crate::writes::Writes;
@@ -249,6 +250,7 @@ impl JudgedReads {
         ensures latest { self.new.latest ≡ self.old.latest }
         ensures front { IsNoneWrong self.old.first self.old.rows.items → IsNoneWrong self.new.first self.new.rows.items }
         ensures first { result ≡ true → IsWrongAt self.new.first self.new.rows.items }
+        ensures near { self.new.first ≤ self.old.first + LOOKS }
     {
         let Some(first) = first_wrong_from(self.rows.as_slice(), self.first, LOOKS) else {
             return false;
@@ -301,6 +303,7 @@ fn is_end_at(rows: &[JudgedRead], place: usize, number: u64) -> bool
 fn first_wrong_from(rows: &[JudgedRead], at: usize, looks: usize) -> Option<usize>
     ensures front { IsNoneWrong at rows.now → IfSome result (λ first. IsNoneWrong first rows.now) }
     ensures wrong { IfSome result (λ first. IsWrongAt first rows.now) }
+    ensures near { IfSome result (λ first. first ≤ at + looks) }
 {
     let Some(row) = row_at(rows, at) else {
         return Some(at);
@@ -319,6 +322,7 @@ fn first_wrong_from(rows: &[JudgedRead], at: usize, looks: usize) -> Option<usiz
 fn place_back(rows: &[JudgedRead], number: u64) -> Option<usize>
     ensures within { IfSome result (λ place. place ≤ length rows.now) }
     ensures place { AreRising rows.now → IfSome result (IsPlaceOf number rows.now) }
+    ensures near { IfSome result (λ place. length rows.now ≤ place + LOOKS) }
 {
     place_back_from(rows, number, rows.len(), LOOKS)
 }
@@ -327,6 +331,7 @@ fn place_back_from(rows: &[JudgedRead], number: u64, at: usize, looks: usize) ->
     requires within { at ≤ length rows.now }
     ensures within { IfSome result (λ place. place ≤ length rows.now) }
     ensures place { AreRising rows.now → EndFrom number rows.now at → IfSome result (IsPlaceOf number rows.now) }
+    ensures near { IfSome result (λ place. at ≤ place + looks) }
 {
     if at == 0 {
         return Some(at);

@@ -1,6 +1,6 @@
 //! The reads of a register and their verdicts: judged one by one at first, later by one tree.
 
-ghost use Rattle.std.specs.Prelude.{◌≡◌, ◌↔◌, ◌+◌, ◌≤◌, [], List, length, None, Some, IfOk, IfSome, IsSome, IsTrue, OnOk, option_map};
+ghost use Rattle.std.specs.Prelude.{◌≡◌, ◌↔◌, ◌+◌, ◌≤◌, [], List, length, None, Some, IfOk, IfSome, IsSome, IsTrue, OnOk};
 ghost use Rattle.intervals.specs.Judging.{first_wrong};
 ghost use Rattle.intervals.specs.Terms.{ClaimModel, terms_of};
 ghost use Rattle.intervals.specs.declared.operation.Op.{Op as AnOp};
