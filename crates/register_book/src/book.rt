@@ -1,6 +1,6 @@
 //! The book of one register: its calls, and what they promise.
 
-ghost use Rattle.std.specs.Prelude.{◌≡◌, ◌≢◌, ◌↔◌, ◌+◌, ◌≤◌, [], All, Some, None, false, length, IfOk, IfSome, OnOk, OnErr, IsNone, IsTrue, option_copied};
+ghost use Rattle.std.specs.Prelude.{◌≡◌, ◌≢◌, ◌↔◌, ◌+◌, ◌≤◌, [], All, Some, None, false, length, IfOk, IfSome, OnOk, OnErr, IsNone, IsTrue, option_copied, ◌*◌, true};
 ghost use Rattle.intervals.specs.Terms.{terms_of, IsKnownUnlessAtomic};
 ghost use Rattle.intervals.specs.Edit.{op_of, is_claim};
 ghost use Rattle.intervals.specs.Target.{IsTargetOf};
@@ -88,8 +88,8 @@ impl<'t> RegisterBook<'t> {
 
     /// Carries an edit out and returns whether the register holds after it, or returns why the edit is refused. A
     /// withdrawal takes no memory, and neither does a claim of the kind that the register has already, which only
-    /// asks for the verdict. A claim of another kind judges all operations again; the old judge is kept until that
-    /// is done.
+    /// asks for the verdict. A claim of another kind judges all operations again, in as many steps as it takes to append
+    /// them; the old judge is kept until that is done.
     pub fn apply(&mut self, edit: Edit<'t>) -> Result<Reply, Memory>
         ensures reply { IfOk result (λ reply. IsReply (claimed_of self.old) edit.entry reply) }
         ensures after { OnOk result (claimed_of self.new ≡ after_edit (claimed_of self.old) edit.entry) }
@@ -100,6 +100,7 @@ impl<'t> RegisterBook<'t> {
         ensures rises { self.old.steps ≤ self.new.steps }
         ensures none { is_claim edit.entry ≡ false → self.old.claim.kind ≢ Kind.Atomic → self.new.steps ≡ self.old.steps }
         ensures again { edit.entry ≡ Edit.Claim self.old.claim.kind → self.new.steps ≡ self.old.steps }
+        ensures claims { is_claim edit.entry ≡ true → self.new.steps ≤ self.old.steps + length self.old.ops * most_steps self.old.ops }
     {
         let target = self.judge.operations().target(&edit);
         if let Some(refusal) = refusal_of(self.alloc, &self.judge, &edit, &target)? {
@@ -121,6 +122,7 @@ impl<'t> RegisterBook<'t> {
         ensures rises { self.old.steps ≤ self.new.steps }
         ensures none { is_claim edit.now ≡ false → self.old.claim.kind ≢ Kind.Atomic → self.new.steps ≡ self.old.steps }
         ensures again { edit.now ≡ Edit.Claim self.old.claim.kind → self.new.steps ≡ self.old.steps }
+        ensures claims { is_claim edit.now ≡ true → self.new.steps ≤ self.old.steps + length self.old.ops * most_steps self.old.ops }
     {
         match edit {
             Edit::Claim(kind) => self.change_kind(*kind),
@@ -135,6 +137,7 @@ impl<'t> RegisterBook<'t> {
         ensures memory { OnErr result (kind ≢ self.old.claim.kind) }
         ensures rises { self.old.steps ≤ self.new.steps }
         ensures again { kind ≡ self.old.claim.kind → self.new.steps ≡ self.old.steps }
+        ensures claims { self.new.steps ≤ self.old.steps + length self.old.ops * most_steps self.old.ops }
     {
         if self.kind() == kind {
             return Ok(());

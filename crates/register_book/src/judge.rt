@@ -1,6 +1,6 @@
 //! The judge of a register, for one writer or for many, with the same calls for both.
 
-ghost use Rattle.std.specs.Prelude.{◌≡◌, ◌≢◌, ◌↔◌, ◌+◌, ◌≤◌, [], None, IfOk, IfSome, OnOk, OnErr, IsNone, IsSome, IsTrue};
+ghost use Rattle.std.specs.Prelude.{◌≡◌, ◌≢◌, ◌↔◌, ◌+◌, ◌≤◌, [], None, IfOk, IfSome, OnOk, OnErr, IsNone, IsSome, IsTrue, ◌*◌, length};
 ghost use Rattle.intervals.specs.Terms.{terms_of, IsKnownUnlessAtomic};
 ghost use Rattle.intervals.specs.Edit.{edited};
 ghost use Rattle.intervals.specs.Target.{IsTargetOf};
@@ -48,6 +48,7 @@ impl<'t> Judge<'t> {
         requires apart { StandApart (held_by self.now).claim (held_by self.now).ops }
         requires accepted { to_kind_refusal kind (held_by self.now).claim (held_by self.now).ops ≡ None }
         ensures held { IfOk result (λ judge. claimed_of (held_by judge) ≡ record { claim = record (held_by self.now).claim { kind = kind }; ops = (held_by self.now).ops }) }
+        ensures steps { IfOk result (λ judge. (held_by judge).steps ≤ length (held_by self.now).ops * most_steps (held_by self.now).ops) }
         ensures kind { IfOk result IsOfItsKind }
         ensures none_prepared { IfOk result HasNonePrepared }
     {

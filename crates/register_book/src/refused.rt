@@ -1,6 +1,6 @@
 //! Why an edit is refused.
 
-ghost use Rattle.std.specs.Prelude.{◌≡◌, ◌≢◌, [], None, IfOk, OnErr, IsTrue, option_map};
+ghost use Rattle.std.specs.Prelude.{◌≡◌, ◌≢◌, [], None, IfOk, OnErr, option_map};
 ghost use Rattle.intervals.specs.Target.{IsTargetOf};
 ghost use Rattle.intervals.specs.Refusal.{reply_to, first_refusal, new_write_refusal, write_refusal, claim_refusal, one_writer_refusal, repeat_claimed, first_repeat};
 ghost use Rattle.intervals.specs.Standing.{StandApart};

@@ -1,6 +1,5 @@
-use Rattle.std.proofs.Common.{◌≡◌, ◌≢◌, true, None, List, refl, rules, subst, sym}
+use Rattle.std.proofs.Common.{◌≡◌, ◌≢◌, true, None, refl, rules, subst, sym}
 use Rattle.intervals.specs.declared.claim.Kind.TheVariants.{Atomic}
-use Rattle.intervals.specs.declared.operation.Op.{Op}
 use Rattle.intervals.specs.Refusal.{first_overlap, is_one_writer}
 use Rattle.intervals.specs.Standing.{HasDistinctMoments}
 use Rattle.register_book.specs.Judge.{held_by}

@@ -1,13 +1,13 @@
-use Rattle.std.proofs.Common.{rules, ◌≡◌, ◌≤◌, ◌+◌, ◌∙◌, List, [], ◌∷◌, ◌++◌, Option, Some, None, length, ap, subst, sym, arith}
+use Rattle.std.proofs.Common.{rules, ◌≡◌, ◌≤◌, ◌+◌, ◌*◌, ◌∙◌, List, [], ◌∷◌, ◌++◌, Some, None, length, ap, subst, sym}
 use Rattle.intervals.specs.declared.operation.Op.{Op}
 use Rattle.intervals.specs.Standing.{StandApart}
 use Rattle.intervals.specs.Table.{ops_in_slots, slot_at}
-use Rattle.intervals.specs.Terms.{ClaimModel}
+use Rattle.intervals.specs.Terms.{ClaimModel, RegisterState}
 use Rattle.intervals.proofs.Claimed.{claimed_apart}
 use Rattle.register_book.specs.declared.judge.Judge.{Judge}
 use Rattle.register_book.specs.Judge.{held_by, IsOfItsKind, HasNonePrepared}
-use Rattle.register_book.specs.BookModel.{claimed_of}
-use Rattle.register_book.proofs.Again.{HeldAgain, accepted_next, held_all, held_on, held_over}
+use Rattle.register_book.specs.BookModel.{most_steps}
+use Rattle.register_book.proofs.Again.{HeldAgain, accepted_next, held_all, held_on, held_over, steps_on}
 use Rattle.register_book.proofs.judge.Judge.as_kind.Goals.{in-Some+in_ok-admit, in_default}
 use Rattle.register_book.proofs.judge.Judge.as_kind.Goals as goal
 
@@ -33,6 +33,7 @@ loop-slot-preserved c =
     let slots = c.slots-slot-items.result.now in
     let k = c.loop-slot.slot-index in
     let held = c.loop-slot.invariant in
+    let stands : ops_in_slots slots ≡ (held_by c.args.self.now).ops = search rules in
     elim c.match-slot.branch [
       | in-Some+in_ok-admit w ↦
           let at : slot_at slots k ≡ Some w.in-Some.op = search rules in
@@ -45,6 +46,8 @@ loop-slot-preserved c =
             held = subst (λ (judge : Judge). HeldAgain claim slots (k + 1) (held_by judge)) (sym w.judge-is) (held_on claim slots k w.in-Some.op before after held.held at e);
             kind = subst IsOfItsKind (sym w.judge-is) kind;
             none_prepared = subst HasNonePrepared (sym w.judge-is) left;
+            steps = subst (λ (judge : Judge). (held_by judge).steps ≤ length (held_by judge).ops * most_steps (held_by c.args.self.now).ops) (sym w.judge-is)
+                (steps_on claim slots k (held_by c.args.self.now).ops before after w.in-Some.op held.held stands e held.steps w.admit.ensures.steps);
           }
       | in_default w ↦
           let at : slot_at slots k ≡ None = search rules in
@@ -52,6 +55,7 @@ loop-slot-preserved c =
             held = subst (λ (judge : Judge). HeldAgain claim slots (k + 1) (held_by judge)) (sym w.judge-is) (held_over claim slots k (held_by c.loop-slot.judge) held.held at);
             kind = subst IsOfItsKind (sym w.judge-is) held.kind;
             none_prepared = subst HasNonePrepared (sym w.judge-is) held.none_prepared;
+            steps = subst (λ (judge : Judge). (held_by judge).steps ≤ length (held_by judge).ops * most_steps (held_by c.args.self.now).ops) (sym w.judge-is) held.steps;
           }
     ]
 
@@ -70,3 +74,8 @@ returns-clause-kind c = c.loop-slot.invariant.kind
 
 pub returns-clause-none_prepared : goal.returns-clause-none_prepared
 returns-clause-none_prepared c = c.loop-slot.invariant.none_prepared
+
+pub returns-clause-steps : goal.returns-clause-steps
+returns-clause-steps c =
+    let ops = (held_by c.args.self.now).ops in
+    subst (λ (kept : List Op). (held_by c.loop-slot.judge).steps ≤ length kept * most_steps ops) (ap (λ (state : RegisterState). state.ops) (returns-clause-held c)) c.loop-slot.invariant.steps
