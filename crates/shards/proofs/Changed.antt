@@ -1,12 +1,11 @@
 -- The changes of verdicts by the entries of a journal that is one entry longer.
-use Rattle.std.proofs.Common.{◌≡◌, ◌≢◌, ℕ, ◌/◌, ◌%◌, ◌<◌, List, [], ◌∷◌, ◌++◌, length, get_or, Option, Some, None, Bool, true, false, refl, sym, ap, subst, ◌∙◌, append-nil}
+use Rattle.std.proofs.Common.{◌≡◌, ◌/◌, ◌%◌, ◌<◌, List, [], ◌∷◌, ◌++◌, length, get_or, Option, Some, None, Bool, true, false, refl, sym, ap, subst, ◌∙◌, append-nil}
 use Rattle.std.specs.Prelude.{◌↔◌, IfSome, IsNone, IsTrue, option_to_list}
 use Rattle.std.specs.List.{slice_get}
 use Rattle.intervals.specs.Terms.{ClaimModel, RegisterState}
 use Rattle.intervals.specs.Refusal.{after_edit}
 use Rattle.intervals.specs.Kind.{Holds}
 use Rattle.register_book.specs.BookModel.{BookModel, claimed_of}
-use Rattle.register_book.specs.declared.fault.Fault.{Fault}
 use Rattle.register_book.specs.declared.fault.Witness.{Witness}
 use Rattle.register_book.specs.Fault.{IsWitness, ids_of}
 use Rattle.register_book.specs.Reply.{IsReply}
@@ -15,7 +14,7 @@ use Rattle.shards.specs.declared.entry.Entry.{Entry}
 use Rattle.shards.specs.declared.shard.Shard.{Shard}
 use Rattle.shards.specs.Plan.{Plan}
 use Rattle.shards.specs.Journal.{HoldsAfter, left_by}
-use Rattle.shards.specs.VerdictChange.{AreVerdictChanges, IsAsBefore, IsVerdictChangeBy, as_before, one_changed}
+use Rattle.shards.specs.VerdictChange.{AreVerdictChanges, IsChangeIfAny, IsVerdictChangeBy, as_before, one_changed}
 use Rattle.shards.specs.Shard.{IsVerdictChangeTo, IsShardOf}
 use Rattle.shards.proofs.Journals.{left_push_own}
 use Rattle.shards.proofs.Kept.{HasBook, has_book, holds_by, same_book}
@@ -59,37 +58,46 @@ changed_by plan before entry claim edited held change known left was is = record
   none = subst (λ (s : RegisterState). IsNone change.fault ↔ Holds s.claim s.ops) left is.none;
 }
 
-changes_more : (plan : Plan) (journal : List Entry) (told : List VerdictChange) (entry : Entry) (claim : ClaimModel) (edited : BookModel) (held : Bool) (change : Option VerdictChange)
+any_change : (plan : Plan) (journal : List Entry) (entry : Entry) (claim : ClaimModel) (edited : BookModel) (held : Bool) (change : Option VerdictChange)
     → slice_get plan.claims entry.register.0 ≡ Some claim
     → claimed_of edited ≡ left_by (journal ++ entry ∷ []) entry.register.0 claim
     → IsTrue held ↔ HoldsAfter plan entry.register.0 journal
     → IfSome change (IsVerdictChangeTo edited entry.register (length journal) held)
     → (IsNone change → IsTrue held ↔ Holds edited.claim edited.ops)
-    → AreVerdictChanges plan journal told
-    → AreVerdictChanges plan (journal ++ entry ∷ []) (told ++ option_to_list change)
-changes_more plan journal told entry claim edited held None known left was some none are =
-    subst (AreVerdictChanges plan (journal ++ entry ∷ [])) (sym (append-nil told))
-    (as_before journal told entry are (through was (holds_by plan (journal ++ entry ∷ []) entry.register.0 claim (claimed_of edited) held known left (none refl))))
-changes_more plan journal told entry claim edited held (Some change) known left was some none are =
-    one_changed journal told entry change are (changed_by plan journal entry claim edited held change known left was some)
+    → IsChangeIfAny plan journal entry change
+any_change plan journal entry claim edited held None known left was some none =
+    through was (holds_by plan (journal ++ entry ∷ []) entry.register.0 claim (claimed_of edited) held known left (none refl))
+any_change plan journal entry claim edited held (Some change) known left was some none = changed_by plan journal entry claim edited held change known left was some
 
--- the changes of a shard with one more entry
-pub changes_push : (plan : Plan) (shard : Shard) (entry : Entry) (book edited : BookModel) (held : Bool) (change : Option VerdictChange) (journal : List Entry) (told : List VerdictChange)
+-- the change of the verdict by an entry of a shard, where it makes one
+pub change_of : (plan : Plan) (shard : Shard) (entry : Entry) (book edited : BookModel) (held : Bool) (change : Option VerdictChange)
     → IsShardOf plan shard → entry.register.0 % plan.shards ≡ shard.at → entry.register.0 < length plan.claims
     → book ≡ get_or shard.books.items (entry.register.0 / shard.shards) book → IsReply (claimed_of book) entry.edit entry.reply → claimed_of edited ≡ after_edit (claimed_of book) entry.edit
     → IsTrue held ↔ Holds book.claim book.ops
     → IfSome change (IsVerdictChangeTo edited entry.register (length shard.journal.items) held)
     → (IsNone change → IsTrue held ↔ Holds edited.claim edited.ops)
-    → journal ≡ shard.journal.items ++ entry ∷ [] → told ≡ shard.changes.items ++ option_to_list change
-    → AreVerdictChanges plan journal told
-changes_push plan shard entry book edited held change journal told kept here known is reply edited_to was some none longer more =
+    → IsChangeIfAny plan shard.journal.items entry change
+change_of plan shard entry book edited held change kept here known is reply edited_to was some none =
     let has : HasBook plan shard entry.register.0 = has_book plan shard entry.register.0 kept here known in
     let left : claimed_of book ≡ left_by shard.journal.items entry.register.0 has.claim = same_book plan shard entry.register.0 book has is in
     let replied : IsReply (left_by shard.journal.items entry.register.0 has.claim) entry.edit entry.reply = subst (λ (state : RegisterState). IsReply state entry.edit entry.reply) left reply in
     let after : claimed_of edited ≡ left_by (shard.journal.items ++ entry ∷ []) entry.register.0 has.claim =
     edited_to ∙ ap (λ (state : RegisterState). after_edit state entry.edit) left ∙ sym (left_push_own has.claim shard.journal.items entry replied) in
-    subst (λ (entries : List Entry). AreVerdictChanges plan entries told) (sym longer)
-    (subst (AreVerdictChanges plan (shard.journal.items ++ entry ∷ [])) (sym more)
-    (changes_more plan shard.journal.items shard.changes.items entry has.claim edited held change has.known after
+    any_change plan shard.journal.items entry has.claim edited held change has.known after
     (holds_by plan shard.journal.items entry.register.0 has.claim (claimed_of book) held has.known left was)
-    some none kept.changes))
+    some none
+
+changes_more : (plan : Plan) (journal : List Entry) (told : List VerdictChange) (entry : Entry) (change : Option VerdictChange)
+    → IsChangeIfAny plan journal entry change → AreVerdictChanges plan journal told
+    → AreVerdictChanges plan (journal ++ entry ∷ []) (told ++ option_to_list change)
+changes_more plan journal told entry None is are = subst (AreVerdictChanges plan (journal ++ entry ∷ [])) (sym (append-nil told)) (as_before journal told entry are is)
+changes_more plan journal told entry (Some change) is are = one_changed journal told entry change are is
+
+-- the changes of a journal with one more entry
+pub changes_push : (plan : Plan) (old : List Entry) (changes : List VerdictChange) (entry : Entry) (change : Option VerdictChange) (journal : List Entry) (told : List VerdictChange)
+    → IsChangeIfAny plan old entry change → AreVerdictChanges plan old changes
+    → journal ≡ old ++ entry ∷ [] → told ≡ changes ++ option_to_list change
+    → AreVerdictChanges plan journal told
+changes_push plan old changes entry change journal told is are longer more =
+    subst (λ (entries : List Entry). AreVerdictChanges plan entries told) (sym longer)
+    (subst (AreVerdictChanges plan (old ++ entry ∷ [])) (sym more) (changes_more plan old changes entry change is are))

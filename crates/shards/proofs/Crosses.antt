@@ -8,7 +8,6 @@ use denote.Param.{param, arg}
 use denote.Param.Send.{IsSend, IsSync, AllSend, param_send, arg_send, struct_send, recorded_send, sendable}
 use denote.Struct.Declared.{shape}
 use denote.Struct.Field.{rows}
-use denote.Struct.Struct.{Shape}
 use denote.Struct.Tuple.{TupleAt, type_at, field_at, parts}
 use Rattle.std.proofs.Crossing.{crosses}
 use Rattle.std.proofs.marker.PhantomData.TheSendSync as opening

@@ -9,6 +9,7 @@ use Rattle.shards.specs.declared.fault.ShardFault.{ShardFault}
 use Rattle.shards.specs.declared.fault.ShardFault.TheVariants.{UnknownRegister, Memory, JournalBehind, PassMissing, Stranger, ForeignPass}
 use Rattle.shards.specs.Plan.{Plan}
 use Rattle.shards.specs.Journal.{IsJournalOf}
+use Rattle.shards.specs.VerdictChange.{IsChangeIfAny}
 use Rattle.shards.specs.Pass.{PassModel, IsPassOf, IsInKeeping, with_seen}
 use Rattle.shards.specs.Closing.{ShardModel}
 use Rattle.shards.specs.Steps.{IsLive, IsQuestionRefusal, IsRefusal, IsStanding, IsStateRefusal, IsSubmitted, entry_of, last_entry}
@@ -21,18 +22,20 @@ pub submitted : (plan : Plan) (pass : PassModel) (register : RegId) (edit : Edit
     → IfOk answered (λ receipt. new ≡ record { at = old.at; journal = old.journal ++ entry_of pass.feeder register edit receipt.reply ∷ [] })
     → IsJournalOf plan new.at new.journal
     → IfOk answered (λ receipt. (receipt.shard ≡ old.at) × (receipt.number ≡ length old.journal))
+    → IfOk answered (λ receipt. IsChangeIfAny plan old.journal (entry_of pass.feeder register edit receipt.reply) receipt.change)
     → OnOk answered (IsInKeeping old.at pass old.journal)
     → IfOk answered (IsSubmitted plan pass register edit)
-submitted plan pass register edit (Ok receipt) old new of_plan known here journal of_shard receipt_is keeping = record {
+submitted plan pass register edit (Ok receipt) old new of_plan known here journal of_shard receipt_is change keeping = record {
   of_plan = of_plan;
   known = known;
   shard = receipt_is.0 ∙ here;
   before = old.journal;
   of_shard = rw (receipt_is.0) (rw journal at of_shard);
   number = receipt_is.1;
+  change = change;
   keeping = rw (receipt_is.0) keeping;
 }
-submitted plan pass register edit (Err fault) old new of_plan known here journal of_shard receipt_is keeping = tt
+submitted plan pass register edit (Err fault) old new of_plan known here journal of_shard receipt_is change keeping = tt
 
 -- a question that a shard answered is live
 pub live : (plan : Plan) (pass pass' : PassModel) (register : ℕ) (answered : Result Answer ShardFault) (held : ShardModel)

@@ -15,6 +15,7 @@ use Rattle.shards.specs.declared.fault.ShardFault.{ShardFault}
 use Rattle.shards.specs.declared.fault.ShardFault.TheVariants.{UnknownRegister, Memory, JournalBehind, ForeignPass}
 use Rattle.shards.specs.Plan.{Plan}
 use Rattle.shards.specs.Journal.{left_by, IsJournalOf}
+use Rattle.shards.specs.VerdictChange.{IsChangeIfAny}
 use Rattle.shards.specs.Pass.{PassModel, IsPassOf, IsInKeeping, IsBehind, last_in, with_own, with_seen}
 
 -- an entry by its parts: a feeder's edit of a register, with its reply
@@ -47,7 +48,8 @@ pub record IsStanding (plan : Plan) (register : ℕ) (journal : List Entry) (ans
   pub number : answer.number ≡ length journal
 
 -- some journal of the register's shard has the edit with its reply as the last entry, at the receipt's number, and
--- without it is in keeping with the pass; pass and register are the plan's
+-- without it is in keeping with the pass; the receipt has the change of the verdict by that entry, where it makes one;
+-- pass and register are the plan's
 pub record IsSubmitted (plan : Plan) (pass : PassModel) (register : RegId) (edit : Edit) (receipt : Receipt) : Type 0 where
   pub of_plan : IsPassOf plan pass
   pub known : register.0 < length plan.claims
@@ -55,6 +57,7 @@ pub record IsSubmitted (plan : Plan) (pass : PassModel) (register : RegId) (edit
   pub before : List Entry
   pub of_shard : IsJournalOf plan receipt.shard (before ++ entry_of pass.feeder register edit receipt.reply ∷ [])
   pub number : receipt.number ≡ length before
+  pub change : IsChangeIfAny plan before (entry_of pass.feeder register edit receipt.reply) receipt.change
   pub keeping : IsInKeeping receipt.shard pass before
 
 -- some journal of the register's shard is in keeping with the pass, and this is the answer from it; afterwards the

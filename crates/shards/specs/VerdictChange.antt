@@ -1,5 +1,5 @@
 -- The entries of a journal that change the verdict on their register.
-use Rattle.std.specs.Prelude.{◌≡◌, ◌↔◌, List, [], ◌∷◌, ◌++◌, length, Some, IfSome, IsNone, IsTrue}
+use Rattle.std.specs.Prelude.{◌≡◌, ◌↔◌, List, [], ◌∷◌, ◌++◌, length, Option, Some, None, IfSome, IsNone, IsTrue}
 use Rattle.std.specs.List.{slice_get}
 use Rattle.intervals.specs.Terms.{ClaimModel}
 use Rattle.intervals.specs.Kind.{Holds}
@@ -28,6 +28,12 @@ pub record IsVerdictChangeBy (plan : Plan) (before : List Entry) (entry : Entry)
   pub fault : IfSome change.fault (λ fault. (witness : Witness)
       × IsWitness (left_by (before ++ entry ∷ []) entry.register.0 claim).claim (left_by (before ++ entry ∷ []) entry.register.0 claim).ops witness × (ids_of witness ≡ fault))
   pub none : IsNone change.fault ↔ Holds (left_by (before ++ entry ∷ []) entry.register.0 claim).claim (left_by (before ++ entry ∷ []) entry.register.0 claim).ops
+
+-- the optional change is the one by an entry after these; none where the entry leaves the verdict on its register as it
+-- was
+abbrev pub IsChangeIfAny : Plan → List Entry → Entry → Option VerdictChange → Type 0
+IsChangeIfAny plan before entry None = IsAsBefore plan before entry
+IsChangeIfAny plan before entry (Some change) = IsVerdictChangeBy plan before entry change
 
 -- these are the changes of verdicts by the entries of a journal, in order: no entries make none, an entry that leaves
 -- the verdict as it was adds none, and one that changes it adds that change

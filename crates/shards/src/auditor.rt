@@ -5,9 +5,9 @@ ghost use Rattle.std.specs.List.{range_with_len};
 ghost use Rattle.intervals.specs.Terms.{ClaimModel};
 ghost use Rattle.shards.specs.declared.fault.ShardFault.TheVariants.{ForeignPass, JournalBehind as IsJournalBehind, Memory, UnknownRegister};
 ghost use Rattle.shards.specs.Closing.{AreComplete, IsClosed, IsClosedWithSome, IsUnfinished};
-ghost use Rattle.shards.specs.Pass.{IsPassOf, new_pass, with_own};
+ghost use Rattle.shards.specs.Pass.{IsPassOf, new_pass};
 ghost use Rattle.shards.specs.Plan.{plan_of};
-ghost use Rattle.shards.specs.Steps.{entered, IsLive, IsRefusal, IsSubmitted, entry_of, numbered_entry};
+ghost use Rattle.shards.specs.Steps.{entered, IsLive, IsRefusal, IsSubmitted};
 
 use crate::closing::closing_fault;
 use crate::parts::{put_together, take_apart};
@@ -212,7 +212,9 @@ impl<'t, O: Opening> Auditor<'t, O> {
         }
         let answered = state.submit(pass, register, *edit);
         if let Ok(receipt) = &answered {
-            state.tell(gate, pass.feeder(), receipt);
+            if let Some(change) = &receipt.change {
+                gate.changed(pass.feeder(), change);
+            }
         }
         answered
     }

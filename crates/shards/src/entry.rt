@@ -19,13 +19,14 @@ pub struct NumberedEntry<'t> {
     pub entry: Entry<'t>,
 }
 
-/// What a feeder gets for an edit: where it was entered, and the reply. An edit that the register refused is
-/// entered too.
+/// What a feeder gets for an edit: where it was entered, the reply, and the change of the register's verdict, where it
+/// made one. An edit that the register refused is entered too.
 #[derive(Clone, Copy)]
 pub struct Receipt {
     pub shard: u32,
     pub number: u64,
     pub reply: Reply,
+    pub change: Option<VerdictChange>,
 }
 
 /// The answer to a question: the verdict on a register at that time.

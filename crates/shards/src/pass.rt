@@ -4,9 +4,10 @@ ghost use Rattle.std.specs.Prelude.{◌≡◌, ◌<◌, ◌%◌, ◌↔◌, ◌+
 ghost use Rattle.std.specs.List.{slice_get};
 ghost use Rattle.shards.specs.declared.fault.ShardFault.TheVariants.{ForeignPass, Memory};
 ghost use Rattle.shards.specs.Journal.{IsAnswered};
-ghost use Rattle.shards.specs.Pass.{AreOfOneAuditor, IsInKeeping, IsPassOf, farthest_of, last_in, learnt, own_entries, unseen, with_own, with_seen};
+ghost use Rattle.shards.specs.Pass.{AreOfOneAuditor, IsInKeeping, IsPassOf, farthest_of, last_in, learnt, own_entries, unseen, with_seen};
 ghost use Rattle.shards.specs.Shard.{IsShardOf, IsReached, Rises, held_of};
-ghost use Rattle.shards.specs.Steps.{entered, entry_of, last_entry, numbered_entry};
+ghost use Rattle.shards.specs.Steps.{entered, entry_of, last_entry};
+ghost use Rattle.shards.specs.VerdictChange.{IsChangeIfAny};
 
 use crate::shard::Shard;
 use crate::submitted::Submitted;
@@ -149,6 +150,7 @@ impl<'t> Pass<'t> {
         ensures journal { IfOk result (λ receipt. held_of shard.new ≡ record { at = shard.old.at; journal = shard.old.journal.items ++ entry_of self.old.feeder register edit.now receipt.reply ∷ [] }) }
         ensures answered { IfOk result (λ receipt. IsAnswered O.plan shard.old.at shard.old.journal.items (entry_of self.old.feeder register edit.now receipt.reply)) }
         ensures receipt { IfOk result (λ receipt. (receipt.shard ≡ shard.old.at) × (receipt.number ≡ length shard.old.journal.items)) }
+        ensures change { IfOk result (λ receipt. IsChangeIfAny O.plan shard.old.journal.items (entry_of self.old.feeder register edit.now receipt.reply) receipt.change) }
         ensures told { IfOk result (λ receipt. self.new ≡ entered self.old register edit.now receipt) }
         ensures memory { IfErr result (λ fault. fault ≡ Memory) }
         ensures err { OnErr result ((held_of shard.new ≡ held_of shard.old) × (self.new ≡ self.old)) }

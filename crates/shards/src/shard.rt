@@ -11,6 +11,7 @@ ghost use Rattle.shards.specs.Plan.{plan_of, claims_of};
 ghost use Rattle.shards.specs.Journal.{IsAnswered, count_by};
 ghost use Rattle.shards.specs.Shard.{AreBooks, IsVerdictChangeTo, IsShardOf, held_of};
 ghost use Rattle.shards.specs.Steps.{IsStanding, entry_of};
+ghost use Rattle.shards.specs.VerdictChange.{IsChangeIfAny};
 
 use crate::{Answer, Entry, Opening, Receipt, ShardFault, VerdictChange};
 use intervals::{Edit, RegId};
@@ -69,6 +70,7 @@ impl<'t> Shard<'t> {
         ensures journal { IfOk result (λ receipt. held_of self.new ≡ record { at = self.old.at; journal = self.old.journal.items ++ entry_of feeder register edit.now receipt.reply ∷ [] }) }
         ensures answered { IfOk result (λ receipt. IsAnswered O.plan self.old.at self.old.journal.items (entry_of feeder register edit.now receipt.reply)) }
         ensures receipt { IfOk result (λ receipt. (receipt.shard ≡ self.old.at) × (receipt.number ≡ length self.old.journal.items)) }
+        ensures change { IfOk result (λ receipt. IsChangeIfAny O.plan self.old.journal.items (entry_of feeder register edit.now receipt.reply) receipt.change) }
         ensures memory { IfErr result (λ fault. fault ≡ Memory) }
         ensures err { OnErr result (held_of self.new ≡ held_of self.old) }
     {
@@ -92,6 +94,7 @@ impl<'t> Shard<'t> {
             shard: self.at,
             number,
             reply,
+            change,
         })
     }
 

@@ -2,13 +2,14 @@
 
 ghost use Rattle.std.specs.Prelude.{◌≡◌, ◌<◌, ◌%◌, ◌++◌, ◌∷◌, [], IfOk, IfErr, OnOk, OnErr, length};
 ghost use Rattle.shards.specs.Journal.{IsAnswered, IsJournalOf};
-ghost use Rattle.shards.specs.Pass.{IsInKeeping, IsPassOf, with_own, with_seen};
+ghost use Rattle.shards.specs.Pass.{IsInKeeping, IsPassOf, with_seen};
 ghost use Rattle.shards.specs.Shard.{IsShardOf, held_of};
-ghost use Rattle.shards.specs.Steps.{entered, IsQuestionRefusal, IsStanding, IsStateRefusal, entry_of, last_entry, numbered_entry};
+ghost use Rattle.shards.specs.Steps.{entered, IsQuestionRefusal, IsStanding, IsStateRefusal, entry_of, last_entry};
+ghost use Rattle.shards.specs.VerdictChange.{IsChangeIfAny};
 
 use crate::keeping::first_lack;
 use crate::shard::Shard;
-use crate::{Answer, Entry, Gate, Opening, Pass, Receipt, ShardFault};
+use crate::{Answer, Entry, Opening, Pass, Receipt, ShardFault};
 use intervals::{Edit, RegId};
 use std::marker::{Model, PhantomData};
 
@@ -82,6 +83,7 @@ impl<'t, O: Opening> ShardState<'t, O> {
         ensures of_shard { IsJournalOf O.plan self.new.at self.new.journal }
         ensures answered { IfOk result (λ receipt. IsAnswered O.plan self.old.at self.old.journal (entry_of pass.old.feeder register edit.entry receipt.reply)) }
         ensures receipt { IfOk result (λ receipt. (receipt.shard ≡ self.old.at) × (receipt.number ≡ length self.old.journal)) }
+        ensures change { IfOk result (λ receipt. IsChangeIfAny O.plan self.old.journal (entry_of pass.old.feeder register edit.entry receipt.reply) receipt.change) }
         ensures told { IfOk result (λ receipt. pass.new ≡ entered pass.old register edit.entry receipt) }
         ensures keeping { OnOk result (IsInKeeping self.old.at pass.old self.old.journal) }
         ensures refused { IfErr result (IsStateRefusal self.old.at pass.old self.old.journal) }
@@ -107,15 +109,6 @@ impl<'t, O: Opening> ShardState<'t, O> {
         self.check(pass)?;
         pass.see(self.shard.at, self.shard.journal.as_slice());
         Ok(self.shard.answer::<O>(register))
-    }
-
-    /// Tells a gate of the change of a verdict by the entry of a receipt, where it made one.
-    pub(crate) fn tell<G: Gate>(&self, gate: &G, feeder: u32, receipt: &Receipt) {
-        if let Some(change) = self.shard.changes.last() {
-            if change.number == receipt.number {
-                gate.changed(feeder, change);
-            }
-        }
     }
 
     /// Refuses a pass that the journal is not in keeping with: S3.

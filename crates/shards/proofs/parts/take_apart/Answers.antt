@@ -1,5 +1,7 @@
-use Rattle.std.proofs.Common.{arith}
+use Rattle.std.proofs.Common.{List, arith, rules}
 use Rattle.std.proofs.lemmas.List.Elements.{All-push}
+use Rattle.std.proofs.lemmas.List.Sorted.{All-permutation, IsNonDecreasingBy-from_sort_by_key, length_permutation}
+use Rattle.shards.specs.declared.shard.Shard.{Shard}
 use Rattle.shards.specs.Shard.{IsShardOf}
 use Rattle.shards.proofs.parts.take_apart.Goals as goal
 
@@ -11,3 +13,10 @@ loop-lock-preserved g c = record {
   room = omega arith;
   locks = omega arith;
 }
+
+pub returns-clause-kept : goal.returns-clause-kept
+returns-clause-kept g c =
+    All-permutation (IsShardOf g.O.Opening.plan) c.loop-lock.shards.items c.sort_unstable_by_key.new.self.items c.sort_unstable_by_key.ensures.permutation c.loop-lock.invariant.kept
+
+pub returns-clause-in_order : goal.returns-clause-in_order
+returns-clause-in_order g c = IsNonDecreasingBy-from_sort_by_key (λ (shard : Shard). shard.at) _ c.sort_unstable_by_key.ensures.sorted (λ a r q k. search rules)

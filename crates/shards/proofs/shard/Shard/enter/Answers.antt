@@ -6,7 +6,7 @@ use Rattle.shards.specs.Journal.{count_by}
 use Rattle.shards.specs.Shard.{IsVerdictChangeTo}
 use Rattle.shards.specs.Steps.{entry_of}
 use Rattle.shards.proofs.Journals.{count_at_most}
-use Rattle.shards.proofs.Changed.{changes_push}
+use Rattle.shards.proofs.Changed.{change_of, changes_push}
 use Rattle.shards.proofs.Kept.{slot_within, count_of_feeder, answered_by, kept_push}
 use Rattle.shards.proofs.shard.Shard.enter.Goals as goal
 
@@ -21,15 +21,21 @@ overflow_add-index_mut g c =
     let most : count_by c.args.feeder c.args.self.now.journal.items ≤ length c.args.self.now.journal.items = count_at_most c.args.feeder c.args.self.now.journal.items in
     omega (arith, is, most, c.args.self.now.journal.ok.0, c.args.self.now.journal.ok.1, c.args.self.now.journal.small)
 
+pub returns-clause-change : goal.returns-clause-change
+returns-clause-change g c =
+    change_of g.O.Opening.plan c.args.self.now (entry_of c.args.feeder c.args.register c.args.edit.now c.in_ok-reply.reply) c.index_mut-book.result.now c.apply.new.self c.holds-held.result c.change_to-change.result
+    c.requires.kept c.requires.here c.requires.known c.index_mut-book.ensures.value c.in_ok-reply.ensures.reply c.in_ok-reply.ensures.after c.holds-held.ensures
+    (subst (λ (n : ℕ). IfSome c.change_to-change.result (IsVerdictChangeTo c.apply.new.self c.args.register n c.holds-held.result)) (c.len-number.ensures ∙ c.args.self.now.journal.ok.0) c.change_to-change.ensures.change)
+    c.change_to-change.ensures.none
+
 pub returns-clause-kept : goal.returns-clause-kept
 returns-clause-kept g c =
     kept_push g.O.Opening.plan c.args.self.now _ (entry_of c.args.feeder c.args.register c.args.edit.now c.in_ok-reply.reply) c.index_mut-book.result.now c.apply.new.self c.index_mut.result.now
     c.requires.kept c.requires.here c.requires.known c.requires.feeder c.index_mut-book.ensures.value c.in_ok-reply.ensures.reply c.index_mut.ensures.value
     refl refl (c.push_reserved.ensures.items ∙ ap (λ (journal : List Entry). journal ++ entry_of c.args.feeder c.args.register c.args.edit.now c.in_ok-reply.reply ∷ []) c.reserve.ensures.items)
     c.in_ok-reply.ensures.after refl refl
-    (changes_push g.O.Opening.plan c.args.self.now (entry_of c.args.feeder c.args.register c.args.edit.now c.in_ok-reply.reply) c.index_mut-book.result.now c.apply.new.self c.holds-held.result c.change_to-change.result _ _
-    c.requires.kept c.requires.here c.requires.known c.index_mut-book.ensures.value c.in_ok-reply.ensures.reply c.in_ok-reply.ensures.after c.holds-held.ensures
-    (subst (λ (n : ℕ). IfSome c.change_to-change.result (IsVerdictChangeTo c.apply.new.self c.args.register n c.holds-held.result)) (c.len-number.ensures ∙ c.args.self.now.journal.ok.0) c.change_to-change.ensures.change) c.change_to-change.ensures.none
+    (changes_push g.O.Opening.plan c.args.self.now.journal.items c.args.self.now.changes.items (entry_of c.args.feeder c.args.register c.args.edit.now c.in_ok-reply.reply) c.change_to-change.result _ _
+    (returns-clause-change g c) c.requires.kept.changes
     (c.push_reserved.ensures.items ∙ ap (λ (journal : List Entry). journal ++ entry_of c.args.feeder c.args.register c.args.edit.now c.in_ok-reply.reply ∷ []) c.reserve.ensures.items)
     (c.note.ensures ∙ ap (λ (told : List VerdictChange). told ++ option_to_list c.change_to-change.result) c.reserve-2.ensures.items))
 
