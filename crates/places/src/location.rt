@@ -1,8 +1,7 @@
 //! Where the elements of a text are.
 
-ghost use Rattle.std.specs.Prelude.{◌≡◌, ◌++◌, ◌∷◌, ◌+◌, [], List, IfOk, IsTrue, ◌↔◌, length, map};
+ghost use Rattle.std.specs.Prelude.{◌≡◌, ◌+◌, IfOk, IsTrue, ◌↔◌, length, map};
 ghost use Rattle.edn_reader.specs.Fault.{IsMemory, AreElementsBefore};
-ghost use Rattle.edn_reader.specs.Grammar.{ElementModel};
 ghost use Rattle.edn_reader.specs.Lent.{piece_of};
 ghost use Rattle.places.specs.Location.{element_spot, spot_of_byte};
 
@@ -28,7 +27,8 @@ pub struct Elements<'t> {
 
 /// The elements of a text, or those before its fault.
 pub fn elements_of<'t>(alloc: Global, text: &'t [u8]) -> Result<Elements<'t>, AllocError>
-    ensures spots { IfOk result (λ found. (pieces : List ElementModel) × AreElementsBefore text.entry.now pieces × (found.spots.items ≡ map (element_spot text.entry.now) pieces)) }
+    ensures elements { IfOk result (λ found. AreElementsBefore text.entry.now (map piece_of found.elements.items)) }
+    ensures spots { IfOk result (λ found. found.spots.items ≡ map (element_spot text.entry.now) (map piece_of found.elements.items)) }
     ensures each { IfOk result (λ found. length found.elements.items ≡ length found.spots.items) }
 {
     elements_of_a_prefix();

@@ -1,8 +1,6 @@
 //! Where the elements of several texts are.
 
-ghost use Rattle.std.specs.Prelude.{◌≡◌, ◌++◌, ◌≤◌, List, IfOk, Option, length, map, option_map, Vec};
-ghost use Rattle.std.specs.declared.alloc.Global.{Global as AGlobal};
-ghost use Rattle.places.specs.declared.location.Location.{Location as ALocation};
+ghost use Rattle.std.specs.Prelude.{◌≡◌, IfOk, Option, map, Vec};
 ghost use Rattle.places.specs.Spots.{AreSpotsOf, HasSpots, line_of_byte, located};
 
 use crate::location::{Location, elements_of, spot_of_one};

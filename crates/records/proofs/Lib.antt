@@ -5,4 +5,8 @@ pub mod AllLines
 pub mod Explaining
 -- the records tell the report, and each is whole
 pub mod Telling
+pub mod Words
 pub mod Shapes
+-- a record in EDN is one element
+pub mod EdnStrings
+pub mod EdnElements

@@ -1,6 +1,6 @@
--- the spots so far are those of the elements up to the reader's place
-use Rattle.std.proofs.Common.{◌≡◌, ◌≤◌, ◌-◌, List, length, map}
-use Rattle.edn_reader.specs.Grammar.{ElementModel}
+-- the elements so far are those up to the reader's place, and the spots are theirs
+use Rattle.std.proofs.Common.{◌≡◌, ◌≤◌, ◌-◌, length, map}
+use Rattle.edn_reader.specs.Lent.{piece_of}
 use Rattle.edn_reader.specs.Text.{IsFront}
 use Rattle.places.specs.Location.{element_spot}
 use Rattle.places.proofs.location.elements_of.Given as goal
@@ -10,7 +10,8 @@ invariant-loop-element l = record {
   input : l.reader.input ≡ l.text;
   cursor : l.cursor.text.now ≡ l.text;
   within : l.reader.at ≤ length l.text;
-  so_far : (pieces : List ElementModel) × IsFront l.text pieces l.reader.at × (l.spots.items ≡ map (element_spot l.text) pieces);
+  so_far : IsFront l.text (map piece_of l.elements.items) l.reader.at;
+  spots : l.spots.items ≡ map (element_spot l.text) (map piece_of l.elements.items);
   each : length l.elements.items ≡ length l.spots.items;
 }
 
