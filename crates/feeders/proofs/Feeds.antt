@@ -22,10 +22,10 @@ use Rattle.feeders.specs.Progress.{HasDone, IsAhead, IsAt}
 use Rattle.logs.specs.Steps.{steps_of}
 use Rattle.feeders.specs.Feeding.{FeederModel, IsFedUpTo, IsFedAs}
 use Rattle.feeders.specs.Intake.{CanGoOn, HasBroken, HasEnded, HasFed, HasTaken, IsAtEnd}
-use Rattle.feeders.specs.Pending.{CanSettleAs, IsPending, IsPendingAs, AreSettled}
+use Rattle.feeders.specs.Pending.{CanSettleAs, IsPending, IsPendingAs, AreSettled, IsTightAs}
 use Rattle.feeders.specs.Setting.{Setting, setting_of}
 use Rattle.logs.specs.Start.{Start}
-use Rattle.feeders.proofs.Pieces.{all_fed, can_more, fed_more, none_holds, none_waiting, taken_is, zip_join}
+use Rattle.feeders.proofs.Pieces.{all_fed, can_more, fed_more, none_holds, none_waiting, taken_is, zip_join, none_kept}
 
 -- how far a feeder has come, by its state
 pub by_course : (plan : Plan) (start : Start) (bytes next : List ℕ) (feeding : FeederModel) (pass : PassModel) (state : FeedState) → feeding.state ≡ state → IsFedUpTo plan start bytes next feeding pass
@@ -64,6 +64,7 @@ can_begin intake none stands holds place ahead =
       place = omega (arith, place);
       counted = omega (arith, place);
       fits = omega (arith, taken);
+      tight = subst (λ (p : Pending). IsTightAs p intake) (sym none) (λ _. none_kept [] intake.kept (omega (arith, holds.long)) holds);
       settle = record { by = subst (λ (p : Pending). CanSettleAs p intake) (sym none) ahead };
     }
 

@@ -1,5 +1,5 @@
 -- What a run leaves of its traces, by the closed journals.
-use Rattle.std.proofs.Common.{◌≡◌, ℕ, zero, suc, ◌+◌, ◌<◌, List, [], ◌∷◌, Option, length, get_or, map, refl, sym, ap, subst, ◌∙◌, arith}
+use Rattle.std.proofs.Common.{◌≡◌, inr, ℕ, zero, suc, ◌+◌, ◌<◌, List, [], ◌∷◌, Option, length, get_or, map, refl, sym, ap, subst, ◌∙◌, arith}
 use Rattle.std.specs.Prelude.{Contains}
 use Rattle.std.specs.List.{AllByRecursion, range_with_len}
 use Rattle.std.proofs.lemmas.List.{length-map}
@@ -10,13 +10,14 @@ use Rattle.shards.specs.Plain.{plain_numbered}
 use Rattle.shards.specs.Plan.{Plan, plan_of}
 use Rattle.shards.specs.Pass.{IsPassOf, PassModel, new_pass, own_entries}
 use Rattle.shards.specs.Merge.{entries_of}
-use Rattle.shards.specs.Closing.{AreComplete, AreItsPasses, ClosedShard, ShardModel, IsClosed, IsClosingFault, IsUnfinished, journal_of}
+use Rattle.shards.specs.Closing.{AreComplete, AreItsPasses, ClosedShard, IsClosed, IsUnfinished, journal_of}
 use Rattle.shards.specs.declared.fault.ShardFault.{ShardFault}
 use Rattle.shards.specs.declared.fault.ShardFault.TheVariants as faults
 use Rattle.feeders.specs.declared.outcome.FeederOutcome.{FeederOutcome}
 use Rattle.logs.specs.declared.log.Log.{Log}
 use Rattle.logs.specs.Doings.{entered_in}
-use Rattle.feeders.specs.Ending.{MayEnd, ended_by}
+use Rattle.feeders.specs.declared.fault.RunFault.{RunFault}
+use Rattle.feeders.specs.Ending.{IsEndedAtClose, MayEnd, ended_by}
 use Rattle.feeders.specs.Progress.{AreFedBy, AreReadAndFed, IsFed}
 use Rattle.feeders.specs.Readers.{AreReadOf}
 use Rattle.logs.specs.Run.{EachNumbered, IsRun, IsTraced, plan_of_run}
@@ -112,23 +113,24 @@ module _ {X : Type 0} (of : X → List ℕ) (plan : Plan) (tower : TowerModel) (
       let there : Contains passes (get_or passes feeder (new_pass plan 0)) = Contains-get_or passes feeder (new_pass plan 0) within in
       (there.0, get_or passes feeder (new_pass plan 0), there.1, there.2, (passed_at 0 traces outcomes are feeder (new_pass plan 0) within).1 ∙ omega arith)
 
-closing_ends : (plan : Plan) (passes : List PassModel) (shards : List ShardModel) (fault : ShardFault) → AreItsPasses plan passes → AreComplete plan.feeders passes → IsClosingFault plan plan.feeders passes shards fault → MayEnd (ended_by fault)
-closing_ends plan passes shards faults.UnknownRegister its all is = absurd is
-closing_ends plan passes shards faults.Memory its all is = tt
-closing_ends plan passes shards (faults.JournalBehind at seen found) its all is = tt
-closing_ends plan passes shards (faults.PassMissing feeder) its all is = is.1.1 (all feeder is.1.0)
-closing_ends plan passes shards (faults.Stranger at feeder number) its all is = tt
-closing_ends plan passes shards faults.ForeignPass its all is = is its
+closing_ends : (plan : Plan) (passes : List PassModel) (fault : ShardFault) → AreItsPasses plan passes → AreComplete plan.feeders passes → IsUnfinished plan plan.feeders passes fault → MayEnd plan (ended_by fault)
+closing_ends plan passes faults.UnknownRegister its all is = absurd is.fault_is
+closing_ends plan passes faults.Memory its all is = tt
+closing_ends plan passes (faults.JournalBehind at seen found) its all is = inr (passes, is)
+closing_ends plan passes (faults.PassMissing feeder) its all is = is.fault_is.1.1 (all feeder is.fault_is.1.0)
+closing_ends plan passes (faults.Stranger at feeder number) its all is = (passes, is)
+closing_ends plan passes faults.ForeignPass its all is = is.fault_is its
 
 -- why an auditor may fail to close that is given its own passes, one for each feeder
-pub may_end : {X : Type 0} (of : X → List ℕ) (plan : Plan) (tower : TowerModel) (chosen : MomentField) (traces : List X) (opened : List PassModel) (outcomes : List FeederOutcome) (passes : List PassModel) (fault : ShardFault)
+pub may_end : {X : Type 0} (of : X → List ℕ) (plan : Plan) (tower : TowerModel) (chosen : MomentField) (traces : List X) (opened : List PassModel) (outcomes : List FeederOutcome) (passes : List PassModel) (ended : RunFault)
     → plan.feeders ≡ length traces → opened ≡ map (new_pass plan) (range_with_len 0 (length traces)) → AreFedBy (λ feeder trace fed. IsFed (setting_of plan tower chosen (first_start feeder)) (of trace) fed) opened traces outcomes
-    → passes ≡ map (λ fed. fed.pass) outcomes → IsUnfinished plan plan.feeders passes fault → MayEnd (ended_by fault)
-may_end {X} of plan tower chosen traces opened outcomes passes fault many fresh_ones fed passes_are unfinished =
+    → passes ≡ map (λ fed. fed.pass) outcomes → IsEndedAtClose plan passes ended → MayEnd plan ended
+may_end {X} of plan tower chosen traces opened outcomes passes ended many fresh_ones fed passes_are is =
     let are : AreFedBy (λ feeder trace fed. IsFed (setting_of plan tower chosen (first_start feeder)) (of trace) fed) (map (new_pass plan) (range_with_len 0 (length traces))) traces outcomes = subst (λ (ps : List PassModel). AreFedBy (λ feeder trace fed. IsFed (setting_of plan tower chosen (first_start feeder)) (of trace) fed) ps traces outcomes) fresh_ones fed in
-    closing_ends plan passes unfinished.shards fault
+    subst (MayEnd plan) (sym is.2)
+    (closing_ends plan passes is.0
     (subst (AreItsPasses plan) (sym passes_are) (its_passes of plan tower chosen traces outcomes are))
-    (subst (AreComplete plan.feeders) (sym passes_are) (complete of plan tower chosen traces outcomes many are)) unfinished.fault_is
+    (subst (AreComplete plan.feeders) (sym passes_are) (complete of plan tower chosen traces outcomes many are)) is.1)
 
 -- the traces that were read of these readers, each of which was fed
 pub record WereRead (plan : Plan) (tower : TowerModel) (chosen : MomentField) (passes : List PassModel) (lefts : List (Option (List ℕ))) (outcomes : List FeederOutcome) : Type 0 where

@@ -8,6 +8,8 @@ pub mod Holding
 pub mod Going
 pub mod Lending
 pub mod Naming
+-- why a feeder stops
+pub mod Stopping
 -- the element that waits: it is read, paired and carried out; the prefix of a chunk with which it ended
 pub mod Settling
 pub mod Fronts

@@ -20,7 +20,7 @@ use Rattle.feeders.specs.declared.progress.Progress.{Progress}
 use Rattle.logs.specs.Broken.{AreElements, broken_by}
 use Rattle.feeders.specs.Intake.{CanGoOn, HasBroken, HasFed, HasTaken}
 use Rattle.feeders.specs.TailBuffer.{AreLastBytes}
-use Rattle.feeders.specs.Pending.{CanSettle, CanSettleAs, HoldsAs, IsBeside, WaitsBetweenElements, IsPending, IsPendingAs, AreSettled, count_of}
+use Rattle.feeders.specs.Pending.{CanSettle, CanSettleAs, HoldsAs, IsBeside, WaitsBetweenElements, IsPending, IsPendingAs, AreSettled, count_of, IsTight}
 use Rattle.feeders.specs.Progress.{HasDone, IsAhead, IsAt}
 use Rattle.feeders.specs.Setting.{Setting}
 use Rattle.logs.specs.Steps.{steps_of}
@@ -48,6 +48,7 @@ can_more next rest intake can = record {
   place = can.place;
   counted = can.counted;
   fits = can.fits;
+  tight = can.tight;
   settle = can.settle;
 }
 
@@ -79,6 +80,10 @@ holds_same bytes old new from items holds = record {
   last = items ∙ holds.last ∙ ap (λ (n : ℕ). drop n bytes) (sym from);
 }
 
+-- a buffer from the end of the bytes on keeps none
+pub none_kept : (bytes : List ℕ) (kept : TailBuffer) → kept.from ≡ length bytes → AreLastBytes bytes kept → kept.bytes.items ≡ []
+none_kept bytes kept from holds = holds.last ∙ ap (λ (n : ℕ). drop n bytes) from ∙ drop-length bytes
+
 -- the first `used` bytes of a chunk were taken
 pub took : (bytes piece next : List ℕ) (pieces : List ElementModel) (used : ℕ) (new : Intake)
     → StandsAfter (bytes ++ take used piece) (drop used piece ++ next) pieces new.splitter → AreLastBytes (bytes ++ take used piece) new.kept
@@ -99,8 +104,8 @@ all_held bytes piece used kept is holds = subst (λ (xs : List ℕ). AreLastByte
 
 -- the intake can go on with the bytes that are left
 pub goes_on : (bytes left : List ℕ) (pieces : List ElementModel) (new : Intake) → StandsAfter bytes (left ++ []) pieces new.splitter → HoldsAs new.pending bytes new.kept
-    → new.kept.from ≤ keep new.splitter → new.progress.place ≤ keep new.splitter → new.progress.place ≤ new.splitter.taken → new.splitter.taken < 2 ^ 64 → CanSettle new → CanGoOn left new
-goes_on bytes left pieces new stands holds low place counted fits settle = record {
+    → new.kept.from ≤ keep new.splitter → new.progress.place ≤ keep new.splitter → new.progress.place ≤ new.splitter.taken → new.splitter.taken < 2 ^ 64 → IsTight new → CanSettle new → CanGoOn left new
+goes_on bytes left pieces new stands holds low place counted fits tight settle = record {
   bytes = bytes;
   pieces = pieces;
   stands = subst (λ (next : List ℕ). StandsAfter bytes next pieces new.splitter) (append-nil left) stands;
@@ -109,6 +114,7 @@ goes_on bytes left pieces new stands holds low place counted fits settle = recor
   place = place;
   counted = counted;
   fits = fits;
+  tight = tight;
   settle = settle;
 }
 
@@ -142,6 +148,7 @@ can_beside next old new beside place counted settle can = record {
   place = subst (λ (s : SplitterModel). new.progress.place ≤ keep s) (sym beside.splitter) place;
   counted = subst (λ (s : SplitterModel). new.progress.place ≤ s.taken) (sym beside.splitter) counted;
   fits = omega (arith, can.fits, ap (λ (s : SplitterModel). s.taken) beside.splitter);
+  tight = beside.tight can.tight;
   settle = settle;
 }
 

@@ -1,5 +1,5 @@
 -- The element that waits goes on: it is read, paired and carried out.
-use Rattle.std.proofs.Common.{◌≡◌, ◌⊎◌, ℕ, ◌+◌, ◌≤◌, ◌<◌, ◌^◌, List, [], ◌∷◌, ◌++◌, length, Result, refl, sym, ap, subst, ◌∙◌, arith, append-nil}
+use Rattle.std.proofs.Common.{◌≡◌, ◌⊎◌, ℕ, ◌+◌, ◌≤◌, ◌<◌, ◌^◌, List, [], ◌∷◌, ◌++◌, length, Result, refl, sym, ap, subst, ◌∙◌, arith, append-nil, inl, inr}
 use Rattle.std.specs.List.{AllZip}
 use Rattle.edn_reader.specs.Grammar.{ElementModel}
 use Rattle.edn_reader.specs.Splitting.{SplitterModel, keep}
@@ -14,7 +14,7 @@ use Rattle.feeders.specs.declared.pending.Pending.{Pending}
 use Rattle.feeders.specs.declared.pending.Pending.TheVariants.{Nothing, Whole, Lent, Paired}
 use Rattle.feeders.specs.declared.progress.Progress.{Progress}
 use Rattle.feeders.specs.TailBuffer.{AreLastBytes}
-use Rattle.feeders.specs.Pending.{CanSettle, CanSettleAs, HoldsAs, IsBeside, WaitsBetweenElements, IsPending, IsPendingAs, IsReadAs, AreSettled, IsToBeCarriedOut, IsToBePaired, KeepsElement, count_of}
+use Rattle.feeders.specs.Pending.{CanSettle, CanSettleAs, HoldsAs, IsBeside, WaitsBetweenElements, IsPending, IsPendingAs, IsReadAs, AreSettled, IsToBeCarriedOut, IsToBePaired, KeepsElement, count_of, IsTightAs}
 use Rattle.feeders.specs.Progress.{IsAhead, IsAt, IsPaired, PairedUpTo, IsKnownStep}
 use Rattle.feeders.specs.Setting.{Setting}
 use Rattle.logs.specs.Start.{Start}
@@ -23,7 +23,7 @@ use Rattle.feeders.proofs.Naming.{ItemsName, StepsAreOn, known_step}
 
 -- nothing was done
 pub beside_self : (intake : Intake) → IsBeside intake intake
-beside_self intake = record { splitter = refl; broken = refl; holds = λ bytes long holds. holds; holds_as = λ bytes long holds. holds; low = λ low. low }
+beside_self intake = record { splitter = refl; broken = refl; holds = λ bytes long holds. holds; holds_as = λ bytes long holds. holds; low = λ low. low; tight = λ tight. tight }
 
 pub beside_twice : (old mid new : Intake) → IsBeside old mid → IsBeside mid new → IsBeside old new
 beside_twice old mid new first second =
@@ -35,6 +35,7 @@ beside_twice old mid new first second =
       holds = λ bytes long holds. second.holds bytes (long ∙ sym taken) (first.holds bytes long holds);
       holds_as = λ bytes long holds. second.holds_as bytes (long ∙ sym taken) (first.holds_as bytes long holds);
       low = λ low. subst (λ (n : ℕ). new.kept.from ≤ n) kept (second.low (subst (λ (n : ℕ). mid.kept.from ≤ n) (sym kept) (first.low low)));
+      tight = λ tight. second.tight (first.tight tight);
     }
 
 -- no element waits to be read
@@ -121,9 +122,21 @@ holds_any (Whole start) bytes kept holds = tt
 holds_any (Lent item) bytes kept holds = holds
 holds_any (Paired step) bytes kept holds = holds
 
+pub tight_any : (pending : Pending) (intake : Intake) → intake.kept.bytes.items ≡ [] → IsTightAs pending intake
+tight_any Nothing intake empty = λ _. empty
+tight_any (Whole start) intake empty = tt
+tight_any (Lent item) intake empty = λ _. empty
+tight_any (Paired step) intake empty = λ _. empty
+
+-- where the element that waits is not read from the kept bytes, these are none between two elements
+tight_on : (old new : Intake) → new.splitter ≡ old.splitter → new.kept ≡ old.kept → (keep old.splitter ≡ old.splitter.taken → old.kept.bytes.items ≡ [])
+    → keep new.splitter ≡ new.splitter.taken → new.kept.bytes.items ≡ []
+tight_on old new same kept tight between =
+    ap (λ (k : TailBuffer). k.bytes.items) kept ∙ tight (sym (ap keep same) ∙ between ∙ ap (λ (s : SplitterModel). s.taken) same)
+
 pub beside_read : (old new : Intake) (start : ℕ) → CanSettle old → old.pending ≡ Whole start → new.splitter ≡ old.splitter → new.progress.log.broken ≡ old.progress.log.broken
-    → ((taken : List ℕ) → length taken ≡ old.splitter.taken → AreLastBytes taken new.kept) → new.kept.from ≡ old.splitter.taken → IsBeside old new
-beside_read old new start can is same broken holds from =
+    → ((taken : List ℕ) → length taken ≡ old.splitter.taken → AreLastBytes taken new.kept) → new.kept.from ≡ old.splitter.taken → new.kept.bytes.items ≡ [] → IsBeside old new
+beside_read old new start can is same broken holds from empty =
     let by = subst (λ (p : Pending). CanSettleAs p old) is can.by in
     record {
       splitter = same;
@@ -131,6 +144,7 @@ beside_read old new start can is same broken holds from =
       holds = λ bytes long _. holds bytes long;
       holds_as = λ bytes long _. holds_any new.pending bytes new.kept (holds bytes long);
       low = λ _. omega (arith, from, by.2.keep_is);
+      tight = λ _. tight_any new.pending new empty;
     }
 
 -- what was read is paired
@@ -170,6 +184,7 @@ beside_pair old new item step was is same broken kept = record {
   holds_as = λ bytes long holds.
       subst (λ (p : Pending). HoldsAs p bytes new.kept) (sym is) (subst (AreLastBytes bytes) (sym kept) (subst (λ (p : Pending). HoldsAs p bytes old.kept) was holds));
   low = λ low. subst (λ (k : TailBuffer). k.from ≤ keep old.splitter) (sym kept) low;
+  tight = λ tight. subst (λ (p : Pending). IsTightAs p new) (sym is) (tight_on old new same kept (subst (λ (p : Pending). IsTightAs p old) was tight));
 }
 
 -- what was paired is carried out
@@ -225,6 +240,10 @@ can_wait_on old new step can was is same place up =
       );
     }
 
+tight_either : (pending : Pending) (intake : Intake) (step : StepResult) → (pending ≡ Nothing) ⊎ (pending ≡ Paired step) → (keep intake.splitter ≡ intake.splitter.taken → intake.kept.bytes.items ≡ []) → IsTightAs pending intake
+tight_either pending intake step (inl is) tight = subst (λ (p : Pending). IsTightAs p intake) (sym is) tight
+tight_either pending intake step (inr is) tight = subst (λ (p : Pending). IsTightAs p intake) (sym is) tight
+
 pub beside_carry : (old new : Intake) (step : StepResult) → old.pending ≡ Paired step → (new.pending ≡ Nothing) ⊎ (new.pending ≡ Paired step) → new.splitter ≡ old.splitter
     → new.progress.log.broken ≡ old.progress.log.broken → new.kept ≡ old.kept → IsBeside old new
 beside_carry old new step was is same broken kept = record {
@@ -233,6 +252,7 @@ beside_carry old new step was is same broken kept = record {
   holds = λ bytes long holds. subst (AreLastBytes bytes) (sym kept) holds;
   holds_as = λ bytes long holds. holds_any new.pending bytes new.kept (subst (AreLastBytes bytes) (sym kept) (subst (λ (p : Pending). HoldsAs p bytes old.kept) was holds));
   low = λ low. subst (λ (k : TailBuffer). k.from ≤ keep old.splitter) (sym kept) low;
+  tight = λ tight. tight_either new.pending new step is (tight_on old new same kept (subst (λ (p : Pending). IsTightAs p old) was tight));
 }
 
 -- the register of the step that waits is one of the plan's, and the pass is the plan's

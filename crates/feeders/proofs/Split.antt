@@ -1,5 +1,5 @@
 -- Passes and what their feeders are given, one by one.
-use Rattle.std.proofs.Common.{append-nil, ◌≡◌, ℕ, zero, suc, ◌+◌, ◌≤◌, ◌<◌, List, [], ◌∷◌, ◌++◌, length, map, Result, Ok, Err, IfOk, All, get_or, refl, sym, ap, subst, ◌∙◌, arith}
+use Rattle.std.proofs.Common.{append-nil, ◌≡◌, ℕ, zero, suc, ◌+◌, ◌≤◌, ◌<◌, List, [], ◌∷◌, ◌++◌, length, map, Result, Ok, Err, IfOk, IfErr, All, get_or, refl, sym, ap, subst, ◌∙◌, arith}
 use Rattle.std.specs.List.{AllByRecursion, range_with_len}
 use Rattle.std.proofs.lemmas.List.{append_assoc, length-map}
 use Rattle.shards.specs.Plan.{Plan}
@@ -70,6 +70,10 @@ of_pairs {X} {Y} of (pair ∷ pairs) = ap (λ (ys : List Y). of pair.1 ∷ ys) (
 
 pub of_given : {X Y : Type 0} (of : X → Y) (pairs : List (PassModel × X)) (given : List X) → map (λ pair. pair.1) pairs ≡ given → map (λ pair. of pair.1) pairs ≡ map of given
 of_given of pairs given are = of_pairs of pairs ∙ ap (map of) are
+
+pub err_then : {V E : Type 0} {P Q : E → Type 0} (result : Result V E) → IfErr result P → ((fault : E) → P fault → Q fault) → IfErr result Q
+err_then (Ok value) is goes = tt
+err_then (Err fault) is goes = goes fault is
 
 pub ok_then : {V E : Type 0} {P Q : V → Type 0} (result : Result V E) → IfOk result P → ((v : V) → P v → Q v) → IfOk result Q
 ok_then (Ok v) is then = then v is

@@ -1,5 +1,5 @@
 -- A chunk is taken up to the end of the next element, or else to its own end.
-use Rattle.std.proofs.Common.{◌≡◌, ℕ, ◌+◌, ◌-◌, ◌≤◌, ◌<◌, ◌^◌, List, [], ◌∷◌, ◌++◌, length, take, drop, Option, Some, None, Result, Err, refl, sym, ap, subst, ◌∙◌, arith, length-drop}
+use Rattle.std.proofs.Common.{◌≡◌, ℕ, ◌+◌, ◌-◌, ◌≤◌, ◌<◌, ◌^◌, List, [], ◌∷◌, ◌++◌, length, take, drop, Option, Some, None, Result, Err, refl, sym, ap, subst, ◌∙◌, arith, length-drop, length-append, vec_len}
 use Rattle.std.specs.Prelude.{MatchOption}
 use Rattle.std.proofs.lemmas.List.{length-take-le}
 use Rattle.edn_reader.specs.Grammar.{ElementModel}
@@ -17,11 +17,11 @@ use Rattle.logs.specs.declared.log.Broken.{Broken}
 use Rattle.logs.specs.Broken.{broken_by}
 use Rattle.feeders.specs.Intake.{CanGoOn, HasFed, HasTaken, HasUsed}
 use Rattle.feeders.specs.TailBuffer.{AreLastBytes}
-use Rattle.feeders.specs.Pending.{CanReadBehind, CanSettle, CanSettleAs, IsBeside, IsPending, count_of}
+use Rattle.feeders.specs.Pending.{CanReadBehind, CanSettle, CanSettleAs, IsBeside, IsPending, count_of, IsTight, IsTightAs}
 use Rattle.feeders.specs.Progress.{IsAhead, IsAt}
 use Rattle.feeders.specs.Setting.{Setting}
 use Rattle.feeders.proofs.Holding.{drop_twice, with_piece}
-use Rattle.feeders.proofs.Pieces.{AllElements, all_fed, all_held, all_stands, can_beside, can_lend, counted_on, fed_all, fed_one, goes_on, holds_none, holds_same, known_more, none_holds, taken_is, told_text, took, unwanted, wanted}
+use Rattle.feeders.proofs.Pieces.{AllElements, all_fed, all_held, all_stands, can_beside, can_lend, counted_on, fed_all, fed_one, goes_on, holds_none, holds_same, known_more, none_holds, taken_is, told_text, took, unwanted, wanted, none_kept}
 use Rattle.feeders.proofs.Settling.{holds_any}
 
 -- the first `used` bytes of a chunk were taken, and no element ended in them
@@ -32,23 +32,44 @@ pub record TookNone (piece : List ℕ) (used : ℕ) (old new : Intake) : Type 0 
       → StandsAfter (bytes ++ take used piece) (drop used piece ++ next) pieces new.splitter × (keep old.splitter ≤ keep new.splitter)
   pub holds : (taken : List ℕ) → AreLastBytes taken old.kept → AreLastBytes (taken ++ take used piece) new.kept
   pub low : old.kept.from ≤ keep new.splitter → new.kept.from ≤ keep new.splitter
+  pub tight : keep new.splitter ≡ new.splitter.taken → new.kept.bytes.items ≡ []
   pub progress : new.progress ≡ old.progress
   pub pending : new.pending ≡ Nothing
   pub fits : new.splitter.taken < 2 ^ 64
+
+-- the bytes before the first that an element may still need are let go, where that is not before the end of what was kept
+abbrev pub LetsGo : ℕ → ℕ → TailBuffer → TailBuffer → Type 0
+LetsGo first used old new = old.from + length old.bytes.items ≤ first → first ≤ old.from + length old.bytes.items + used → new.from ≡ first
+
+pub let_go : (old roomed new : TailBuffer) (first used : ℕ) (piece : List ℕ) {kept : ℕ} → first ≡ kept → roomed.from ≡ old.from → roomed.bytes.items ≡ old.bytes.items → length piece ≡ used
+    → (roomed.from + vec_len roomed.bytes ≤ first → first ≤ roomed.from + vec_len roomed.bytes + length piece → new.from ≡ first) → LetsGo kept used old new
+let_go old roomed new first used piece is from items long lets low high =
+    let many = ap length items in
+    let counted : vec_len roomed.bytes ≡ length roomed.bytes.items = roomed.bytes.ok.0 in
+    lets (omega (arith, is, from, many, counted, low)) (omega (arith, is, from, many, counted, long, high)) ∙ is
+
+-- where no element is open after the bytes that were taken, none is kept
+nothing_open : (bytes : List ℕ) (used : ℕ) (old new : Intake) → LetsGo (keep new.splitter) used old.kept new.kept → old.kept.from + length old.kept.bytes.items ≡ old.splitter.taken
+    → new.splitter.taken ≡ old.splitter.taken + used → new.splitter.taken ≡ length bytes → AreLastBytes bytes new.kept → keep new.splitter ≡ new.splitter.taken → new.kept.bytes.items ≡ []
+nothing_open bytes used old new lets end taken long holds between =
+    none_kept bytes new.kept (lets (omega (arith, end, taken, between)) (omega (arith, end, taken, between)) ∙ between ∙ long) holds
 
 -- the whole chunk was taken, and no element ended
 pub takes_all : (piece : List ℕ) (used : ℕ) (old new : Intake) → (used ≤ length piece) × (new.splitter.taken ≡ old.splitter.taken + used)
     → ((bytes next : List ℕ) (pieces : List ElementModel) → StandsAfter bytes (piece ++ next) pieces old.splitter → TakesUpTo bytes piece next pieces old.splitter used None new.splitter)
     → (CanGoOn piece old) → ((taken : List ℕ) → AreLastBytes taken old.kept → AreLastBytes (taken ++ piece) new.kept) → (old.kept.from ≤ keep new.splitter → new.kept.from ≤ keep new.splitter)
-    → new.progress ≡ old.progress → new.pending ≡ Nothing → old.splitter.taken + length piece < 2 ^ 64 → TookNone piece used old new
-takes_all piece used old new counted takes can holds low progress pending fits =
+    → LetsGo (keep new.splitter) (length piece) old.kept new.kept → old.pending ≡ Nothing → new.progress ≡ old.progress → new.pending ≡ Nothing → old.splitter.taken + length piece < 2 ^ 64 → TookNone piece used old new
+takes_all piece used old new counted takes can holds low lets none progress pending fits =
     let all : used ≡ length piece = (takes can.bytes [] can.pieces (known_more can.bytes piece [] can.pieces old.splitter can.stands)).0 in
+    let held = holds_none old.pending can.bytes old.kept none can.holds in
+    let long : old.splitter.taken ≡ length can.bytes = taken_is can.bytes piece can.pieces old.splitter can.stands in
     record {
       within = counted.0;
       taken = counted.1;
       stands = λ bytes next pieces stands. let goes = takes bytes next pieces stands in (all_stands bytes piece next pieces used new.splitter goes.0 goes.1, goes.2);
       holds = λ taken held. all_held taken piece used new.kept all (holds taken held);
       low = low;
+      tight = nothing_open (can.bytes ++ piece) (length piece) old new lets (held.long ∙ sym long) (omega (arith, counted.1, all)) (omega (arith, counted.1, all, long, length-append can.bytes piece)) (holds can.bytes held);
       progress = progress;
       pending = pending;
       fits = omega (arith, fits, counted.0, counted.1);
@@ -58,21 +79,25 @@ takes_all piece used old new counted takes can holds low progress pending fits =
 pub takes_some : (piece : List ℕ) (used place : ℕ) (old new : Intake)
     → ((bytes next : List ℕ) (pieces : List ElementModel) → StandsAfter bytes (piece ++ next) pieces old.splitter → (keep old.splitter ≤ keep new.splitter) × WantsMemory bytes piece next pieces place new.splitter)
     → (CanGoOn piece old) → used ≡ new.splitter.taken - old.splitter.taken → ((taken : List ℕ) → AreLastBytes taken old.kept → AreLastBytes (taken ++ take used piece) new.kept)
-    → (old.kept.from ≤ keep new.splitter → new.kept.from ≤ keep new.splitter) → new.progress ≡ old.progress → new.pending ≡ Nothing → old.splitter.taken + length piece < 2 ^ 64
-    → TookNone piece used old new
-takes_some piece used place old new takes can is holds low progress pending fits =
+    → (old.kept.from ≤ keep new.splitter → new.kept.from ≤ keep new.splitter) → LetsGo (keep new.splitter) used old.kept new.kept → old.pending ≡ Nothing → new.progress ≡ old.progress → new.pending ≡ Nothing
+    → old.splitter.taken + length piece < 2 ^ 64 → TookNone piece used old new
+takes_some piece used place old new takes can is holds low lets none progress pending fits =
     let more = known_more can.bytes piece [] can.pieces old.splitter can.stands in
     let goes = (takes can.bytes [] can.pieces more).1 in
     let long : old.splitter.taken ≡ length can.bytes = taken_is can.bytes piece can.pieces old.splitter can.stands in
+    let held = holds_none old.pending can.bytes old.kept none can.holds in
+    let within : used ≤ length piece = omega (arith, is, goes.0, goes.1, goes.2, long) in
+    let taken : new.splitter.taken ≡ old.splitter.taken + used = omega (arith, is, goes.0, goes.2, long) in
     record {
-      within = omega (arith, is, goes.0, goes.1, goes.2, long);
-      taken = omega (arith, is, goes.0, goes.2, long);
+      within = within;
+      taken = taken;
       stands = λ bytes next pieces stands.
           let wants = takes bytes next pieces stands in
           let many : old.splitter.taken ≡ length bytes = taken_is bytes (piece ++ next) pieces old.splitter stands in
           (subst (λ (n : ℕ). StandsAfter (bytes ++ take n piece) (drop n piece ++ next) pieces new.splitter) (omega (arith, is, wants.1.2, many)) wants.1.3, wants.0);
       holds = holds;
       low = low;
+      tight = nothing_open (can.bytes ++ take used piece) used old new lets (held.long ∙ sym long) taken (omega (arith, taken, long, length-append can.bytes (take used piece), length-take-le used piece within)) (holds can.bytes held);
       progress = progress;
       pending = pending;
       fits = omega (arith, fits, goes.1, goes.2, long);
@@ -89,6 +114,7 @@ used_on piece used old new on none can =
       can = goes_on (can.bytes ++ take used piece) (drop used piece) can.pieces new goes.0
           (none_holds new.pending (can.bytes ++ take used piece) new.kept on.pending (on.holds can.bytes (holds_none old.pending can.bytes old.kept none can.holds)))
           (on.low (omega (arith, can.low, goes.1))) (omega (arith, place, can.place, goes.1)) (omega (arith, place, can.counted, on.taken)) on.fits
+          (subst (λ (p : Pending). IsTightAs p new) (sym on.pending) on.tight)
           (record { by = subst (λ (p : Pending). CanSettleAs p new) (sym on.pending) (subst IsAhead (sym on.progress) (subst (λ (p : Pending). CanSettleAs p old) none can.settle.by)) });
     }
 
@@ -169,6 +195,7 @@ pub record IsTaken (piece : List ℕ) (used : ℕ) (old mid new : Intake) : Type
   pub can : CanSettle new
   pub holds : (taken : List ℕ) → AreLastBytes taken mid.kept → AreLastBytes (taken ++ take used piece) new.kept
   pub low : new.kept.from ≤ mid.splitter.taken
+  pub tight : IsTight new
   pub splitter : new.splitter ≡ mid.splitter
   pub broken : new.progress.log.broken ≡ mid.progress.log.broken
   pub place : new.progress.place ≡ mid.progress.place
@@ -203,7 +230,7 @@ used_one piece used span old mid new is takes none can =
       within = is.counted.0;
       taken = same ∙ is.counted.1;
       can = goes_on (can.bytes ++ take used piece) (drop used piece) (can.pieces ++ goes.4.0 ∷ []) new taken.stands (holds_any new.pending (can.bytes ++ take used piece) new.kept taken.holds) taken.low taken.place
-          (omega (arith, is.place, place, can.counted, same, is.counted.1)) (omega (arith, same, is.fits)) is.can;
+          (omega (arith, is.place, place, can.counted, same, is.counted.1)) (omega (arith, same, is.fits)) is.tight is.can;
     }
 
 pub fed_taken : (setting : Setting) (piece : List ℕ) (used : ℕ) (span : ℕ × ℕ) (old mid new : Intake) (pass : PassModel) (bytes next : List ℕ) → IsTaken piece used old mid new → EndsOne piece used span old mid

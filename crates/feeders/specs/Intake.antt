@@ -10,7 +10,7 @@ use Rattle.shards.specs.Pass.{PassModel}
 use Rattle.feeders.specs.declared.intake.Intake.{Intake}
 use Rattle.logs.specs.Broken.{AreElements}
 use Rattle.feeders.specs.TailBuffer.{AreLastBytes}
-use Rattle.feeders.specs.Pending.{CanSettle, HoldsAs, IsPending}
+use Rattle.feeders.specs.Pending.{CanSettle, HoldsAs, IsPending, IsTight}
 use Rattle.feeders.specs.Progress.{IsFed}
 use Rattle.feeders.specs.Readers.{IsNotOfReading}
 use Rattle.feeders.specs.Setting.{Setting}
@@ -23,8 +23,8 @@ pub record HasTaken (bytes next : List ℕ) (pieces : List ElementModel) (intake
   pub low : intake.kept.from ≤ keep intake.splitter
   pub place : intake.progress.place ≤ keep intake.splitter
 
--- the intake can go on with `next`: its splitter and its kept bytes are as after some bytes, and an element that waits
--- can be carried out
+-- the intake can go on with `next`: its splitter and its kept bytes are as after some bytes, none is kept between two
+-- elements, and an element that waits can be carried out
 pub record CanGoOn (next : List ℕ) (intake : Intake) : Type 0 where
   pub bytes : List ℕ
   pub pieces : List ElementModel
@@ -34,6 +34,7 @@ pub record CanGoOn (next : List ℕ) (intake : Intake) : Type 0 where
   pub place : intake.progress.place ≤ keep intake.splitter
   pub counted : intake.progress.place ≤ intake.splitter.taken
   pub fits : intake.splitter.taken < 2 ^ 64
+  pub tight : IsTight intake
   pub settle : CanSettle intake
 
 -- the elements that have ended in `bytes`, before `next`, are fed, but for one at most that waits; the trace has not

@@ -107,14 +107,26 @@ HoldsAs (Whole start) bytes kept = Unit {0}
 HoldsAs (Lent item) bytes kept = AreLastBytes bytes kept
 HoldsAs (Paired step) bytes kept = AreLastBytes bytes kept
 
+-- between two elements no byte is kept; nothing is said where an element waits to be read from the kept bytes
+abbrev pub IsTightAs : Pending → Intake → Type 0
+IsTightAs Nothing intake = keep intake.splitter ≡ intake.splitter.taken → intake.kept.bytes.items ≡ []
+IsTightAs (Whole start) intake = Unit {0}
+IsTightAs (Lent item) intake = keep intake.splitter ≡ intake.splitter.taken → intake.kept.bytes.items ≡ []
+IsTightAs (Paired step) intake = keep intake.splitter ≡ intake.splitter.taken → intake.kept.bytes.items ≡ []
+
+-- the kept bytes are none between two elements, in the state that the intake has for an element that waits
+abbrev pub IsTight : Intake → Type 0
+IsTight intake = IsTightAs intake.pending intake
+
 -- the element that waits went on, and nothing was taken meanwhile: the splitter and where the trace broke are
--- unchanged, and the buffer still holds the last of the bytes
+-- unchanged, and the buffer still holds the last of the bytes, and no more than before
 pub record IsBeside (old new : Intake) : Type 0 where
   pub splitter : new.splitter ≡ old.splitter
   pub broken : new.progress.log.broken ≡ old.progress.log.broken
   pub holds : (bytes : List ℕ) → length bytes ≡ old.splitter.taken → AreLastBytes bytes old.kept → AreLastBytes bytes new.kept
   pub holds_as : (bytes : List ℕ) → length bytes ≡ old.splitter.taken → HoldsAs old.pending bytes old.kept → HoldsAs new.pending bytes new.kept
   pub low : old.kept.from ≤ keep old.splitter → new.kept.from ≤ keep old.splitter
+  pub tight : IsTight old → IsTight new
 
 -- no element waits to be read: one that waits was read already
 abbrev pub IsToBePaired : Pending → Type 0

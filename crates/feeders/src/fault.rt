@@ -1,7 +1,6 @@
 //! Why a run ends without its logs and journals.
 
 ghost use Rattle.std.specs.Prelude.{◌≡◌};
-ghost use Rattle.shards.specs.declared.fault.ShardFault.{ShardFault as AShardFault};
 ghost use Rattle.feeders.specs.declared.fault.RunFault.TheVariants.{Memory as NoMemory};
 
 use intervals::Memory;

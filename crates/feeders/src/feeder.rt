@@ -4,7 +4,7 @@ ghost use Rattle.std.specs.Prelude.{◌≡◌, ◌≢◌, ◌+◌, ◌≤◌, �
 ghost use Rattle.shards.specs.Pass.{PassModel};
 ghost use Rattle.shards.specs.Plan.{Plan, claims_of};
 ghost use Rattle.logs.specs.Broken.{is_of_reading};
-ghost use Rattle.feeders.specs.Ending.{MayEnd};
+ghost use Rattle.feeders.specs.Ending.{MayStop};
 ghost use Rattle.feeders.specs.Feeding.{IsFedUpTo};
 ghost use Rattle.feeders.specs.Intake.{CanGoOn, HasEnded, IsAtEnd};
 ghost use Rattle.feeders.specs.Readers.{IsNotOfReading};
@@ -134,7 +134,7 @@ impl<'t> Feeder<'t> {
         ensures waits { IfErr result (λ failed. (start : Start) (bytes : List ℕ) → IsFedUpTo O.plan start bytes piece.now self.old pass.old
             → IsFedUpTo O.plan start (bytes ++ take failed.used piece.now) (drop failed.used piece.now) self.new pass.new) }
         ensures fault { IfErr result (λ failed. (start : Start) (bytes : List ℕ) → IsFedUpTo O.plan start bytes piece.now self.old pass.old
-            → O.plan.claims ≡ claims_of self.old.tower → MayEnd failed.fault) }
+            → O.plan.claims ≡ claims_of self.old.tower → MayStop O.plan pass.new failed.fault) }
     {
         if self.is_over() {
             return Ok(());
@@ -188,7 +188,7 @@ impl<'t> Feeder<'t> {
         ensures waits { IfErr result (λ failed. (start : Start) (bytes : List ℕ) → IsFedUpTo O.plan start bytes [] self.old pass.old
             → IsFedUpTo O.plan start bytes [] self.new pass.new) }
         ensures fault { IfErr result (λ failed. (start : Start) (bytes : List ℕ) → IsFedUpTo O.plan start bytes [] self.old pass.old
-            → O.plan.claims ≡ claims_of self.old.tower → MayEnd failed.fault) }
+            → O.plan.claims ≡ claims_of self.old.tower → MayStop O.plan pass.new failed.fault) }
     {
         if self.is_over() {
             return Ok(());
@@ -228,7 +228,7 @@ impl<'t> Feeder<'t> {
         ensures waits { OnErr result ((start : Start) (bytes : List ℕ) → IsAtEnd (setting_of O.plan site.entry.tower.now site.entry.field start) bytes self.old.intake pass.old
             → IsAtEnd (setting_of O.plan site.entry.tower.now site.entry.field start) bytes self.new.intake pass.new) }
         ensures fault { IfErr result (λ failed. (start : Start) (bytes : List ℕ) → IsAtEnd (setting_of O.plan site.entry.tower.now site.entry.field start) bytes self.old.intake pass.old
-            → O.plan.claims ≡ claims_of site.entry.tower.now → MayEnd failed.fault) }
+            → O.plan.claims ≡ claims_of site.entry.tower.now → MayStop O.plan pass.new failed.fault) }
     {
         match self.intake.settle(site, self.pages, pass) {
             Ok(()) => {

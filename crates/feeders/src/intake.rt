@@ -9,10 +9,10 @@ ghost use Rattle.jepsen_form.specs.declared.item.Item.{Item as AnItem};
 ghost use Rattle.jepsen_form.specs.Item.{IsItem};
 ghost use Rattle.shards.specs.Pass.{PassModel};
 ghost use Rattle.shards.specs.Plan.{Plan, claims_of};
-ghost use Rattle.feeders.specs.Ending.{MayEnd};
+ghost use Rattle.feeders.specs.Ending.{MayStop};
 ghost use Rattle.feeders.specs.Intake.{CanGoOn, GoesOver, GoesTo, HasFed, HasUsed, IsAtEnd};
 ghost use Rattle.feeders.specs.TailBuffer.{AreLastBytes};
-ghost use Rattle.feeders.specs.Pending.{CanReadBehind, CanSettle, IsBeside, IsItemOfLast, IsPageOf, IsPending, AreSettled, IsToBeCarriedOut, IsToBePaired, count_of};
+ghost use Rattle.feeders.specs.Pending.{CanReadBehind, CanSettle, IsBeside, IsItemOfLast, IsPageOf, IsPending, AreSettled, IsToBeCarriedOut, IsToBePaired, count_of, IsTight};
 ghost use Rattle.feeders.specs.Progress.{IsAhead, IsAt};
 ghost use Rattle.feeders.specs.Readers.{IsNotOfReading};
 ghost use Rattle.feeders.specs.Setting.{Setting, setting_of};
@@ -115,7 +115,7 @@ impl<'t> Intake<'t> {
         ensures refused { OnErr result ((self.new.progress.place ≡ self.old.progress.place) × (count_of self.old.pending ≡ 1) × (count_of self.new.pending ≡ 1)) }
         ensures fault { IfErr result (λ fault. (start : Start) (items : List (Result AnItem AFormFault)) (waiting pieces : List APiece)
             → IsPending (setting_of O.plan site.entry.tower.now site.entry.field start) items waiting self.old pass.old
-            → AllZip (IsItem site.entry.tower.now site.entry.field) pieces items → O.plan.claims ≡ claims_of site.entry.tower.now → MayEnd fault) }
+            → AllZip (IsItem site.entry.tower.now site.entry.field) pieces items → O.plan.claims ≡ claims_of site.entry.tower.now → MayStop O.plan pass.new fault) }
     {
         items_name_registers_of_the_tower();
         steps_are_on_named_registers();
@@ -150,7 +150,7 @@ impl<'t> Intake<'t> {
         ensures refused { OnErr result ((self.new.progress.place ≡ self.old.progress.place) × (count_of self.old.pending ≡ 1) × (count_of self.new.pending ≡ 1)) }
         ensures fault { IfErr result (λ fault. (start : Start) (items : List (Result AnItem AFormFault)) (waiting pieces : List APiece)
             → IsPending (setting_of O.plan site.entry.tower.now site.entry.field start) items waiting self.old pass.old
-            → AllZip (IsItem site.entry.tower.now site.entry.field) pieces items → O.plan.claims ≡ claims_of site.entry.tower.now → MayEnd fault) }
+            → AllZip (IsItem site.entry.tower.now site.entry.field) pieces items → O.plan.claims ≡ claims_of site.entry.tower.now → MayStop O.plan pass.new fault) }
     {
         self.read_whole(site, pages)?;
         self.pair_lent()?;
@@ -180,6 +180,7 @@ impl<'t> Intake<'t> {
         ensures can { CanSettle self.new }
         ensures holds { (taken : List ℕ) → AreLastBytes taken self.old.kept → AreLastBytes (taken ++ front.entry.now) self.new.kept }
         ensures low { self.new.kept.from ≤ self.old.splitter.taken }
+        ensures tight { IsTight self.new }
         ensures beside { (self.new.splitter ≡ self.old.splitter) × (self.new.progress.log.broken ≡ self.old.progress.log.broken) }
         ensures place { self.new.progress.place ≡ self.old.progress.place }
         ensures count { count_of self.new.pending ≡ 1 }
@@ -237,7 +238,7 @@ impl<'t> Intake<'t> {
         ensures waits { IfErr result (λ failed. (start : Start) (bytes next : List ℕ) → HasFed (setting_of O.plan site.entry.tower.now site.entry.field start) bytes (piece.now ++ next) self.old pass.old
             → HasFed (setting_of O.plan site.entry.tower.now site.entry.field start) (bytes ++ take failed.used piece.now) (drop failed.used piece.now ++ next) self.new pass.new) }
         ensures fault { IfErr result (λ failed. (start : Start) (bytes next : List ℕ) → HasFed (setting_of O.plan site.entry.tower.now site.entry.field start) bytes (piece.now ++ next) self.old pass.old
-            → O.plan.claims ≡ claims_of site.entry.tower.now → MayEnd failed.fault) }
+            → O.plan.claims ≡ claims_of site.entry.tower.now → MayStop O.plan pass.new failed.fault) }
     {
         each_is_element();
         if self.kept.make_room(piece.len()).is_err() {
@@ -304,7 +305,7 @@ impl<'t> Intake<'t> {
         ensures waits { IfErr result (λ failed. (start : Start) (bytes : List ℕ) → HasFed (setting_of O.plan site.entry.tower.now site.entry.field start) bytes piece.now self.old pass.old
             → HasFed (setting_of O.plan site.entry.tower.now site.entry.field start) (bytes ++ take failed.used piece.now) (drop failed.used piece.now) self.new pass.new) }
         ensures fault { IfErr result (λ failed. (start : Start) (bytes : List ℕ) → HasFed (setting_of O.plan site.entry.tower.now site.entry.field start) bytes piece.now self.old pass.old
-            → O.plan.claims ≡ claims_of site.entry.tower.now → MayEnd failed.fault) }
+            → O.plan.claims ≡ claims_of site.entry.tower.now → MayStop O.plan pass.new failed.fault) }
     {
         if let Err(fault) = self.settle(site, pages, pass) {
             return Err(FeedFault { fault, used: 0 });
@@ -344,7 +345,7 @@ impl<'t> Intake<'t> {
         ensures waits { OnErr result ((start : Start) (bytes : List ℕ) → HasFed (setting_of O.plan site.entry.tower.now site.entry.field start) bytes [] self.old pass.old
             → HasFed (setting_of O.plan site.entry.tower.now site.entry.field start) bytes [] self.new pass.new) }
         ensures fault { IfErr result (λ fault. (start : Start) (bytes : List ℕ) → HasFed (setting_of O.plan site.entry.tower.now site.entry.field start) bytes [] self.old pass.old
-            → O.plan.claims ≡ claims_of site.entry.tower.now → MayEnd fault) }
+            → O.plan.claims ≡ claims_of site.entry.tower.now → MayStop O.plan pass.new fault) }
     {
         each_is_element();
         if let Err(fault) = self.settle(site, pages, pass) {

@@ -1,9 +1,10 @@
 //! Carries out the step of an element, and notes in the log of its trace what comes of it.
 
-ghost use Rattle.std.specs.Prelude.{◌≡◌, ◌<◌, IfErr, OnErr, OnOk, Ok, Err, Some, length};
+ghost use Rattle.std.specs.Prelude.{◌≡◌, ◌≢◌, ◌<◌, IfErr, OnErr, OnOk, Ok, Err, Some, vec_capacity, vec_len};
 ghost use Rattle.pairing.specs.declared.step.Step.TheVariants.{Edit as ToEdit, Ask};
 ghost use Rattle.shards.specs.Pass.{IsPassOf, PassModel};
-ghost use Rattle.feeders.specs.Ending.{MayEnd};
+ghost use Rattle.feeders.specs.Ending.{IsEndedBy, MayStop};
+ghost use Rattle.feeders.specs.declared.fault.RunFault.TheVariants.{Memory};
 ghost use Rattle.feeders.specs.Progress.{GoesOn, HasSameLines, IsKnownStep};
 
 use crate::fault::RunFault;
@@ -15,9 +16,11 @@ use pairing::Step;
 use register_book::Reply;
 use shards::laws::what_was_told_stays;
 use shards::{Opening, Pass};
+use std::alloc::AllocError;
 use std::sync::Wait;
 
-/// Carries out the step of the element at `place`, where it has one, and notes a refusal or an answer.
+/// Carries out the step of the element at `place`, where it has one, and notes a refusal or an answer. Room for the line
+/// is made first, since nothing may fail once an edit is entered.
 pub fn carry_out<'t, O: Opening, R: Wait, G: Watcher>(
     log: &mut Log<'t>,
     site: Site<'_, '_, 't, O, R, G>,
@@ -29,21 +32,23 @@ pub fn carry_out<'t, O: Opening, R: Wait, G: Watcher>(
     ensures done { OnOk result (GoesOn O.plan pass.old log.old pass.new log.new place (Ok step.entry)) }
     ensures kept { OnErr result (HasSameLines log.old log.new × (pass.new ≡ pass.old)) }
     ensures broken { log.new.broken ≡ log.old.broken }
-    ensures fault { IfErr result (λ fault. IsPassOf O.plan pass.old → IsKnownStep O.plan (Ok step.entry) → MayEnd fault) }
+    ensures fault { IfErr result (λ fault. IsPassOf O.plan pass.old → IsKnownStep O.plan (Ok step.entry) → MayStop O.plan pass.new fault) }
 {
+    let Some(step) = step else {
+        return Ok(());
+    };
+    log.lines.reserve(1)?;
     match step {
-        Some(Step::Edit(register, edit)) => submit(log, site, pass, place, register, edit),
-        Some(Step::Ask(register)) => ask(log, site, pass, place, register),
-        None => Ok(()),
+        Step::Edit(register, edit) => submit(log, site, pass, place, register, edit),
+        Step::Ask(register) => ask(log, site, pass, place, register),
     }
 }
 
 /// Notes that the element at `place` is refused before it reaches a register.
-pub fn refuse<O: Opening>(log: &mut Log, place: u64, code: Code) -> Result<(), RunFault>
+pub fn refuse<O: Opening>(log: &mut Log, place: u64, code: Code) -> Result<(), AllocError>
     ensures done { OnOk result ((pass : PassModel) → GoesOn O.plan pass log.old pass log.new place (Err code)) }
     ensures kept { OnErr result (HasSameLines log.old log.new) }
     ensures broken { log.new.broken ≡ log.old.broken }
-    ensures fault { IfErr result MayEnd }
 {
     log.lines.push(Line {
         event: place,
@@ -52,8 +57,7 @@ pub fn refuse<O: Opening>(log: &mut Log, place: u64, code: Code) -> Result<(), R
     Ok(())
 }
 
-/// Submits an edit, and notes a refusal by its register. Room for the log line is made first, since nothing
-/// may fail once the edit is entered.
+/// Submits an edit, and notes a refusal by its register in the room that there is for it.
 fn submit<'t, O: Opening, R: Wait, G: Watcher>(
     log: &mut Log<'t>,
     site: Site<'_, '_, 't, O, R, G>,
@@ -63,13 +67,13 @@ fn submit<'t, O: Opening, R: Wait, G: Watcher>(
     edit: Edit<'t>,
 ) -> Result<(), RunFault>
     requires some { 0 < O.plan.shards }
+    requires room { vec_len log.old.lines < vec_capacity log.old.lines }
     ensures done { OnOk result (GoesOn O.plan pass.old log.old pass.new log.new place (Ok (Some (ToEdit register edit.entry)))) }
-    ensures kept { OnErr result (HasSameLines log.old log.new × (pass.new ≡ pass.old)) }
+    ensures kept { OnErr result ((log.new ≡ log.old) × (pass.new ≡ pass.old)) }
     ensures broken { log.new.broken ≡ log.old.broken }
-    ensures fault { IfErr result (λ fault. IsPassOf O.plan pass.old → register.0 < length O.plan.claims → MayEnd fault) }
+    ensures fault { IfErr result (IsEndedBy O.plan pass.old register.0) }
 {
     what_was_told_stays();
-    log.lines.reserve(1)?;
     let gate = Placed::new(site.gate, place);
     let receipt = site.auditor.submit(site.rt, &gate, pass, register, edit)?;
     if let Reply::Refused(refusal) = receipt.reply {
@@ -87,7 +91,7 @@ fn submit<'t, O: Opening, R: Wait, G: Watcher>(
     Ok(())
 }
 
-/// Asks whether a register holds, and notes the answer. Room for the log line is made first.
+/// Asks whether a register holds, and notes the answer in the room that there is for it. It takes no memory.
 fn ask<'t, O: Opening, R: Wait, G: Watcher>(
     log: &mut Log<'t>,
     site: Site<'_, '_, 't, O, R, G>,
@@ -96,13 +100,13 @@ fn ask<'t, O: Opening, R: Wait, G: Watcher>(
     register: RegId,
 ) -> Result<(), RunFault>
     requires some { 0 < O.plan.shards }
+    requires room { vec_len log.old.lines < vec_capacity log.old.lines }
     ensures done { OnOk result (GoesOn O.plan pass.old log.old pass.new log.new place (Ok (Some (Ask register)))) }
-    ensures kept { OnErr result (HasSameLines log.old log.new × (pass.new ≡ pass.old)) }
+    ensures kept { OnErr result ((log.new ≡ log.old) × (pass.new ≡ pass.old)) }
     ensures broken { log.new.broken ≡ log.old.broken }
-    ensures fault { IfErr result (λ fault. IsPassOf O.plan pass.old → register.0 < length O.plan.claims → MayEnd fault) }
+    ensures fault { IfErr result (λ fault. IsEndedBy O.plan pass.old register.0 fault × (fault ≢ Memory)) }
 {
     what_was_told_stays();
-    log.lines.reserve(1)?;
     let answer = site.auditor.standing(site.rt, site.gate, pass, register)?;
     log.lines.push_reserved(Line {
         event: place,

@@ -1,18 +1,13 @@
 //! The element that ended last, until its step is carried out.
 
-ghost use Rattle.std.specs.Prelude.{◌≡◌, ◌<◌, ◌+◌, ◌^◌, ◌++◌, ◌∷◌, [], ℕ, List, Result, IfOk, OnErr, false, length};
+ghost use Rattle.std.specs.Prelude.{◌≡◌, ◌<◌, ◌+◌, ◌^◌, Result, IfOk, OnErr, false, length};
 ghost use Rattle.edn_reader.specs.Grammar.{ElementModel as APiece, IsElement};
 ghost use Rattle.edn_reader.specs.Lent.{piece_of};
 ghost use Rattle.edn_reader.specs.Splitting.{IsLast};
-ghost use Rattle.jepsen_form.specs.declared.fault.FormFault.{FormFault as AFormFault};
-ghost use Rattle.jepsen_form.specs.declared.item.Item.{Item as AnItem};
 ghost use Rattle.jepsen_form.specs.Item.{IsItem, answer_with};
-ghost use Rattle.shards.specs.Pass.{PassModel};
-ghost use Rattle.shards.specs.Plan.{Plan};
 ghost use Rattle.feeders.specs.Lending.{LendsNone, is_lent};
 ghost use Rattle.feeders.specs.Pending.{IsItemOfLast, IsPageOf, IsReadAs};
 ghost use Rattle.feeders.specs.Progress.{IsAhead};
-ghost use Rattle.logs.specs.Start.{Start};
 
 use crate::pages::Pages;
 use crate::progress::Progress;

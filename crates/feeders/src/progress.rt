@@ -1,11 +1,11 @@
 //! What a feeder knows between two elements.
 
-ghost use Rattle.std.specs.Prelude.{◌≡◌, ◌+◌, ◌<◌, ◌^◌, ◌∷◌, ◌++◌, [], ℕ, List, Result, IfErr, IfOk, OnErr, OnOk, Err, None, Some, IsTrue, ◌↔◌};
+ghost use Rattle.std.specs.Prelude.{◌≡◌, ◌+◌, ◌<◌, ◌^◌, ◌∷◌, ◌++◌, [], List, Result, IfErr, IfOk, OnErr, OnOk, Err, None, IsTrue, ◌↔◌};
 ghost use Rattle.jepsen_form.specs.declared.fault.FormFault.{FormFault as AFormFault};
 ghost use Rattle.jepsen_form.specs.declared.item.Item.{Item as AnItem};
 ghost use Rattle.shards.specs.Pass.{IsPassOf, PassModel};
 ghost use Rattle.shards.specs.Plan.{Plan};
-ghost use Rattle.feeders.specs.Ending.{MayEnd};
+ghost use Rattle.feeders.specs.Ending.{MayStop};
 ghost use Rattle.feeders.specs.Progress.{IsAhead, IsAt, IsPaired, PairedUpTo, IsKnownStep};
 ghost use Rattle.feeders.specs.Setting.{IsAtStart};
 ghost use Rattle.logs.specs.Start.{Start};
@@ -91,7 +91,7 @@ impl<'t> Progress<'t> {
         ensures kept { OnErr result ((start : Start) (items : List (Result AnItem AFormFault)) (item : Result AnItem AFormFault) → IsPaired O.plan start items item step.entry self.old pass.old → IsPaired O.plan start items item step.entry self.new pass.new) }
         ensures refused { OnErr result ((self.new.place ≡ self.old.place) × PairedUpTo self.new) }
         ensures broken { self.new.log.broken ≡ self.old.log.broken }
-        ensures fault { IfErr result (λ fault. IsPassOf O.plan pass.old → IsKnownStep O.plan step.entry → MayEnd fault) }
+        ensures fault { IfErr result (λ fault. IsPassOf O.plan pass.old → IsKnownStep O.plan step.entry → MayStop O.plan pass.new fault) }
     {
         match step {
             Ok(step) => carry_out(&mut self.log, site, pass, self.place, step)?,

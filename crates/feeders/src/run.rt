@@ -2,7 +2,8 @@
 
 ghost use Rattle.std.specs.Prelude.{◌≡◌, ◌≤◌, ℕ, List, All, IfErr, IfOk, length, map, vec_len};
 ghost use Rattle.shards.specs.Plan.{plan_of};
-ghost use Rattle.feeders.specs.Ending.{MayEnd};
+ghost use Rattle.shards.specs.Closing.{IsClosed};
+ghost use Rattle.feeders.specs.Ending.{IsEndedAtClose, MayEnd};
 ghost use Rattle.feeders.specs.Readers.{AreReadOf, IsNotOfReading};
 ghost use Rattle.logs.specs.Run.{IsRun};
 
@@ -12,8 +13,8 @@ use crate::several::{feed_all, read_all, read_in_turn, unzipped};
 use crate::site::Site;
 use crate::watcher::Watcher;
 use jepsen_form::MomentField;
-use logs::Run;
-use shards::{Auditor, Opening};
+use logs::{Log, Run};
+use shards::{Auditor, Opening, Pass};
 use std::alloc::Global;
 use std::io::Read;
 use std::marker::Brand;
@@ -37,7 +38,7 @@ pub fn run_traces<'t, R: Threads + Wait + Sync, G: Watcher>(
     requires shards { (1 ≤ shards) × (shards ≤ 64) }
     ensures run { IfOk result (λ run. IsRun tower.now field shards (map (λ trace. trace.now) traces.entry.now) run.closed run.logs.items) }
     ensures by_text { IfOk result (λ run. All IsNotOfReading run.logs.items) }
-    ensures fault { IfErr result MayEnd }
+    ensures fault { IfErr result (MayEnd (plan_of 0 tower.now shards (length traces.now))) }
 {
     run_in::<Brand, R, G>(rt, alloc, tower, traces, field, shards, gate)
 }
@@ -60,7 +61,7 @@ pub fn run_readers<'t, R: Threads + Wait + Sync, S: Read + Drop + Send, G: Watch
     requires readers { (1 ≤ vec_len readers) × (vec_len readers ≤ 256) }
     requires shards { (1 ≤ shards) × (shards ≤ 64) }
     ensures run { IfOk result (λ run. (traces : List (List ℕ)) × AreReadOf (map S.remaining readers.items) run.logs.items traces × IsRun tower.now field shards traces run.closed run.logs.items) }
-    ensures fault { IfErr result MayEnd }
+    ensures fault { IfErr result (MayEnd (plan_of 0 tower.now shards (vec_len readers))) }
 {
     read_in::<Brand, R, S, G>(rt, alloc, tower, readers, pages, field, shards, gate)
 }
@@ -80,7 +81,7 @@ pub fn run_in_turn<'t, R: Wait, S: Read + Drop, G: Watcher>(
     requires readers { (1 ≤ vec_len readers) × (vec_len readers ≤ 256) }
     requires shards { (1 ≤ shards) × (shards ≤ 64) }
     ensures run { IfOk result (λ run. (traces : List (List ℕ)) × AreReadOf (map S.remaining readers.items) run.logs.items traces × IsRun tower.now field shards traces run.closed run.logs.items) }
-    ensures fault { IfErr result MayEnd }
+    ensures fault { IfErr result (MayEnd (plan_of 0 tower.now shards (vec_len readers))) }
 {
     turn_in::<Brand, R, S, G>(rt, alloc, tower, readers, pages, field, shards, gate)
 }
@@ -106,17 +107,14 @@ fn read_in<
     requires readers { (1 ≤ vec_len readers) × (vec_len readers ≤ 256) }
     requires shards { (1 ≤ shards) × (shards ≤ 64) }
     ensures run { IfOk result (λ run. (traces : List (List ℕ)) × AreReadOf (map S.remaining readers.items) run.logs.items traces × IsRun tower.now field shards traces run.closed run.logs.items) }
-    ensures fault { IfErr result MayEnd }
+    ensures fault { IfErr result (MayEnd O.plan) }
 {
     let (auditor, passes) = Auditor::<O>::open(alloc, 0, tower, shards, readers.len() as u32)?;
     let outcomes = read_all(
         rt, alloc, &auditor, gate, tower, field, pages, passes, readers,
     )?;
     let (passes, logs) = unzipped(alloc, outcomes)?;
-    match auditor.finish(passes) {
-        Ok(closed) => Ok(Run { closed, logs }),
-        Err(unfinished) => Err(RunFault::from(unfinished.fault)),
-    }
+    closed_run(auditor, passes, logs)
 }
 
 /// `run_traces` for the plan of the opening `O`.
@@ -134,7 +132,7 @@ fn run_in<'t, O: Opening + Send + Sync, R: Threads + Wait + Sync, G: Watcher>(
     requires shards { (1 ≤ shards) × (shards ≤ 64) }
     ensures run { IfOk result (λ run. IsRun tower.now field shards (map (λ trace. trace.now) traces.entry.now) run.closed run.logs.items) }
     ensures by_text { IfOk result (λ run. All IsNotOfReading run.logs.items) }
-    ensures fault { IfErr result MayEnd }
+    ensures fault { IfErr result (MayEnd O.plan) }
 {
     let (auditor, passes) = Auditor::<O>::open(alloc, 0, tower, shards, traces.len() as u32)?;
     let site = Site {
@@ -147,10 +145,7 @@ fn run_in<'t, O: Opening + Send + Sync, R: Threads + Wait + Sync, G: Watcher>(
     };
     let outcomes = feed_all(site, passes, traces)?;
     let (passes, logs) = unzipped(alloc, outcomes)?;
-    match auditor.finish(passes) {
-        Ok(closed) => Ok(Run { closed, logs }),
-        Err(unfinished) => Err(RunFault::from(unfinished.fault)),
-    }
+    closed_run(auditor, passes, logs)
 }
 
 /// `run_in_turn` for the plan of the opening `O`.
@@ -168,7 +163,7 @@ fn turn_in<'t, O: Opening, R: Wait, S: Read + Drop, G: Watcher>(
     requires readers { (1 ≤ vec_len readers) × (vec_len readers ≤ 256) }
     requires shards { (1 ≤ shards) × (shards ≤ 64) }
     ensures run { IfOk result (λ run. (traces : List (List ℕ)) × AreReadOf (map S.remaining readers.items) run.logs.items traces × IsRun tower.now field shards traces run.closed run.logs.items) }
-    ensures fault { IfErr result MayEnd }
+    ensures fault { IfErr result (MayEnd O.plan) }
 {
     let (auditor, passes) = Auditor::<O>::open(alloc, 0, tower, shards, readers.len() as u32)?;
     let site = Site {
@@ -181,6 +176,18 @@ fn turn_in<'t, O: Opening, R: Wait, S: Read + Drop, G: Watcher>(
     };
     let outcomes = read_in_turn(site, pages, passes, readers)?;
     let (passes, logs) = unzipped(alloc, outcomes)?;
+    closed_run(auditor, passes, logs)
+}
+
+/// Closes the auditor with the passes of its feeders, which takes no memory, and gives what it leaves with the logs.
+fn closed_run<'t, O: Opening>(
+    auditor: Auditor<'t, O>,
+    passes: Vec<Pass<'t>>,
+    logs: Vec<Log<'t>>,
+) -> Result<Run<'t>, RunFault>
+    ensures run { IfOk result (λ run. IsClosed O.plan passes.entry.items run.closed × (run.logs ≡ logs.entry)) }
+    ensures fault { IfErr result (IsEndedAtClose O.plan passes.entry.items) }
+{
     match auditor.finish(passes) {
         Ok(closed) => Ok(Run { closed, logs }),
         Err(unfinished) => Err(RunFault::from(unfinished.fault)),

@@ -1,7 +1,6 @@
 //! Feeds several traces, in threads or in turn.
 
-ghost use Rattle.std.specs.Prelude.{◌≡◌, ◌<◌, ◌⊎◌, All, IfErr, IfOk, Ok, length, map, vec_len};
-ghost use Rattle.feeders.specs.declared.fault.RunFault.TheVariants.{Memory};
+ghost use Rattle.std.specs.Prelude.{◌≡◌, ◌<◌, ◌≤◌, [], All, IfErr, IfOk, Ok, length, map, vec_capacity, vec_len};
 ghost use Rattle.shards.specs.Plan.{claims_of};
 ghost use Rattle.feeders.specs.Ending.{MayEnd};
 ghost use Rattle.feeders.specs.Progress.{AreFed, AreFresh, AreReadAndFed, IsFed, IsFirstFault, IsFresh, IsReadAndFed};
@@ -38,7 +37,7 @@ pub fn feed_all<'t, O: Opening + Send + Sync, R: Threads + Wait + Sync, G: Watch
     requires each { vec_len passes ≡ length traces.now }
     ensures fed { IfOk result (λ outcomes. AreFed O.plan site.entry.tower.now site.entry.field passes.entry.items traces.entry.now outcomes.items) }
     ensures by_text { IfOk result (λ outcomes. All (λ fed. IsNotOfReading fed.log) outcomes.items) }
-    ensures fault { IfErr result MayEnd }
+    ensures fault { IfErr result (MayEnd O.plan) }
 {
     let pairs = paired(site.alloc, passes, Vec::from_slice(site.alloc, traces)?)?;
     let ended = map_vec(
@@ -47,10 +46,11 @@ pub fn feed_all<'t, O: Opening + Send + Sync, R: Threads + Wait + Sync, G: Watch
         &|pair: (Pass, &[u8])| -> Result<FeederOutcome, RunFault>
             requires { (0 < O.plan.shards) × (O.plan.claims ≡ claims_of site.tower.now) × IsFresh O.plan pair.0 }
             ensures fed { IfOk result (λ fed. IsFed (setting_of O.plan site.entry.tower.now site.entry.field (first_start pair.entry.0.feeder)) pair.entry.1.now fed × IsNotOfReading fed.log) }
-            ensures fault { IfErr result MayEnd }
+            ensures fault { IfErr result (MayEnd O.plan) }
         { feed_trace(site, pair.0, pair.1) },
     )?;
-    gathered(site.alloc, ended)
+    let room = Vec::with_capacity(site.alloc, ended.len())?;
+    gathered(room, ended)
 }
 
 /// Feeds what each reader gives with its pass, in threads as `feed_all` does.
@@ -76,7 +76,7 @@ pub fn read_all<
     requires fresh { AreFresh O.plan passes.items }
     requires each { vec_len passes ≡ vec_len readers }
     ensures fed { IfOk result (λ outcomes. AreReadAndFed O.plan tower.now field passes.entry.items (map S.remaining readers.items) outcomes.items) }
-    ensures fault { IfErr result MayEnd }
+    ensures fault { IfErr result (MayEnd O.plan) }
 {
     let pairs = paired(alloc, passes, readers)?;
     let ended = map_vec(
@@ -85,7 +85,7 @@ pub fn read_all<
         &|pair: (Pass, S)| -> Result<FeederOutcome, RunFault>
             requires { (0 < O.plan.shards) × (O.plan.claims ≡ claims_of tower.now) × IsFresh O.plan pair.0 }
             ensures fed { IfOk result (λ fed. IsReadAndFed (setting_of O.plan tower.entry.now field (first_start pair.entry.0.feeder)) (S.remaining pair.entry.1) fed) }
-            ensures fault { IfErr result MayEnd }
+            ensures fault { IfErr result (MayEnd O.plan) }
         {
             let site = Site {
                 rt,
@@ -98,7 +98,8 @@ pub fn read_all<
             feed_reader(site, pages, pair.0, pair.1)
         },
     )?;
-    gathered(alloc, ended)
+    let room = Vec::with_capacity(alloc, ended.len())?;
+    gathered(room, ended)
 }
 
 /// Feeds what each reader gives with its pass, on this thread alone, one after another.
@@ -113,7 +114,7 @@ pub fn read_in_turn<'t, O: Opening, R: Wait, G: Watcher, S: Read + Drop>(
     requires fresh { AreFresh O.plan passes.items }
     requires each { vec_len passes ≡ vec_len readers }
     ensures fed { IfOk result (λ outcomes. AreReadAndFed O.plan site.entry.tower.now site.entry.field passes.entry.items (map S.remaining readers.items) outcomes.items) }
-    ensures fault { IfErr result MayEnd }
+    ensures fault { IfErr result (MayEnd O.plan) }
 {
     let pairs = paired(site.alloc, passes, readers)?;
     let mut outcomes = Vec::with_capacity(site.alloc, pairs.len())?;
@@ -144,17 +145,18 @@ fn paired<'t, X: Drop>(
     Ok(pairs)
 }
 
-/// What the feeders left, in order; where some failed, the fault of the one with the least number.
+/// What the feeders left, in order, in room that there is for it; where some failed, the fault of the one with the least
+/// number. It takes no memory.
 fn gathered<'t>(
-    alloc: Global,
+    room: Vec<FeederOutcome<'t>>,
     ended: Vec<Result<FeederOutcome<'t>, RunFault>>,
 ) -> Result<Vec<FeederOutcome<'t>>, RunFault>
-    requires faults { All (λ one. IfErr one MayEnd) ended.items }
+    requires empty { room.items ≡ [] }
+    requires enough { vec_len ended ≤ vec_capacity room }
     ensures all { IfOk result (λ outcomes. map Ok outcomes.items ≡ ended.entry.items) }
-    ensures first { IfErr result (λ fault. (fault ≡ Memory) ⊎ IsFirstFault ended.entry.items fault) }
-    ensures fault { IfErr result MayEnd }
+    ensures first { IfErr result (IsFirstFault ended.entry.items) }
 {
-    let mut outcomes = Vec::with_capacity(alloc, ended.len())?;
+    let mut outcomes = room;
     for one in ended {
         outcomes.push_reserved(one?);
     }

@@ -36,7 +36,7 @@ pub fn feed_reader<'t, O: Opening, R: Wait, G: Watcher, S: Read + Drop>(
     requires fresh { pass ≡ new_pass O.plan pass.feeder }
     requires known { pass.feeder < O.plan.feeders }
     ensures fed { IfOk result (IsReadAndFed (setting_of O.plan site.entry.tower.now site.entry.field (first_start pass.entry.feeder)) (S.remaining reader)) }
-    ensures fault { IfErr result MayEnd }
+    ensures fault { IfErr result (MayEnd O.plan) }
 {
     what_was_told_stays();
     let mut room = Vec::new(site.alloc);

@@ -50,16 +50,16 @@ impl TailBuffer {
     }
 
     /// Takes a chunk, for which there is room. Bytes before the place `keep` are dropped, but only where `keep` is
-    /// after all bytes so far.
+    /// not before the end of all bytes so far.
     pub fn take(&mut self, piece: &[u8], keep: usize)
         requires fits { self.old.from + vec_len self.old.bytes + length piece.now < 2 ^ 64 }
         requires room { vec_len self.old.bytes + length piece.now ≤ vec_capacity self.old.bytes }
         ensures holds { (taken : List ℕ) → AreLastBytes taken self.old → AreLastBytes (taken ++ piece.now) self.new }
         ensures low { self.old.from ≤ keep → self.new.from ≤ keep }
-        ensures let_go { self.old.from + vec_len self.old.bytes < keep → keep ≤ self.old.from + vec_len self.old.bytes + length piece.now → self.new.from ≡ keep }
+        ensures let_go { self.old.from + vec_len self.old.bytes ≤ keep → keep ≤ self.old.from + vec_len self.old.bytes + length piece.now → self.new.from ≡ keep }
     {
         let end = self.from + self.bytes.len();
-        if keep <= end {
+        if keep < end {
             let _ = self.bytes.extend_from_slice(piece);
             return;
         }

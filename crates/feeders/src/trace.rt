@@ -35,7 +35,7 @@ pub fn feed_trace<'t, O: Opening, R: Wait, G: Watcher>(
     requires known { pass.feeder < O.plan.feeders }
     ensures fed { IfOk result (IsFed (setting_of O.plan site.entry.tower.now site.entry.field (first_start pass.entry.feeder)) trace.entry.now) }
     ensures by_text { IfOk result (λ fed. IsNotOfReading fed.log) }
-    ensures fault { IfErr result MayEnd }
+    ensures fault { IfErr result (MayEnd O.plan) }
 {
     what_was_told_stays();
     items_name_registers_of_the_tower();

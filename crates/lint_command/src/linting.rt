@@ -2,6 +2,7 @@
 
 ghost use Rattle.std.specs.Prelude.{◌≤◌, ℕ, List, Some, IfErr, IfOk, length, map};
 ghost use Rattle.shards.specs.Closing.{ClosedShard};
+ghost use Rattle.shards.specs.Plan.{plan_of};
 ghost use Rattle.logs.specs.declared.log.Log.{Log};
 ghost use Rattle.feeders.specs.Ending.{MayEnd};
 ghost use Rattle.feeders.specs.Readers.{AreReadOf};
@@ -29,7 +30,7 @@ pub fn lint<R: Wait>(
     requires traces { (1 ≤ length texts.now) × (length texts.now ≤ 256) }
     ensures found { IfOk result (λ found. (closed : List ClosedShard) × (logs : List Log) × (traces : List (List ℕ)) × AreReadOf (map (λ text. Some text.now) texts.entry.now) logs traces
         × IsRun tower.now field 1 traces closed logs × AreFoundIn (map (λ text. text.now) texts.entry.now) logs found.traces.items) }
-    ensures fault { IfErr result MayEnd }
+    ensures fault { IfErr result (MayEnd (plan_of 0 tower.now 1 (length texts.now))) }
 {
     elements_of_a_prefix();
     let pages = Pages::new(alloc)?;

@@ -1,4 +1,4 @@
-use Rattle.std.proofs.Common.{◌≡◌, ◌++◌, append-nil}
+use Rattle.std.proofs.Common.{◌≡◌, ◌++◌, append-nil, refl}
 use Rattle.logs.specs.Doings.{entered, lines_at, what_of_reply}
 use Rattle.feeders.proofs.Doing.{goes_on}
 use Rattle.feeders.proofs.Telling.{told_entered}
@@ -20,8 +20,8 @@ returns-in_default-clause-done g c =
     let plan = g.O.Opening.plan in
     let receipt = c.in_ok-receipt.receipt in
     let lines = c.args.log.now.lines.items in
-    let noted : c.reserve.new.self.items ≡ lines ++ lines_at c.args.place (what_of_reply receipt.reply) = rw (c.in_default.is, append-nil) c.reserve.ensures.items in
-    goes_on plan c.args.pass.now c.submit.new.pass lines c.reserve.new.self.items c.args.place (entered c.args.register c.args.edit receipt.number receipt.reply)
+    let noted : lines ≡ lines ++ lines_at c.args.place (what_of_reply receipt.reply) = rw (c.in_default.is, append-nil) refl in
+    goes_on plan c.args.pass.now c.submit.new.pass lines lines c.args.place (entered c.args.register c.args.edit receipt.number receipt.reply)
     (told_entered plan c.args.pass.now c.submit.new.pass c.args.register c.args.edit receipt c.requires.some c.in_ok-receipt.ensures.submitted c.in_ok-receipt.ensures.told
     c.what_was_told_stays.ensures.own c.what_was_told_stays.ensures.others)
     noted (λ start doings feeder own. tt)

@@ -1,4 +1,4 @@
-use Rattle.std.proofs.Common.{ℕ, List, Bor, All, IfOk, sym, rules, ◌∙◌}
+use Rattle.std.proofs.Common.{ℕ, ◌<◌, List, Bor, All, IfOk, sym, subst, rules, ◌∙◌}
 use mathlib.Core.List.{[], ◌∷◌}
 use base.Fml.{Lft}
 use mir.Syntax.{named}
@@ -8,11 +8,13 @@ use Rattle.feeders.specs.contracts.site.Site as Site
 use Rattle.std.proofs.lemmas.List.Elements.{All-from_recursion}
 use Rattle.feeders.specs.contracts.several.feed_all.{O-row, R-row, G-row}
 use Rattle.feeders.proofs.Crosses.{closure_sync, site_sync}
+use Rattle.feeders.specs.Ending.{MayEnd}
 use Rattle.feeders.specs.Progress.{AreFed, IsFed}
 use Rattle.feeders.specs.Readers.{IsNotOfReading}
 use Rattle.logs.specs.Start.{first_start}
 use Rattle.feeders.specs.Setting.{setting_of}
 use Rattle.feeders.specs.declared.outcome.FeederOutcome.{FeederOutcome}
+use Rattle.feeders.proofs.Stopping.{first_is}
 use Rattle.feeders.proofs.Split.{fed_all, fed_parts, fresh_at, ok_then}
 use Rattle.feeders.proofs.several.feed_all.Given.{Over}
 use Rattle.feeders.proofs.several.feed_all.Goals as goal
@@ -49,3 +51,10 @@ map_vec-requires-sync-F g c κs within =
     let at : ℕ → Lft → NamedLft = λ n κ. record { mir = named n; lft = κ } in
     let site = Site.the_row (at 10 κs.1.1.1.1.1.1.1.1.1.1.0) (at 11 κs.1.1.1.1.1.1.1.1.1.1.1.0) (at 4 κs.1.1.1.1.0) (O-row g.row.O g.row.R g.row.G) (R-row g.row.O g.row.R g.row.G) (G-row g.row.O g.row.R g.row.G) g.O.Opening in
     closure_sync _ (ShrRef (named 9) κs.1.1.1.1.1.1.1.1.1.0 site ∷ []) _ (shr_sync _ _ site (site_sync _ _ _ _ _ _ _ runtime gate), tt)
+
+pub returns-clause-fault : goal.returns-clause-fault
+returns-clause-fault g c =
+    let pairs = c.in_ok-pairs.pairs in
+    let ended = c.in_ok-ended.ended in
+    let many = sym ended.ok.0 ∙ c.in_ok-ended.ensures.len ∙ pairs.ok.0 in
+    first_is (MayEnd g.O.Opening.plan) ended.items c.gathered.result c.gathered.ensures.first (λ i d below. (c.in_ok-ended.ensures.each i d (subst (λ (n : ℕ). i < n) many below)).1.call.met.1)

@@ -1,7 +1,6 @@
-use Rattle.std.proofs.Common.{IfErr, rules}
+use Rattle.std.proofs.Common.{rules}
 use Rattle.std.specs.Vec.Iter.{into_iter_items}
-use Rattle.feeders.specs.Ending.{MayEnd}
-use Rattle.feeders.proofs.Split.{all_but_first, grown}
+use Rattle.feeders.proofs.Split.{grown}
 use Rattle.feeders.proofs.several.gathered.Goals as goal
 
 pub loop-one-preserved : goal.loop-one-preserved
@@ -13,6 +12,5 @@ loop-one-preserved c =
       finite = tt;
       long = search rules;
       all = grown c.args.ended.items c.loop-one.outcomes.items c.push_reserved.new.self.items left rest c.in-Some.one c.in_ok-one.field-0 c.loop-one.invariant.all c.in-Some.ensures.steps.0 c.in_ok-one.was c.push_reserved.ensures.items;
-      faults = all_but_first (λ one. IfErr one MayEnd) left rest c.in-Some.one c.loop-one.invariant.faults c.in-Some.ensures.steps.0;
       room = search rules;
     }

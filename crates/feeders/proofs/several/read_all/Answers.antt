@@ -4,7 +4,7 @@ use base.Fml.{Lft}
 use mir.Syntax.{named}
 use denote.Ref.{NamedLft, ShrRef}
 use denote.Param.Send.{IsSync, shr_sync}
-use Rattle.std.proofs.Common.{sym, rules, ◌∙◌}
+use Rattle.std.proofs.Common.{◌<◌, sym, subst, rules, ◌∙◌}
 use Rattle.std.proofs.alloc.Global.TheSendSync as alloc
 use Rattle.jepsen_form.proofs.item.MomentField.TheSendSync as field
 use Rattle.shards.proofs.Crosses.{auditor_sync}
@@ -15,11 +15,13 @@ use Rattle.jepsen_form.specs.contracts.item.MomentField as MomentField
 use Rattle.shards.specs.contracts.auditor.Auditor as Auditor
 use Rattle.tower_file.specs.contracts.tower.Tower as Tower
 use Rattle.feeders.specs.contracts.pages.Pages as Pages
-use Rattle.feeders.specs.contracts.several.read_all.{O-row, R-row, G-row, S-row}
+use Rattle.feeders.specs.contracts.several.read_all.{O-row, R-row, G-row}
 use Rattle.feeders.proofs.Crosses.{closure_sync}
+use Rattle.feeders.specs.Ending.{MayEnd}
 use Rattle.feeders.specs.Progress.{IsReadAndFed}
 use Rattle.logs.specs.Start.{first_start}
 use Rattle.feeders.specs.Setting.{setting_of}
+use Rattle.feeders.proofs.Stopping.{first_is}
 use Rattle.feeders.proofs.Split.{fed_all, fresh_at, of_given, ok_then}
 use Rattle.feeders.proofs.several.read_all.Goals as goal
 
@@ -59,3 +61,10 @@ map_vec-requires-sync-F g c κs within =
         (shr_sync _ _ _ (auditor_sync _ _ _), (shr_sync _ _ _ gate, (shr_sync _ _ _ tower.the_sync, (shr_sync _ _ _ field.the_sync, (shr_sync _ _ _ pages.the_sync, tt))))),
       ),
     )
+
+pub returns-clause-fault : goal.returns-clause-fault
+returns-clause-fault g c =
+    let pairs = c.in_ok-pairs.pairs in
+    let ended = c.in_ok-ended.ended in
+    let many = sym ended.ok.0 ∙ c.in_ok-ended.ensures.len ∙ pairs.ok.0 in
+    first_is (MayEnd g.O.Opening.plan) ended.items c.gathered.result c.gathered.ensures.first (λ i d below. (c.in_ok-ended.ensures.each i d (subst (λ (n : ℕ). i < n) many below)).1.call.met.1)

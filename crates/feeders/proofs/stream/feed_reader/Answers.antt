@@ -9,6 +9,7 @@ use Rattle.feeders.specs.Setting.{setting_of}
 use Rattle.feeders.proofs.Doing.{first_is_start}
 use Rattle.feeders.proofs.Feeds.{by_course, open_next}
 use Rattle.feeders.proofs.Streaming.{broke_within, code_of_reading, read_up_to, read_whole}
+use Rattle.feeders.proofs.Stopping.{stop_ends}
 use Rattle.feeders.proofs.stream.feed_reader.Goals as goal
 
 pub loop-count-init : goal.loop-count-init
@@ -36,8 +37,9 @@ returns-in-Err-feed-clause-fault g c =
     let state = c.loop-count.invariant in
     let so_far = state.so_far in
     let piece = take c.in-Ok.count c.next.new.buffer in
-    c.in-Err-feed.ensures.fault start so_far.bytes (open_next plan start so_far.bytes piece c.loop-count.feeder c.loop-count.pass state.going so_far.fed)
-    (c.requires.of_tower ∙ ap claims_of (sym state.tower))
+    stop_ends plan c.feed.new.pass c.in-Err-feed.failed.fault
+    (c.in-Err-feed.ensures.fault start so_far.bytes (open_next plan start so_far.bytes piece c.loop-count.feeder c.loop-count.pass state.going so_far.fed)
+    (c.requires.of_tower ∙ ap claims_of (sym state.tower)))
 
 pub returns-then-count-eq0-clause-fed : goal.returns-then-count-eq0-clause-fed
 returns-then-count-eq0-clause-fed g c =

@@ -9,6 +9,7 @@ use Rattle.logs.specs.Start.{first_start}
 use Rattle.feeders.specs.Setting.{setting_of}
 use Rattle.feeders.proofs.Doing.{first_is_start}
 use Rattle.feeders.proofs.Reading.{HasRead, begun, broken_at, ends, read_known, read_on}
+use Rattle.feeders.proofs.Stopping.{stop_ends}
 use Rattle.feeders.proofs.trace.feed_trace.Goals as goal
 
 pub loop-element-init : goal.loop-element-init
@@ -63,7 +64,7 @@ returns-in-Err-carry_out-clause-fault g c =
     let setting = setting_of g.O.Opening.plan c.args.site.tower.now c.args.site.field (first_start c.args.pass.feeder) in
     let known = read_known setting c.args.trace.now c.loop-element.reader.at c.loop-element.progress c.pair.new.self c.loop-element.pass (piece_of c.in-Ok-Some.element) c.read_item.result c.in_ok-step-in-Ok-Some.step
     c.items_name_registers_of_the_tower.ensures c.steps_are_on_named_registers.ensures c.requires.of_tower c.loop-element.invariant.so_far c.read_item.ensures.item c.in_ok-step-in-Ok-Some.ensures.paired in
-    c.in-Err-carry_out.ensures.fault known.0 known.1
+    stop_ends g.O.Opening.plan c.carry_out.new.pass c.in-Err-carry_out.fault (c.in-Err-carry_out.ensures.fault known.0 known.1)
 
 pub returns-in-Ok-None-clause-fed : goal.returns-in-Ok-None-clause-fed
 returns-in-Ok-None-clause-fed g c =

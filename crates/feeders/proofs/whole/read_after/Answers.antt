@@ -1,6 +1,6 @@
-use Rattle.std.proofs.Common.{◌++◌, ◌≤◌, ◌∙◌, take, length, sym, ap, subst, arith, List, ℕ, length-take-le}
+use Rattle.std.proofs.Common.{◌≤◌, take, length, sym, subst, arith, List, ℕ}
 use Rattle.feeders.specs.Source.{AreBytesOf}
-use Rattle.feeders.proofs.Sourcing.{read_after_used, more_than_given}
+use Rattle.feeders.proofs.Sourcing.{read_after_used}
 use Rattle.feeders.proofs.whole.read_after.Goals as goal
 
 pub returns-in-Ok-clause-given : goal.returns-in-Ok-clause-given

@@ -1,9 +1,8 @@
-use Rattle.std.proofs.Common.{List, ℕ, Some, length, map, sym, subst, ◌∙◌}
+use Rattle.std.proofs.Common.{List, ℕ, Some, map, subst, ◌∙◌}
 use Rattle.std.specs.List.{AllZip}
 use Rattle.std.specs.Borrow.{Bor}
 use Rattle.std.proofs.lemmas.List.{length-map}
 use Rattle.std.proofs.lemmas.Slice.Zip.{AllZip-long}
-use Rattle.logs.specs.declared.log.Log.{Log}
 use Rattle.feeders.specs.Readers.{AreReadOf}
 use Rattle.logs.specs.Run.{plan_of_run}
 use Rattle.lint.specs.Found.{NamesElements}

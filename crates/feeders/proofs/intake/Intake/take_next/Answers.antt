@@ -6,7 +6,7 @@ use Rattle.feeders.specs.Intake.{HasFed}
 use Rattle.feeders.specs.Setting.{setting_of}
 use Rattle.feeders.proofs.Fronts.{item_of_front, page_of_front}
 use Rattle.feeders.proofs.Pieces.{broke_at, fed_along, fed_settled, fed_waits, holds_none, holds_same, known_more, taken_is}
-use Rattle.feeders.proofs.Taking.{EndsOne, IsTaken, TookNone, can_read_behind, fed_on, fed_roomed, fed_taken, keeps_fault, settled_place, takes_all, takes_some, used_beside, used_on, used_one, wants_memory}
+use Rattle.feeders.proofs.Taking.{EndsOne, IsTaken, TookNone, can_read_behind, fed_on, fed_roomed, fed_taken, keeps_fault, settled_place, takes_all, takes_some, used_beside, used_on, used_one, wants_memory, let_go}
 use Rattle.feeders.proofs.intake.Intake.take_next.Goals as goal
 
 pub returns-then-is_err-clause-waits : goal.returns-then-is_err-clause-waits
@@ -66,12 +66,14 @@ returns-in-Err-clause-refused g c =
     let goes = (wants.1 can.bytes [] can.pieces (known_more can.bytes piece [] can.pieces old.splitter can.stands)).1 in
     let long = taken_is can.bytes piece can.pieces old.splitter can.stands in
     let used = c.taken.result - c.taken-before.result in
+    let within : used ≤ length piece = omega (arith, goes.0, goes.1, goes.2, long, c.taken.ensures, c.taken-before.ensures) in
     let new : Intake = record { splitter = c.take_element.new.splitter; kept = c.take.new.self; progress = old.progress; pending = old.pending } in
     let on : TookNone piece used old new =
     takes_some piece used wants.0 old new wants.1 can (omega (arith, c.taken.ensures, c.taken-before.ensures))
     (λ taken held. c.take.ensures.holds taken (holds_same taken old.kept c.make_room.new.self c.make_room.ensures.kept.0 c.make_room.ensures.kept.1 held))
     (λ low. subst (λ (n : ℕ). c.take.new.self.from ≤ n) c.keep_from-keep.ensures (c.take.ensures.low (omega (arith, low, c.keep_from-keep.ensures, c.make_room.ensures.kept.0))))
-    refl c.requires.settled c.requires.fits in
+    (let_go old.kept c.make_room.new.self c.take.new.self c.keep_from-keep.result used (take used piece) c.keep_from-keep.ensures c.make_room.ensures.kept.0 c.make_room.ensures.kept.1 (length-take-le used piece within) c.take.ensures.let_go)
+    c.requires.settled refl c.requires.settled c.requires.fits in
     used_on piece used old new on c.requires.settled can
 
 pub returns-in-Err-clause-waits : goal.returns-in-Err-clause-waits
@@ -83,12 +85,14 @@ returns-in-Err-clause-waits g c start bytes next fed =
     let goes = (wants.1 can.bytes [] can.pieces (known_more can.bytes piece [] can.pieces old.splitter can.stands)).1 in
     let long = taken_is can.bytes piece can.pieces old.splitter can.stands in
     let used = c.taken.result - c.taken-before.result in
+    let within : used ≤ length piece = omega (arith, goes.0, goes.1, goes.2, long, c.taken.ensures, c.taken-before.ensures) in
     let new : Intake = record { splitter = c.take_element.new.splitter; kept = c.take.new.self; progress = old.progress; pending = old.pending } in
     let on : TookNone piece used old new =
     takes_some piece used wants.0 old new wants.1 can (omega (arith, c.taken.ensures, c.taken-before.ensures))
     (λ taken held. c.take.ensures.holds taken (holds_same taken old.kept c.make_room.new.self c.make_room.ensures.kept.0 c.make_room.ensures.kept.1 held))
     (λ low. subst (λ (n : ℕ). c.take.new.self.from ≤ n) c.keep_from-keep.ensures (c.take.ensures.low (omega (arith, low, c.keep_from-keep.ensures, c.make_room.ensures.kept.0))))
-    refl c.requires.settled c.requires.fits in
+    (let_go old.kept c.make_room.new.self c.take.new.self c.keep_from-keep.result used (take used piece) c.keep_from-keep.ensures c.make_room.ensures.kept.0 c.make_room.ensures.kept.1 (length-take-le used piece within) c.take.ensures.let_go)
+    c.requires.settled refl c.requires.settled c.requires.fits in
     fed_on (setting_of g.O.Opening.plan c.args.site.tower.now c.args.site.field start) piece used old new c.args.pass.now bytes next on c.requires.settled fed
 
 pub take-requires-in_default-whole-clause-fits : goal.take-requires-in_default-whole-clause-fits
@@ -111,7 +115,8 @@ returns-in_default-whole-clause-used g c =
     takes_all piece used old new c.in-Ok.ensures.counted takes can
     (λ taken held. c.take-in_default-whole.ensures.holds taken (holds_same taken old.kept c.make_room.new.self c.make_room.ensures.kept.0 c.make_room.ensures.kept.1 held))
     (λ low. subst (λ (n : ℕ). c.take-in_default-whole.new.self.from ≤ n) c.keep_from.ensures (c.take-in_default-whole.ensures.low (omega (arith, low, c.keep_from.ensures, c.make_room.ensures.kept.0))))
-    refl c.requires.settled c.requires.fits in
+    (let_go old.kept c.make_room.new.self c.take-in_default-whole.new.self c.keep_from.result (length piece) piece c.keep_from.ensures c.make_room.ensures.kept.0 c.make_room.ensures.kept.1 refl c.take-in_default-whole.ensures.let_go)
+    c.requires.settled refl c.requires.settled c.requires.fits in
     let goes = takes can.bytes [] can.pieces (known_more can.bytes piece [] can.pieces old.splitter can.stands) in
     (used_on piece used old new on c.requires.settled can, c.requires.settled, λ some. omega (arith, some, goes.0, on.taken))
 
@@ -128,7 +133,8 @@ returns-in_default-whole-clause-goes g c start bytes next fed =
     takes_all piece used old new c.in-Ok.ensures.counted takes can
     (λ taken held. c.take-in_default-whole.ensures.holds taken (holds_same taken old.kept c.make_room.new.self c.make_room.ensures.kept.0 c.make_room.ensures.kept.1 held))
     (λ low. subst (λ (n : ℕ). c.take-in_default-whole.new.self.from ≤ n) c.keep_from.ensures (c.take-in_default-whole.ensures.low (omega (arith, low, c.keep_from.ensures, c.make_room.ensures.kept.0))))
-    refl c.requires.settled c.requires.fits in
+    (let_go old.kept c.make_room.new.self c.take-in_default-whole.new.self c.keep_from.result (length piece) piece c.keep_from.ensures c.make_room.ensures.kept.0 c.make_room.ensures.kept.1 refl c.take-in_default-whole.ensures.let_go)
+    c.requires.settled refl c.requires.settled c.requires.fits in
     fed_on (setting_of g.O.Opening.plan c.args.site.tower.now c.args.site.field start) piece used old new c.args.pass.now bytes next on c.requires.settled fed
 
 pub take_whole-requires-clause-can : goal.take_whole-requires-clause-can
@@ -179,6 +185,7 @@ returns-in-Err-take_whole-clause-refused g c =
       can = c.take_whole.ensures.can;
       holds = c.take_whole.ensures.holds;
       low = c.take_whole.ensures.low;
+      tight = c.take_whole.ensures.tight;
       splitter = c.take_whole.ensures.beside.0;
       broken = c.take_whole.ensures.beside.1;
       place = c.take_whole.ensures.place;
@@ -206,6 +213,7 @@ returns-in-Err-take_whole-clause-waits g c start bytes next fed =
       can = c.take_whole.ensures.can;
       holds = c.take_whole.ensures.holds;
       low = c.take_whole.ensures.low;
+      tight = c.take_whole.ensures.tight;
       splitter = c.take_whole.ensures.beside.0;
       broken = c.take_whole.ensures.beside.1;
       place = c.take_whole.ensures.place;
@@ -237,6 +245,7 @@ returns-in-Ok-settle-clause-used g c =
       can = c.take_whole.ensures.can;
       holds = c.take_whole.ensures.holds;
       low = c.take_whole.ensures.low;
+      tight = c.take_whole.ensures.tight;
       splitter = c.take_whole.ensures.beside.0;
       broken = c.take_whole.ensures.beside.1;
       place = c.take_whole.ensures.place;
@@ -272,6 +281,7 @@ returns-in-Ok-settle-clause-goes g c start bytes next fed =
       can = c.take_whole.ensures.can;
       holds = c.take_whole.ensures.holds;
       low = c.take_whole.ensures.low;
+      tight = c.take_whole.ensures.tight;
       splitter = c.take_whole.ensures.beside.0;
       broken = c.take_whole.ensures.beside.1;
       place = c.take_whole.ensures.place;
@@ -306,6 +316,7 @@ returns-in-Err-settle-clause-refused g c =
       can = c.take_whole.ensures.can;
       holds = c.take_whole.ensures.holds;
       low = c.take_whole.ensures.low;
+      tight = c.take_whole.ensures.tight;
       splitter = c.take_whole.ensures.beside.0;
       broken = c.take_whole.ensures.beside.1;
       place = c.take_whole.ensures.place;
@@ -335,6 +346,7 @@ returns-in-Err-settle-clause-waits g c start bytes next fed =
       can = c.take_whole.ensures.can;
       holds = c.take_whole.ensures.holds;
       low = c.take_whole.ensures.low;
+      tight = c.take_whole.ensures.tight;
       splitter = c.take_whole.ensures.beside.0;
       broken = c.take_whole.ensures.beside.1;
       place = c.take_whole.ensures.place;
@@ -368,6 +380,7 @@ returns-in-Err-settle-clause-fault g c start bytes next fed claims =
       can = c.take_whole.ensures.can;
       holds = c.take_whole.ensures.holds;
       low = c.take_whole.ensures.low;
+      tight = c.take_whole.ensures.tight;
       splitter = c.take_whole.ensures.beside.0;
       broken = c.take_whole.ensures.beside.1;
       place = c.take_whole.ensures.place;

@@ -6,7 +6,7 @@ use Rattle.logs.specs.Start.{first_start}
 use Rattle.feeders.specs.Setting.{setting_of}
 use Rattle.feeders.proofs.Fronts.{can_read_at_once, can_whole, front_text, whole_waits}
 use Rattle.feeders.proofs.Holding.{kept_on}
-use Rattle.feeders.proofs.Settling.{read_as, read_place}
+use Rattle.feeders.proofs.Settling.{read_as, read_place, tight_any}
 use Rattle.feeders.proofs.intake.Intake.take_whole.Goals as goal
 
 pub returns-then-start-end-clause-pending : goal.returns-then-start-end-clause-pending
@@ -101,3 +101,8 @@ returns-in-Err-clause-can g c =
     let low = c.take-in-Err.ensures.low c.requires.can.low in
     let on = kept_on old.kept kept front start c.take-in-Err.ensures.holds c.requires.can.low low in
     can_whole old (record { splitter = old.splitter; kept = kept; progress = c.hold_last.new.progress; pending = Whole start }) start front c.requires.can c.requires.ahead refl refl c.in-Err.ensures.kept low on.0 on.1
+
+pub returns-in-Ok-clause-tight : goal.returns-in-Ok-clause-tight
+returns-in-Ok-clause-tight g c =
+    let old = c.args.self.now in
+    tight_any c.in-Ok.pending (record { splitter = old.splitter; kept = c.restart.new.self; progress = c.hold_last.new.progress; pending = c.in-Ok.pending }) c.restart.ensures.empty
