@@ -2,3 +2,5 @@
 pub mod Found
 -- what holds of a call's result
 mod Results
+-- the unused ones of the first registers
+pub mod Idle

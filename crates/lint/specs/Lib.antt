@@ -1,5 +1,6 @@
 -- words of the public clauses
 pub mod Found
+pub mod Idle
 pub mod Grade
 pub mod Message
 pub mod Head

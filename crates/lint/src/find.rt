@@ -3,6 +3,8 @@
 ghost use Rattle.std.specs.Prelude.{◌≡◌, ◌<◌, ◌++◌, All, IfOk, OnOk, length, map};
 ghost use Rattle.std.specs.List.{AllZip, flat_map};
 ghost use Rattle.std.specs.Option.{option_to_list};
+ghost use Rattle.shards.specs.Closing.{book_of};
+ghost use Rattle.lint.specs.Idle.{is_unused, unused_among};
 ghost use Rattle.lint.specs.Found.{AreFoundIn, IsFoundIn, NamesElements, found_of_break, found_of_line};
 
 use crate::finding::{Amiss, Finding, Findings, TraceFindings};
@@ -31,6 +33,7 @@ pub fn lint_traces(
     requires each { length run.now.logs.items ≡ length texts.now }
     requires named { AllZip NamesElements (map (λ text. text.now) texts.now) run.now.logs.items }
     ensures found { IfOk result (λ found. AreFoundIn (map (λ text. text.now) texts.entry.now) run.now.logs.items found.traces.items) }
+    ensures unused { IfOk result (λ found. found.unused.items ≡ unused_among run.now.closed (length tower.now.registers)) }
 {
     let suspects = Suspects::of(alloc, tower, &run.closed)?;
     let look = Look {
@@ -45,7 +48,9 @@ pub fn lint_traces(
 }
 
 /// For each register of the tower, whether none of its operations stands.
-fn unused_in(alloc: Global, tower: &Tower, closed: &Closed) -> Result<Vec<bool>, AllocError> {
+fn unused_in(alloc: Global, tower: &Tower, closed: &Closed) -> Result<Vec<bool>, AllocError>
+    ensures { IfOk result (λ unused. unused.items ≡ unused_among closed.now (length tower.now.registers)) }
+{
     let mut unused = Vec::new(alloc);
     for number in 0..tower.len() {
         unused.push(is_unused(closed, RegId(number as u32)))?;
@@ -53,7 +58,9 @@ fn unused_in(alloc: Global, tower: &Tower, closed: &Closed) -> Result<Vec<bool>,
     Ok(unused)
 }
 
-fn is_unused(closed: &Closed, id: RegId) -> bool {
+fn is_unused(closed: &Closed, id: RegId) -> bool
+    ensures { result ≡ is_unused (book_of closed.now id.0) }
+{
     match closed.book(id) {
         Some(book) => book.len() == 0,
         None => false,

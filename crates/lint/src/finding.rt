@@ -2,6 +2,7 @@
 
 ghost use Rattle.std.specs.Prelude.{◌≡◌, ◌++◌, OnOk};
 ghost use Rattle.std.specs.List.{list_any};
+ghost use Rattle.lint.specs.Idle.{has_event_of, is_silent};
 ghost use Rattle.lint.specs.Grade.{finding_code, code_of_note, grade_of, grade_word, has_denied, has_grade, has_note, is_of_code, is_of_grade, lint_status};
 
 use intervals::OpId;
@@ -156,6 +157,12 @@ impl TraceFindings {
 }
 
 impl TraceFindings {
+    fn has_event_of(&self, process: i64) -> bool
+        ensures { result ≡ has_event_of process self.now }
+    {
+        self.processes.contains(&process)
+    }
+
     fn has_note(&self, code: &str) -> bool
         ensures { result ≡ list_any (is_of_code code.now) self.now.notes.items }
     {
@@ -174,12 +181,16 @@ impl Findings {
     }
 
     /// Whether there are traces, and none of them has an event of the process.
-    pub fn is_silent(&self, process: i64) -> bool {
-        !self.traces.is_empty()
-            && !self
-                .traces
-                .iter()
-                .any(|trace| trace.processes.contains(&process))
+    pub fn is_silent(&self, process: i64) -> bool
+        ensures { result ≡ is_silent process self.now.traces.items }
+    {
+        !self.traces.is_empty() && !self.has_event_of(process)
+    }
+
+    fn has_event_of(&self, process: i64) -> bool
+        ensures { result ≡ list_any (has_event_of process) self.now.traces.items }
+    {
+        self.traces.iter().any(|trace| trace.has_event_of(process))
     }
 
     /// The status with which a run ends: 2 with an error, else 3 with a warning or a note whose code is denied, else 0.

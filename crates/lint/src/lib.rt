@@ -5,7 +5,7 @@
 //!     let in_file = lint_tower(alloc, tower_text, &found)?;
 //!     found.append(in_file)?;
 //!     found.status(&[])                      // 2 with an error, else 3 with a warning or a denied note, else 0
-//!     push_findings(&mut text, alloc, &sources, &found, Format::Human, 3)?;
+//!     push_findings(&mut text, alloc, &sources, &found, Format::Human(3))?;
 //!
 //! The log of a trace says which elements are refused and why, by their numbers; one pass of the reader gives the bytes
 //! of each element, and one cursor their lines and columns. So a finding costs a look-up, however long the text is.

@@ -14,8 +14,8 @@ use std::alloc::{AllocError, Global};
 /// How findings are printed.
 #[derive(Clone, Copy)]
 pub enum Format {
-    /// With the lines that they are in, for people.
-    Human,
+    /// With the lines that they are in, for people: only the first so many of each code; 0 is all.
+    Human(usize),
     /// A line for each, for editors.
     Short,
     /// A workflow command for each, which annotates a file.
@@ -24,20 +24,19 @@ pub enum Format {
     Json,
 }
 
-/// Adds the findings by trace and place. The form for people has only the first `most` of each code; 0 is all.
+/// Adds the findings by trace and place.
 pub fn push_findings(
     text: &mut String,
     alloc: Global,
     sources: &[SourceText],
     found: &Findings,
     form: Format,
-    most: usize,
 ) -> Result<(), AllocError>
     requires each { length sources.now ≡ length found.now.traces.items }
     ensures short { OnOk result (form ≡ Format.Short → string_bytes text.new ≡ string_bytes text.old ++ short_text sources.now found.now.traces.items) }
 {
     match form {
-        Format::Human => push_human(text, alloc, sources, found, most),
+        Format::Human(most) => push_human(text, alloc, sources, found, most),
         Format::Short => push_short(text, sources, found),
         Format::Github => push_github(text, sources, found),
         Format::Json => push_json(text, alloc, sources, found),

@@ -14,12 +14,15 @@ use Rattle.logs.specs.declared.log.Log.{Log}
 use Rattle.feeders.specs.Readers.{AreReadOf}
 use Rattle.logs.specs.Run.{IsRun}
 use Rattle.lint.specs.declared.finding.TraceFindings.{TraceFindings}
+use Rattle.lint.specs.declared.print.Format.{Format}
+use Rattle.lint.specs.declared.print.Format.TheVariants as forms
 use Rattle.lint.specs.declared.source.SourceText.{SourceText}
 use Rattle.lint.specs.Found.{AreFoundIn}
 use Rattle.lint.specs.Grade.{lint_status}
 use Rattle.lint.specs.Short.{short_text}
 use Rattle.lint.specs.Tower.{HasNotesAlone, IsOneFault}
-use Rattle.words.specs.declared.lint.LintForm.TheVariants.{Short}
+use Rattle.words.specs.declared.lint.LintForm.{LintForm}
+use Rattle.words.specs.declared.lint.LintForm.TheVariants as asked_forms
 use Rattle.words.specs.Words.{AskedLint}
 use Rattle.command_parts.specs.Job.{chosen_field}
 use Rattle.lint_command.specs.Denied.{AreDenied}
@@ -59,11 +62,18 @@ AreFoundBy None asked files traces names found = AreFindingsOfRun alone_tower (c
 AreFoundBy (Some name) asked files traces names found =
     IfSome (files name) (λ file. AreOfTower asked name file traces names found ⊎ IsOfFault name file names found)
 
+-- the form that is asked for; that for people with as many findings of each code as are asked for
+abbrev pub format_by : LintForm → ℕ → Format
+format_by asked_forms.Human most = forms.Human most
+format_by asked_forms.Short most = forms.Short
+format_by asked_forms.GitHub most = forms.Github
+format_by asked_forms.Json most = forms.Json
+
 -- the text has the findings in the form that is asked for, and the status is that of their grades
 pub record IsPrintedAsAsked (asked : AskedLint) (denied : List (Bor Text)) (names : List Text) (found : List TraceFindings) (text : List ℕ) (status : ℕ) : Type 0 where
   pub sources : List SourceText
   pub named : map (λ source. source.name.now) sources ≡ names
-  pub short : asked.form ≡ Short → text ≡ short_text sources found
+  pub short : asked.form ≡ asked_forms.Short → text ≡ short_text sources found
   pub status_is : status ≡ lint_status denied found
 
 -- what `lint` did: what it found was written

@@ -1,11 +1,11 @@
 //! The command `lint`.
 
-ghost use Rattle.std.specs.Prelude.{◌≡◌, ◌≢◌, ◌≤◌, ◌⊎◌, ◌+◌, ◌++◌, ◌∷◌, [], ℕ, List, IfOk, IfErr, IfSome, length, map, option_map, string_bytes};
+ghost use Rattle.std.specs.Prelude.{◌≡◌, ◌≢◌, ◌≤◌, ◌⊎◌, ◌+◌, ◌++◌, ◌∷◌, [], ℕ, List, IfOk, IfErr, IfSome, length, map, string_bytes};
 ghost use Rattle.clap.specs.Words.{Text};
 ghost use Rattle.tower_file.specs.Alone.{alone_tower};
 ghost use Rattle.words.specs.Words.{asked_lint};
 ghost use Rattle.command_parts.specs.Job.{chosen_field};
-ghost use Rattle.lint_command.specs.Looked.{AreFindingsOfRun, AreOfTower, IsLooked, IsOfFault, IsPrintedAsAsked};
+ghost use Rattle.lint_command.specs.Looked.{AreFindingsOfRun, AreOfTower, IsLooked, IsOfFault, IsPrintedAsAsked, format_by};
 ghost use Rattle.lint.specs.Tower.{HasNotesAlone, IsOneFault};
 ghost use Rattle.lint.specs.declared.finding.TraceFindings.{TraceFindings};
 ghost use Rattle.command_parts.specs.Files.{AreHeld};
@@ -194,8 +194,8 @@ fn tell<'a>(
     ensures quiet { IfErr result (λ fault. fault ≢ CommandFault.Unwritable) }
 {
     let mut text = String::new(alloc);
-    let (form, most) = (form_of(asked.form), asked.most as usize);
-    match push_findings(&mut text, alloc, sources, found, form, most) {
+    let form = form_of(asked.form, asked.most as usize);
+    match push_findings(&mut text, alloc, sources, found, form) {
         Ok(()) => Ok(Told {
             text,
             status: found.status(denied),
@@ -275,11 +275,12 @@ fn sources_of<'t>(
     Ok(sources)
 }
 
-fn form_of(form: LintForm) -> Format
-    ensures { form ≡ LintForm.Short → result ≡ Format.Short }
+/// The form that is asked for; that for people with the limit that is asked for.
+fn form_of(form: LintForm, most: usize) -> Format
+    ensures { result ≡ format_by form most }
 {
     match form {
-        LintForm::Human => Format::Human,
+        LintForm::Human => Format::Human(most),
         LintForm::Short => Format::Short,
         LintForm::GitHub => Format::Github,
         LintForm::Json => Format::Json,
