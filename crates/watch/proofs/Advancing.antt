@@ -63,6 +63,7 @@ not_another feeder place change one same = let e : nat_eq one.change.register.0 
 -- what is left of what was held back when a notice came: all that is of another register, and nothing new
 abbrev AreLeft : Notice → List Held → List Held → Type 0
 AreLeft notice before left = All (Contains before) left × (filter (is_of_another notice) before ≡ filter (is_of_another notice) left)
+    × ((left ≡ before) ⊎ ((front : List Held) × (back : List Held) × (one : Held) × (before ≡ front ++ one ∷ back) × (left ≡ front ++ back)))
 
 -- where one of this register is taken out
 pub left_without : (feeder place : ℕ) (change : VerdictChange) (before now front back : List Held) (one : Held) → before ≡ front ++ one ∷ back → now ≡ front ++ back
@@ -70,10 +71,11 @@ pub left_without : (feeder place : ℕ) (change : VerdictChange) (before now fro
 left_without feeder place change before now front back one before_is now_is same = rw (before_is, now_is) (
   λ k d within. still front back one (slice_index_or (front ++ back) k d) (All-contains_itself (front ++ back) k d within),
   taken_out_of (is_of_another (Changed feeder place change)) front back one (not_another feeder place change one same),
+  inr (front, back, one, refl, refl),
 )
 
 pub left_all : (notice : Notice) (before now : List Held) → now ≡ before → AreLeft notice before now
-left_all notice before now same = rw same (All-contains_itself before, refl)
+left_all notice before now same = rw same (All-contains_itself before, refl, inl refl)
 
 -- nothing more is held back, where the notice is no failure or none is to be held back
 pub none_new : (progress : List Progress) (settle : ℕ) (notice : Notice) (before now : List Held) → AreLeft notice before now → (settle ≢ 0 → says_fails notice ≡ true → ⊥) → AreHeldFrom progress settle notice before now
@@ -83,6 +85,7 @@ none_new progress settle notice before now left none = record {
   parts = sym (append-nil now);
   all_left = left.0;
   others_left = left.1;
+  in_order = left.2;
   waits = All-nil _;
   failure = λ some fails. absurd (none some fails);
 }
@@ -96,6 +99,7 @@ one_new progress settle feeder place change before left now one is now_is notice
   parts = now_is;
   all_left = is.0;
   others_left = is.1;
+  in_order = is.2;
   waits = All-cons (λ held. (is_of_another (Changed feeder place change) held ≡ false) × (held.until.items ≡ until_of progress settle held.feeder)) one []
       (subst (λ (n : Notice). is_of_another n one ≡ false) notice (ap not (same_number one.change.register.0)), until) (All-nil _);
   failure = λ some fails. ap (λ (n : Notice). n ∷ []) notice;

@@ -120,7 +120,7 @@ held_before held (edit ∷ edits) apart order may h =
     (after_one (λ (next : RegisterState). StandApart next.claim next.ops) held edit apart (carried_out_apart held edit apart))
     order.1 (may_rest held edit edits order.0 may) h)
 
-standing_append : (held : RegisterState) (edits later : List Edit) → standing held (edits ++ later) ≡ standing (standing held edits) later
+pub standing_append : (held : RegisterState) (edits later : List Edit) → standing held (edits ++ later) ≡ standing (standing held edits) later
 standing_append held [] later = refl
 standing_append held (edit ∷ edits) later = standing_append (after_edit held edit) edits later
 

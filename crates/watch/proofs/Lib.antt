@@ -29,5 +29,9 @@ pub mod Concluding
 -- wrote; what is written of a register, as the changes of its shard's journal
 pub mod Passing
 pub mod Advancing
+pub mod InTurn
 pub mod Telling
 pub mod SettledAll
+-- a watch of one plain trace: the first failure of a register is final
+pub mod FirstFailure
+pub mod OnePlain

@@ -16,17 +16,17 @@ use Rattle.watch.specs.Watched.{IsWatched, changes_in}
 use Rattle.watch.proofs.ToldAll.{told_all}
 
 -- the change that a notice tells
-abbrev change_said : Notice → Option VerdictChange
+abbrev pub change_said : Notice → Option VerdictChange
 change_said (Changed feeder place change) = Some change
 change_said (Refused feeder place code) = None
 change_said (Broke feeder broken) = None
 change_said (Ended feeder elements) = None
 
-abbrev AreChanges : List Notice → Type 0
+abbrev pub AreChanges : List Notice → Type 0
 AreChanges [] = Unit {0}
 AreChanges (notice ∷ notices) = (is_no_change notice ≡ false) × AreChanges notices
 
-are_changes : (register : ℕ) (notices : List Notice) → AreChanges (notices_of register notices)
+pub are_changes : (register : ℕ) (notices : List Notice) → AreChanges (notices_of register notices)
 are_changes register [] = tt
 are_changes register (Changed feeder place change ∷ notices) = go (change.register.0 == register) (are_changes register notices)
   where
@@ -37,7 +37,7 @@ are_changes register (Refused feeder place code ∷ notices) = are_changes regis
 are_changes register (Broke feeder broken ∷ notices) = are_changes register notices
 are_changes register (Ended feeder elements ∷ notices) = are_changes register notices
 
-less_said : (all left : List Notice) → AreChanges all → LessPairs says_fails all left → LessPairs change_fails (filter_map change_said all) (filter_map change_said left)
+pub less_said : (all left : List Notice) → AreChanges all → LessPairs says_fails all left → LessPairs change_fails (filter_map change_said all) (filter_map change_said left)
 less_said _ _ are nothing = nothing
 less_said _ _ are (kept (Changed feeder place change) less) = kept change (less_said _ _ are.1 less)
 less_said _ _ are (kept (Refused feeder place code) less) = less_said _ _ are.1 less
@@ -51,7 +51,7 @@ less_said _ _ are (healed (Refused feeder place code) next fail hold less) = abs
 less_said _ _ are (healed (Broke feeder broken) next fail hold less) = absurd (cc)
 less_said _ _ are (healed (Ended feeder elements) next fail hold less) = absurd (cc)
 
-same_shard : (a register n : ℕ) → (a == register) ≡ true → (a % n == register % n) ≡ true
+pub same_shard : (a register n : ℕ) → (a == register) ≡ true → (a % n == register % n) ≡ true
 same_shard a register n is =
     let e : a ≡ register = grind (arith, nat_tests) in
     let f : a % n ≡ register % n = ap (λ (k : ℕ). k % n) e in grind (arith, nat_tests)
@@ -64,7 +64,7 @@ on_one n register feeder place change notices true false is within sub rest = ab
 on_one n register feeder place change notices false true is within sub rest = rw (within, is) rest
 on_one n register feeder place change notices false false is within sub rest = rw (within, is) rest
 
-on_said : (n register : ℕ) (notices : List Notice) → changes_on register (changes_in n (register % n) notices) ≡ filter_map change_said (notices_of register notices)
+pub on_said : (n register : ℕ) (notices : List Notice) → changes_on register (changes_in n (register % n) notices) ≡ filter_map change_said (notices_of register notices)
 on_said n register [] = refl
 on_said n register (Changed feeder place change ∷ notices) =
     on_one n register feeder place change notices (change.register.0 == register) (change.register.0 % n == register % n) refl refl (same_shard change.register.0 register n) (on_said n register notices)

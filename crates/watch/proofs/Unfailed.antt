@@ -27,7 +27,7 @@ use Rattle.watch.specs.Coming.{LeavesReadValues, LeaveReadValues}
 use Rattle.watch.specs.Trace.{EditsNothing, IsNoFail}
 use Rattle.watch.proofs.Placing.{edit_list, edit_lists}
 
-abbrev WithdrawsNothing : AnEdit → Type 0
+abbrev pub WithdrawsNothing : AnEdit → Type 0
 WithdrawsNothing (edits.Append op) = Unit {0}
 WithdrawsNothing (edits.Amend id change) = Unit {0}
 WithdrawsNothing (edits.Withdraw id) = ⊥

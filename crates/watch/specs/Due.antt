@@ -1,5 +1,5 @@
 -- When a failure that is held back is written: how far each feeder has come, and how far it is waited for.
-use Rattle.std.specs.Prelude.{◌≡◌, ◌≢◌, ◌==◌, ◌||◌, ◌+◌, ℕ, zero, suc, Bool, true, false, nat_le, List, [], ◌∷◌, ◌++◌, All, Contains, filter, map, not, replicate, if◌then◌else◌}
+use Rattle.std.specs.Prelude.{◌≡◌, ◌≢◌, ◌≤◌, ◌⊎◌, ◌==◌, ◌||◌, ◌+◌, ℕ, length, slice_index_or, zero, suc, Bool, true, false, nat_le, List, [], ◌∷◌, ◌++◌, All, Contains, filter, map, not, replicate, if◌then◌else◌}
 use Rattle.std.specs.List.{list_all, zip}
 use Rattle.logs.specs.declared.notice.Notice.{Notice}
 use Rattle.logs.specs.declared.notice.Notice.TheVariants.{Changed, Refused, Broke, Ended}
@@ -38,6 +38,24 @@ has_come progress least = progress.over || nat_le least progress.taken
 abbrev pub is_due : List ℕ → List Progress → Bool
 is_due until progress = list_all (λ pair. has_come pair.0 pair.1) (zip progress until)
 
+-- how many elements the first feeder is waited for to have taken
+abbrev pub least_of : Held → ℕ
+least_of held = slice_index_or held.until.items 0 0
+
+-- how many elements a feeder is waited for to have taken, where it fails a register by the element that it takes now
+abbrev pub most_of : ℕ → Progress → ℕ
+most_of settle one = at_most_u64 (at_most_u64 (one.taken + 1) + settle)
+
+-- what is held back of the first feeder waits for so many elements of it, or more
+abbrev pub WaitLonger : ℕ → List Held → Type 0
+WaitLonger least [] = Unit {0}
+WaitLonger least (held ∷ later) = (held.feeder ≡ 0 → least ≤ least_of held) × WaitLonger least later
+
+-- each waits for one feeder alone, for so many elements of it at most; and what came later, of that feeder, no shorter
+abbrev pub WaitInTurn : ℕ → List Held → Type 0
+WaitInTurn most [] = Unit {0}
+WaitInTurn most (held ∷ later) = (length held.until.items ≡ 1) × (least_of held ≤ most) × WaitLonger (least_of held) later × WaitInTurn most later
+
 -- whether the first of what is held back is due
 abbrev pub has_due : List Held → List Progress → Bool
 has_due [] progress = false
@@ -59,14 +77,15 @@ abbrev pub held_notices : List Held → List Notice
 held_notices held = map held_notice held
 
 -- what is held back when this notice came: what is left of what was held back before, with all that is of another
--- register; and after it what is of this register, and waits from now on: where a failure is to be held back and the
--- notice is one, that notice
+-- register, in its order, but for one at most; and after it what is of this register, and waits from now on: where a
+-- failure is to be held back and the notice is one, that notice
 pub record AreHeldFrom (progress : List Progress) (settle : ℕ) (notice : Notice) (before now : List Held) : Type 0 where
   pub left : List Held
   pub new : List Held
   pub parts : now ≡ left ++ new
   pub all_left : All (Contains before) left
   pub others_left : filter (is_of_another notice) before ≡ filter (is_of_another notice) left
+  pub in_order : (left ≡ before) ⊎ ((front : List Held) × (back : List Held) × (one : Held) × (before ≡ front ++ one ∷ back) × (left ≡ front ++ back))
   pub waits : All (λ held. (is_of_another notice held ≡ false) × (held.until.items ≡ until_of progress settle held.feeder)) new
   pub failure : settle ≢ 0 → says_fails notice ≡ true → held_notices new ≡ notice ∷ []
 

@@ -1,6 +1,7 @@
 -- words of the public clauses
 pub mod Coming
 pub mod Trace
+pub mod Final
 pub mod Healing
 pub mod Text
 pub mod Settling

@@ -10,7 +10,7 @@ use Rattle.watch.specs.declared.teller.TellerState.{TellerState}
 use Rattle.watch.specs.declared.teller.TellerState.TheVariants.{Going, Stopped, OutOfMemory, Unwritable}
 use Rattle.watch.specs.declared.teller.Unwritten.{Unwritten}
 use Rattle.watch.specs.declared.teller.Unwritten.TheVariants as unwritten
-use Rattle.watch.specs.Due.{has_due}
+use Rattle.watch.specs.Due.{WaitInTurn, has_due, most_of}
 use Rattle.watch.specs.Settling.{AreWrittenOf, IsHeldBack, IsSettledUpTo, is_no_change, notices_of, says_fails}
 use Rattle.watch.specs.Text.{text_of_notices}
 use Rattle.watch.specs.Watched.{IsEnd, ends_at}
@@ -26,6 +26,10 @@ pub record TellerModel : Type 0 where
 -- a teller that goes on wrote what was due: what is held back first is not
 abbrev pub HasWrittenDue : TellerState → List Progress → List Held → Type 0
 HasWrittenDue state progress held = state ≡ Going → has_due held progress ≡ false
+
+-- a teller of one feeder that goes on holds back in turn
+abbrev pub HoldsInTurn : TellerState → ℕ → List Progress → List Held → Type 0
+HoldsInTurn state settle progress held = state ≡ Going → (one : Progress) → progress ≡ one ∷ [] → WaitInTurn (most_of settle one) held
 
 -- the output has the texts of the notices that were written, and nothing more
 abbrev pub HasWritten : TellerState → Type 0

@@ -1,7 +1,8 @@
 //! Laws of what a watch wrote, and of a register whose edits come in the order of time. Each is the contract of a function
 //! that does nothing.
 
-ghost use Rattle.std.specs.Prelude.{◌≡◌, ◌⊎◌, ◌<◌, ◌%◌, ◌++◌, ◌∷◌, [], ℕ, All, List, Option, Result, true, false, None};
+ghost use Rattle.std.specs.List.{slice_get};
+ghost use Rattle.std.specs.Prelude.{◌≡◌, ◌⊎◌, ◌<◌, ◌%◌, ◌++◌, ◌∷◌, [], ℕ, All, Bool, List, Option, Result, true, false, None, Some};
 ghost use Rattle.intervals.specs.declared.edit.Edit.{Edit};
 ghost use Rattle.intervals.specs.declared.edit.Edit.TheVariants.{Withdraw, Claim as ToKind};
 ghost use Rattle.intervals.specs.declared.operation.Value.TheVariants.{Nil};
@@ -16,16 +17,21 @@ ghost use Rattle.jepsen_form.specs.declared.item.Item.{Item};
 ghost use Rattle.tower_file.specs.Contents.{TowerModel};
 ghost use Rattle.shards.specs.declared.entry.VerdictChange.{VerdictChange};
 ghost use Rattle.shards.specs.Closing.{ClosedShard, journal_of};
+ghost use Rattle.shards.specs.Plan.{claims_of};
 ghost use Rattle.shards.specs.VerdictChange.{AreVerdictChanges};
 ghost use Rattle.logs.specs.declared.log.Log.{Log};
 ghost use Rattle.logs.specs.Run.{plan_of_run};
 ghost use Rattle.logs.specs.Steps.{edits_among, steps_behind, steps_of};
 ghost use Rattle.watch.specs.Coming.{ComesLast, ComeInOrder, LeavesReadValues, LeaveReadValues};
 ghost use Rattle.watch.specs.Trace.{IsNoFail, IsPlainTrace};
+ghost use Rattle.watch.specs.Final.{FailsLast, HasNoFail, IsPlainText};
 ghost use Rattle.watch.specs.declared.run.Terms.{Terms};
 ghost use Rattle.watch.specs.Settling.{LessPairs, change_fails, changes_on};
 ghost use Rattle.watch.specs.Watched.{IsWatched, changes_in};
 ghost use Rattle.watch.specs.Healing.{of_unknown_initial, of_one_process, answered_at, read_then_invoked, write_withdrawn, read_of_one, older_write, seven_within_write};
+
+use intervals::laws::texts_decide_nothing;
+use shards::laws::{each_front_is_legal, what_stands_is_after_all_edits};
 
 /// What was told of a shard is the changes of verdicts by the entries of its journal, in order: all of them, or the
 /// first ones where a register that failed ended the watch.
@@ -108,3 +114,16 @@ pub fn edits_out_of_order_may_heal()
     ensures fails_as_regular { let held = standing (unedited of_one_process) seven_within_write in ¬ Holds held.claim held.ops }
     ensures claim { let held = standing (unedited of_one_process) (seven_within_write ++ ToKind Safe ∷ []) in Holds held.claim held.ops }
 {}
+
+/// In what a watch of one plain trace wrote of a register nothing stands after a change to `fails`: the first failure is
+/// final. The register's initial value is known, or no element of the trace is a `:fail`.
+pub fn the_first_failure_is_final()
+    ensures { (tower : TowerModel) (terms : Terms) (left : List (Option (List ℕ))) (closed : List ClosedShard) (log : Log) (stopped : Bool) (old new : Option (List ℕ))
+        → (watched : IsWatched tower terms left closed (log ∷ []) stopped old new) → 0 < terms.shards → All (IsPlainText tower terms.field log.broken) watched.traces
+        → (register : ℕ) (claim : ClaimModel) → slice_get (claims_of tower) register ≡ Some claim → (claim.known ≡ true) ⊎ All (HasNoFail tower terms.field log.broken) watched.traces
+        → FailsLast change_fails (changes_on register (changes_in terms.shards (register % terms.shards) watched.notices)) }
+{
+    what_stands_is_after_all_edits();
+    each_front_is_legal();
+    texts_decide_nothing();
+}

@@ -1,11 +1,12 @@
 //! A teller: an output, with what it was told and what of that it holds back.
 
-ghost use Rattle.std.specs.Prelude.{◌≡◌, ◌≢◌, ◌⊎◌, ◌<◌, ◌++◌, ◌∷◌, [], true, List, Err, IfOk, OnOk, IsTrue, ◌↔◌, length, vec_len};
+ghost use Rattle.std.specs.Prelude.{◌≡◌, ◌≢◌, ◌⊎◌, ◌<◌, ◌++◌, ◌∷◌, [], All, true, false, List, Err, IfOk, OnOk, IsTrue, ◌↔◌, length, vec_len};
 ghost use Rattle.std.specs.Option.{option_to_list};
 ghost use Rattle.std.specs.Io.KnownBytes.{Appends};
 ghost use Rattle.logs.specs.declared.notice.Notice.{Notice as ANotice};
 ghost use Rattle.watch.specs.declared.settling.Held.{Held as AHeld};
-ghost use Rattle.watch.specs.Due.{AreDueFirst, AreHeldFrom, advanced_at, has_due, held_notices};
+ghost use Rattle.watch.specs.declared.settling.Progress.{Progress as AProgress};
+ghost use Rattle.watch.specs.Due.{AreDueFirst, AreHeldFrom, advanced_at, has_due, held_notices, is_due};
 ghost use Rattle.watch.specs.Teller.{HasTold, HasWrittenDue, ArePassedOn, IsToldAll, IsWritten, TellerModel, state_after};
 ghost use Rattle.watch.specs.Text.{text_of_notice};
 ghost use Rattle.watch.specs.Watched.{ends_at};
@@ -86,7 +87,7 @@ pub struct Teller<'a, 't, W: Write, B: Beginning> {
 
 impl<'a, 't, W: Write, B: Beginning> Model for Teller<'a, 't, W, B> {
     ghost use Rattle.std.specs.Prelude.{◌≡◌};
-    ghost use Rattle.watch.specs.Teller.{HasWrittenDue, IsTold, TellerModel};
+    ghost use Rattle.watch.specs.Teller.{HasWrittenDue, HoldsInTurn, IsTold, TellerModel};
     ghost use Rattle.watch.specs.Due.{held_notices};
 
     ghost Value = { TellerModel };
@@ -95,7 +96,7 @@ impl<'a, 't, W: Write, B: Beginning> Model for Teller<'a, 't, W, B> {
 
     ghost invariant = { λ t. (t.out.ghost_name ≡ B.output) × (t.tower.now.registers ≡ B.registers) × (t.terms ≡ B.terms)
         × IsTold B.terms B.registers B.before (W.contents t.out.now) t.told.items (held_notices t.held.items) t.state
-        × HasWrittenDue t.state t.progress.items t.held.items };
+        × HasWrittenDue t.state t.progress.items t.held.items × HoldsInTurn t.state t.terms.settle t.progress.items t.held.items };
 }
 
 impl<'a, 't, W: Write, B: Beginning> Teller<'a, 't, W, B> {
@@ -128,11 +129,13 @@ impl<'a, 't, W: Write, B: Beginning> Teller<'a, 't, W, B> {
     }
 
     /// Takes a notice, and writes what is to be written then, and what is then due of what is held back. Where it takes
-    /// none nothing changes.
+    /// none nothing changes. Of one trace none that is held back is due by then, so what the notice heals failed at most
+    /// `settle` elements before.
     pub fn tell(&mut self, notice: Notice)
         ensures told { self.old.state ≡ TellerState.Going → HasTold self.new.state → self.new.told ≡ self.old.told ++ notice ∷ [] }
         ensures progress { self.new.progress ≡ self.old.progress }
         ensures held { self.old.state ≡ TellerState.Going → HasTold self.new.state → (held : List AHeld) × AreHeldFrom self.old.progress B.terms.settle notice self.old.held held × AreDueFirst self.old.progress held self.new.held }
+        ensures soon { self.old.state ≡ TellerState.Going → (one : AProgress) → self.old.progress ≡ one ∷ [] → All (λ held. held.feeder ≡ 0 → is_due held.until.items self.old.progress ≡ false) self.old.held }
         ensures over { self.old.state ≢ TellerState.Going → self.new ≡ self.old }
     {
         if !self.goes_on() {

@@ -9,4 +9,5 @@ invariant_of-result g c = (
   c.requires.terms,
   rw (c.new.ensures.items, c.new-2.ensures.items, c.requires.before) (told_none g.B.Beginning.terms g.B.Beginning.registers g.B.Beginning.before),
   λ going. rw (c.new-2.ensures.items) refl,
+  λ going one alone. rw (c.new-2.ensures.items) tt,
 )
