@@ -2,9 +2,7 @@
 
 use crate::layout::{Layout, earlier, layout_of, widest_name};
 use crate::measure::{Measure, digits_of};
-use crate::scene::Scene;
-use crate::subject::Subject;
-use crate::svg::Sheet;
+use crate::scene::{Scene, Sketch};
 use crate::told::number_of;
 use crate::zone::{Zone, conflict_in, zones_of};
 use intervals::Kind;
@@ -77,22 +75,22 @@ const MEASURE: Measure = Measure {
 /// Where all operations are shown, they are closer to each other.
 const CLOSE: Measure = Measure { gap: 7, ..MEASURE };
 
-/// The canvas of a scene, in rows of the sheet's width, the names of lanes included.
+/// The canvas of a sketch, in rows of this width, the names of lanes included.
 pub fn canvas_of<'s, 't>(
     alloc: Global,
-    subject: &Subject,
-    scene: &'s Scene<'t>,
-    sheet: &Sheet,
+    sketch: &'s Sketch<'_, 't>,
+    width: u32,
 ) -> Result<Canvas<'s, 't>, AllocError> {
-    let measure = match sheet.extent {
+    let (subject, scene) = (&sketch.subject, &sketch.scene);
+    let measure = match sketch.extent {
         Extent::All => &CLOSE,
         Extent::Around(_) => &MEASURE,
     };
     let margin = margin_of(scene);
-    let width = room_beside(sheet.width, margin);
+    let width = room_beside(width, margin);
     let layout = layout_of(alloc, subject, scene, measure, width)?;
     let lanes = lanes_of(alloc, scene, &layout.lane_ends)?;
-    let zones = match (sheet.extent, subject.kind) {
+    let zones = match (sketch.extent, subject.kind) {
         (Extent::All, Kind::Atomic) => zones_of(alloc, &layout, subject.initial)?,
         _ => Vec::new(alloc),
     };

@@ -1,10 +1,11 @@
 //! A picture of a register: its operations, and why it fails.
 //!
 //! ```text
-//! let look = Look { extent: Extent::Around(3), width: 100, is_ascii: false };
-//! push_timeline(&mut text, alloc, &subject, &look)?     // in lines of a terminal
-//! push_picture(&mut text, alloc, &subject, &sheet)?     // as SVG
-//! push_page_part(&mut text, alloc, &subject, &sheet, is_unfolded, report)?     // on a page
+//! let sketch = Sketch::of(alloc, subject, Extent::Around(3))?;
+//! let look = Look { width: 100, is_ascii: false };
+//! push_timeline(&mut text, alloc, &sketch, &look)?     // in lines of a terminal
+//! push_picture(&mut text, alloc, &sketch, &sheet)?     // as SVG
+//! push_page_part(&mut text, alloc, &sketch, &sheet, is_unfolded, report)?     // on a page
 //! ```
 //!
 //! A subject is a register with the operations that stand and the witness. The crate `story` finds why it fails,
@@ -51,7 +52,7 @@ mod zone;
 
 pub use letter::{Letter, Lettered};
 pub use page::{push_page_end, push_page_head, push_page_part};
-pub use scene::{Scene, scene_of};
+pub use scene::{Scene, Sketch};
 pub use style::Theme;
 pub use subject::Subject;
 pub use svg::{Sheet, push_picture};

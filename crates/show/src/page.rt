@@ -4,10 +4,9 @@ ghost use Rattle.std.specs.Prelude.{◌≡◌, ◌++◌, OnOk, string_bytes};
 ghost use Rattle.show.specs.Svg.{quoted_text, part_head_text};
 
 use crate::escape::push_element;
-use crate::scene::scene_of;
+use crate::scene::Sketch;
 use crate::style::{Theme, push_style};
-use crate::subject::Subject;
-use crate::svg::{Sheet, push_scene};
+use crate::svg::{Sheet, push_headed};
 use crate::title::heading_of;
 use std::alloc::{AllocError, Global};
 
@@ -52,7 +51,7 @@ fn ground_of(theme: Theme) -> &'static str {
 pub fn push_page_part(
     text: &mut String,
     alloc: Global,
-    subject: &Subject,
+    sketch: &Sketch,
     sheet: &Sheet,
     is_unfolded: bool,
     report: &str,
@@ -62,22 +61,21 @@ pub fn push_page_part(
     } else {
         "<details>\n"
     })?;
-    push_shown(text, alloc, subject, sheet)?;
+    push_sketch(text, alloc, sketch, sheet)?;
     push_quoted(text, report)?;
     text.push_str("</details>\n")
 }
 
 /// Adds the heading of a register and its picture.
-fn push_shown(
+fn push_sketch(
     text: &mut String,
     alloc: Global,
-    subject: &Subject,
+    sketch: &Sketch,
     sheet: &Sheet,
 ) -> Result<(), AllocError> {
-    let scene = scene_of(alloc, subject, sheet.extent)?;
-    let heading = heading_of(alloc, subject, &scene.story)?;
+    let heading = heading_of(alloc, &sketch.subject, &sketch.scene.story)?;
     push_part_head(text, &heading)?;
-    push_scene(text, alloc, subject, &scene, &heading, sheet)
+    push_headed(text, alloc, sketch, &heading, sheet)
 }
 
 fn push_part_head(text: &mut String, heading: &str) -> Result<(), AllocError>

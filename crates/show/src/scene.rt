@@ -18,6 +18,33 @@ use std::collections::HashMap;
 use story::{Story, story_of};
 use timeline::{BarSpan, Extent, Mark, Seat, choose, folded, marks, seats, spans};
 
+/// A register and its scene, from which a picture of it is drawn.
+#[derive(Drop)]
+pub struct Sketch<'a, 't> {
+    pub subject: Subject<'a, 't>,
+    /// How much of the register was asked for.
+    pub extent: Extent,
+    pub scene: Scene<'t>,
+}
+
+impl<'a, 't> Sketch<'a, 't> {
+    /// The sketch of a register, with so much of it.
+    pub fn of(
+        alloc: Global,
+        subject: Subject<'a, 't>,
+        extent: Extent,
+    ) -> Result<Sketch<'a, 't>, AllocError>
+        ensures { IfOk result (λ sketch. (sketch.subject ≡ subject.entry) × (sketch.extent ≡ extent) × IsScene subject.entry extent sketch.scene) }
+    {
+        let scene = scene_of(alloc, &subject, extent)?;
+        Ok(Sketch {
+            subject,
+            extent,
+            scene,
+        })
+    }
+}
+
 /// By what factor more operations are shown of a register that holds, from its first one on.
 const FIRST_FOR_EACH: usize = 8;
 
@@ -40,7 +67,7 @@ pub struct Scene<'t> {
 }
 
 /// The scene of a register.
-pub fn scene_of<'t>(
+fn scene_of<'t>(
     alloc: Global,
     subject: &Subject<'_, 't>,
     extent: Extent,

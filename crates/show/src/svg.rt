@@ -12,20 +12,18 @@ use crate::escape::push_element;
 use crate::filled::{Filling, push_filled, push_numbers};
 use crate::layout::push_lane_name;
 use crate::role::{Role, caption_roles};
-use crate::scene::{Scene, scene_of};
+use crate::scene::{Scene, Sketch};
 use crate::strip::push_strip;
 use crate::style::{Theme, push_style};
-use crate::subject::Subject;
 use crate::title::heading_of;
 use crate::zone::Zone;
 use std::alloc::{AllocError, Global};
-use timeline::{Extent, Seat};
+use timeline::Seat;
 
-/// How a picture looks: how much it shows, how many units wide its rows are, its colours, whether it has the rules for
-/// them itself, and a number by which its ids differ from those of the other pictures of a page.
+/// How a picture looks: how many units wide its rows are, its colours, whether it has the rules for them itself, and a
+/// number by which its ids differ from those of the other pictures of a page.
 #[derive(Clone, Copy)]
 pub struct Sheet {
-    pub extent: Extent,
     pub width: u32,
     pub theme: Theme,
     pub has_style: bool,
@@ -36,26 +34,24 @@ pub struct Sheet {
 pub fn push_picture(
     text: &mut String,
     alloc: Global,
-    subject: &Subject,
+    sketch: &Sketch,
     sheet: &Sheet,
 ) -> Result<(), AllocError> {
-    let scene = scene_of(alloc, subject, sheet.extent)?;
-    let heading = heading_of(alloc, subject, &scene.story)?;
-    push_scene(text, alloc, subject, &scene, &heading, sheet)
+    let heading = heading_of(alloc, &sketch.subject, &sketch.scene.story)?;
+    push_headed(text, alloc, sketch, &heading, sheet)
 }
 
-/// Adds the picture of a scene.
-pub fn push_scene(
+/// Adds a picture with this heading.
+pub fn push_headed(
     text: &mut String,
     alloc: Global,
-    subject: &Subject,
-    scene: &Scene,
+    sketch: &Sketch,
     heading: &str,
     sheet: &Sheet,
 ) -> Result<(), AllocError> {
     let mut caption = String::new(alloc);
-    push_caption(&mut caption, subject, scene)?;
-    let canvas = canvas_of(alloc, subject, scene, sheet)?;
+    push_caption(&mut caption, &sketch.subject, &sketch.scene)?;
+    let canvas = canvas_of(alloc, sketch, sheet.width)?;
     push_canvas(text, alloc, &canvas, heading, &caption, sheet)
 }
 

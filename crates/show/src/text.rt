@@ -9,19 +9,16 @@ use crate::layout::{
 use crate::letter::letter_for;
 use crate::line::TextLine;
 use crate::measure::{Measure, digits_of, digits_of_moment};
-use crate::scene::{Scene, scene_of};
+use crate::scene::{Scene, Sketch};
 use crate::subject::Subject;
 use crate::title::push_title;
 use crate::zone::{Zone, conflict_in};
 use std::alloc::{AllocError, Global};
 use story::is_wrong;
-use timeline::Extent;
 
-/// How a timeline looks: how much it shows, how many cells a line may have, and whether its characters are all of
-/// ASCII.
+/// How a timeline looks: how many cells a line may have, and whether its characters are all of ASCII.
 #[derive(Clone, Copy)]
 pub struct Look {
-    pub extent: Extent,
     pub width: u32,
     pub is_ascii: bool,
 }
@@ -59,16 +56,16 @@ const MEASURE: Measure = Measure {
 pub fn push_timeline(
     text: &mut String,
     alloc: Global,
-    subject: &Subject,
+    sketch: &Sketch,
     look: &Look,
 ) -> Result<(), AllocError> {
-    let scene = scene_of(alloc, subject, look.extent)?;
-    push_title(text, alloc, subject, &scene, look.is_ascii)?;
+    let (subject, scene) = (&sketch.subject, &sketch.scene);
+    push_title(text, alloc, subject, scene, look.is_ascii)?;
     if !scene.ops.is_empty() {
-        push_drawing(text, alloc, subject, &scene, look)?;
+        push_drawing(text, alloc, subject, scene, look)?;
     }
     text.push_str("\n")?;
-    push_caption(text, subject, &scene)
+    push_caption(text, subject, scene)
 }
 
 fn push_drawing(

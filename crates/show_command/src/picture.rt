@@ -1,8 +1,11 @@
 //! The text of a picture that `show` draws.
 
-ghost use Rattle.std.specs.Prelude.{◌↔◌, ◌<◌, IfSome, IsTrue, length};
+ghost use Rattle.std.specs.Prelude.{◌↔◌, ◌<◌, IfSome, IsTrue, length, ◌≡◌, IfOk};
 ghost use Rattle.report.specs.Finding.{IsOfTower};
+ghost use Rattle.show_command.specs.Drawn.{IsDrawnOrder, IsSketchOf, IsSubjectOf, asked_extent, asked_width, theme_by};
 ghost use Rattle.show_command.specs.Shown.{IsDrawn, IsFirstUsed, IsUsed};
+ghost use Rattle.show_command.specs.declared.picture.TheConstants.{CELLS, UNITS};
+ghost use Rattle.words.specs.Words.{asked_show};
 
 use intervals::{Initial, Memory, OpId, RegId};
 use logs::{Log, Run};
@@ -12,8 +15,8 @@ use report::{
 };
 use shards::Closed;
 use show::{
-    Look, Sheet, Subject, Theme, push_page_end, push_page_head, push_page_part, push_picture,
-    push_timeline,
+    Look, Sheet, Sketch, Subject, Theme, push_page_end, push_page_head, push_page_part,
+    push_picture, push_timeline,
 };
 use std::alloc::{AllocError, Global};
 use timeline::Extent;
@@ -117,16 +120,16 @@ fn push_one(
         return Ok(());
     }
     let order = order_of(alloc, book)?;
-    let subject = subject_of(tower, book, id, &order);
-    push_subject(text, alloc, asked, &subject, id)?;
+    let sketch = sketch_of(alloc, asked, tower, book, id, &order)?;
+    push_sketch(text, alloc, asked, &sketch, id)?;
     if asked.picture != Picture::Svg {
         push_left_out(text, "\n", &run.logs, "")?;
     }
     Ok(())
 }
 
-/// What was not judged, as a summary has it: the elements that were refused, and where traces broke. Where all was
-/// judged nothing is added.
+/// What was not judged: the elements that were refused, by code as a summary has them, and where traces broke, as a
+/// report has that. Where all was judged nothing is added.
 fn push_left_out(
     text: &mut String,
     before: &str,
@@ -145,18 +148,18 @@ fn push_left_out(
 }
 
 /// A register in lines of a terminal, or as SVG.
-fn push_subject(
+fn push_sketch(
     text: &mut String,
     alloc: Global,
     asked: &Show,
-    subject: &Subject,
+    sketch: &Sketch,
     id: RegId,
 ) -> Result<(), Memory> {
     match asked.picture {
-        Picture::Text => push_timeline(text, alloc, subject, &look_of(asked, false))?,
-        Picture::Ascii => push_timeline(text, alloc, subject, &look_of(asked, true))?,
+        Picture::Text => push_timeline(text, alloc, sketch, &look_of(asked, false))?,
+        Picture::Ascii => push_timeline(text, alloc, sketch, &look_of(asked, true))?,
         Picture::Svg | Picture::Html => {
-            push_picture(text, alloc, subject, &sheet_of(asked, id, true))?
+            push_picture(text, alloc, sketch, &sheet_of(asked, id, true))?
         }
     }
     Ok(())
@@ -215,7 +218,7 @@ fn push_part(
     is_unfolded: bool,
 ) -> Result<(), Memory> {
     let order = order_of(alloc, book)?;
-    let subject = subject_of(tower, book, id, &order);
+    let sketch = sketch_of(alloc, asked, tower, book, id, &order)?;
     let finding = Finding {
         kind: book.kind(),
         operations: book.len() as u64,
@@ -224,16 +227,33 @@ fn push_part(
     let mut section = String::new(alloc);
     push_section(&mut section, tower, id, &finding)?;
     let sheet = sheet_of(asked, id, false);
-    push_page_part(text, alloc, &subject, &sheet, is_unfolded, &section)?;
+    push_page_part(text, alloc, &sketch, &sheet, is_unfolded, &section)?;
     Ok(())
 }
 
 /// An order that explains the operations of a register that is atomic and holds; of any other register an empty list.
-fn order_of(alloc: Global, book: &RegisterBook) -> Result<Vec<OpId>, Memory> {
+fn order_of(alloc: Global, book: &RegisterBook) -> Result<Vec<OpId>, Memory>
+    ensures { IfOk result (λ order. IsDrawnOrder book.now order.items) }
+{
     match book.order(alloc)? {
         Some(order) => Ok(order),
         None => Ok(Vec::new(alloc)),
     }
+}
+
+/// The sketch of a register, with as much of it as is asked for: all that is drawn of it.
+fn sketch_of<'a, 't>(
+    alloc: Global,
+    asked: &Show,
+    tower: &'a Tower,
+    book: &'a RegisterBook<'t>,
+    id: RegId,
+    order: &'a [OpId],
+) -> Result<Sketch<'a, 't>, AllocError>
+    requires order { IsDrawnOrder book.now order.now }
+    ensures { IfOk result (IsSketchOf (asked_show asked.now) tower.now id book.now) }
+{
+    Sketch::of(alloc, subject_of(tower, book, id, order), extent_of(asked))
 }
 
 fn subject_of<'a, 't>(
@@ -241,7 +261,10 @@ fn subject_of<'a, 't>(
     book: &'a RegisterBook<'t>,
     id: RegId,
     order: &'a [OpId],
-) -> Subject<'a, 't> {
+) -> Subject<'a, 't>
+    requires order { IsDrawnOrder book.now order.now }
+    ensures { IsSubjectOf tower.now id book.now result }
+{
     Subject {
         name: match tower.name(id) {
             Some(name) => name,
@@ -258,17 +281,19 @@ fn subject_of<'a, 't>(
     }
 }
 
-fn look_of(asked: &Show, is_ascii: bool) -> Look {
+fn look_of(asked: &Show, is_ascii: bool) -> Look
+    ensures { result ≡ record { width = asked_width asked.now.width CELLS; is_ascii = is_ascii } }
+{
     Look {
-        extent: extent_of(asked),
         width: width_of(asked, CELLS),
         is_ascii,
     }
 }
 
-fn sheet_of(asked: &Show, id: RegId, has_style: bool) -> Sheet {
+fn sheet_of(asked: &Show, id: RegId, has_style: bool) -> Sheet
+    ensures { result ≡ record { width = asked_width asked.now.width UNITS; theme = theme_by asked.now.theme; has_style = has_style; number = id.0 } }
+{
     Sheet {
-        extent: extent_of(asked),
         width: width_of(asked, UNITS),
         theme: theme_of(asked),
         has_style,
@@ -276,18 +301,20 @@ fn sheet_of(asked: &Show, id: RegId, has_style: bool) -> Sheet {
     }
 }
 
-fn extent_of(asked: &Show) -> Extent {
+fn extent_of(asked: &Show) -> Extent
+    ensures { result ≡ asked_extent (asked_show asked.now) }
+{
     if asked.all {
-        return Extent::All;
-    }
-    match usize::try_from(asked.around) {
-        Ok(around) => Extent::Around(around),
-        Err(_) => Extent::All,
+        Extent::All
+    } else {
+        Extent::Around(asked.around as usize)
     }
 }
 
 /// The width that is asked for, or the usual one.
-fn width_of(asked: &Show, usual: u32) -> u32 {
+fn width_of(asked: &Show, usual: u32) -> u32
+    ensures { result ≡ asked_width asked.now.width usual }
+{
     match asked.width {
         Some(width) => match u32::try_from(width) {
             Ok(width) => width,
@@ -297,7 +324,9 @@ fn width_of(asked: &Show, usual: u32) -> u32 {
     }
 }
 
-fn theme_of(asked: &Show) -> Theme {
+fn theme_of(asked: &Show) -> Theme
+    ensures { result ≡ theme_by asked.now.theme }
+{
     match asked.theme {
         words::Theme::Auto => Theme::Auto,
         words::Theme::Light => Theme::Light,
