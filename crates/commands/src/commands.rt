@@ -2,7 +2,7 @@
 
 ghost use Rattle.std.specs.Prelude.{◌≡◌, ◌≢◌, IsErr, IfOk, IfErr, IfSome, MatchResult, None, map};
 ghost use Rattle.std.specs.Result.{IsOkAnd};
-ghost use Rattle.std.specs.Io.KnownBytes.{Appends, Keeps};
+ghost use Rattle.std.specs.Io.KnownBytes.{Keeps};
 ghost use Rattle.words.specs.Words.{HasShards, HasTraces, Safe, asked, asked_of};
 ghost use Rattle.check_command.specs.Verdict.{IsAudited};
 ghost use Rattle.commands.specs.Run.{IsListed, IsCarriedOut, IsDone, IsWatch, WantInput, WritesWhole};
