@@ -1,4 +1,4 @@
-"""The tests, as crates of a tree of their own, which `rt ci` leaves out. `./try-tests` and `./refuse-memory` use it."""
+"""The tests, as crates of a tree of their own, which `rt ci` leaves out. `./try/tests` and `./try/memory` use it."""
 import shutil
 
 from build import ROOT, below, compile, crates, link, lower

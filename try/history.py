@@ -1,43 +1,78 @@
-#!/usr/bin/env python3
-"""Tries the records of `regaudit check --as json` and `--as edn` on towers and traces by chance.
+"""Histories for the scripts of this folder: towers and traces by chance, and what should become of them.
 
-    try-records [RUNS [SEED [NUMBER]]]
-
-There are RUNS runs, 200 where none is said, made from SEED, 1 where none is said; with NUMBER only the run of that
-number is made, and its files are kept in the folder that is printed. Each run has up to three traces, of which no two
-meet on one register, so that nothing in it is left to chance. Of each run is tried:
-
-- that the exit statuses with text, json and edn are one, and standard error is empty;
-- that each line of JSON is what Python's json makes of what it reads there, and each line of EDN is what this script
-  makes of the JSON; that a reader of EDN, here, finds in it the values of the JSON; and that the program itself reads
-  each line of EDN as one element;
-- that the text which this script makes of the records is, byte for byte, the report;
-- that `head` comes first and `end` last, with the counts of the other records and the exit status;
-- that each field of each record is as this script finds it by applying the elements that were not refused: operations
-  of a witness with their texts, the values that a wrong read might have returned, what a refusal collides with;
-- that the line and the byte of each element that a record names are those at which this script wrote its text;
-- that `--only failing` leaves out the records of the registers that hold, and nothing else.
-
-The program is the one that the environment variable REGAUDIT names, else the one built in this repository. The last
-lines count what the runs met, and what passed and failed. The status is 0 where nothing failed, and, of 200 runs or
-more, each kind of fault and each code that names what it collides with was met."""
-
-import collections
-import json
-import multiprocessing
+`Run` is a tower file and traces of all kinds of elements, of which no two traces meet on one register; `applied` is the
+plain twin of the program, which applies the elements that were not refused, so that each register is there as it should
+be at the end. `one_register` is a history of one register that mostly is right, `files_of` its tower file and trace.
+`event`, `write` and `read` are single elements.
+"""
 import os
+import pathlib
 import random
-import re
-import subprocess
-import sys
-import tempfile
 
-TOP = os.path.dirname(os.path.realpath(__file__))
-PROGRAM = os.path.abspath(os.environ.get("REGAUDIT", os.path.join(TOP, "crates/regaudit/out/regaudit")))
+TOP = pathlib.Path(__file__).resolve().parents[1]
+# The program that is tried: the one that the environment variable REGAUDIT names, else the one built in this repository.
+PROGRAM = os.path.abspath(os.environ.get("REGAUDIT", TOP / "crates/regaudit/out/regaudit"))
 KINDS = ["safe", "regular", "atomic"]
-FAULTS = ["wrong", "unwritten", "split", "early", "conflict"]
-COLLIDING = ["X4", "X7", "X8", "X12", "X13"]
-JOBS = 2
+
+# Single elements.
+
+
+def event(process, type_, f, register, value, moment):
+    return f"{{:process {process} :type :{type_} :f :{f} :value [{register} {value}] :index {moment}}}\n"
+
+
+def write(register, value, begin, end):
+    return event(0, "invoke", "write", register, value, begin) + event(0, "ok", "write", register, value, end)
+
+
+def read(register, value, begin, end):
+    return event(1, "invoke", "read", register, "nil", begin) + event(1, "ok", "read", register, value, end)
+
+
+# A history of one register.
+
+
+def one_register(chance):
+    """Operations as (process, is a write, value, begin, end), and the kind of a register that they are of."""
+    kind = chance.choice(["safe", "regular", "atomic", "atomic"])
+    processes, many = chance.randint(1, 5), chance.randint(0, 30)
+    scale = chance.choice([1, 1, 7, 1000000007])
+    free = {process: 0 for process in range(processes)}
+    moments = sorted(chance.sample(range(8 * many + 8), 2 * many))
+    ops, written, waiting = [], [], []
+    for _ in range(many):
+        process = min(free, key=lambda p: (free[p], p)) if chance.random() < 0.7 else chance.choice(list(free))
+        later = [m for m in moments if m >= free[process]]
+        if len(later) < 2:
+            break
+        begin = later[0]
+        end = later[min(len(later) - 1, chance.randint(1, 4))]
+        moments = [m for m in moments if m not in (begin, end)]
+        writes = (process == 0 or kind == "atomic") and chance.random() < 0.4
+        if writes:
+            value = chance.choice([1, -1]) * chance.choice([len(written) + 1, 10**18 + len(written)])
+            written.append(value)
+        else:
+            value = chance.choice((written or [0])[-3:] + ([99] if chance.random() < 0.05 else []))
+        ends = None if chance.random() < 0.06 and not (writes and kind != "atomic") else end * scale
+        ops.append((process, writes, value, begin * scale, ends))
+        free[process] = end + 1 if ends is not None else 10**9
+    return kind, ops
+
+
+def files_of(kind, ops, name):
+    tower = b'{:levels [{:name l :registers [{:name "%s" :kind :%s :writers [0%s] :initial 0%s}]}]}' % (
+        name, kind.encode(), b" 1 2 3 4" if kind == "atomic" else b"", b" :domain [0]" if kind == "safe" else b"")
+    events = []
+    for process, writes, value, begin, end in ops:
+        act = b"write" if writes else b"read"
+        events.append((begin, process, b"invoke", act, value if writes else "nil"))
+        if end is not None:
+            events.append((end, process, b"ok", act, value))
+    lines = [b'{:process %d :type :%s :f :%s :value ["%s" %s] :index %d}\n' % (process, step, act, name, str(value).encode(), at)
+             for at, process, step, act, value in sorted(events)]
+    return tower, b"".join(lines)
+
 
 # Runs: a tower, and traces of which each has registers of its own.
 
@@ -347,7 +382,7 @@ def is_utf8(name):
         return False
 
 
-# What the records should say: the elements that were not refused, applied in turn.
+# What should become of a run: the elements that were not refused, applied in turn.
 
 
 def printed(name):
@@ -478,289 +513,3 @@ def fault_of(run, found, held):
         assert b["value"] == c["value"] and (a is None or a["value"] == d["value"]), "the values are not two"
         fault["first"], fault["second"] = d["value"], c["value"]
     return fault
-
-
-def expected(run, found, status):
-    """The records as they should be. What the report says too is as it is found: the kinds and ids of faults, the ids
-    and codes of refusals, answers, breaks, and the order."""
-    refused = {record["id"]: record["code"] for record in found if record["t"] == "refused"}
-    broken = {record["trace"]: record["byte"] for record in found if record["t"] == "broken"}
-    held, collisions = applied(run, refused, broken)
-    faults = {record["number"]: record["fault"] for record in found if record["t"] == "register"}
-    files = [printed(name.encode()) for name in run.files]
-    yield {"t": "head", "format": 1, "program": "regaudit", "tower": files[0], "registers": len(run.registers),
-           "traces": files[1:], "moment": run.moment}
-    culprits = 0
-    for register in run.registers:
-        book, fault = held[register.number], faults[register.number]
-        culprit = fault is not None and all(faults[part.number] is None for part in register.parts)
-        culprits += culprit
-        yield {"t": "register", "number": register.number, "level": printed(run.levels[register.level]),
-               "name": printed(register.name), "kind": book.kind, "holds": fault is None, "operations": len(book.ops),
-               "culprit": culprit, "fault": fault and fault_of(run, fault, book),
-               "witness": ops_of(fault, book) if fault else []}
-    for record in found:
-        if record["t"] == "refused":
-            met = collisions.get(record["id"], [])
-            yield {"t": "refused", "id": record["id"], "code": record["code"], "with": met, **run.place_of(record["id"]),
-                   "with_places": [run.place_of(id_) for id_ in met]}
-        elif record["t"] == "answer":
-            trace, place = map(int, record["id"].split(":"))
-            register = run.traces[trace].items[place]["register"]
-            yield {"t": "answer", "id": record["id"], "register": printed(register.name), "holds": record["holds"],
-                   "operations": record["operations"], **run.place_of(record["id"])}
-        elif record["t"] == "broken":
-            yield {"t": "broken", "trace": record["trace"], "code": record["code"], "byte": record["byte"],
-                   "line": run.traces[record["trace"]].line_of(record["byte"])}
-    if run.order:
-        yield {"t": "order", "register": printed(run.order.name),
-               "ids": next((record["ids"] for record in found if record["t"] == "order"), "no such record")}
-    yield {"t": "end", "status": status, "registers": len(run.registers),
-           "failing": sum(fault is not None for fault in faults.values()), "culprits": culprits,
-           "operations": sum(len(book.ops) for book in held.values()), "refused": len(refused), "broken": len(broken)}
-
-
-# The report that records make.
-
-
-def fault_text(fault):
-    ids = [fault[name] for name in SHOWN[fault["kind"]]]
-    line = {"split": "unwritten %s and %s", "early": "early %s before %s"}.get(fault["kind"])
-    return line % tuple(ids) if line else " ".join([fault["kind"]] + ids)
-
-
-def verdict(record):
-    return f"{'holds' if record['holds'] else 'fails'} {record['operations']}"
-
-
-def report_of(records):
-    lines = []
-    for record in records:
-        if record["t"] == "register":
-            lines.append(f"register {record['name']} {record['kind']} {verdict(record)}")
-            if record["fault"]:
-                lines.append("  " + fault_text(record["fault"]))
-            for op in record["witness"]:
-                lines += ["  | " + op[part] for part in ("invocation", "answer", "amendment") if op[part] is not None]
-    lines += ["culprit " + record["name"] for record in records if record["t"] == "register" and record["culprit"]]
-    for record in records:
-        if record["t"] == "answer":
-            lines.append(f"answer {record['id']} {record['register']} {verdict(record)}")
-        elif record["t"] == "refused":
-            lines.append(f"refused {record['id']} {record['code']}")
-        elif record["t"] == "broken":
-            lines.append(f"broken {record['trace']} {record['code']} at {record['byte']}")
-        elif record["t"] == "order":
-            ids = ["none"] if record["ids"] is None else record["ids"]
-            lines.append(" ".join(["order", record["register"]] + ids))
-    return "".join(line + "\n" for line in lines).encode()
-
-
-# How a record is written, and a reader of what records in EDN consist of.
-
-
-def json_of(record):
-    return json.dumps(record, ensure_ascii=False, separators=(",", ":"))
-
-
-WORDS = {"t", "kind", "f", "code", "moment"}
-SOURCES = {"a", "b", "c", "d", "id", "with"}
-
-
-def edn_of(value, key=""):
-    if isinstance(value, dict):
-        return "{" + " ".join(f":{name} {edn_of(part, name)}" for name, part in value.items()) + "}"
-    if isinstance(value, list):
-        return "[" + " ".join(edn_of(part, key) for part in value) + "]"
-    if isinstance(value, str):
-        is_word = key in WORDS or (key in SOURCES and value in ("initial", "domain"))
-        return ":" + value if is_word else '"' + value.replace("\\", "\\\\").replace('"', '\\"') + '"'
-    if value is None:
-        return "nil"
-    return str(value).lower()
-
-
-class Keyword(str):
-    pass
-
-
-TOKEN = re.compile(r'[ ,]*(?:([\[\]{}])|:([A-Za-z0-9_-]+)|"((?:[^"\\]|\\["\\])*)"|(-?(?:0|[1-9][0-9]*))(?![^ ,\[\]{}"])'
-                   r'|(nil|true|false)(?![^ ,\[\]{}"]))')
-
-
-def read_edn(line):
-    """The one element that a line is: its maps as dicts, its keywords as Keyword."""
-    stack, key_of, at = [[]], [None], 0
-    while at < len(line):
-        match = TOKEN.match(line, at)
-        if not match:
-            raise ValueError(f"no EDN at character {at}")
-        at = match.end()
-        bracket, word, text, digits, other = match.groups()
-        if bracket in ("[", "{"):
-            stack.append([])
-            key_of.append(bracket)
-            continue
-        if bracket:
-            parts, opened = stack.pop(), key_of.pop()
-            if {"[": "]", "{": "}"}.get(opened) != bracket:
-                raise ValueError(f"a stray {bracket}")
-            value = parts if bracket == "]" else dict(zip(parts[::2], parts[1::2]))
-            if bracket == "}" and (len(parts) != 2 * len(value) or not all(isinstance(key, Keyword) for key in value)):
-                raise ValueError("a map with equal keys, or with keys that are no keywords")
-        elif word is not None:
-            value = Keyword(word)
-        elif text is not None:
-            value = re.sub(r"\\(.)", r"\1", text)
-        elif digits is not None:
-            value = int(digits)
-        else:
-            value = {"nil": None, "true": True, "false": False}[other]
-        stack[-1].append(value)
-    if len(stack) != 1 or len(stack[0]) != 1:
-        raise ValueError("not one element")
-    return stack[0][0]
-
-
-# One run.
-
-
-def difference(what, found, wanted):
-    for at, (one, other) in enumerate(zip(found, wanted)):
-        if one != other:
-            return f"{what}: line {at + 1} is {one!r} and not {other!r}"
-    return f"{what}: {len(found)} lines and not {len(wanted)}"
-
-
-def lines_of(out):
-    """The lines of an output, each of which has its end."""
-    lines = out.split(b"\n")
-    assert lines.pop() == b"", "the last line has no end"
-    return [line.decode() for line in lines]
-
-
-def problems_of(run, folder, met):
-    """What is not as it should be in the outputs of the program, one after another; counts what the run met."""
-    def check(*words):
-        done = subprocess.run([PROGRAM.encode(), b"check"] + [word.encode() for word in words] + run.words, cwd=folder,
-                              stdin=subprocess.DEVNULL, capture_output=True)
-        assert not done.stderr, f"on standard error: {done.stderr!r}"
-        assert done.returncode in (0, 1, 2, 3, 4), f"the status is {done.returncode}"
-        return done.returncode, done.stdout
-
-    status, report = check("--as=text")
-    json_status, in_json = check("--as=json")
-    edn_status, in_edn = check("--as=edn")
-    if not status == json_status == edn_status:
-        yield f"the statuses are {status}, {json_status} and {edn_status}"
-    json_lines, edn_lines = lines_of(in_json), lines_of(in_edn)
-    records = [json.loads(line) for line in json_lines]
-    again = [json_of(record) for record in records]
-    if again != json_lines:
-        yield difference("JSON", json_lines, again)
-    if [edn_of(record) for record in records] != edn_lines:
-        yield difference("EDN", edn_lines, [edn_of(record) for record in records])
-    edn_records = [read_edn(line) for line in edn_lines]
-    if edn_records != records:
-        yield difference("EDN that was read", edn_records, records)
-    for name, found in (("JSON", records), ("EDN", edn_records)):
-        if report_of(found) != report:
-            yield difference(f"the report of {name}", report_of(found).split(b"\n"), report.split(b"\n"))
-    if [record["t"] for record in records if record["t"] in ("head", "end")] != ["head", "end"] or \
-            records[0]["t"] != "head" or records[-1]["t"] != "end":
-        yield "not one head first and one end last"
-    # Compared as JSON, so that the order of fields counts, and true is not 1.
-    wanted = [json_of(record) for record in expected(run, records, status)]
-    if wanted != json_lines:
-        yield difference("records", json_lines, wanted)
-    for name, lines in (("json", json_lines), ("edn", edn_lines)):
-        failing = [line for line, record in zip(lines, records) if record["t"] != "register" or not record["holds"]]
-        only_status, only = check(f"--as={name}", "--only=failing")
-        if only_status != status:
-            yield f"with --only failing the status is {only_status} and not {status}"
-        if lines_of(only) != failing:
-            yield difference(f"{name} with --only failing", lines_of(only), failing)
-    yield from read_again(run, folder, in_edn, len(edn_lines))
-    count(met, records)
-
-
-def read_again(run, folder, in_edn, many):
-    """The records in EDN as a trace: each is one element, a Map without `:process`, and the text has no fault."""
-    with open(os.path.join(folder, "records.edn"), "wb") as file:
-        file.write(in_edn)
-    done = subprocess.run([PROGRAM.encode(), b"check", run.words[0], b"records.edn"], cwd=folder,
-                          stdin=subprocess.DEVNULL, capture_output=True)
-    notes = [line for line in done.stdout.split(b"\n") if re.match(rb"(refused|broken|answer) \d", line)]
-    if done.returncode != 3 or notes != [b"refused 0:%d F2" % place for place in range(many)]:
-        yield f"the program reads {many} records in EDN with status {done.returncode} and as {notes[:3]} .."
-
-
-def count(met, records):
-    for kind in {record["fault"]["kind"] for record in records if record["t"] == "register" and record["fault"]}:
-        met["fault", kind] += 1
-    for record in records:
-        if record["t"] == "refused":
-            met["refused", record["code"]] += 1
-            if record["with"]:
-                met["with", record["code"] + (" initial" if "initial" in record["with"] else "")] += 1
-        elif record["t"] == "broken":
-            met["broken", record["code"]] += 1
-        elif record["t"] == "register":
-            fails = "culprit" if record["culprit"] else "fails over a part"
-            met["register", "holds" if record["holds"] else fails] += 1
-            if record["fault"] and "initial" in record["fault"].values():
-                met["conflict", "with the initial value"] += 1
-            for source in (record["fault"] or {}).get("allowed", []):
-                met["allowed", source["id"] if ":" not in source["id"] else "write"] += 1
-        elif record["t"] == "order":
-            met["order", "none" if record["ids"] is None else "ids" if record["ids"] else "no ids"] += 1
-        elif record["t"] == "answer":
-            met["answer", "holds" if record["holds"] else "fails"] += 1
-    met["status", str(records[-1]["status"])] += 1
-
-
-def tried(task):
-    """What is not as it should be in a run, and what it met. With a folder its files are kept there."""
-    seed, number, kept = task
-    met = collections.Counter()
-    run = Run(seed, number)
-    with tempfile.TemporaryDirectory(prefix=f"run-{number}-") as folder:
-        run.lay_out(kept or folder)
-        try:
-            problems = list(problems_of(run, kept or folder, met))
-        except (AssertionError, ValueError, LookupError, TypeError, AttributeError) as fault:
-            problems = [f"{type(fault).__name__}: {fault}"]
-    return number, problems, met
-
-
-def main():
-    runs, seed = (int(word) for word in (sys.argv[1:3] + ["200", "1"][len(sys.argv[1:3]):]))
-    if not os.access(PROGRAM, os.X_OK):
-        sys.exit(f"try-records: there is no program {PROGRAM}")
-    if len(sys.argv) > 3:
-        folder = tempfile.mkdtemp(prefix=f"run-{sys.argv[3]}-")
-        tasks = [(seed, int(sys.argv[3]), folder)]
-        print(f"{folder}: regaudit check {' '.join(map(repr, Run(*tasks[0][:2]).words))}")
-    else:
-        tasks = [(seed, number, None) for number in range(runs)]
-    met, failed = collections.Counter(), 0
-    with multiprocessing.Pool(JOBS) as pool:
-        for number, problems, found in pool.imap(tried, tasks, chunksize=4):
-            met += found
-            failed += bool(problems)
-            for problem in problems:
-                print(f"failed: run {number} of seed {seed}: {problem}", flush=True)
-    for group in dict.fromkeys(group for group, _ in sorted(met)):
-        counts = sorted((name, many) for (found, name), many in met.items() if found == group)
-        print(f"{group}: " + ", ".join(f"{name} {many}" for name, many in counts))
-    wanted = [("fault", kind) for kind in FAULTS] + [("with", code) for code in COLLIDING] + [("allowed", "domain")]
-    lacking = [name for group, name in wanted if not met[group, name]]
-    if lacking and len(tasks) >= 200:
-        print("failed: not met: " + ", ".join(lacking))
-        failed += 1
-    print(f"{len(tasks) - min(failed, len(tasks))} passed, {failed} failed")
-    return 0 if tasks and not failed else 1
-
-
-if __name__ == "__main__":
-    sys.exit(main())
