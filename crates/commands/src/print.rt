@@ -6,7 +6,7 @@ ghost use Rattle.commands.specs.Printed.{IsExplained, IsManual, IsManualText, Is
 use command_parts::{CommandFault, write_text};
 use std::alloc::{AllocError, Global};
 use std::io::Write;
-use texts::{Topic, push_entry, push_list};
+use texts::{explanation_of, push_entry, push_list};
 use words::help_of_all;
 
 /// Writes a text.
@@ -43,11 +43,11 @@ fn explain_code<'a, W: Write>(
     ensures explained { IfOk result (λ status. IsExplained (Some code.entry.now) status (W.contents out.old) (W.contents out.new)) }
     ensures quiet { IfErr result (λ fault. fault ≢ CommandFault.Unwritable → out.new ≡ out.old) }
 {
-    let Some(topic) = Topic::named(code) else {
+    let Some(entry) = explanation_of(code) else {
         return Err(CommandFault::NoCode(code));
     };
     let mut text = String::new(alloc);
-    match push_entry(&mut text, topic.entry()) {
+    match push_entry(&mut text, entry) {
         Ok(()) => print(&text, out),
         Err(_) => Err(CommandFault::Memory),
     }

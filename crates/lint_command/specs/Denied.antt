@@ -2,9 +2,7 @@
 use Rattle.std.specs.Prelude.{◌≡◌, ◌==◌, ℕ, List, [], ◌∷◌, Option, Some, None, if◌then◌else◌}
 use Rattle.std.specs.List.{AllZip}
 use Rattle.clap.specs.Words.{Text}
-use Rattle.texts.specs.declared.notes.Note.{Note as ANote}
-use Rattle.texts.specs.declared.topic.Topic.TheVariants.{Note}
-use Rattle.texts.specs.Topics.{topic_code, topic_of}
+use Rattle.texts.specs.Codes.{code_among, note_codes}
 
 -- the parts with one byte more at the beginning of the first
 abbrev pub at_front : ℕ → List Text → List Text
@@ -18,7 +16,7 @@ comma_parts (byte ∷ text) = if byte == 44 then [] ∷ comma_parts text else at
 
 -- the word names a note, in capitals or not, and this is the note's code
 abbrev pub IsNoteNamed : Text → Text → Type 0
-IsNoteNamed word code = (note : ANote) × (topic_of word ≡ Some (Note note)) × (code ≡ topic_code (Note note))
+IsNoteNamed word code = code_among note_codes word ≡ Some code
 
 -- the codes of the notes that an optional text names, with commas between them
 abbrev pub AreDenied : Option Text → List Text → Type 0

@@ -6,7 +6,7 @@ ghost use Rattle.lint_command.specs.Denied.{AreDenied, IsNoteNamed};
 
 use command_parts::CommandFault;
 use std::alloc::Global;
-use texts::Topic;
+use texts::note_of;
 
 /// The codes of the notes that a text names, with commas between them. A word that names no note is a fault.
 pub fn denied_codes<'a>(
@@ -34,10 +34,10 @@ fn push_code<'a>(denied: &mut Vec<&'static str>, word: &'a str) -> Result<(), Co
     ensures named { OnOk result ((code : Text) × IsNoteNamed word.entry.now code × (map (λ code. code.now) denied.new.items ≡ map (λ code. code.now) denied.old.items ++ code ∷ [])) }
     ensures quiet { IfErr result (λ fault. fault ≢ CommandFault.Unwritable) }
 {
-    let Some(Topic::Note(note)) = Topic::named(word) else {
+    let Some(note) = note_of(word) else {
         return Err(CommandFault::NoNote(word));
     };
-    match denied.push(Topic::Note(note).code()) {
+    match denied.push(note.code) {
         Ok(()) => Ok(()),
         Err(_) => Err(CommandFault::Memory),
     }

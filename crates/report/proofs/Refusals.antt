@@ -13,7 +13,8 @@ use Rattle.logs.specs.declared.log.Line.{Line}
 use Rattle.logs.specs.declared.log.Log.{Log}
 use Rattle.logs.specs.declared.log.What.{What}
 use Rattle.logs.specs.declared.log.What.TheVariants.{Refused, Answered}
-use Rattle.report.specs.Refused.{is_refusal, is_refusal_by, is_refused_by, is_refused_line, refusal_codes, refused, refused_by}
+use Rattle.report.specs.Refused.{is_refusal, is_refusal_by, is_refused_by, is_refused_line, refused, refused_by}
+use Rattle.texts.specs.Codes.{refusal_codes}
 
 both : {X : Type 0} (f g : X → ℕ) (xs : List X) → sum_by (λ x. f x + g x) xs ≡ sum_by f xs + sum_by g xs
 both f g [] = refl

@@ -9,15 +9,7 @@ use Rattle.logs.specs.declared.log.Log.{Log}
 use Rattle.logs.specs.declared.log.What.{What}
 use Rattle.logs.specs.declared.log.What.TheVariants.{Refused, Answered}
 use Rattle.phrases.specs.Names.{place_text}
-
--- all codes of refused elements: F of their form, P of the pairing of events, X of a register
-abbrev pub refusal_codes : List (List ℕ)
-refusal_codes =
-    codes "F1" ∷ codes "F2" ∷ codes "F3" ∷ codes "F4" ∷ codes "F5" ∷ codes "F6" ∷ codes "F7" ∷ codes "F8"
-    ∷ codes "P1" ∷ codes "P2" ∷ codes "P3" ∷ codes "P4"
-    ∷ codes "X1" ∷ codes "X2" ∷ codes "X3" ∷ codes "X4" ∷ codes "X5" ∷ codes "X6" ∷ codes "X7"
-    ∷ codes "X8" ∷ codes "X9" ∷ codes "X10" ∷ codes "X11" ∷ codes "X12" ∷ codes "X13" ∷ codes "X14"
-    ∷ []
+use Rattle.texts.specs.Codes.{refusal_codes}
 
 -- what is noted of an element is a refusal
 abbrev pub is_refusal : What → Bool

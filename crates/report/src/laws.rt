@@ -9,7 +9,8 @@ ghost use Rattle.logs.specs.Run.{IsRun};
 ghost use Rattle.report.specs.declared.finding.Finding.{Finding};
 ghost use Rattle.report.specs.Finding.{AreFindings, IsOfTower};
 ghost use Rattle.report.specs.Culprit.{AreCulprits, culprits_of};
-ghost use Rattle.report.specs.Refused.{refusal_codes, refused, refused_by};
+ghost use Rattle.report.specs.Refused.{refused, refused_by};
+ghost use Rattle.texts.specs.Codes.{refusal_codes};
 
 /// A run leaves a book for each register of its tower.
 pub fn a_run_is_of_its_tower()

@@ -1,16 +1,12 @@
 //! What a summary says of refusals.
 
 ghost use Rattle.std.specs.Prelude.{◌≡◌, ◌++◌, OnOk, count_by, flat_map, string_bytes};
-ghost use Rattle.report.specs.Refused.{code_text, first_in, first_refused, is_refused_by, is_refused_line, refused, refused_by, refused_text, refusal_codes};
+ghost use Rattle.report.specs.Refused.{code_text, first_in, first_refused, is_refused_by, is_refused_line, refused, refused_by, refused_text};
+ghost use Rattle.texts.specs.Codes.{codes_of, refusal_codes};
 
 use logs::{Line, Log, What};
 use std::alloc::AllocError;
-
-/// All codes of refused elements: of their form, of the pairing, and of a register.
-const CODES: [&str; 26] = [
-    "F1", "F2", "F3", "F4", "F5", "F6", "F7", "F8", "P1", "P2", "P3", "P4", "X1", "X2", "X3", "X4",
-    "X5", "X6", "X7", "X8", "X9", "X10", "X11", "X12", "X13", "X14",
-];
+use texts::{Explanation, refusals};
 
 /// The line of the refusals: how many, by code, and where the first of each is.
 pub fn push_refused(text: &mut String, logs: &[Log]) -> Result<(), AllocError>
@@ -28,15 +24,28 @@ pub fn push_refused(text: &mut String, logs: &[Log]) -> Result<(), AllocError>
 fn push_all(text: &mut String, logs: &[Log]) -> Result<(), AllocError>
     ensures { OnOk result (string_bytes text.new ≡ string_bytes text.old ++ flat_map (code_text logs.now) refusal_codes) }
 {
-    let codes: [&str; 26] = CODES;
-    push_codes(text, logs, codes.as_slice())
+    let parts: [&'static [Explanation]; 3] = refusals();
+    push_parts(text, logs, parts.as_slice())
 }
 
-fn push_codes(text: &mut String, logs: &[Log], codes: &[&str]) -> Result<(), AllocError>
-    ensures { OnOk result (string_bytes text.new ≡ string_bytes text.old ++ flat_map (λ code. code_text logs.now code.now) codes.now) }
+fn push_parts(
+    text: &mut String,
+    logs: &[Log],
+    parts: &[&'static [Explanation]],
+) -> Result<(), AllocError>
+    ensures { OnOk result (string_bytes text.new ≡ string_bytes text.old ++ flat_map (code_text logs.now) (flat_map (λ part. codes_of part.now) parts.now)) }
 {
-    for code in codes {
-        push_code(text, logs, *code)?;
+    for part in parts {
+        push_codes(text, logs, part)?;
+    }
+    Ok(())
+}
+
+fn push_codes(text: &mut String, logs: &[Log], entries: &[Explanation]) -> Result<(), AllocError>
+    ensures { OnOk result (string_bytes text.new ≡ string_bytes text.old ++ flat_map (code_text logs.now) (codes_of entries.now)) }
+{
+    for entry in entries {
+        push_code(text, logs, entry.code)?;
     }
     Ok(())
 }

@@ -4,7 +4,7 @@ use percent_encoding::percent_decode;
 use std::alloc::{AllocError, Global};
 use std::io;
 use std::io::{Error, ErrorKind};
-use texts::Topic;
+use texts::explanation_of;
 
 /// A row of a file: a run for each input.
 #[derive(Drop)]
@@ -104,10 +104,9 @@ fn take_section(alloc: Global, row: &mut Row, section: &str) -> io::Result<()> {
 
 /// The two files that `regaudit explain` shows of a code: `tower` and `example`.
 fn take_example(alloc: Global, files: &mut Vec<Named>, code: &str) -> io::Result<()> {
-    let Some(topic) = Topic::named(code) else {
+    let Some(entry) = explanation_of(code) else {
         return Err(Error::from(ErrorKind::InvalidData));
     };
-    let entry = topic.entry();
     files.push(example_file(alloc, "tower", entry.tower)?)?;
     files.push(example_file(alloc, "example", entry.example)?)?;
     Ok(())

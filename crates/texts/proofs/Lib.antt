@@ -1,2 +1,4 @@
--- the lines of a list of topics
-pub mod Lines
+-- each code of each fault is listed
+pub mod EachCode
+-- the entries of parts, and their lines, as one list
+pub mod Parts

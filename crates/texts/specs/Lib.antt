@@ -1,3 +1,3 @@
 -- words of the public clauses
+pub mod Codes
 pub mod Printing
-pub mod Topics

@@ -1,8 +1,7 @@
--- How the entry of a topic is printed.
-use Rattle.std.specs.Prelude.{◌≡◌, ℕ, ◌-◌, List, [], ◌∷◌, ◌++◌, codes, length, replicate}
+-- How the entry of a code is printed, and the list of all.
+use Rattle.std.specs.Prelude.{◌≡◌, ℕ, ◌-◌, List, [], ◌∷◌, ◌++◌, codes, flat_map, length, replicate}
 use Rattle.texts.specs.declared.entry.Explanation.{Explanation}
-use Rattle.texts.specs.declared.topic.Topic.{Topic}
-use Rattle.texts.specs.Topics.{topic_code}
+use Rattle.texts.specs.Codes.{codes_of}
 
 -- a word, and blanks up to so many columns
 abbrev pub column : ℕ → List ℕ → List ℕ
@@ -28,7 +27,12 @@ entry_text entry =
     ++ part_text (codes "Mend:    ") entry.mend.now
     ++ part_text (codes "See:     ") entry.see.now
 
--- a line for each of these topics, in order: that of an entry with the topic's code, and what the entry says
-pub data AreLines : List Topic → List ℕ → Type 0 where
-  no_lines : AreLines [] []
-  a_line : (topic : Topic) (topics : List Topic) (entry : Explanation) (rest : List ℕ) → entry.code.now ≡ topic_code topic → AreLines topics rest → AreLines (topic ∷ topics) (line_text entry entry.what.now ++ rest)
+-- a line for each of these entries, in order: its code, its name and what it says
+abbrev pub list_text : List Explanation → List ℕ
+list_text entries = flat_map (λ entry. line_text entry entry.what.now) entries
+
+-- a line for each of these codes, in order: that of an entry with this code
+pub record AreLines (listed : List (List ℕ)) (lines : List ℕ) : Type 0 where
+  pub entries : List Explanation
+  pub are : codes_of entries ≡ listed
+  pub is : lines ≡ list_text entries

@@ -1,107 +1,68 @@
 //! What the codes of invocations and their answers, P1 to P4, say.
 
-ghost use Rattle.std.specs.Prelude.{◌≡◌, Some};
-ghost use Rattle.pairing.specs.Code.{pair_fault_code};
-ghost use Rattle.texts.specs.Topics.{pair_code, topic_code, topic_of, topic_of_lower};
-
 use crate::entry::{ENDS_THE_RUN, Explanation, NO_EXAMPLE, NOT_PRINTED, ONE_SAFE, REFUSES};
-use crate::topic::Topic;
-use pairing::PairFault;
 
 /// The codes of invocations and answers.
-#[derive(Clone, Copy)]
-pub enum PairCode {
-    ProcessBusy,
-    NoInvocation,
-    AnswerMismatch,
-    NoMemoryForPair,
-}
-
-impl PairCode {
-    pub(crate) fn entry(self) -> &'static Explanation
-        ensures { result.now.code.now ≡ pair_code self }
-    {
-        match self {
-            PairCode::ProcessBusy => &PROCESS_BUSY,
-            PairCode::NoInvocation => &NO_INVOCATION,
-            PairCode::AnswerMismatch => &ANSWER_MISMATCH,
-            PairCode::NoMemoryForPair => &NO_MEMORY_FOR_PAIR,
-        }
-    }
-}
-
-/// The topic for why the pairing of events refuses an item.
-#[tactic(auto, unfolding(crate::specs::Topics::topic_code))]
-pub fn of_pair(fault: &PairFault) -> Topic
-    ensures code { topic_code result ≡ pair_fault_code fault.now }
-    ensures found { topic_of (pair_fault_code fault.now) ≡ Some result }
-    ensures found_lower { topic_of_lower (pair_fault_code fault.now) ≡ Some result }
-{
-    match fault {
-        PairFault::ProcessBusy => Topic::Pair(PairCode::ProcessBusy),
-        PairFault::NoInvocation => Topic::Pair(PairCode::NoInvocation),
-        PairFault::AnswerMismatch => Topic::Pair(PairCode::AnswerMismatch),
-        PairFault::Memory => Topic::Pair(PairCode::NoMemoryForPair),
-    }
-}
-
-const PROCESS_BUSY: Explanation = Explanation {
-    code: "P1",
-    name: "ProcessBusy",
-    outcome: REFUSES,
-    what: "A process invokes while its last invocation waits for an answer.",
-    more: "A process does one operation at a time.",
-    mostly: "an answer that the log lost, two clients under one process number, or a log that is not
+pub(crate) const PAIR_CODES: [Explanation; 4] = [
+    // an invocation, and the event found is an invocation too, which still waits for its answer
+    Explanation {
+        code: "P1",
+        name: "ProcessBusy",
+        outcome: REFUSES,
+        what: "A process invokes while its last invocation waits for an answer.",
+        more: "A process does one operation at a time.",
+        mostly: "an answer that the log lost, two clients under one process number, or a log that is not
          in its order, so that an answer comes after the next invocation.",
-    tower: ONE_SAFE,
-    example: "{:process 0 :type :invoke :f :write :value 1 :index 0}
+        tower: ONE_SAFE,
+        example: "{:process 0 :type :invoke :f :write :value 1 :index 0}
          {:process 0 :type :invoke :f :write :value 2 :index 1}      ; P1",
-    mend: "put the answer back, as `:info` where nobody knows it; or give each client a number of
+        mend: "put the answer back, as `:info` where nobody knows it; or give each client a number of
          its own.",
-    see: "P2 and P3, which its answer may then meet",
-};
-
-const NO_INVOCATION: Explanation = Explanation {
-    code: "P2",
-    name: "NoInvocation",
-    outcome: REFUSES,
-    what: "The invocation that is answered or edited is not there.",
-    more: "An answer needs an invocation of its process, in its own trace, that waits for one. An edit's `:of`
+        see: "P2 and P3, which its answer may then meet",
+    },
+    // `:ok`, `:fail` or `:info`, and no event is found, or one that is no invocation; an edit whose `:of` is not the
+    // place of an earlier accepted invocation
+    Explanation {
+        code: "P2",
+        name: "NoInvocation",
+        outcome: REFUSES,
+        what: "The invocation that is answered or edited is not there.",
+        more: "An answer needs an invocation of its process, in its own trace, that waits for one. An edit's `:of`
 is the place of an invocation in its own trace that has no F or P code; places count from 0.",
-    mostly: "a second answer to one invocation, an invocation that was refused further up, or one
+        mostly: "a second answer to one invocation, an invocation that was refused further up, or one
          that stands in another trace. Or `:of` is the number of a line.",
-    tower: ONE_SAFE,
-    example: "{:process 0 :type :ok :f :read :value 0 :index 1}      ; P2",
-    mend: "put the invocation before its answer, in one trace. For a place count all elements
+        tower: ONE_SAFE,
+        example: "{:process 0 :type :ok :f :read :value 0 :index 1}      ; P2",
+        mend: "put the invocation before its answer, in one trace. For a place count all elements
          outside of brackets, refused and skipped ones too.",
-    see: "P1, X1",
-};
-
-const ANSWER_MISMATCH: Explanation = Explanation {
-    code: "P3",
-    name: "AnswerMismatch",
-    outcome: REFUSES,
-    what: "An `:ok` does not fit the invocation that it answers.",
-    more: "It has another `:f`, another register, or for a write another value; a missing value is `nil`. The
+        see: "P1, X1",
+    },
+    // an `:ok` that has another `:f` or another register than the invocation found, or for a write another value
+    Explanation {
+        code: "P3",
+        name: "AnswerMismatch",
+        outcome: REFUSES,
+        what: "An `:ok` does not fit the invocation that it answers.",
+        more: "It has another `:f`, another register, or for a write another value; a missing value is `nil`. The
 invocation waits for its answer as before.",
-    mostly: "the `:ok` of a write that does not repeat the value, or two clients under one process
+        mostly: "the `:ok` of a write that does not repeat the value, or two clients under one process
          number.",
-    tower: ONE_SAFE,
-    example: "{:process 0 :type :invoke :f :write :value 1 :index 0}
+        tower: ONE_SAFE,
+        example: "{:process 0 :type :invoke :f :write :value 1 :index 0}
          {:process 0 :type :ok :f :write :value 2 :index 1}      ; P3",
-    mend: "let the answer of a write say the value that was written.",
-    see: "P1, which the next invocation of the process meets",
-};
-
-const NO_MEMORY_FOR_PAIR: Explanation = Explanation {
-    code: "P4",
-    name: "Memory",
-    outcome: ENDS_THE_RUN,
-    what: "The system refused memory for an invocation.",
-    more: NOT_PRINTED,
-    mostly: "a limit on the memory of the process, or more operations than fit.",
-    tower: "",
-    example: NO_EXAMPLE,
-    mend: "raise the limit, or judge the registers in parts: a tower file and traces for each.",
-    see: "E7",
-};
+        mend: "let the answer of a write say the value that was written.",
+        see: "P1, which the next invocation of the process meets",
+    },
+    Explanation {
+        code: "P4",
+        name: "Memory",
+        outcome: ENDS_THE_RUN,
+        what: "The system refused memory for an invocation.",
+        more: NOT_PRINTED,
+        mostly: "a limit on the memory of the process, or more operations than fit.",
+        tower: "",
+        example: NO_EXAMPLE,
+        mend: "raise the limit, or judge the registers in parts: a tower file and traces for each.",
+        see: "E7",
+    },
+];

@@ -1,0 +1,108 @@
+//! All that is explained, in the order in which it is listed.
+
+ghost use Rattle.std.specs.Prelude.{◌≡◌, ◌++◌, ℕ, List, OnOk, flat_map, option_map, string_bytes};
+ghost use Rattle.texts.specs.Codes.{all_codes, code_among, code_of, codes_of, note_codes, refusal_codes};
+ghost use Rattle.texts.specs.Printing.{AreLines, list_text};
+
+use crate::entry::{Explanation, push_line};
+use crate::form_codes::FORM_CODES;
+use crate::notes::NOTES;
+use crate::pair_codes::PAIR_CODES;
+use crate::register_codes::REGISTER_CODES;
+use crate::report_words::REPORT_WORDS;
+use crate::shard_codes::SHARD_CODES;
+use crate::text_codes::TEXT_CODES;
+use crate::tower_codes::TOWER_CODES;
+use std::alloc::AllocError;
+
+/// What is said of a code or of a word of a report, in capitals or not; none where it is neither.
+pub fn explanation_of(word: &str) -> Option<&'static Explanation>
+    ensures { option_map (λ entry. entry.now.code.now) result ≡ code_of word.now }
+{
+    let parts: [&'static [Explanation]; 8] = parts();
+    find_in(parts.as_slice(), word)
+}
+
+/// What is said of the code of a note, in capitals or not; none where it is none.
+pub fn note_of(word: &str) -> Option<&'static Explanation>
+    ensures { option_map (λ entry. entry.now.code.now) result ≡ code_among note_codes word.now }
+{
+    find_among(notes(), word)
+}
+
+/// What is said of the codes of refused elements: of their form, of the pairing and of a register.
+pub fn refusals() -> [&'static [Explanation]; 3]
+    ensures { flat_map (λ part. codes_of part.now) result ≡ refusal_codes }
+{
+    [&FORM_CODES, &PAIR_CODES, &REGISTER_CODES]
+}
+
+fn notes() -> &'static [Explanation]
+    ensures { codes_of result.now ≡ note_codes }
+{
+    &NOTES
+}
+
+/// The entries, by what they are about.
+fn parts() -> [&'static [Explanation]; 8]
+    ensures { flat_map (λ part. codes_of part.now) result ≡ all_codes }
+{
+    [
+        &TEXT_CODES,
+        &FORM_CODES,
+        &PAIR_CODES,
+        &REGISTER_CODES,
+        &TOWER_CODES,
+        &SHARD_CODES,
+        &NOTES,
+        &REPORT_WORDS,
+    ]
+}
+
+fn find_in(parts: &[&'static [Explanation]], word: &str) -> Option<&'static Explanation>
+    ensures { option_map (λ entry. entry.now.code.now) result ≡ code_among (flat_map (λ part. codes_of part.now) parts.now) word.now }
+{
+    for part in parts {
+        if let Some(entry) = find_among(part, word) {
+            return Some(entry);
+        }
+    }
+    None
+}
+
+fn find_among(entries: &'static [Explanation], word: &str) -> Option<&'static Explanation>
+    ensures { option_map (λ entry. entry.now.code.now) result ≡ code_among (codes_of entries.now) word.now }
+{
+    for entry in entries {
+        if entry.code.eq_ignore_ascii_case(word) {
+            return Some(entry);
+        }
+    }
+    None
+}
+
+/// Adds a line for each code and each word: itself, its name and what it says.
+pub fn push_list(text: &mut String) -> Result<(), AllocError>
+    ensures { OnOk result ((lines : List ℕ) × AreLines all_codes lines × (string_bytes text.new ≡ string_bytes text.old ++ lines)) }
+{
+    let parts: [&'static [Explanation]; 8] = parts();
+    push_parts(text, parts.as_slice())
+}
+
+fn push_parts(text: &mut String, parts: &[&'static [Explanation]]) -> Result<(), AllocError>
+    ensures { OnOk result (string_bytes text.new ≡ string_bytes text.old ++ flat_map (λ part. list_text part.now) parts.now) }
+{
+    for part in parts {
+        push_lines(text, part)?;
+    }
+    Ok(())
+}
+
+fn push_lines(text: &mut String, entries: &[Explanation]) -> Result<(), AllocError>
+    ensures { OnOk result (string_bytes text.new ≡ string_bytes text.old ++ list_text entries.now) }
+{
+    for entry in entries {
+        push_line(text, entry)?;
+    }
+    Ok(())
+}
