@@ -1,7 +1,7 @@
 //! The operations that show that registers fail, to which refused elements are compared.
 
-use intervals::{Op, OpId, RegId, Value};
-use register_book::{Side, Witness};
+use intervals::{OpId, RegId, Value};
+use register_book::{InRole, Role, Witness};
 use shards::Closed;
 use std::alloc::{AllocError, Global};
 use std::collections::{BTreeMap, BTreeSet};
@@ -37,40 +37,20 @@ impl Suspects {
 
     /// Adds the operations that show that this register fails.
     fn add(&mut self, id: RegId, witness: &Witness) -> Result<(), AllocError> {
-        match witness {
-            Witness::Wrong(read) | Witness::Unwritten(read) => self.add_read(id, read),
-            Witness::Split { first, second } => {
-                self.add_read(id, first)?;
-                self.add_read(id, second)
-            }
-            Witness::Early { read, write } => {
-                self.name(id, read.id)?;
-                self.name(id, write.id)
-            }
-            Witness::Crossing { a, b, c, d } => {
-                self.name_side(id, a)?;
-                self.name_side(id, b)?;
-                self.name_side(id, c)?;
-                self.name_side(id, d)
+        for slot in &witness.roles() {
+            if let Some(one) = slot {
+                self.add_one(id, one)?;
             }
         }
+        Ok(())
     }
 
-    fn add_read(&mut self, id: RegId, read: &Op) -> Result<(), AllocError> {
-        self.reads.insert((id.0, read.value()), read.id)?;
-        self.name(id, read.id)
-    }
-
-    fn name_side(&mut self, id: RegId, side: &Side) -> Result<(), AllocError> {
-        match side {
-            Side::Op(operation) => self.name(id, operation.id),
-            Side::Initial => Ok(()),
+    fn add_one(&mut self, id: RegId, one: &InRole) -> Result<(), AllocError> {
+        if is_wrong_by_value(one.role) {
+            self.reads.insert((id.0, one.op.value()), one.op.id)?;
         }
-    }
-
-    fn name(&mut self, id: RegId, operation: OpId) -> Result<(), AllocError> {
-        self.named.insert(operation)?;
-        self.of_register.insert(id.0, operation)?;
+        self.named.insert(one.op.id)?;
+        self.of_register.insert(id.0, one.op.id)?;
         Ok(())
     }
 
@@ -87,5 +67,14 @@ impl Suspects {
     /// One of the operations that show that the register fails.
     pub fn one_of(&self, id: RegId) -> Option<OpId> {
         self.of_register.get(&id.0).copied()
+    }
+}
+
+/// Whether an operation in this role is a read that is wrong by what it returned, whenever it took place.
+fn is_wrong_by_value(role: Role) -> bool {
+    match role {
+        Role::Read | Role::FirstRead | Role::SecondRead => true,
+        Role::EarlyRead | Role::LateWrite => false,
+        Role::A | Role::B | Role::C | Role::Bc | Role::D => false,
     }
 }

@@ -33,7 +33,7 @@ use Rattle.register_book.specs.declared.fault.Fault.{Fault}
 use Rattle.register_book.specs.declared.fault.Fault.TheVariants as faults
 use Rattle.register_book.specs.declared.fault.Witness.{Witness}
 use Rattle.register_book.specs.declared.fault.Witness.TheVariants.{Wrong, Unwritten, Split, Early, Crossing}
-use Rattle.register_book.specs.Fault.{side_holder}
+use Rattle.register_book.specs.Fault.{ops_in_roles, roles_of, side_holder}
 use Rattle.places.specs.declared.location.Location.{Location}
 use Rattle.places.specs.Spots.{PlacesModel, line_of_byte, located}
 use Rattle.report.specs.declared.finding.Finding.{Finding}
@@ -41,7 +41,6 @@ use Rattle.report.specs.Culprit.{is_culprit}
 use Rattle.report.specs.Finding.{fails_of}
 use Rattle.report.specs.Listing.{level_name}
 use Rattle.phrases.specs.Names.{kind_word, register_name}
-use Rattle.report.specs.Section.{shown_of}
 use Rattle.records.specs.declared.allowed.Allowed.{Allowed}
 use Rattle.records.specs.declared.allowed.Source.{Source}
 use Rattle.records.specs.declared.allowed.Source.TheVariants as sources
@@ -151,7 +150,7 @@ allowed_are places [] = no_value
 allowed_are places (one ∷ allowed) = more_values (nested (allowed_is places one)) (allowed_are places allowed)
 
 fault_is : {depth : ℕ} (places : PlacesModel) (allowed : List Allowed) (witness : Witness) → IsRecord (suc (suc (suc depth))) (fault_symbols places allowed witness)
-unfolding end_symbols
+unfolding end_symbols list_symbols
 fault_is {depth} places allowed (Wrong read) =
     subst (λ (tail : List Symbol). IsRecord (suc (suc (suc depth))) (begin_record ∷ key (codes "kind") ∷ word (codes "wrong") ∷ key (codes "read") ∷ place read.id.feeder read.id.event ∷ key (codes "allowed") ∷ begin_list ∷ tail))
     (append_assoc (flat_map (allowed_symbols places) allowed) (end_list ∷ []) (end_record ∷ []))
@@ -202,10 +201,10 @@ found_is places n level name kind operations None culprit allowed =
     (field_is (codes "fault") refl nothing refl (last_list_is (codes "witness") refl no_value)))
 found_is {depth} places n level name kind operations (Some witness) culprit allowed =
     subst (λ (tail : List Symbol). IsRecord (suc (suc (suc (suc depth)))) (begin_record ∷ key (codes "t") ∷ word (codes "register") ∷ key (codes "number") ∷ number (decimal n) ∷ key (codes "level") ∷ text level ∷ key (codes "name") ∷ text name ∷ key (codes "kind") ∷ word (kind_word kind) ∷ key (codes "holds") ∷ flag false ∷ key (codes "operations") ∷ number (decimal operations) ∷ key (codes "culprit") ∷ flag culprit ∷ key (codes "fault") ∷ tail))
-    (regrouped (fault_symbols places allowed witness) (key (codes "witness") ∷ begin_list ∷ []) (flat_map (op_symbols places) (shown_of witness)))
+    (regrouped (fault_symbols places allowed witness) (key (codes "witness") ∷ begin_list ∷ []) (flat_map (op_symbols places) (ops_in_roles (roles_of witness))))
     (between
     (register_fields n level name (record { kind = kind; operations = operations; witness = Some witness }) culprit
-    (more_fields (codes "fault") refl (nested (fault_is places allowed witness)) (last_list_is (codes "witness") refl (ops_are places (shown_of witness))))))
+    (more_fields (codes "fault") refl (nested (fault_is places allowed witness)) (last_list_is (codes "witness") refl (ops_are places (ops_in_roles (roles_of witness)))))))
 
 register_is : {depth : ℕ} (places : PlacesModel) (n : ℕ) (level name : List ℕ) (finding : Finding) (culprit : Bool) (allowed : List Allowed) → IsRecord (suc (suc (suc (suc depth)))) (register_symbols places n level name finding culprit allowed)
 register_is places n level name finding culprit allowed = found_is places n level name finding.kind finding.operations finding.witness culprit allowed

@@ -28,7 +28,7 @@ use Rattle.logs.specs.declared.log.What.TheVariants.{Refused, Answered}
 use Rattle.register_book.specs.declared.fault.Fault.TheVariants as faults
 use Rattle.register_book.specs.declared.fault.Witness.{Witness}
 use Rattle.register_book.specs.declared.fault.Witness.TheVariants.{Wrong, Unwritten, Split, Early, Crossing}
-use Rattle.register_book.specs.Fault.{ids_of, side_holder}
+use Rattle.register_book.specs.Fault.{ids_of, ops_in_roles, roles_of, side_holder}
 use Rattle.report.specs.declared.finding.Finding.{Finding}
 use Rattle.report.specs.Culprit.{culprits_from, culprits_of, is_culprit}
 use Rattle.report.specs.Finding.{fails_of}
@@ -38,7 +38,7 @@ use Rattle.report.specs.Notes.{broken_line, log_text, logs_text, note_line, what
 use Rattle.report.specs.Order.{ids_text, order_line}
 use Rattle.report.specs.Report.{IsReport, culprit_line, report_text}
 use Rattle.phrases.specs.Fault.{fault_line, holder_text}
-use Rattle.report.specs.Section.{part_line, part_line_of, part_lines, section_text, sections_text, shown_of, witness_text}
+use Rattle.report.specs.Section.{part_line, part_line_of, part_lines, section_text, sections_text, witness_text}
 use Rattle.phrases.specs.Register.{register_line}
 use Rattle.places.specs.declared.location.Location.{Location}
 use Rattle.places.specs.Spots.{PlacesModel}
@@ -159,7 +159,7 @@ allowed_skipped places (one ∷ allowed) symbols =
     ∙ allowed_skipped places allowed symbols
 
 fault_skipped : (places : PlacesModel) (allowed : List Allowed) (witness : Witness) (symbols : List Symbol) → after (codes "witness") (fault_symbols places allowed witness ++ symbols) ≡ after (codes "witness") symbols
-unfolding end_symbols
+unfolding end_symbols list_symbols
 fault_skipped places allowed (Wrong read) symbols =
     ap (λ (rest : List Symbol). after (codes "witness") rest) (append_assoc (flat_map (allowed_symbols places) allowed) end_symbols symbols)
     ∙ allowed_skipped places allowed (end_list ∷ end_record ∷ symbols)
@@ -198,7 +198,7 @@ conflict_told a b c d symbols =
     ∙ ap (λ (text : List ℕ). line (holder_text a) (holder_text b) (holder_text c) text) d_is
 
 fault_told : (places : PlacesModel) (allowed : List Allowed) (witness : Witness) (symbols : List Symbol) → told_fault (fault_symbols places allowed witness ++ symbols) ≡ fault_line (ids_of witness)
-unfolding end_symbols
+unfolding end_symbols list_symbols
 fault_told places allowed (Wrong read) symbols = refl
 fault_told places allowed (Unwritten read) symbols = refl
 fault_told places allowed (Split first second) symbols = refl
@@ -207,17 +207,17 @@ fault_told places allowed (Crossing a b c d) symbols = conflict_told (side_holde
 
 -- the record of a register
 
-witness_told : (places : PlacesModel) (allowed : List Allowed) (witness : Witness) → (let shown = fault_symbols places allowed witness ++ list_symbols (codes "witness") ++ flat_map (op_symbols places) (shown_of witness) ++ end_symbols in told_fault shown ++ told_parts (after (codes "witness") shown) ≡ witness_text witness)
+witness_told : (places : PlacesModel) (allowed : List Allowed) (witness : Witness) → (let shown = fault_symbols places allowed witness ++ list_symbols (codes "witness") ++ flat_map (op_symbols places) (ops_in_roles (roles_of witness)) ++ end_symbols in told_fault shown ++ told_parts (after (codes "witness") shown) ≡ witness_text witness)
 unfolding list_symbols
 witness_told places allowed witness =
-    let shown = flat_map (op_symbols places) (shown_of witness) in
+    let shown = flat_map (op_symbols places) (ops_in_roles (roles_of witness)) in
     let end = key (codes "witness") ∷ begin_list ∷ (shown ++ end_symbols) in
     let fault = fault_symbols places allowed witness in
     ap (λ (symbols : List Symbol). told_fault symbols ++ told_parts (after (codes "witness") symbols))
     (append_assoc (fault ++ list_symbols (codes "witness")) shown end_symbols ∙ append_assoc fault (list_symbols (codes "witness")) (shown ++ end_symbols))
     ∙ ap (λ (line : List ℕ). line ++ told_parts (after (codes "witness") (fault ++ end))) (fault_told places allowed witness end)
     ∙ ap (λ (symbols : List Symbol). fault_line (ids_of witness) ++ told_parts symbols) (fault_skipped places allowed witness end)
-    ∙ ap (λ (lines : List ℕ). fault_line (ids_of witness) ++ lines) (shown_parts places (shown_of witness))
+    ∙ ap (λ (lines : List ℕ). fault_line (ids_of witness) ++ lines) (shown_parts places (ops_in_roles (roles_of witness)))
 
 found_told : (places : PlacesModel) (n : ℕ) (level name : List ℕ) (kind : Kind) (operations : ℕ) (found : Option Witness) (culprit : Bool) (allowed : List Allowed) → told_section (register_symbols places n level name (record { kind = kind; operations = operations; witness = found }) culprit allowed) ≡ register_line name kind (is_none found) operations ++ option_map_or witness_text found []
 unfolding register_symbols witness_symbols type_symbols number_symbols text_field word_symbols flag_symbols

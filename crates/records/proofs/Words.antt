@@ -7,16 +7,12 @@ use Rattle.intervals.specs.declared.claim.Kind.{Kind}
 use Rattle.intervals.specs.declared.claim.Kind.TheVariants.{Safe, Regular, Atomic}
 use Rattle.intervals.specs.Code.{refusal_code}
 use Rattle.intervals.specs.declared.refusal.Refusal.{Refusal}
-use Rattle.intervals.specs.declared.refusal.Refusal.TheVariants as refusals
 use Rattle.jepsen_form.specs.Code.{form_fault_code}
 use Rattle.jepsen_form.specs.declared.fault.FormFault.{FormFault}
-use Rattle.jepsen_form.specs.declared.fault.FormFault.TheVariants as forms
 use Rattle.pairing.specs.Code.{pair_fault_code}
 use Rattle.pairing.specs.declared.fault.PairFault.{PairFault}
-use Rattle.pairing.specs.declared.fault.PairFault.TheVariants as pairs
 use Rattle.logs.specs.Code.{break_code_of, refused_code}
 use Rattle.logs.specs.declared.log.BreakCode.{BreakCode}
-use Rattle.logs.specs.declared.log.BreakCode.TheVariants as breaks
 use Rattle.logs.specs.declared.log.Code.{Code}
 use Rattle.logs.specs.declared.log.Code.TheVariants.{Form, Pair, Register}
 use Rattle.phrases.specs.Names.{kind_word}
@@ -74,46 +70,16 @@ whole_act true = refl
 whole_act false = refl
 
 pub whole_break : (code : BreakCode) → is_record_word (break_code_of code) ≡ true
-whole_break breaks.Truncated = refl
-whole_break breaks.StrayClose = refl
-whole_break breaks.WrongClose = refl
-whole_break breaks.TooDeep = refl
-whole_break breaks.OddMap = refl
-whole_break breaks.TagWithoutElement = refl
-whole_break breaks.ReadFailed = refl
-whole_break breaks.TooLong = refl
+whole_break code = grind arith
 
 whole_refusal : (refusal : Refusal) → is_record_word (refusal_code refusal) ≡ true
-whole_refusal refusals.UnknownOp = refl
-whole_refusal refusals.OpTaken = refl
-whole_refusal refusals.EndNotAfterBegin = refl
-whole_refusal (refusals.MomentTaken moment id) = refl
-whole_refusal refusals.MomentTooLarge = refl
-whole_refusal refusals.NotAWriter = refl
-whole_refusal (refusals.WritesOverlap id) = refl
-whole_refusal (refusals.ValueTaken holder) = refl
-whole_refusal refusals.OutOfDomain = refl
-whole_refusal refusals.ClaimFixed = refl
-whole_refusal refusals.ClaimWriters = refl
-whole_refusal (refusals.ClaimOverlap id other) = refl
-whole_refusal (refusals.ClaimRepeats id holder) = refl
-whole_refusal refusals.ClaimInitial = refl
+whole_refusal refusal = grind arith
 
 whole_form : (fault : FormFault) → is_record_word (form_fault_code fault) ≡ true
-whole_form forms.NotAMap = refl
-whole_form (forms.MissingField field) = refl
-whole_form (forms.DuplicateField field) = refl
-whole_form forms.BadType = refl
-whole_form forms.UnsupportedF = refl
-whole_form forms.BadValue = refl
-whole_form forms.BadMoment = refl
-whole_form forms.NoRegister = refl
+whole_form fault = grind arith
 
 whole_pair : (fault : PairFault) → is_record_word (pair_fault_code fault) ≡ true
-whole_pair pairs.ProcessBusy = refl
-whole_pair pairs.NoInvocation = refl
-whole_pair pairs.AnswerMismatch = refl
-whole_pair pairs.Memory = refl
+whole_pair fault = grind arith
 
 pub whole_code : (code : Code) → is_record_word (refused_code code) ≡ true
 whole_code (Form fault) = whole_form fault

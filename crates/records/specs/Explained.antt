@@ -6,12 +6,12 @@ use Rattle.intervals.specs.declared.operation.Op.{Op}
 use Rattle.intervals.specs.declared.operation.Value.{Value}
 use Rattle.intervals.specs.Terms.{ClaimModel, RegisterState}
 use Rattle.tower_file.specs.Contents.{Register, TowerModel}
+use Rattle.register_book.specs.declared.around.WritesAround.{WritesAround}
 use Rattle.register_book.specs.declared.fault.Witness.{Witness}
-use Rattle.register_book.specs.declared.fault.Witness.TheVariants.{Wrong, Unwritten, Split, Early, Crossing}
+use Rattle.register_book.specs.declared.fault.Witness.TheVariants.{Wrong}
+use Rattle.register_book.specs.Around.{AreAround}
 use Rattle.shards.specs.Closing.{ClosedShard, book_of}
 use Rattle.report.specs.declared.finding.Finding.{Finding}
-use Rattle.story.specs.declared.story.Wrong.{Wrong as WrongRead}
-use Rattle.story.specs.Story.{IsWrong}
 use Rattle.records.specs.declared.allowed.Allowed.{Allowed}
 use Rattle.records.specs.Allowed.{allowed_by}
 
@@ -23,17 +23,13 @@ domain_values (Some values) = values
 -- what a wrong read of a register of this kind might have returned, by the claim and the operations that stand
 abbrev pub IsAllowedRead : Kind → ClaimModel → List Op → Op → List Allowed → Type 0
 IsAllowedRead kind claim ops read allowed =
-    (wrong : WrongRead) × IsWrong ops read wrong
-    × (allowed ≡ allowed_by kind claim.initial (domain_values claim.domain) wrong.last wrong.over.items)
+    (around : WritesAround) × AreAround ops read around
+    × (allowed ≡ allowed_by kind claim.initial (domain_values claim.domain) around.last around.over.items)
 
 -- what the read of a witness might have returned, where it is a wrong read; else nothing
 abbrev pub IsAllowedBy : Kind → ClaimModel → List Op → Option Witness → List Allowed → Type 0
-IsAllowedBy kind claim ops None allowed = allowed ≡ []
 IsAllowedBy kind claim ops (Some (Wrong read)) allowed = IsAllowedRead kind claim ops read allowed
-IsAllowedBy kind claim ops (Some (Unwritten read)) allowed = allowed ≡ []
-IsAllowedBy kind claim ops (Some (Split first second)) allowed = allowed ≡ []
-IsAllowedBy kind claim ops (Some (Early read write)) allowed = allowed ≡ []
-IsAllowedBy kind claim ops (Some (Crossing a b c d)) allowed = allowed ≡ []
+IsAllowedBy kind claim ops witness allowed = allowed ≡ []
 
 -- the same of a register of a tower and its book; nothing where one of them is not there
 abbrev pub IsAllowedIn : Option Register → Option RegisterState → Finding → List Allowed → Type 0

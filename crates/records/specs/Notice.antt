@@ -1,35 +1,19 @@
 -- The record of what a watcher is told.
 use Rattle.std.specs.Prelude.{ℕ, List, [], ◌∷◌, ◌++◌, Option, Some, None, codes}
-use Rattle.intervals.specs.declared.claim.Holder.{Holder}
-use Rattle.intervals.specs.declared.operation.OpId.{OpId}
 use Rattle.tower_file.specs.Contents.{Register}
 use Rattle.register_book.specs.declared.fault.Fault.{Fault}
-use Rattle.register_book.specs.declared.fault.Fault.TheVariants.{Wrong, Unwritten, Split, Early, Crossing}
 use Rattle.shards.specs.declared.entry.VerdictChange.{VerdictChange}
 use Rattle.logs.specs.declared.notice.Notice.{Notice}
 use Rattle.logs.specs.declared.notice.Notice.TheVariants.{Changed, Refused, Broke, Ended}
 use Rattle.phrases.specs.Names.{kind_word, register_name}
-use Rattle.records.specs.Fault.{early_symbols, kind_symbols, pair_symbols, split_symbols, unwritten_symbols}
+use Rattle.records.specs.Fault.{fault_head}
 use Rattle.records.specs.Field.{flag_symbols, number_symbols, place_symbols, text_field, type_symbols, word_symbols}
 use Rattle.records.specs.Log.{broken_symbols, refused_symbols}
-use Rattle.records.specs.Symbol.{Symbol, end_record, key, nothing, place}
-
--- the record of a wrong read by its id alone
-abbrev pub wrong_id_symbols : OpId → List Symbol
-wrong_id_symbols read = kind_symbols (codes "wrong") ++ key (codes "read") ∷ place read.feeder read.event ∷ end_record ∷ []
-
--- the record of a conflict by its ids alone
-abbrev pub conflict_ids_symbols : Holder → Holder → Holder → Holder → List Symbol
-conflict_ids_symbols a b c d =
-    kind_symbols (codes "conflict") ++ pair_symbols (codes "a") a (codes "b") b ++ pair_symbols (codes "c") c (codes "d") d ++ end_record ∷ []
+use Rattle.records.specs.Symbol.{Symbol, end_record, key, nothing}
 
 -- the record of a fault by its ids alone
 abbrev pub fault_ids_symbols : Fault → List Symbol
-fault_ids_symbols (Wrong read) = wrong_id_symbols read
-fault_ids_symbols (Unwritten read) = unwritten_symbols read
-fault_ids_symbols (Split first second) = split_symbols first second
-fault_ids_symbols (Early read write) = early_symbols read write
-fault_ids_symbols (Crossing a b c d) = conflict_ids_symbols a b c d
+fault_ids_symbols fault = fault_head fault ++ end_record ∷ []
 
 -- a fault by its ids, or that there is none
 abbrev pub optional_fault_symbols : Option Fault → List Symbol

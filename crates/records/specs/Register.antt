@@ -1,9 +1,9 @@
 -- The record of a register.
 use Rattle.std.specs.Prelude.{ℕ, Bool, List, [], ◌∷◌, ◌++◌, Option, Some, None, codes, flat_map, is_none}
 use Rattle.register_book.specs.declared.fault.Witness.{Witness}
+use Rattle.register_book.specs.Fault.{ops_in_roles, roles_of}
 use Rattle.report.specs.declared.finding.Finding.{Finding}
 use Rattle.phrases.specs.Names.{kind_word}
-use Rattle.report.specs.Section.{shown_of}
 use Rattle.places.specs.Spots.{PlacesModel}
 use Rattle.records.specs.declared.allowed.Allowed.{Allowed}
 use Rattle.records.specs.Fault.{fault_symbols}
@@ -15,7 +15,7 @@ use Rattle.records.specs.Symbol.{Symbol, begin_list, end_list, end_record, key, 
 unfoldable pub witness_symbols : PlacesModel → List Allowed → Witness → List Symbol
 witness_symbols places allowed witness =
     (key (codes "fault") ∷ []) ++ fault_symbols places allowed witness ++ list_symbols (codes "witness")
-    ++ flat_map (op_symbols places) (shown_of witness) ++ end_symbols
+    ++ flat_map (op_symbols places) (ops_in_roles (roles_of witness)) ++ end_symbols
 
 -- the end of a register's record: its fault with the operations that show it, or none
 abbrev pub found_symbols : PlacesModel → List Allowed → Option Witness → List Symbol

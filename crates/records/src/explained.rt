@@ -12,11 +12,10 @@ ghost use Rattle.records.specs.Explained.{AreAllowed, IsAllowedBy, IsAllowedIn, 
 
 use crate::allowed::{Allowed, allowed_by};
 use intervals::{Claim, Kind, Op, RegId, Value};
-use register_book::Witness;
+use register_book::{Witness, WritesAround, writes_around};
 use report::Finding;
 use shards::Closed;
 use std::alloc::{AllocError, Global};
-use story::{Wrong, wrong_of};
 use tower_file::Tower;
 
 /// For each register what its wrong read might have returned; nothing where none is wrong.
@@ -85,26 +84,26 @@ fn allowed_read(
 ) -> Result<Vec<Allowed>, AllocError>
     ensures { IfOk result (λ allowed. IsAllowedRead kind (terms_of claim.now) (ops_in_slots slots.now) read.now allowed.items) }
 {
-    let wrong = wrong_of(alloc, slots, *read)?;
-    allowed_after(alloc, kind, claim, &wrong)
+    let around = writes_around(alloc, slots, read)?;
+    allowed_after(alloc, kind, claim, &around)
 }
 
-/// The values that a wrong read might have returned, by the writes that explain it.
+/// The values that a wrong read might have returned, by the writes around it.
 fn allowed_after(
     alloc: Global,
     kind: Kind,
     claim: &Claim,
-    wrong: &Wrong,
+    around: &WritesAround,
 ) -> Result<Vec<Allowed>, AllocError>
-    ensures { IfOk result (λ allowed. allowed.items ≡ allowed_by kind (terms_of claim.now).initial (domain_values (terms_of claim.now).domain) wrong.now.last wrong.now.over.items) }
+    ensures { IfOk result (λ allowed. allowed.items ≡ allowed_by kind (terms_of claim.now).initial (domain_values (terms_of claim.now).domain) around.now.last around.now.over.items) }
 {
     allowed_by(
         alloc,
         kind,
         claim.at_first(),
         domain_of(claim),
-        &wrong.last,
-        &wrong.over,
+        &around.last,
+        &around.over,
     )
 }
 

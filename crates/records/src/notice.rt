@@ -3,15 +3,14 @@
 ghost use Rattle.std.specs.Prelude.{◌≡◌, ◌++◌, ◌∷◌, [], OnOk};
 ghost use Rattle.phrases.specs.Names.{register_name};
 ghost use Rattle.records.specs.Json.{json_text};
-ghost use Rattle.records.specs.Notice.{change_symbols, changed_symbols, conflict_ids_symbols, ended_symbols, fault_field, fault_ids_symbols, notice_symbols, optional_fault_symbols, wrong_id_symbols};
+ghost use Rattle.records.specs.Notice.{change_symbols, changed_symbols, ended_symbols, fault_field, fault_ids_symbols, notice_symbols, optional_fault_symbols};
 ghost use Rattle.records.specs.Symbol.{symbols_of};
 
-use crate::fault::{add_early, add_kind, add_pair, add_split, add_unwritten};
+use crate::fault::add_fault_head;
 use crate::field::{add_flag, add_number, add_place, add_text, add_type, add_word};
 use crate::line::{Notation, push_record};
 use crate::log::{add_broken, add_refused};
 use crate::token::Token;
-use intervals::{Holder, OpId};
 use logs::Notice;
 use phrases::{kind_word, name_of};
 use register_book::Fault;
@@ -119,34 +118,7 @@ fn add_optional_fault<'a>(
 fn add_fault_ids<'a>(tokens: &mut Vec<Token<'a>>, fault: Fault) -> Result<(), AllocError>
     ensures { OnOk result (symbols_of tokens.new.items ≡ symbols_of tokens.old.items ++ fault_ids_symbols fault) }
 {
-    match fault {
-        Fault::Wrong(read) => add_wrong_id(tokens, read),
-        Fault::Unwritten(read) => add_unwritten(tokens, read),
-        Fault::Split { first, second } => add_split(tokens, first, second),
-        Fault::Early { read, write } => add_early(tokens, read, write),
-        Fault::Crossing { a, b, c, d } => add_conflict_ids(tokens, a, b, c, d),
-    }
-}
-
-fn add_wrong_id<'a>(tokens: &mut Vec<Token<'a>>, read: OpId) -> Result<(), AllocError>
-    ensures { OnOk result (symbols_of tokens.new.items ≡ symbols_of tokens.old.items ++ wrong_id_symbols read) }
-{
-    add_kind(tokens, "wrong")?;
-    tokens.extend_from_slice(&[Token::Key("read"), Token::Id(read), Token::EndRecord])
-}
-
-fn add_conflict_ids<'a>(
-    tokens: &mut Vec<Token<'a>>,
-    a: Holder,
-    b: Holder,
-    c: Holder,
-    d: Holder,
-) -> Result<(), AllocError>
-    ensures { OnOk result (symbols_of tokens.new.items ≡ symbols_of tokens.old.items ++ conflict_ids_symbols a b c d) }
-{
-    add_kind(tokens, "conflict")?;
-    add_pair(tokens, "a", a, "b", b)?;
-    add_pair(tokens, "c", c, "d", d)?;
+    add_fault_head(tokens, fault)?;
     tokens.push(Token::EndRecord)?;
     Ok(())
 }

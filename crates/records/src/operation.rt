@@ -2,7 +2,7 @@
 
 ghost use Rattle.std.specs.Prelude.{◌≡◌, ◌++◌, OnOk, flat_map};
 ghost use Rattle.intervals.specs.Operation.{is_write};
-ghost use Rattle.intervals.specs.Table.{ops_in_slots};
+ghost use Rattle.register_book.specs.Fault.{ops_in_roles};
 ghost use Rattle.records.specs.Symbol.{symbols_of};
 ghost use Rattle.records.specs.Operation.{act_symbols, act_word, head_symbols, moment_symbols, op_spot, op_symbols, part_symbols, process_symbols, text_symbols};
 
@@ -11,19 +11,20 @@ use crate::token::Token;
 use crate::value::{end_token, integer_token, part_token, value_token};
 use intervals::{Op, OpId};
 use places::{Location, Places};
+use register_book::InRole;
 use std::alloc::AllocError;
 
 /// Adds the record of each operation in the slots.
 pub fn add_ops<'a>(
     tokens: &mut Vec<Token<'a>>,
     places: &Places,
-    slots: &[Option<Op<'a>>],
+    slots: &[Option<InRole<'a>>],
 ) -> Result<(), AllocError>
-    ensures { OnOk result (symbols_of tokens.new.items ≡ symbols_of tokens.old.items ++ flat_map (op_symbols places.now) (ops_in_slots slots.now)) }
+    ensures { OnOk result (symbols_of tokens.new.items ≡ symbols_of tokens.old.items ++ flat_map (op_symbols places.now) (ops_in_roles slots.now)) }
 {
     for slot in slots {
-        if let Some(op) = slot {
-            add_op(tokens, places, op)?;
+        if let Some(one) = slot {
+            add_op(tokens, places, &one.op)?;
         }
     }
     Ok(())

@@ -12,7 +12,7 @@ use crate::token::Token;
 use phrases::kind_word;
 use places::Places;
 use register_book::Witness;
-use report::{Finding, shown_of};
+use report::Finding;
 use std::alloc::AllocError;
 
 /// Adds the record of a register: its number, the name of its level, its name, what is found of it, whether it is to
@@ -101,6 +101,6 @@ fn add_witness<'a>(
     tokens.push(Token::Key("fault"))?;
     add_fault(tokens, places, allowed, witness)?;
     add_list(tokens, "witness")?;
-    add_ops(tokens, places, &shown_of(witness))?;
+    add_ops(tokens, places, &witness.roles())?;
     add_end(tokens)
 }

@@ -1,6 +1,7 @@
 -- The operations that show that a register breaks its claim.
-use Rattle.std.specs.Prelude.{◌≡◌, ◌≢◌, true, false, Contains, List, [], ◌∷◌, ◌++◌, Option, Some, None}
+use Rattle.std.specs.Prelude.{◌≡◌, ◌≢◌, Bool, true, false, Contains, List, [], ◌∷◌, ◌++◌, Option, Some, None, if◌then◌else◌}
 use Rattle.intervals.specs.declared.operation.Op.{Op}
+use Rattle.intervals.specs.Operation.{same_id}
 use Rattle.intervals.specs.declared.claim.Holder.{Holder}
 use Rattle.intervals.specs.declared.claim.Holder.TheVariants as holders
 use Rattle.intervals.specs.declared.claim.Kind.TheVariants.{Atomic}
@@ -11,6 +12,9 @@ use Rattle.zones.specs.Fault.{IsUnwritten, IsEarly, first_early}
 use Rattle.zones.specs.Crossing.{IsCrossing, IsFirstCrossingFrom}
 use Rattle.register_book.specs.declared.fault.Fault.{Fault}
 use Rattle.register_book.specs.declared.fault.Fault.TheVariants as faults
+use Rattle.register_book.specs.declared.fault.InRole.{InRole}
+use Rattle.register_book.specs.declared.fault.Role.{Role}
+use Rattle.register_book.specs.declared.fault.Role.TheVariants as roles
 use Rattle.register_book.specs.declared.fault.Side.{Side}
 use Rattle.register_book.specs.declared.fault.Side.TheVariants as sides
 use Rattle.register_book.specs.declared.fault.Witness.{Witness}
@@ -69,3 +73,35 @@ operations_of (Unwritten read) = read ∷ []
 operations_of (Split first second) = first ∷ second ∷ []
 operations_of (Early read write) = read ∷ write ∷ []
 operations_of (Crossing a b c d) = ops_at a ++ ops_at b ++ ops_at c ++ ops_at d
+
+-- an operation in this role
+abbrev pub in_role : Role → Op → Option InRole
+in_role role op = Some (record { role = role; op = op })
+
+-- the operation of a side of a crossing in this role, or none for the initial write
+abbrev pub side_in_role : Role → Side → Option InRole
+side_in_role role (sides.Op op) = in_role role op
+side_in_role role sides.Initial = None
+
+-- two sides of a crossing are one operation
+abbrev pub is_one : Side → Side → Bool
+is_one (sides.Op a) (sides.Op b) = same_id a.id b.id
+is_one (sides.Op a) sides.Initial = false
+is_one sides.Initial b = false
+
+-- the operations of a witness with their roles, in four slots; a crossing's second and third once, where they are one
+abbrev pub roles_of : Witness → List (Option InRole)
+roles_of (Wrong read) = in_role roles.Read read ∷ None ∷ None ∷ None ∷ []
+roles_of (Unwritten read) = in_role roles.Read read ∷ None ∷ None ∷ None ∷ []
+roles_of (Split first second) = in_role roles.FirstRead first ∷ in_role roles.SecondRead second ∷ None ∷ None ∷ []
+roles_of (Early read write) = in_role roles.EarlyRead read ∷ in_role roles.LateWrite write ∷ None ∷ None ∷ []
+roles_of (Crossing a b c d) =
+    if is_one b c
+    then side_in_role roles.A a ∷ side_in_role roles.Bc b ∷ None ∷ side_in_role roles.D d ∷ []
+    else side_in_role roles.A a ∷ side_in_role roles.B b ∷ side_in_role roles.C c ∷ side_in_role roles.D d ∷ []
+
+-- the operations in slots that have one, in their order
+abbrev pub ops_in_roles : List (Option InRole) → List Op
+ops_in_roles [] = []
+ops_in_roles (None ∷ slots) = ops_in_roles slots
+ops_in_roles (Some one ∷ slots) = one.op ∷ ops_in_roles slots

@@ -1,7 +1,7 @@
 //! What shows that a register breaks its claim: the operations, or their ids.
 
 ghost use Rattle.std.specs.Prelude.{◌≡◌};
-ghost use Rattle.register_book.specs.Fault.{ids_of, side_holder};
+ghost use Rattle.register_book.specs.Fault.{ids_of, in_role, is_one, roles_of, side_holder, side_in_role};
 
 use intervals::{Holder, Op, OpId};
 
@@ -64,7 +64,73 @@ pub enum Witness<'t> {
     },
 }
 
-impl Witness<'_> {
+/// What an operation is to the fault of its register.
+#[derive(Clone, Copy)]
+pub enum Role {
+    /// A read that is wrong by what it returned.
+    Read,
+    /// Two reads that cannot both be right by what they returned.
+    FirstRead,
+    SecondRead,
+    /// A read that ended too early, and the write of its value.
+    EarlyRead,
+    LateWrite,
+    /// The four operations of a crossing; `Bc` where the second and the third are one.
+    A,
+    B,
+    C,
+    Bc,
+    D,
+}
+
+/// An operation of a witness, with its role.
+#[derive(Clone, Copy)]
+pub struct InRole<'t> {
+    pub role: Role,
+    pub op: Op<'t>,
+}
+
+impl<'t> Witness<'t> {
+    /// The operations with their roles, in four slots of which some may be empty. Each operation is there once.
+    pub fn roles(&self) -> [Option<InRole<'t>>; 4]
+        ensures { result ≡ roles_of self.now }
+    {
+        match self {
+            Witness::Wrong(read) | Witness::Unwritten(read) => {
+                [in_role(Role::Read, read), None, None, None]
+            }
+            Witness::Split { first, second } => [
+                in_role(Role::FirstRead, first),
+                in_role(Role::SecondRead, second),
+                None,
+                None,
+            ],
+            Witness::Early { read, write } => [
+                in_role(Role::EarlyRead, read),
+                in_role(Role::LateWrite, write),
+                None,
+                None,
+            ],
+            Witness::Crossing { a, b, c, d } => {
+                if is_one(b, c) {
+                    [
+                        a.in_role(Role::A),
+                        b.in_role(Role::Bc),
+                        None,
+                        d.in_role(Role::D),
+                    ]
+                } else {
+                    [
+                        a.in_role(Role::A),
+                        b.in_role(Role::B),
+                        c.in_role(Role::C),
+                        d.in_role(Role::D),
+                    ]
+                }
+            }
+        }
+    }
+
     /// The fault: each operation replaced by its id.
     pub fn ids(&self) -> Fault
         ensures { result ≡ ids_of self.now }
@@ -81,20 +147,49 @@ impl Witness<'_> {
                 write: write.id,
             },
             Witness::Crossing { a, b, c, d } => Fault::Crossing {
-                a: holder(a),
-                b: holder(b),
-                c: holder(c),
-                d: holder(d),
+                a: a.holder(),
+                b: b.holder(),
+                c: c.holder(),
+                d: d.holder(),
             },
         }
     }
 }
 
-fn holder(side: &Side) -> Holder
-    ensures { result ≡ side_holder side.now }
+fn in_role<'t>(role: Role, op: &Op<'t>) -> Option<InRole<'t>>
+    ensures { result ≡ in_role role op.now }
 {
-    match side {
-        Side::Op(op) => Holder::Op(op.id),
-        Side::Initial => Holder::Initial,
+    Some(InRole { role, op: *op })
+}
+
+impl<'t> Side<'t> {
+    /// The operation of a side in this role; none for the initial write.
+    fn in_role(&self, role: Role) -> Option<InRole<'t>>
+        ensures { result ≡ side_in_role role self.now }
+    {
+        match self {
+            Side::Op(op) => in_role(role, op),
+            Side::Initial => None,
+        }
+    }
+
+    /// The operation of a side by its id, or that it is the initial write.
+    pub fn holder(&self) -> Holder
+        ensures { result ≡ side_holder self.now }
+    {
+        match self {
+            Side::Op(op) => Holder::Op(op.id),
+            Side::Initial => Holder::Initial,
+        }
+    }
+}
+
+/// Whether two sides of a crossing are one operation.
+pub fn is_one(a: &Side, b: &Side) -> bool
+    ensures { result ≡ is_one a.now b.now }
+{
+    match (a, b) {
+        (Side::Op(a), Side::Op(b)) => a.has_id(b.id),
+        _ => false,
     }
 }

@@ -21,8 +21,9 @@
 //! It cannot be claimed to be safe or regular.
 //!
 //! Begin with `specs/Reply.antt` and `specs/Fault.antt`: the reply to an edit, and which operations show that
-//! a register fails. They use the words of `intervals` and `zones`. Then come the calls, in `book.rt`, and what
-//! follows from the words, in `laws.rt`.
+//! a register fails, with their roles. They use the words of `intervals` and `zones`. Then come the calls, in `book.rt`,
+//! the writes that say what a wrong read might have returned, in `around.rt`, and what follows from the words, in
+//! `laws.rt`.
 //!
 //! The rest is private. `judge.rt` has the judge of the claimed kind: `zones::Clusters` of an atomic register,
 //! `safe_regular::SingleWriterJudge` of the other two. Both keep the operations; they make room for an edit
@@ -30,6 +31,7 @@
 //! `many_writers.rt` and `one_writer.rt` find the operations of a fault.
 #![tactic(auto)]
 
+mod around;
 mod book;
 mod fault;
 mod judge;
@@ -39,6 +41,7 @@ mod one_writer;
 mod refused;
 mod reply;
 
+pub use around::{WritesAround, writes_around};
 pub use book::RegisterBook;
-pub use fault::{Fault, Side, Witness};
+pub use fault::{Fault, InRole, Role, Side, Witness, is_one};
 pub use reply::Reply;

@@ -3,9 +3,9 @@ use Rattle.std.proofs.Common.{◌≡◌, ◌∙◌, ℕ, ◌+◌, List, [], ◌�
 use Rattle.std.proofs.lemmas.List.Sums.{sum_by-cons}
 use Rattle.std.specs.Prelude.{cond, count_by, sum_by}
 use Rattle.std.specs.Str.{bytes_eq}
-use Rattle.intervals.specs.declared.refusal.Refusal.TheVariants.{UnknownOp, OpTaken, EndNotAfterBegin, MomentTaken, MomentTooLarge, NotAWriter, WritesOverlap, ValueTaken, OutOfDomain, ClaimFixed, ClaimWriters, ClaimOverlap, ClaimRepeats, ClaimInitial}
-use Rattle.jepsen_form.specs.declared.fault.FormFault.TheVariants.{NotAMap, MissingField, DuplicateField, BadType, UnsupportedF, BadValue, BadMoment, NoRegister}
-use Rattle.pairing.specs.declared.fault.PairFault.TheVariants.{ProcessBusy, NoInvocation, AnswerMismatch, Memory}
+use Rattle.intervals.specs.declared.refusal.Refusal.{Refusal}
+use Rattle.jepsen_form.specs.declared.fault.FormFault.{FormFault}
+use Rattle.pairing.specs.declared.fault.PairFault.{PairFault}
 use Rattle.logs.specs.Code.{refused_code}
 use Rattle.logs.specs.declared.log.Code.{Code}
 use Rattle.logs.specs.declared.log.Code.TheVariants.{Form, Pair, Register}
@@ -20,33 +20,19 @@ both : {X : Type 0} (f g : X → ℕ) (xs : List X) → sum_by (λ x. f x + g x)
 both f g [] = refl
 both f g (x ∷ xs) = omega (arith, sum_by-cons (λ y. f y + g y) x xs, sum_by-cons f x xs, sum_by-cons g x xs, both f g xs)
 
+one_form : (fault : FormFault) → sum_by (λ known. cond (bytes_eq (refused_code (Form fault)) known) 1 0) refusal_codes ≡ 1
+one_form fault = grind arith
+
+one_pair : (fault : PairFault) → sum_by (λ known. cond (bytes_eq (refused_code (Pair fault)) known) 1 0) refusal_codes ≡ 1
+one_pair fault = grind arith
+
+one_refusal : (refusal : Refusal) → sum_by (λ known. cond (bytes_eq (refused_code (Register refusal)) known) 1 0) refusal_codes ≡ 1
+one_refusal refusal = grind arith
+
 one_code : (code : Code) → sum_by (λ known. cond (bytes_eq (refused_code code) known) 1 0) refusal_codes ≡ 1
-one_code (Form NotAMap) = refl
-one_code (Form (MissingField field)) = refl
-one_code (Form (DuplicateField field)) = refl
-one_code (Form BadType) = refl
-one_code (Form UnsupportedF) = refl
-one_code (Form BadValue) = refl
-one_code (Form BadMoment) = refl
-one_code (Form NoRegister) = refl
-one_code (Pair ProcessBusy) = refl
-one_code (Pair NoInvocation) = refl
-one_code (Pair AnswerMismatch) = refl
-one_code (Pair Memory) = refl
-one_code (Register UnknownOp) = refl
-one_code (Register OpTaken) = refl
-one_code (Register EndNotAfterBegin) = refl
-one_code (Register (MomentTaken moment id)) = refl
-one_code (Register MomentTooLarge) = refl
-one_code (Register NotAWriter) = refl
-one_code (Register (WritesOverlap id)) = refl
-one_code (Register (ValueTaken holder)) = refl
-one_code (Register OutOfDomain) = refl
-one_code (Register ClaimFixed) = refl
-one_code (Register ClaimWriters) = refl
-one_code (Register (ClaimOverlap id other)) = refl
-one_code (Register (ClaimRepeats id holder)) = refl
-one_code (Register ClaimInitial) = refl
+one_code (Form fault) = one_form fault
+one_code (Pair fault) = one_pair fault
+one_code (Register refusal) = one_refusal refusal
 
 one_line : (what : What) → sum_by (λ known. cond (is_refusal_by known what) 1 0) refusal_codes ≡ cond (is_refusal what) 1 0
 one_line (Refused code) = one_code code

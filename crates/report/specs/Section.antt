@@ -1,15 +1,11 @@
 -- What is printed of a register: its verdict, and the operations that show it where it fails.
-use Rattle.std.specs.Prelude.{ℕ, Bool, false, List, [], ◌∷◌, ◌++◌, flat_map, Option, Some, None, is_none, codes, if◌then◌else◌}
+use Rattle.std.specs.Prelude.{ℕ, List, [], ◌∷◌, ◌++◌, flat_map, Option, Some, None, is_none, codes}
 use Rattle.std.specs.Option.{option_map_or}
 use Rattle.std.specs.Borrow.{Bor}
 use Rattle.intervals.specs.declared.operation.Op.{Op}
-use Rattle.intervals.specs.Operation.{same_id}
 use Rattle.tower_file.specs.Contents.{Register}
-use Rattle.register_book.specs.declared.fault.Side.{Side}
-use Rattle.register_book.specs.declared.fault.Side.TheVariants as sides
 use Rattle.register_book.specs.declared.fault.Witness.{Witness}
-use Rattle.register_book.specs.declared.fault.Witness.TheVariants.{Wrong, Unwritten, Split, Early, Crossing}
-use Rattle.register_book.specs.Fault.{ids_of, ops_at}
+use Rattle.register_book.specs.Fault.{ids_of, ops_in_roles, roles_of}
 use Rattle.report.specs.declared.finding.Finding.{Finding}
 use Rattle.phrases.specs.Names.{printed}
 use Rattle.phrases.specs.Fault.{fault_line}
@@ -28,23 +24,9 @@ part_line_of (Some text) = part_line text.now
 abbrev pub part_lines : Op → List ℕ
 part_lines op = part_line op.parts.invocation.now ++ part_line_of op.parts.answer ++ part_line_of op.parts.amendment
 
--- two sides of a conflict are one operation
-abbrev pub is_one : Side → Side → Bool
-is_one (sides.Op a) (sides.Op b) = same_id a.id b.id
-is_one (sides.Op a) sides.Initial = false
-is_one sides.Initial b = false
-
--- the operations of a witness whose texts are printed; a conflict's second and third once, where they are one operation
-abbrev pub shown_of : Witness → List Op
-shown_of (Wrong read) = read ∷ []
-shown_of (Unwritten read) = read ∷ []
-shown_of (Split first second) = first ∷ second ∷ []
-shown_of (Early read write) = read ∷ write ∷ []
-shown_of (Crossing a b c d) = ops_at a ++ ops_at b ++ (if is_one b c then [] else ops_at c) ++ ops_at d
-
--- the lines of a witness: its fault, and the texts of its operations
+-- the lines of a witness: its fault, and the texts of its operations, each once
 abbrev pub witness_text : Witness → List ℕ
-witness_text witness = fault_line (ids_of witness) ++ flat_map part_lines (shown_of witness)
+witness_text witness = fault_line (ids_of witness) ++ flat_map part_lines (ops_in_roles (roles_of witness))
 
 -- the lines of a register: its verdict, and its witness where it fails
 abbrev pub section_text : Register → Finding → List ℕ

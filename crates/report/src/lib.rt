@@ -36,5 +36,5 @@ pub use listing::{level_name, tower_text};
 pub use notes::push_broken;
 pub use order::order_of;
 pub use refused::{count_refused, push_refused};
-pub use section::{push_section, shown_of};
+pub use section::push_section;
 pub use text::report;

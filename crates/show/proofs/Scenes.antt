@@ -77,21 +77,21 @@ asked_if (l ∷ letters) id letter more found = asked_by l letters id letter mor
 
 module _ (subject : Subject) (extent : Extent) (scene : Scene) (is : IsScene subject extent scene) where
   abbrev asked : List OpId
-  asked = asked_ids (ops_in_slots subject.slots.now) scene.story scene.letters.items
+  asked = asked_ids (ops_in_slots subject.slots.now) scene.witness scene.around scene.letters.items
 
   pub shown_stand : (others : List Op) × IsPermutation (ops_in_slots subject.slots.now) (scene.ops.items ++ others)
   shown_stand =
-      let (others, all) = shown_among (ops_in_slots subject.slots.now) asked (extent_of scene.story extent) is.chosen is.choice in
+      let (others, all) = shown_among (ops_in_slots subject.slots.now) asked (extent_of scene.witness extent) is.chosen is.choice in
       (others, subst (λ (xs : List Op). IsPermutation (ops_in_slots subject.slots.now) (xs ++ others)) (sym is.shown) all)
 
   pub shown_or_counted : Counted → length scene.ops.items + sum scene.folded.items ≡ length (ops_in_slots subject.slots.now)
   shown_or_counted law =
       let shown : length scene.ops.items ≡ length is.chosen.shown.items = ap length is.shown in
       let hidden : sum scene.folded.items ≡ length is.chosen.hidden.items = ap sum is.folded ∙ law scene.marks.items is.chosen.hidden.items is.marks.in_order in
-      let both = shown_and_hidden (ops_in_slots subject.slots.now) asked (extent_of scene.story extent) is.chosen is.choice in
+      let both = shown_and_hidden (ops_in_slots subject.slots.now) asked (extent_of scene.witness extent) is.chosen is.choice in
       omega (arith, shown, hidden, both)
 
   pub lettered_are_shown : Asked → (op : Op) (letter : Letter) → Contains (ops_in_slots subject.slots.now) op → letter_for scene.letters.items op.id ≡ Some letter → Contains scene.ops.items op
   lettered_are_shown law op letter stands found =
       subst (λ (xs : List Op). Contains xs op) (sym is.shown)
-      (law (ops_in_slots subject.slots.now) asked (extent_of scene.story extent) is.chosen op is.choice stands (asked_if scene.letters.items op.id letter (asked_beside (ops_in_slots subject.slots.now) scene.story) found))
+      (law (ops_in_slots subject.slots.now) asked (extent_of scene.witness extent) is.chosen op is.choice stands (asked_if scene.letters.items op.id letter (asked_beside (ops_in_slots subject.slots.now) scene.witness scene.around) found))

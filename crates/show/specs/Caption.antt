@@ -6,8 +6,8 @@ use Rattle.intervals.specs.declared.operation.Op.{Op}
 use Rattle.intervals.specs.Operation.{value_of}
 use Rattle.register_book.specs.declared.fault.Side.{Side}
 use Rattle.register_book.specs.declared.fault.Side.TheVariants as sides
+use Rattle.register_book.specs.Fault.{is_one}
 use Rattle.show.specs.Label.{value_text}
-use Rattle.show.specs.Letter.{same_side}
 
 -- the value of an operation as it is printed
 abbrev pub value_text_of : Op → List ℕ
@@ -35,8 +35,8 @@ before_text letter sides.Initial other = letter ++ codes " is the value at first
 
 -- the letter of the second operation of a conflict: `B`, or `BC` where the third is the same operation
 abbrev pub second_letter : Side → Side → List ℕ
-second_letter b c = if same_side b c then codes "BC" else codes "B"
+second_letter b c = if is_one b c then codes "BC" else codes "B"
 
 -- the letter of the third operation of a conflict: `C`, or `BC` where the second is the same operation
 abbrev pub third_letter : Side → Side → List ℕ
-third_letter b c = if same_side b c then codes "BC" else codes "C"
+third_letter b c = if is_one b c then codes "BC" else codes "C"

@@ -1,28 +1,35 @@
 -- The letters of the operations that a picture is about.
-use Rattle.std.specs.Prelude.{◌+◌, ℕ, zero, suc, Bool, false, List, [], ◌∷◌, ◌++◌, Option, Some, None, codes, option_map, if◌then◌else◌}
+use Rattle.std.specs.Prelude.{◌+◌, ℕ, zero, suc, Bool, true, false, List, [], ◌∷◌, ◌++◌, Option, Some, None, codes, option_map}
 use Rattle.std.specs.List.{find}
 use Rattle.intervals.specs.declared.operation.Op.{Op}
 use Rattle.intervals.specs.declared.operation.OpId.{OpId}
 use Rattle.intervals.specs.Operation.{same_id}
-use Rattle.register_book.specs.declared.fault.Side.{Side}
-use Rattle.register_book.specs.declared.fault.Side.TheVariants as sides
-use Rattle.story.specs.declared.story.Story.{Story}
-use Rattle.story.specs.declared.story.Story.TheVariants.{Holds, Wrong, Unwritten, Split, Early, Crossing}
+use Rattle.register_book.specs.declared.around.WritesAround.{WritesAround}
+use Rattle.register_book.specs.declared.fault.InRole.{InRole}
+use Rattle.register_book.specs.declared.fault.Role.{Role}
+use Rattle.register_book.specs.declared.fault.Role.TheVariants.{Read, FirstRead, SecondRead, EarlyRead, LateWrite, A, B, C, Bc, D}
+use Rattle.register_book.specs.declared.fault.Witness.{Witness}
+use Rattle.register_book.specs.Fault.{roles_of}
 use Rattle.show.specs.declared.letter.Letter.{Letter}
-use Rattle.show.specs.declared.letter.Letter.TheVariants.{A, B, C, Bc, D, Read, FirstRead, SecondRead, Write, LastWrite, FirstOver, SecondOver, ThirdOver}
+use Rattle.show.specs.declared.letter.Letter.TheVariants.{OfRole, LastWrite, FirstOver, SecondOver, ThirdOver}
 use Rattle.show.specs.declared.letter.Lettered.{Lettered}
+
+-- the letter of an operation in this role, as it is printed
+abbrev pub role_word : Role → List ℕ
+role_word Read = codes "R"
+role_word FirstRead = codes "R1"
+role_word SecondRead = codes "R2"
+role_word EarlyRead = codes "R"
+role_word LateWrite = codes "W"
+role_word A = codes "A"
+role_word B = codes "B"
+role_word C = codes "C"
+role_word Bc = codes "BC"
+role_word D = codes "D"
 
 -- a letter as it is printed
 abbrev pub word_of : Letter → List ℕ
-word_of A = codes "A"
-word_of B = codes "B"
-word_of C = codes "C"
-word_of Bc = codes "BC"
-word_of D = codes "D"
-word_of Read = codes "R"
-word_of FirstRead = codes "R1"
-word_of SecondRead = codes "R2"
-word_of Write = codes "W"
+word_of (OfRole role) = role_word role
 word_of LastWrite = codes "W1"
 word_of FirstOver = codes "W2"
 word_of SecondOver = codes "W3"
@@ -36,11 +43,6 @@ lettered op letter = record { id = op.id; letter = letter }
 abbrev pub letters_if : Option Op → Letter → List Lettered
 letters_if None letter = []
 letters_if (Some op) letter = lettered op letter ∷ []
-
--- a side of a conflict with this letter, where the side is an operation
-abbrev pub letters_at : Side → Letter → List Lettered
-letters_at (sides.Op op) letter = lettered op letter ∷ []
-letters_at sides.Initial letter = []
 
 -- the letter of the write of this number among those that a wrong read overlaps; the first three have one
 abbrev pub over_letter : ℕ → Option Letter
@@ -59,25 +61,43 @@ abbrev pub over_letters : ℕ → List Op → List Lettered
 over_letters number [] = []
 over_letters number (op ∷ ops) = letters_by (over_letter number) op ++ over_letters (number + 1) ops
 
--- two sides of a conflict are one operation
-abbrev pub same_side : Side → Side → Bool
-same_side (sides.Op a) (sides.Op b) = same_id a.id b.id
-same_side (sides.Op a) sides.Initial = false
-same_side sides.Initial b = false
+-- the operations in slots that have one, with the letters of their roles
+abbrev pub letters_in : List (Option InRole) → List Lettered
+letters_in [] = []
+letters_in (None ∷ slots) = letters_in slots
+letters_in (Some one ∷ slots) = lettered one.op (OfRole one.role) ∷ letters_in slots
 
--- the second and the third operation of a conflict with their letters, or with one where they are one operation
-abbrev pub middle_letters : Side → Side → List Lettered
-middle_letters b c = if same_side b c then letters_at b Bc else letters_at b B ++ letters_at c C
+-- the writes around a wrong read with their letters: the last before it, and the first three that overlap it
+abbrev pub around_letters : WritesAround → List Lettered
+around_letters around = letters_if around.last LastWrite ++ over_letters 0 around.over.items
 
--- the operations that a story is about with their letters
-abbrev pub letters_of : Story → List Lettered
-letters_of Holds = []
-letters_of (Wrong wrong) = lettered wrong.read Read ∷ (letters_if wrong.last LastWrite ++ over_letters 0 wrong.over.items)
-letters_of (Unwritten read) = lettered read Read ∷ []
-letters_of (Split first second) = lettered first FirstRead ∷ lettered second SecondRead ∷ []
-letters_of (Early read write) = lettered read Read ∷ lettered write Write ∷ []
-letters_of (Crossing a b c d) = letters_at a A ++ (middle_letters b c ++ letters_at d D)
+-- the operations that a picture is about with their letters: those of the witness, and the writes around a wrong read
+abbrev pub letters_of : Option Witness → WritesAround → List Lettered
+letters_of None around = around_letters around
+letters_of (Some witness) around = letters_in (roles_of witness) ++ around_letters around
 
 -- the letter of an operation, or none
 abbrev pub letter_for : List Lettered → OpId → Option Letter
 letter_for letters id = option_map (λ (l : Lettered). l.letter) (find (λ (l : Lettered). same_id l.id id) letters)
+
+-- whether an operation in this role is a read that is wrong by itself, without another
+abbrev pub is_wrong_role : Role → Bool
+is_wrong_role Read = true
+is_wrong_role FirstRead = false
+is_wrong_role SecondRead = false
+is_wrong_role EarlyRead = true
+is_wrong_role LateWrite = false
+is_wrong_role A = false
+is_wrong_role B = false
+is_wrong_role C = false
+is_wrong_role Bc = false
+is_wrong_role D = false
+
+-- the same of an operation with this optional letter
+abbrev pub is_wrong_letter : Option Letter → Bool
+is_wrong_letter None = false
+is_wrong_letter (Some (OfRole role)) = is_wrong_role role
+is_wrong_letter (Some LastWrite) = false
+is_wrong_letter (Some FirstOver) = false
+is_wrong_letter (Some SecondOver) = false
+is_wrong_letter (Some ThirdOver) = false

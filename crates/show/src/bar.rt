@@ -1,13 +1,12 @@
 //! The bars of operations in a picture, and the line through those that have an order.
 
 use crate::canvas::{BAR, Canvas, lane_of, lane_top, wide};
+use crate::colour::colour_of;
 use crate::filled::{Filling, push_filled, push_numbers};
 use crate::layout::Bar;
-use crate::letter::letter_for;
-use crate::role::role_of;
+use crate::letter::{is_wrong, letter_for};
 use crate::scene::Scene;
 use std::alloc::{AllocError, Global};
-use story::is_wrong;
 
 /// The width of the part of an unfinished write that fades.
 const FADE: u128 = 36;
@@ -37,7 +36,7 @@ fn push_bar(text: &mut String, canvas: &Canvas, number: usize) -> Result<(), All
         push_endless(text, &bar, y)?;
     }
     text.push_str("</g>\n")?;
-    if is_wrong(&scene.story, bar.op) {
+    if is_wrong(&scene.letters, bar.op.id) {
         push_cross(text, bar.right.saturating_add(8), y.saturating_add(3))?;
     }
     Ok(())
@@ -50,7 +49,7 @@ fn push_group(text: &mut String, scene: &Scene, bar: &Bar) -> Result<(), AllocEr
         text,
         "<g class=\"@ @@@\">",
         &[
-            Filling::Word(role_of(&scene.story, bar.op).word()),
+            Filling::Word(colour_of(scene, bar.op).word()),
             Filling::Word(if bar.op.is_write() { "write" } else { "read" }),
             Filling::Word(if is_told { " told" } else { "" }),
             Filling::Word(if bar.is_finished { "" } else { " endless" }),

@@ -5,24 +5,35 @@ ghost use Rattle.show.specs.Caption.{before_text, holds_text, second_letter, sid
 
 use crate::filled::{Filling, push_filled, push_numbers};
 use crate::label::push_value;
-use crate::letter::{is_one, over_letter};
+use crate::letter::over_letter;
 use crate::scene::Scene;
 use crate::subject::Subject;
 use intervals::{Initial, Kind, Op, Value, is_same_value};
-use register_book::Side;
+use register_book::{Side, Witness, WritesAround, is_one};
 use std::alloc::AllocError;
-use story::{Story, Wrong};
 
 /// Adds what there is to say of the register, a sentence a line.
 pub fn push_caption(text: &mut String, subject: &Subject, scene: &Scene) -> Result<(), AllocError> {
-    match &scene.story {
-        Story::Holds if scene.all == 0 => text.push_str("No operation stands.\n"),
-        Story::Holds => push_holds(text, subject.kind),
-        Story::Wrong(wrong) => push_wrong(text, subject, wrong),
-        Story::Unwritten(read) => push_unwritten(text, subject.initial, read),
-        Story::Split { first, second } => push_split(text, first, second),
-        Story::Early { read, write } => push_early(text, read, write),
-        Story::Crossing { a, b, c, d } => push_crossing(text, a, b, c, d),
+    match &scene.witness {
+        Some(witness) => push_fault(text, subject, witness, &scene.around),
+        None if scene.all == 0 => text.push_str("No operation stands.\n"),
+        None => push_holds(text, subject.kind),
+    }
+}
+
+/// Adds why a register fails.
+fn push_fault(
+    text: &mut String,
+    subject: &Subject,
+    witness: &Witness,
+    around: &WritesAround,
+) -> Result<(), AllocError> {
+    match witness {
+        Witness::Wrong(read) => push_wrong(text, subject, read, around),
+        Witness::Unwritten(read) => push_unwritten(text, subject.initial, read),
+        Witness::Split { first, second } => push_split(text, first, second),
+        Witness::Early { read, write } => push_early(text, read, write),
+        Witness::Crossing { a, b, c, d } => push_crossing(text, a, b, c, d),
     }
 }
 
@@ -37,16 +48,21 @@ fn push_holds(text: &mut String, kind: Kind) -> Result<(), AllocError>
     }
 }
 
-fn push_wrong(text: &mut String, subject: &Subject, wrong: &Wrong) -> Result<(), AllocError> {
-    push_filled(text, "R returned @", &[Filling::Value(wrong.read.value())])?;
-    push_source(text, subject.initial, wrong)?;
-    if subject.kind == Kind::Safe && !wrong.over.is_empty() {
+fn push_wrong(
+    text: &mut String,
+    subject: &Subject,
+    read: &Op,
+    around: &WritesAround,
+) -> Result<(), AllocError> {
+    push_filled(text, "R returned @", &[Filling::Value(read.value())])?;
+    push_source(text, subject.initial, read, around)?;
+    if subject.kind == Kind::Safe && !around.over.is_empty() {
         return text.push_str(
             "It overlaps a write, so it may return any value of the register's :domain, and this is none.\n",
         );
     }
-    push_last(text, subject.initial, &wrong.last)?;
-    push_over(text, &wrong.over)?;
+    push_last(text, subject.initial, &around.last)?;
+    push_over(text, &around.over)?;
     text.push_str(".\n")
 }
 
@@ -103,15 +119,20 @@ fn push_last(text: &mut String, initial: Initial, last: &Option<Op>) -> Result<(
 }
 
 /// Where the value that a read returned came from.
-fn push_source(text: &mut String, initial: Initial, wrong: &Wrong) -> Result<(), AllocError> {
-    match (&wrong.source, &wrong.later) {
+fn push_source(
+    text: &mut String,
+    initial: Initial,
+    read: &Op,
+    around: &WritesAround,
+) -> Result<(), AllocError> {
+    match (&around.source, &around.later) {
         (Some(source), _) => {
             push_id(text, ", which @:@ wrote and ", source)?;
-            push_overwritten(text, &wrong.last)
+            push_overwritten(text, &around.last)
         }
-        (None, _) if is_at_first(initial, wrong.read.value()) => {
+        (None, _) if is_at_first(initial, read.value()) => {
             text.push_str(", the value at first, which ")?;
-            push_overwritten(text, &wrong.last)
+            push_overwritten(text, &around.last)
         }
         (None, Some(later)) => push_id(
             text,

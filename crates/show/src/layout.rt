@@ -9,9 +9,8 @@ use crate::scene::Scene;
 use crate::subject::Subject;
 use crate::told::{begin_mark, end_mark, told_of};
 use intervals::{Initial, Op, Value};
-use register_book::Side;
+use register_book::{Side, Witness};
 use std::alloc::{AllocError, Global};
-use story::Story;
 use timeline::{Seat, places, rows};
 
 /// A scene, with the places of its marks.
@@ -51,7 +50,7 @@ pub fn layout_of<'s, 't>(
     ensures { IfOk result (IsLayout measure.now width scene.entry.now) }
 {
     let told = told_of(alloc, scene)?;
-    let at_first = text_at_first(alloc, subject, &scene.story)?;
+    let at_first = text_at_first(alloc, subject, scene)?;
     let measure = Measure {
         first: first_step(measure, &at_first),
         ..*measure
@@ -95,18 +94,22 @@ fn placed(
 }
 
 /// The value at first, where it is a side of a conflict or a wrong read may return it; else empty.
-fn text_at_first(alloc: Global, subject: &Subject, story: &Story) -> Result<String, AllocError> {
+fn text_at_first(alloc: Global, subject: &Subject, scene: &Scene) -> Result<String, AllocError> {
     let mut text = String::new(alloc);
-    let before = match story {
-        Story::Crossing {
-            a: Side::Initial,
-            ..
-        } => "A initial",
-        Story::Crossing {
-            c: Side::Initial,
-            ..
-        } => "C initial",
-        Story::Wrong(wrong) if wrong.last.is_none() => "initial",
+    let before = match &scene.witness {
+        Some(
+            Witness::Crossing {
+                a: Side::Initial,
+                ..
+            },
+        ) => "A initial",
+        Some(
+            Witness::Crossing {
+                c: Side::Initial,
+                ..
+            },
+        ) => "C initial",
+        Some(Witness::Wrong(_)) if scene.around.last.is_none() => "initial",
         _ => return Ok(text),
     };
     text.push_str(before)?;
@@ -276,7 +279,7 @@ pub fn widest_name(scene: &Scene, word: &str) -> usize {
             widest = widest.max(wide.saturating_add(word.len()));
         }
     }
-    if let Story::Crossing { b, d, .. } = &scene.story {
+    if let Some(Witness::Crossing { b, d, .. }) = &scene.witness {
         widest = widest.max(side_name_width(b)).max(side_name_width(d));
     }
     widest

@@ -4,29 +4,18 @@ ghost use Rattle.std.specs.Prelude.{◌≡◌, ◌<◌, ◌++◌, ◌∷◌, [],
 ghost use Rattle.std.specs.List.{slice_get};
 ghost use Rattle.std.specs.Option.{option_map_or};
 ghost use Rattle.intervals.specs.Operation.{same_id};
-ghost use Rattle.show.specs.Letter.{letter_for, letters_at, letters_by, letters_of, middle_letters, over_letters, over_letter, same_side, word_of};
+ghost use Rattle.show.specs.Letter.{around_letters, is_wrong_letter, is_wrong_role, letter_for, letters_by, letters_in, letters_of, over_letters, over_letter, role_word, word_of};
 
 use intervals::{Op, OpId};
-use register_book::Side;
+use register_book::{InRole, Role, Witness, WritesAround};
 use std::alloc::{AllocError, Global};
 use std::unreachable;
-use story::{Story, Wrong};
 
-/// What an operation is to the reason why its register fails.
+/// What a letter says of its operation.
 #[derive(Clone, Copy)]
 pub enum Letter {
-    /// The four operations of a conflict; `Bc` where the second and the third are one.
-    A,
-    B,
-    C,
-    Bc,
-    D,
-    /// A read that is wrong by itself, and two that cannot both be right.
-    Read,
-    FirstRead,
-    SecondRead,
-    /// The write that a read came too early for.
-    Write,
+    /// Its role in the witness.
+    OfRole(Role),
     /// The last write before a wrong read, and the first three that overlap it.
     LastWrite,
     FirstOver,
@@ -40,20 +29,29 @@ impl Letter {
         ensures { result.now ≡ word_of self }
     {
         match self {
-            Letter::A => "A",
-            Letter::B => "B",
-            Letter::C => "C",
-            Letter::Bc => "BC",
-            Letter::D => "D",
-            Letter::Read => "R",
-            Letter::FirstRead => "R1",
-            Letter::SecondRead => "R2",
-            Letter::Write => "W",
+            Letter::OfRole(role) => role_word(role),
             Letter::LastWrite => "W1",
             Letter::FirstOver => "W2",
             Letter::SecondOver => "W3",
             Letter::ThirdOver => "W4",
         }
+    }
+}
+
+/// The letter of an operation in this role, as it is printed.
+fn role_word(role: Role) -> &'static str
+    ensures { result.now ≡ role_word role }
+{
+    match role {
+        Role::Read | Role::EarlyRead => "R",
+        Role::FirstRead => "R1",
+        Role::SecondRead => "R2",
+        Role::LateWrite => "W",
+        Role::A => "A",
+        Role::B => "B",
+        Role::C => "C",
+        Role::Bc => "BC",
+        Role::D => "D",
     }
 }
 
@@ -64,36 +62,40 @@ pub struct Lettered {
     pub letter: Letter,
 }
 
-/// The operations of a story with their letters.
-pub fn letters_of(alloc: Global, story: &Story) -> Result<Vec<Lettered>, AllocError>
-    ensures { IfOk result (λ letters. letters.items ≡ letters_of story.now) }
+/// The operations that a picture is about with their letters: those of the witness, and the writes around a wrong read.
+pub fn letters_of(
+    alloc: Global,
+    witness: &Option<Witness>,
+    around: &WritesAround,
+) -> Result<Vec<Lettered>, AllocError>
+    ensures { IfOk result (λ letters. letters.items ≡ letters_of witness.now around.now) }
 {
     let mut letters = Vec::new(alloc);
-    match story {
-        Story::Holds => {}
-        Story::Wrong(wrong) => letter_wrong(&mut letters, wrong)?,
-        Story::Unwritten(read) => give(&mut letters, read, Letter::Read)?,
-        Story::Split { first, second } => {
-            give(&mut letters, first, Letter::FirstRead)?;
-            give(&mut letters, second, Letter::SecondRead)?;
-        }
-        Story::Early { read, write } => {
-            give(&mut letters, read, Letter::Read)?;
-            give(&mut letters, write, Letter::Write)?;
-        }
-        Story::Crossing { a, b, c, d } => letter_crossing(&mut letters, a, b, c, d)?,
+    if let Some(witness) = witness {
+        letter_roles(&mut letters, &witness.roles())?;
     }
+    letter_around(&mut letters, around)?;
     Ok(letters)
 }
 
-fn letter_wrong(letters: &mut Vec<Lettered>, wrong: &Wrong) -> Result<(), AllocError>
-    ensures { OnOk result (letters.new.items ≡ letters.old.items ++ letters_of (Story.Wrong wrong.now)) }
+fn letter_roles(letters: &mut Vec<Lettered>, slots: &[Option<InRole>]) -> Result<(), AllocError>
+    ensures { OnOk result (letters.new.items ≡ letters.old.items ++ letters_in slots.now) }
 {
-    give(letters, &wrong.read, Letter::Read)?;
-    if let Some(last) = &wrong.last {
+    for slot in slots {
+        if let Some(one) = slot {
+            give(letters, &one.op, Letter::OfRole(one.role))?;
+        }
+    }
+    Ok(())
+}
+
+fn letter_around(letters: &mut Vec<Lettered>, around: &WritesAround) -> Result<(), AllocError>
+    ensures { OnOk result (letters.new.items ≡ letters.old.items ++ around_letters around.now) }
+{
+    if let Some(last) = &around.last {
         give(letters, last, Letter::LastWrite)?;
     }
-    letter_over(letters, &wrong.over)
+    letter_over(letters, &around.over)
 }
 
 /// Gives letters to the first three of the writes that a wrong read overlaps.
@@ -138,54 +140,6 @@ pub fn over_letter(number: usize) -> Option<Letter>
     }
 }
 
-fn letter_crossing(
-    letters: &mut Vec<Lettered>,
-    a: &Side,
-    b: &Side,
-    c: &Side,
-    d: &Side,
-) -> Result<(), AllocError>
-    ensures { OnOk result (letters.new.items ≡ letters.old.items ++ letters_of (Story.Crossing a.now b.now c.now d.now)) }
-{
-    letter_side(letters, a, Letter::A)?;
-    letter_middle(letters, b, c)?;
-    letter_side(letters, d, Letter::D)
-}
-
-/// Gives letters to the second and the third operation of a conflict, which may be one.
-fn letter_middle(letters: &mut Vec<Lettered>, b: &Side, c: &Side) -> Result<(), AllocError>
-    ensures { OnOk result (letters.new.items ≡ letters.old.items ++ middle_letters b.now c.now) }
-{
-    if is_one(b, c) {
-        return letter_side(letters, b, Letter::Bc);
-    }
-    letter_side(letters, b, Letter::B)?;
-    letter_side(letters, c, Letter::C)
-}
-
-/// Whether two sides are one operation.
-pub fn is_one(a: &Side, b: &Side) -> bool
-    ensures { result ≡ same_side a.now b.now }
-{
-    match (a, b) {
-        (Side::Op(a), Side::Op(b)) => a.has_id(b.id),
-        _ => false,
-    }
-}
-
-fn letter_side(
-    letters: &mut Vec<Lettered>,
-    side: &Side,
-    letter_it: Letter,
-) -> Result<(), AllocError>
-    ensures { OnOk result (letters.new.items ≡ letters.old.items ++ letters_at side.now letter_it) }
-{
-    match side {
-        Side::Op(op) => give(letters, op, letter_it),
-        Side::Initial => Ok(()),
-    }
-}
-
 fn give(letters: &mut Vec<Lettered>, op: &Op, letter: Letter) -> Result<(), AllocError>
     ensures { OnOk result (letters.new.items ≡ letters.old.items ++ record { id = op.now.id; letter = letter } ∷ []) }
 {
@@ -199,6 +153,26 @@ pub fn letter_for(letters: &[Lettered], id: OpId) -> Option<Letter>
 {
     let found = letters.iter().find(|lettered| is_same_id(lettered.id, id))?;
     Some(found.letter)
+}
+
+/// Whether the operation is a read that is wrong by itself, without another.
+pub fn is_wrong(letters: &[Lettered], id: OpId) -> bool
+    ensures { result ≡ is_wrong_letter (letter_for letters.now id) }
+{
+    match letter_for(letters, id) {
+        Some(Letter::OfRole(role)) => is_wrong_role(role),
+        _ => false,
+    }
+}
+
+fn is_wrong_role(role: Role) -> bool
+    ensures { result ≡ is_wrong_role role }
+{
+    match role {
+        Role::Read | Role::EarlyRead => true,
+        Role::FirstRead | Role::SecondRead | Role::LateWrite => false,
+        Role::A | Role::B | Role::C | Role::Bc | Role::D => false,
+    }
 }
 
 /// Whether two ids are the same.

@@ -8,12 +8,12 @@
 //! push_page_part(&mut text, alloc, &sketch, &sheet, is_unfolded, report)?     // on a page
 //! ```
 //!
-//! A subject is a register with the operations that stand and the witness. The crate `story` finds why it fails,
-//! `letter.rt` gives letters to the operations that show it, `rank.rt` says which place each operation has in an order
-//! that explains the reads, and `scene.rt` chooses which operations are shown, with their marks and lanes, by the crate
-//! `timeline`. `measure.rt` says how wide things are, `layout.rt` how far right they are. Two files draw that:
+//! A subject is a register with the operations that stand and the witness. `letter.rt` gives letters to the operations
+//! of the witness, by their roles, and to the writes around a wrong read; `rank.rt` says which place each operation has
+//! in an order that explains the reads, and `scene.rt` chooses which operations are shown, with their marks and lanes, by
+//! the crate `timeline`. `measure.rt` says how wide things are, `layout.rt` how far right they are. Two files draw that:
 //! `text.rt` in lines of cells (`line.rt`, with the characters of `glyphs.rt`), and `svg.rt` on a canvas
-//! (`canvas.rt`), with the parts of a picture (`strip.rt`, `bar.rt`, `axis.rt`) and the colours of `role.rt` and
+//! (`canvas.rt`), with the parts of a picture (`strip.rt`, `bar.rt`, `axis.rt`) and the colours of `colour.rt` and
 //! `style.rt`. Both draw the zones of a conflict (`zone.rt`), lanes by process, and the moments below; the moments
 //! that the sentences speak of (`told.rt`) come first. `title.rt` has the first line, `caption.rt` the sentences;
 //! `page.rt` puts pictures on a page. `filled.rt` fills numbers, words and values into their texts.
@@ -28,6 +28,7 @@ mod axis;
 mod bar;
 mod canvas;
 mod caption;
+mod colour;
 mod escape;
 mod filled;
 mod glyphs;
@@ -39,7 +40,6 @@ mod line;
 mod measure;
 mod page;
 mod rank;
-mod role;
 mod scene;
 mod strip;
 mod style;

@@ -73,7 +73,7 @@ fn push_sketch(
     sketch: &Sketch,
     sheet: &Sheet,
 ) -> Result<(), AllocError> {
-    let heading = heading_of(alloc, &sketch.subject, &sketch.scene.story)?;
+    let heading = heading_of(alloc, &sketch.subject)?;
     push_part_head(text, &heading)?;
     push_headed(text, alloc, sketch, &heading, sheet)
 }

@@ -6,16 +6,16 @@ ghost use Rattle.intervals.specs.Least.{less_of};
 ghost use Rattle.intervals.specs.Operation.{same_id};
 ghost use Rattle.intervals.specs.Table.{ops_in_slots};
 ghost use Rattle.show.specs.Label.{label_by};
-ghost use Rattle.show.specs.Scene.{IsScene, asked_ids, asked_beside, extent_of, first_to_begin, ids_of_optional};
+ghost use Rattle.show.specs.Scene.{AreAroundOf, IsScene, asked_ids, asked_beside, extent_of, first_to_begin, ids_of_optional};
 
 use crate::label::{head_of, push_label};
 use crate::letter::{Lettered, letter_for, letters_of};
 use crate::rank::{places_of, rank_in, ranks_in};
 use crate::subject::Subject;
 use intervals::{Op, OpId};
+use register_book::{Witness, WritesAround, writes_around};
 use std::alloc::{AllocError, Global};
 use std::collections::HashMap;
-use story::{Story, story_of};
 use timeline::{BarSpan, Extent, Mark, Seat, choose, folded, marks, seats, spans};
 
 /// A register and its scene, from which a picture of it is drawn.
@@ -51,7 +51,9 @@ const FIRST_FOR_EACH: usize = 8;
 /// The operations that are shown, by beginning, with their labels, marks and seats.
 #[derive(Drop)]
 pub struct Scene<'t> {
-    pub story: Story<'t>,
+    pub witness: Option<Witness<'t>>,
+    /// The writes around a wrong read; none where the register holds or fails otherwise.
+    pub around: WritesAround<'t>,
     pub letters: Vec<Lettered>,
     pub ops: Vec<Op<'t>>,
     /// The place of each operation in an order that explains the reads, from 1.
@@ -74,10 +76,11 @@ fn scene_of<'t>(
 ) -> Result<Scene<'t>, AllocError>
     ensures { IfOk result (IsScene subject.now extent) }
 {
-    let story = story_of(alloc, subject.slots, subject.witness)?;
-    let letters = letters_of(alloc, &story)?;
-    let asked = asked_of(alloc, subject.slots, &story, &letters)?;
-    let chosen = choose(alloc, subject.slots, &asked, extent_of(&story, extent))?;
+    let around = around_of(alloc, subject.slots, &subject.witness)?;
+    let letters = letters_of(alloc, &subject.witness, &around)?;
+    let asked = asked_of(alloc, subject.slots, &subject.witness, &around, &letters)?;
+    let extent = extent_of(&subject.witness, extent);
+    let chosen = choose(alloc, subject.slots, &asked, extent)?;
     let marks = marks(alloc, &chosen.shown)?;
     let spans = spans(alloc, &chosen.shown, &marks)?;
     let folded = folded(alloc, &marks, &chosen.hidden)?;
@@ -87,7 +90,8 @@ fn scene_of<'t>(
     let labels = labels_of(alloc, &chosen.shown, &letters, &places)?;
     let all = chosen.shown.len() + chosen.hidden.len();
     Ok(Scene {
-        story,
+        witness: subject.witness,
+        around,
         letters,
         ops: chosen.shown,
         ranks,
@@ -100,14 +104,31 @@ fn scene_of<'t>(
     })
 }
 
-/// How much is shown of a register: more operations where it holds.
-fn extent_of(story: &Story, extent: Extent) -> Extent
-    ensures { result ≡ extent_of story.now extent }
+/// The writes around the read of a witness that is a wrong read; else none.
+fn around_of<'t>(
+    alloc: Global,
+    slots: &[Option<Op<'t>>],
+    witness: &Option<Witness>,
+) -> Result<WritesAround<'t>, AllocError>
+    ensures { IfOk result (AreAroundOf (ops_in_slots slots.now) witness.now) }
 {
-    match (story, extent) {
-        (Story::Holds, Extent::Around(around)) => {
-            Extent::Around(around.saturating_mul(FIRST_FOR_EACH))
-        }
+    match witness {
+        Some(Witness::Wrong(read)) => writes_around(alloc, slots, read),
+        _ => Ok(WritesAround {
+            last: None,
+            over: Vec::new(alloc),
+            source: None,
+            later: None,
+        }),
+    }
+}
+
+/// How much is shown of a register: more operations where it holds.
+fn extent_of(witness: &Option<Witness>, extent: Extent) -> Extent
+    ensures { result ≡ extent_of witness.now extent }
+{
+    match (witness, extent) {
+        (None, Extent::Around(around)) => Extent::Around(around.saturating_mul(FIRST_FOR_EACH)),
         _ => extent,
     }
 }
@@ -117,13 +138,14 @@ fn extent_of(story: &Story, extent: Extent) -> Extent
 fn asked_of(
     alloc: Global,
     slots: &[Option<Op>],
-    story: &Story,
+    witness: &Option<Witness>,
+    around: &WritesAround,
     letters: &[Lettered],
 ) -> Result<Vec<OpId>, AllocError>
-    ensures { IfOk result (λ asked. asked.items ≡ asked_ids (ops_in_slots slots.now) story.now letters.now) }
+    ensures { IfOk result (λ asked. asked.items ≡ asked_ids (ops_in_slots slots.now) witness.now around.now letters.now) }
 {
     let mut asked = ids_of(alloc, letters)?;
-    ask_beside(&mut asked, slots, story)?;
+    ask_beside(&mut asked, slots, witness, around)?;
     Ok(asked)
 }
 
@@ -137,16 +159,20 @@ fn ids_of(alloc: Global, letters: &[Lettered]) -> Result<Vec<OpId>, AllocError>
     Ok(ids)
 }
 
-fn ask_beside(asked: &mut Vec<OpId>, slots: &[Option<Op>], story: &Story) -> Result<(), AllocError>
-    ensures { OnOk result (asked.new.items ≡ asked.old.items ++ asked_beside (ops_in_slots slots.now) story.now) }
+fn ask_beside(
+    asked: &mut Vec<OpId>,
+    slots: &[Option<Op>],
+    witness: &Option<Witness>,
+    around: &WritesAround,
+) -> Result<(), AllocError>
+    ensures { OnOk result (asked.new.items ≡ asked.old.items ++ asked_beside (ops_in_slots slots.now) witness.now around.now) }
 {
-    match story {
-        Story::Wrong(wrong) => {
-            ask(asked, &wrong.source)?;
-            ask(asked, &wrong.later)
+    match witness {
+        Some(_) => {
+            ask(asked, &around.source)?;
+            ask(asked, &around.later)
         }
-        Story::Holds => ask(asked, &first_of(slots)),
-        _ => Ok(()),
+        None => ask(asked, &first_of(slots)),
     }
 }
 

@@ -3,12 +3,12 @@
 use crate::axis::push_axis;
 use crate::bar::{push_bars, push_words};
 use crate::canvas::{BAR, Canvas, ZONE, ZONE_ROW, box_width, middle_of};
+use crate::colour::{Colour, colour_of_value};
 use crate::filled::{Filling, push_filled, push_numbers};
-use crate::role::{Role, role_of_value};
+use crate::letter::is_wrong;
 use crate::zone::Zone;
-use register_book::Side;
+use register_book::{Side, Witness};
 use std::alloc::{AllocError, Global};
-use story::Story;
 
 /// The whole strip.
 pub fn push_strip(text: &mut String, alloc: Global, canvas: &Canvas) -> Result<(), AllocError> {
@@ -22,19 +22,22 @@ pub fn push_strip(text: &mut String, alloc: Global, canvas: &Canvas) -> Result<(
     push_axis(text, canvas)
 }
 
-/// The time in which a read was wrong, as a band under the lanes.
+/// The time in which a read was wrong by itself, as a band under the lanes: that between the moments that the caption
+/// speaks of.
 fn push_band(text: &mut String, canvas: &Canvas) -> Result<(), AllocError> {
     let layout = &canvas.layout;
-    match &layout.scene.story {
-        Story::Wrong(wrong) => {
-            let to = layout.end_of(&wrong.read);
-            push_band_between(text, canvas, layout.begin_of(&wrong.read), to)
-        }
-        Story::Unwritten(read) => {
-            push_band_between(text, canvas, layout.begin_of(read), layout.end_of(read))
-        }
-        Story::Early { read, write } => {
-            push_band_between(text, canvas, layout.end_of(read), layout.begin_of(write))
+    let letters = layout.scene.letters.as_slice();
+    let is_of_one = letters
+        .iter()
+        .any(|lettered| is_wrong(letters, lettered.id));
+    match (layout.told.first(), layout.told.last()) {
+        (Some(first), Some(last)) if is_of_one => {
+            push_band_between(
+                text,
+                canvas,
+                layout.place_of(*first),
+                layout.place_of(*last),
+            )
         }
         _ => Ok(()),
     }
@@ -102,7 +105,7 @@ fn push_at_first(text: &mut String, canvas: &Canvas) -> Result<(), AllocError> {
         text,
         "<g class=\"@ write told\"><rect x=\"0\" y=\"@\" width=\"@\" height=\"@\"/>",
         &[
-            Filling::Word(role_at_first(&canvas.layout.scene.story).word()),
+            Filling::Word(colour_at_first(&canvas.layout.scene.witness).word()),
             Filling::Number(y),
             Filling::Number(width),
             Filling::Number(BAR),
@@ -116,11 +119,11 @@ fn push_at_first(text: &mut String, canvas: &Canvas) -> Result<(), AllocError> {
     )
 }
 
-/// What the value at first is to the reason why a register fails.
-fn role_at_first(story: &Story) -> Role {
-    match story {
-        Story::Crossing { a: Side::Op(_), .. } => Role::Two,
-        _ => Role::One,
+/// The colour of the value at first.
+fn colour_at_first(witness: &Option<Witness>) -> Colour {
+    match witness {
+        Some(Witness::Crossing { a: Side::Op(_), .. }) => Colour::Two,
+        _ => Colour::One,
     }
 }
 
@@ -145,7 +148,7 @@ fn push_zones(text: &mut String, canvas: &Canvas) -> Result<(), AllocError> {
 
 /// A forward zone points to the right and is filled, a backward one points to the left and is hollow.
 fn push_zone(text: &mut String, canvas: &Canvas, zone: &Zone, y: u128) -> Result<(), AllocError> {
-    let role = role_of_value(&canvas.layout.scene.story, zone.value);
+    let colour = colour_of_value(&canvas.layout.scene.witness, zone.value);
     let (left, right) = (zone.left, zone.right);
     let (form, from, tip, to) = if zone.is_forward {
         ("write", left, right.saturating_sub(6).max(left), right)
@@ -156,7 +159,7 @@ fn push_zone(text: &mut String, canvas: &Canvas, zone: &Zone, y: u128) -> Result
         text,
         "<path class=\"@ @\" d=\"M@ @H@L@ @L@ @H@z\"><title>zone of @</title></path>\n",
         &[
-            Filling::Word(role.word()),
+            Filling::Word(colour.word()),
             Filling::Word(form),
             Filling::Number(from),
             Filling::Number(y),
@@ -173,7 +176,7 @@ fn push_zone(text: &mut String, canvas: &Canvas, zone: &Zone, y: u128) -> Result
 
 /// An arrow from each operation of a conflict to the next that it precedes.
 fn push_arrows(text: &mut String, canvas: &Canvas) -> Result<(), AllocError> {
-    let Story::Crossing { a, b, c, d } = &canvas.layout.scene.story else {
+    let Some(Witness::Crossing { a, b, c, d }) = &canvas.layout.scene.witness else {
         return Ok(());
     };
     push_arrow(text, canvas, a, b)?;

@@ -8,10 +8,10 @@ use crate::canvas::{
     window_of,
 };
 use crate::caption::push_caption;
+use crate::colour::{Colour, caption_colours};
 use crate::escape::push_element;
 use crate::filled::{Filling, push_filled, push_numbers};
 use crate::layout::push_lane_name;
-use crate::role::{Role, caption_roles};
 use crate::scene::{Scene, Sketch};
 use crate::strip::push_strip;
 use crate::style::{Theme, push_style};
@@ -37,7 +37,7 @@ pub fn push_picture(
     sketch: &Sketch,
     sheet: &Sheet,
 ) -> Result<(), AllocError> {
-    let heading = heading_of(alloc, &sketch.subject, &sketch.scene.story)?;
+    let heading = heading_of(alloc, &sketch.subject)?;
     push_headed(text, alloc, sketch, &heading, sheet)
 }
 
@@ -346,11 +346,11 @@ fn push_zone_name(
 /// The sentences, each after a square of the colour of what it is about.
 fn push_sentences(text: &mut String, canvas: &Canvas, caption: &str) -> Result<(), AllocError> {
     let mut y = row_top(canvas, canvas.layout.starts.len());
-    let roles = caption_roles(&canvas.layout.scene.story);
+    let colours = caption_colours(&canvas.layout.scene.witness);
     let mut number = 0;
     for line in caption.lines() {
-        if number < roles.len() {
-            push_square(text, roles[number], y)?;
+        if number < colours.len() {
+            push_square(text, colours[number], y)?;
             number += 1;
         }
         push_sentence(text, line, y.saturating_add(8))?;
@@ -359,11 +359,11 @@ fn push_sentences(text: &mut String, canvas: &Canvas, caption: &str) -> Result<(
     Ok(())
 }
 
-fn push_square(text: &mut String, role: Role, y: u128) -> Result<(), AllocError> {
+fn push_square(text: &mut String, colour: Colour, y: u128) -> Result<(), AllocError> {
     push_filled(
         text,
         "<rect class=\"@ write\" x=\"16\" y=\"@\" width=\"9\" height=\"9\"/>",
-        &[Filling::Word(role.word()), Filling::Number(y)],
+        &[Filling::Word(colour.word()), Filling::Number(y)],
     )
 }
 

@@ -6,7 +6,7 @@ use crate::label::push_value;
 use crate::layout::{
     Bar, Layout, earlier, lane_name_width, layout_of, push_lane_name, widest_name, zone_name_width,
 };
-use crate::letter::letter_for;
+use crate::letter::{is_wrong, letter_for};
 use crate::line::TextLine;
 use crate::measure::{Measure, digits_of, digits_of_moment};
 use crate::scene::{Scene, Sketch};
@@ -14,7 +14,6 @@ use crate::subject::Subject;
 use crate::title::push_title;
 use crate::zone::{Zone, conflict_in};
 use std::alloc::{AllocError, Global};
-use story::is_wrong;
 
 /// How a timeline looks: how many cells a line may have, and whether its characters are all of ASCII.
 #[derive(Clone, Copy)]
@@ -367,7 +366,7 @@ fn draw_bar(line: &mut TextLine, drawing: &Drawing, bar: &Bar) {
     } else {
         draw_endless(line, bar, drawing.glyphs);
     }
-    if is_wrong(&scene.story, bar.op) {
+    if is_wrong(&scene.letters, bar.op.id) {
         line.put(bar.right.saturating_add(1), drawing.glyphs.cross);
     }
 }

@@ -3,8 +3,8 @@
 use crate::scene::Scene;
 use crate::subject::Subject;
 use phrases::{kind_word, push_fault_text, push_printed};
+use register_book::Witness;
 use std::alloc::{AllocError, Global};
-use story::Story;
 
 /// Adds the register, its kind, why it fails or that it holds, and how many of its operations are shown.
 pub fn push_title(
@@ -52,26 +52,28 @@ fn push_verdict(text: &mut String, subject: &Subject) -> Result<(), AllocError> 
 }
 
 /// The register and why it fails, in words.
-pub fn heading_of(alloc: Global, subject: &Subject, story: &Story) -> Result<String, AllocError> {
+pub fn heading_of(alloc: Global, subject: &Subject) -> Result<String, AllocError> {
     let mut heading = String::new(alloc);
-    push_heading(&mut heading, subject, story)?;
+    push_heading(&mut heading, subject)?;
     Ok(heading)
 }
 
-fn push_heading(text: &mut String, subject: &Subject, story: &Story) -> Result<(), AllocError> {
+fn push_heading(text: &mut String, subject: &Subject) -> Result<(), AllocError> {
     text.push_str(kind_word(subject.kind))?;
     text.push_str(" register ")?;
     push_printed(text, subject.name)?;
-    text.push_str(reason_for(story))
+    text.push_str(match &subject.witness {
+        Some(witness) => reason_for(witness),
+        None => " holds",
+    })
 }
 
-fn reason_for(story: &Story) -> &'static str {
-    match story {
-        Story::Holds => " holds",
-        Story::Wrong(_) => " fails: a read returned what it may not",
-        Story::Unwritten(_) => " fails: a read returned what nothing wrote",
-        Story::Split { .. } => " fails: two reads returned values that nothing wrote",
-        Story::Early { .. } => " fails: a read returned what was not yet written",
-        Story::Crossing { .. } => " fails: no order explains its reads",
+fn reason_for(witness: &Witness) -> &'static str {
+    match witness {
+        Witness::Wrong(_) => " fails: a read returned what it may not",
+        Witness::Unwritten(_) => " fails: a read returned what nothing wrote",
+        Witness::Split { .. } => " fails: two reads returned values that nothing wrote",
+        Witness::Early { .. } => " fails: a read returned what was not yet written",
+        Witness::Crossing { .. } => " fails: no order explains its reads",
     }
 }

@@ -2,16 +2,17 @@
 
 use crate::scene::Scene;
 use intervals::{Op, OpId};
-use register_book::Side;
+use register_book::{InRole, Role};
 use std::alloc::{AllocError, Global};
-use story::Story;
 
 /// The numbers of the marks of these moments, each once, in order.
 pub fn told_of(alloc: Global, scene: &Scene) -> Result<Vec<usize>, AllocError> {
     let mut told = Vec::new(alloc);
-    for mark in &told_marks(scene) {
-        if let Some(mark) = mark {
-            told.push(*mark)?;
+    if let Some(witness) = &scene.witness {
+        for slot in &witness.roles() {
+            if let Some(one) = slot {
+                add_told(&mut told, scene, one)?;
+            }
         }
     }
     told.sort_unstable();
@@ -19,45 +20,23 @@ pub fn told_of(alloc: Global, scene: &Scene) -> Result<Vec<usize>, AllocError> {
     Ok(told)
 }
 
-fn told_marks(scene: &Scene) -> [Option<usize>; 4] {
-    match &scene.story {
-        Story::Holds => [None, None, None, None],
-        Story::Wrong(wrong) => whole(scene, &wrong.read),
-        Story::Unwritten(read) => whole(scene, read),
-        Story::Split { first, second } => [
-            begin_mark(scene, first),
-            end_mark(scene, first),
-            begin_mark(scene, second),
-            end_mark(scene, second),
-        ],
-        Story::Early { read, write } => {
-            [end_mark(scene, read), begin_mark(scene, write), None, None]
+/// Adds the marks of those moments of an operation that the caption speaks of, by its role.
+fn add_told(told: &mut Vec<usize>, scene: &Scene, one: &InRole) -> Result<(), AllocError> {
+    match one.role {
+        Role::B | Role::D | Role::LateWrite => add_mark(told, begin_mark(scene, &one.op)),
+        Role::A | Role::C | Role::EarlyRead => add_mark(told, end_mark(scene, &one.op)),
+        Role::Bc | Role::Read | Role::FirstRead | Role::SecondRead => {
+            add_mark(told, begin_mark(scene, &one.op))?;
+            add_mark(told, end_mark(scene, &one.op))
         }
-        Story::Crossing { a, b, c, d } => [
-            end_of_side(scene, a),
-            begin_of_side(scene, b),
-            end_of_side(scene, c),
-            begin_of_side(scene, d),
-        ],
     }
 }
 
-fn whole(scene: &Scene, op: &Op) -> [Option<usize>; 4] {
-    [begin_mark(scene, op), end_mark(scene, op), None, None]
-}
-
-fn begin_of_side(scene: &Scene, side: &Side) -> Option<usize> {
-    match side {
-        Side::Op(op) => begin_mark(scene, op),
-        Side::Initial => None,
+fn add_mark(told: &mut Vec<usize>, mark: Option<usize>) -> Result<(), AllocError> {
+    if let Some(mark) = mark {
+        told.push(mark)?;
     }
-}
-
-fn end_of_side(scene: &Scene, side: &Side) -> Option<usize> {
-    match side {
-        Side::Op(op) => end_mark(scene, op),
-        Side::Initial => None,
-    }
+    Ok(())
 }
 
 /// The mark at which an operation begins, if it is shown.

@@ -3,9 +3,8 @@
 use crate::layout::{Bar, Layout};
 use crate::scene::Scene;
 use intervals::{Initial, Op, Value, is_same_value};
-use register_book::Side;
+use register_book::{Side, Witness};
 use std::alloc::{AllocError, Global};
-use story::Story;
 
 /// The zone of a value: from the least end of its operations to their greatest beginning, if that is later (forward),
 /// else from the greatest beginning to the least end.
@@ -22,7 +21,7 @@ pub struct Zone {
 /// The zones of the two values of a conflict; empty where there is none.
 pub fn conflict_in(alloc: Global, layout: &Layout) -> Result<Vec<Zone>, AllocError> {
     let mut zones = Vec::new(alloc);
-    if let Story::Crossing { a, b, c, d } = &layout.scene.story {
+    if let Some(Witness::Crossing { a, b, c, d }) = &layout.scene.witness {
         zones.push(zone_between(layout, a, d))?;
         zones.push(zone_between(layout, c, b))?;
     }

@@ -9,4 +9,4 @@ weaker (Ok x) P Q f p = f x p
 weaker (Err e) P Q f p = tt
 
 pub returns : goal.returns
-returns c = weaker c.allowed_after.result _ _ (λ allowed is. (c.in_ok-wrong.wrong, c.in_ok-wrong.ensures, is)) c.allowed_after.ensures
+returns c = weaker c.allowed_after.result _ _ (λ allowed is. (c.in_ok-around.around, c.in_ok-around.ensures, is)) c.allowed_after.ensures

@@ -15,11 +15,13 @@ returns c =
     let order = c.args.subject.now.order.now in
     let letters = c.in_ok-letters.letters.items in
     let places = c.in_ok-places.places in
-    let story = c.in_ok-story.story in
+    let witness = c.args.subject.now.witness in
+    let around = c.in_ok-around.around in
     let chosen = c.in_ok-chosen.chosen in
-    let choice = rw (c.deref-2.ensures.value, c.in_ok-asked.ensures, c.deref.ensures.value, c.extent_of.ensures) at c.in_ok-chosen.ensures.chosen in
+    let choice = rw (c.deref-2.ensures.value, c.in_ok-asked.ensures, c.deref.ensures.value, c.extent_of-extent.ensures) at c.in_ok-chosen.ensures.chosen in
     record {
-      story = c.in_ok-story.ensures;
+      witness = refl;
+      around = c.in_ok-around.ensures;
       letters = c.in_ok-letters.ensures;
       chosen = chosen;
       choice = choice;
@@ -32,5 +34,5 @@ returns c =
       spans = rw (c.deref-4.ensures.value, c.deref-5.ensures.value) at c.in_ok-spans.ensures;
       folded = rw (c.deref-6.ensures.value, c.deref-7.ensures.value) at c.in_ok-folded.ensures;
       seats = rw c.deref-8.ensures.value at c.in_ok-seats.ensures;
-      all = let both = shown_and_hidden ops (asked_ids ops story letters) (extent_of story c.args.extent) chosen choice in omega (arith, c.len.ensures, c.len-2.ensures, both);
+      all = let both = shown_and_hidden ops (asked_ids ops witness around letters) (extent_of witness c.args.extent) chosen choice in omega (arith, c.len.ensures, c.len-2.ensures, both);
     }

@@ -1,11 +1,10 @@
-use Rattle.std.proofs.Common.{refl}
-use Rattle.story.proofs.story.wrong_of.Goals as goal
+use Rattle.register_book.proofs.around.writes_around.Goals as goal
 
 pub returns : goal.returns
 returns c = record {
   sorted = c.in_ok-writes.writes.items;
-  by_beginning = c.in_ok-writes.ensures;
-  itself = refl;
+  each_once = c.in_ok-writes.ensures.once;
+  in_order = c.in_ok-writes.ensures.in_order;
   last = rw c.deref.ensures.value at c.last_before.ensures;
   over = rw c.deref-2.ensures.value at c.in_ok-over_of.ensures;
   source = rw c.deref-3.ensures.value at c.source_of.ensures;

@@ -1,8 +1,8 @@
 use Rattle.std.proofs.Common.{◌∙◌, rules}
 use Rattle.std.proofs.lemmas.Iterator.{YieldsList-from_slice}
 use Rattle.std.proofs.lemmas.Iterator.Search.{find_from_yields_List}
-use Rattle.story.specs.Story.{is_later_source}
-use Rattle.story.proofs.story.later_source_of.Goals as goal
+use Rattle.register_book.specs.Around.{is_later_source}
+use Rattle.register_book.proofs.around.later_source_of.Goals as goal
 
 pub returns : goal.returns
 returns c = c.copied.ensures ∙ find_from_yields_List (is_later_source c.args.read.now) _ _ c.find.result c.find.ensures.ran (YieldsList-from_slice c.args.writes.now cc) (λ x b q k. search rules)

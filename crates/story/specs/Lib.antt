@@ -1,2 +1,0 @@
--- words of the public clauses
-pub mod Story
